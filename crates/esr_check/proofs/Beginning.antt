@@ -1,21 +1,26 @@
 -- What a check adds to a history.
-use Rattle.std.proofs.Common.{◌≡◌, inl, inr, ⊎_elim, ℕ, true, List, [], ◌∷◌, ◌++◌, append-nil, append_assoc, Option, Some, None, Result, Ok, Err, refl, sym, ap, ◌∙◌}
+use Rattle.std.proofs.Common.{◌≡◌, inl, inr, ⊎_elim, ℕ, true, List, [], ◌∷◌, ◌++◌, append-nil, append_assoc, Option, Some, None, Result, Ok, Err, refl, sym, ap, ◌∙◌, subst}
 use Rattle.esr_model.specs.Names.{BlobName}
 use Rattle.esr_model.specs.Values.{Has}
-use Rattle.esr_core.specs.Entry.{Read, ReadBlob, CheckedAll, Step, LookStep, ReadStep, Reply, Refusal, Refused, HasEnded, Moment}
+use Rattle.esr_core.specs.Entry.{Read, ReadBlob, CheckedAll, ReadFails, Step, LookStep, ReadStep, Reply, Refusal, Refused, HasEnded, Moment}
 use Rattle.esr_desk.specs.declared.unit.UnitRefusal.{UnitRefusal}
 use Rattle.esr_desk.specs.declared.unit.UnitRefusal.TheVariants as units
 use Rattle.esr_desk.specs.declared.refusal.StepRefusal.{StepRefusal}
 use Rattle.esr_desk.specs.declared.refusal.StepRefusal.TheVariants as steps
+use Rattle.esr_desk.specs.declared.hand.Hand.TheVariants as hands
+use Rattle.esr_desk.specs.Entries.{why_of}
+use Rattle.esr_desk.specs.Evidence.{Evidence}
 use Rattle.esr_desk.specs.Refusals.{refusal_of, told_refusal}
+use Rattle.esr_unit.specs.declared.ending.Ending.{Ending}
+use Rattle.esr_unit.specs.declared.ending.Ending.TheVariants as endings
+use Rattle.esr_unit.specs.Fail.{GivenUp, IsReported}
 use Rattle.esr_desk.specs.Start.{Start}
 use Rattle.esr_desk.specs.Outcome.{Stepped, Refusing, Outcome}
 use Rattle.esr_desk.specs.Grew.{GrewBy, AllOf}
-use Rattle.esr_checking.specs.CheckShown.{AllFetches, SinceLook}
+use Rattle.esr_desk.specs.Check.Shown.{AllFetches, SinceLook}
 use Rattle.esr_reach.specs.Members.{has_either}
-use Rattle.esr_check.specs.Began.{IsOfCheck, AllOfCheck, HasBegun, NotBegun, Begun, AsksOne, NoneChecked}
+use Rattle.esr_check.specs.Began.{IsOfCheck, AllOfCheck, GrewOfCheck, HasBegun, NotBegun, Begun, AsksOne, NoneChecked}
 use Rattle.esr_check.specs.Went.{Went}
-use Rattle.esr_check.specs.Fails.{GrewOfCheck}
 use Rattle.esr_check.proofs.Living.{front_is, moment_of, stepped_is}
 
 -- ---- further steps
@@ -66,6 +71,18 @@ pub outcome_of_check : {X : Type 0} (s : Start) (old new : List Moment) (read : 
 outcome_of_check s old new read ok (Ok x) alone of h = stepped_of_check s old new read (ok x) alone of h
 outcome_of_check s old new read ok (Err e) alone of h = refusing_of_check s old new read (told_refusal e) alone of h.0
 
+-- by the report that it failed
+same_of_check : (s : Start) (old new : List Moment) → new ≡ old → GrewOfCheck s old new
+same_of_check s old new same = subst (λ (log : List Moment). GrewOfCheck s old log) (sym same) (of_check_none s old)
+
+pub report_of_check : {S F H T : Type 0} (s : Start) (old new : List Moment) (ending : Ending S F H T) (result : UnitRefusal) → s.alone ≡ true → IsReported hands.Check s old new 0 ending result → GrewOfCheck s old new
+report_of_check s old new (endings.Failed why b) (units.Failed told) alone h = stepped_of_check s old new (ReadFails (why_of why)) HasEnded alone tt h
+report_of_check s old new (endings.Failed why b) (units.Stopped refusal) alone h = refusing_of_check s old new (ReadFails (why_of why)) (told_refusal refusal) alone tt h
+report_of_check s old new (endings.Failed why b) units.Stale alone h = same_of_check s old new h
+report_of_check s old new endings.Own result alone h = same_of_check s old new h
+report_of_check s old new endings.Stale result alone h = same_of_check s old new h
+report_of_check s old new (endings.Stopped refusal) result alone h = same_of_check s old new h
+
 -- ---- by a look
 
 looked_begun : (s : Start) (old new : List Moment) (reply : Reply) → s.alone ≡ true → Stepped s old new 0 LookStep reply → HasBegun old new
@@ -105,12 +122,19 @@ begun_on s old mid new reply alone step g =
       all = of_check_both h.rest g.more h.all g.all;
     }
 
-pub asks_begun : {X : Type 0} (old new : List Moment) (result : Result X UnitRefusal) → HasBegun old new → AsksOne old new result
-asks_begun old new (Ok x) h = h
-asks_begun old new (Err (units.Failed why)) h = h
-asks_begun old new (Err (units.Stopped (steps.Refused refusal))) h = h
-asks_begun old new (Err (units.Stopped steps.Memory)) h = Begun h
-asks_begun old new (Err (units.Stopped steps.TurnsSpent)) h = Begun h
+pub asks_stopped : (X : Type 0) (old new : List Moment) (refusal : StepRefusal) → HasBegun old new → AsksOne {X = X} old new (Err (units.Stopped refusal))
+asks_stopped X old new (steps.Refused refusal) h = h
+asks_stopped X old new steps.Memory h = Begun h
+asks_stopped X old new steps.TurnsSpent h = Begun h
+
+-- it was given up
+pub asks_given : (X : Type 0) {S F H T : Type 0} (e : Evidence S F H T) (s : Start) (old mid new : List Moment) (ending : Ending S F H T) (result : UnitRefusal) → GivenUp hands.Check e s mid new 0 ending result → HasBegun old new → AsksOne {X = X} old new (Err result)
+asks_given X e s old mid new ending (units.Failed why) h begun = begun
+asks_given X e s old mid new ending (units.Stopped refusal) h begun = asks_stopped X old new refusal begun
+asks_given X e s old mid new (endings.Failed why b) units.Stale h begun = h
+asks_given X e s old mid new (endings.Stopped refusal) units.Stale h begun = h
+asks_given X e s old mid new endings.Own units.Stale h begun = h
+asks_given X e s old mid new endings.Stale units.Stale h begun = h
 
 -- the look was refused
 pub asks_look : (X : Type 0) (s : Start) (old new : List Moment) (e : StepRefusal) → s.alone ≡ true → Refusing s old new 0 LookStep (told_refusal e) → AsksOne {X = X} old new (Err (units.Stopped e))
@@ -160,3 +184,15 @@ refusing_unchecked s old new step (Some refusal) alone h = stepped_unchecked s o
 pub outcome_unchecked : {X : Type 0} (s : Start) (old new : List Moment) (step : Step) (ok : X → Reply) (result : Result X StepRefusal) → s.alone ≡ true → ((snapshots blobs : ℕ) → step ≡ ReadStep (CheckedAll snapshots blobs) → ⊥) → Outcome s old new 0 step ok result → NoneChecked old new
 outcome_unchecked s old new step ok (Ok x) alone other h = stepped_unchecked s old new step (ok x) alone (λ snapshots blobs at ended. other snapshots blobs at) h
 outcome_unchecked s old new step ok (Err e) alone other h = refusing_unchecked s old new step (told_refusal e) alone h.0
+
+-- by the report that it failed
+same_unchecked : (old new : List Moment) → new ≡ old → NoneChecked old new
+same_unchecked old new same = subst (λ (log : List Moment). NoneChecked old log) (sym same) (unchecked_none old)
+
+pub report_unchecked : {S F H T : Type 0} (s : Start) (old new : List Moment) (ending : Ending S F H T) (result : UnitRefusal) → s.alone ≡ true → IsReported hands.Check s old new 0 ending result → NoneChecked old new
+report_unchecked s old new (endings.Failed why b) (units.Failed told) alone h = stepped_unchecked s old new (ReadStep (ReadFails (why_of why))) HasEnded alone (λ snapshots blobs at ended. cc) h
+report_unchecked s old new (endings.Failed why b) (units.Stopped refusal) alone h = refusing_unchecked s old new (ReadStep (ReadFails (why_of why))) (told_refusal refusal) alone h
+report_unchecked s old new (endings.Failed why b) units.Stale alone h = same_unchecked old new h
+report_unchecked s old new endings.Own result alone h = same_unchecked old new h
+report_unchecked s old new endings.Stale result alone h = same_unchecked old new h
+report_unchecked s old new (endings.Stopped refusal) result alone h = same_unchecked old new h

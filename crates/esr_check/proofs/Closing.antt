@@ -1,5 +1,5 @@
 -- How a check ends.
-use Rattle.std.proofs.Common.{◌≡◌, ⊎_elim, ℕ, true, List, [], ◌∷◌, ◌++◌, append_assoc, length, map, Ok, Err, refl, sym, ap, ◌∙◌, subst}
+use Rattle.std.proofs.Common.{◌≡◌, ◌⊎◌, ⊎_elim, ℕ, true, List, [], ◌∷◌, ◌++◌, append_assoc, length, map, refl, sym, ap, ◌∙◌, subst}
 use Rattle.std.proofs.lemmas.List.{length-map}
 use Rattle.esr_model.specs.Names.{BlobName}
 use Rattle.esr_model.specs.Values.{RootSnap, RootData}
@@ -21,27 +21,32 @@ use Rattle.esr_desk.specs.declared.unit.UnitRefusal.TheVariants as units
 use Rattle.esr_desk.specs.Entries.{why_of}
 use Rattle.esr_desk.specs.Refusals.{refusal_of, told_refusal}
 use Rattle.esr_desk.specs.Start.{Start, formats_of, world_of}
-use Rattle.esr_desk.specs.Outcome.{Stepped, Refusing, Spends}
+use Rattle.esr_desk.specs.Outcome.{Stepped, Refusing, Grounds}
 use Rattle.esr_desk.specs.declared.entry.Why.{Why}
-use Rattle.esr_checking.specs.Caller.{caller_of}
-use Rattle.esr_checking.specs.Shown.{Counts}
-use Rattle.esr_checking.specs.Checks.{CanEndCheck}
-use Rattle.esr_checking.specs.CheckShown.{AllFetches}
-use Rattle.esr_check.specs.declared.cause.Cause.{Cause}
-use Rattle.esr_check.specs.declared.trouble.Trouble.{Trouble}
-use Rattle.esr_check.specs.declared.trouble.Trouble.TheVariants as troubles
-use Rattle.esr_check.specs.Law.{RefusesSo}
+use Rattle.esr_desk.specs.Own.{Own, caller_of}
+use Rattle.esr_desk.specs.Check.Conditions.{CanEndCheck}
+use Rattle.esr_desk.specs.Check.Shown.{AllFetches, IsCheckShown}
+use Rattle.esr_desk.specs.declared.hand.Hand.TheVariants as hands
+use Rattle.esr_desk.specs.declared.fault.By.{By}
+use Rattle.esr_desk.specs.Evidence.{Evidence}
+use Rattle.esr_unit.specs.declared.trouble.Trouble.{Trouble}
+use Rattle.esr_unit.specs.declared.trouble.Trouble.TheVariants as troubles
+use Rattle.esr_unit.specs.declared.ending.Ending.{Ending}
+use Rattle.esr_unit.specs.declared.ending.Ending.TheVariants as endings
+use Rattle.esr_unit.specs.Ending.{ending_by}
+use Rattle.esr_unit.specs.Shown.{Shown as ByUnit}
+use Rattle.esr_unit.specs.Fail.{GivenUp, IsReported}
+use Rattle.esr_unit.specs.Refusals.{RefusesSo}
 use Rattle.esr_check.specs.Names.{IsAny}
 use Rattle.esr_check.specs.Began.{HasEndedCheck}
-use Rattle.esr_check.specs.Cause.{cause_refused, cause_by}
 use Rattle.esr_check.specs.Checked.{AreFetched, HasChecked, HasReadAll}
 use Rattle.esr_check.specs.Trouble.{IsFetchRefusal, Shown}
 use Rattle.esr_check.specs.Went.{IsAlive, IsSoFar, Went}
 use Rattle.esr_check.specs.Refused.{EndsFailed, StopsCheck, IsCheckRefused}
-use Rattle.esr_check.specs.Fails.{FailsBy}
 use Rattle.esr_check.proofs.Living.{moment_of, stepped_is, world_is, look_alive, look_root, look_snapshots, look_safe, end_blobs, end_safe, in_reach_as}
 use Rattle.esr_check.proofs.Counting.{look_so_far}
-use Rattle.esr_check.proofs.Refusing.{IsDeposal, fetched_all, refused_so, live_refusal}
+use Rattle.esr_check.proofs.Refusing.{IsDeposal, IsAbort, HowRefused, fetched_all, refused_so, live_refusal, never_aborted}
+use Rattle.esr_check.proofs.Failing.{unreported, ends_failed}
 
 -- ---- the last look of a history
 
@@ -107,8 +112,8 @@ module _ (s : Start) (old first mid : List Moment) (snapshots : List RootSnap) (
 
   -- ---- or otherwise
 
-  pub has_ended : {S F : Type 0} (c : Counts S F) (new : List Moment) (why : Why) → EndsFailed c s mid new why → HasEndedCheck old new
-  has_ended c new why ends =
+  pub has_ended : {S F H T : Type 0} (e : Evidence S F H T) (new : List Moment) (why : Why) → EndsFailed e s mid new why → HasEndedCheck old new
+  has_ended e new why ends =
       let m = moment_of s old first LookStep (Looked snapshots safe) alone look in
       let end : Moment = record { entry = record { who = 0; step = ReadStep (ReadFails (why_of why)); reply = HasEnded }; image = ends.image } in
       record {
@@ -126,49 +131,71 @@ module _ (s : Start) (old first mid : List Moment) (snapshots : List RootSnap) (
         ended = refl;
       }
 
-  module _ (H T : Type 0) {S F : Type 0} (c : Counts S F) (new : List Moment) where
-    for_cause : (cause : Cause S F H T) (result : UnitRefusal) → FailsBy c s mid new (Ok cause) result → IsCheckRefused c s old new result
-    for_cause cause (units.Failed why) h = (h.0, (mid, h.1), has_ended c new why h.1)
-    for_cause cause (units.Stopped steps.Memory) h = tt
-    for_cause cause (units.Stopped steps.TurnsSpent) h = h
-    for_cause cause (units.Stopped (steps.Refused x)) h = absurd h
+  module _ {S F H T : Type 0} (e : Evidence S F H T) (law : RefusesSo) (new : List Moment) where
+    for_cause : (why : Why) (b : By S F H T) (result : UnitRefusal) → IsCheckShown e s mid 0 (why_of why) b → GivenUp hands.Check e s mid new 0 (endings.Failed why b) result → IsReported hands.Check s mid new 0 (endings.Failed why b) result → IsCheckRefused e s old new result
+    for_cause why b (units.Failed told) shown h report =
+        let ends = ends_failed e s mid new why b alone shown report in
+        (ap (λ (o : Own). o.caller) h.1, (mid, subst (λ (w : Why). EndsFailed e s mid new w) (sym h.0) ends), has_ended e new why ends)
+    for_cause why b (units.Stopped steps.Memory) shown h report = tt
+    for_cause why b (units.Stopped steps.TurnsSpent) shown h report = h.halts
+    for_cause why b (units.Stopped (steps.Refused x)) shown h report = absurd (unreported law s mid new why x alone went_alive report h.halts)
+    for_cause why b units.Stale shown h report = absurd h
 
-    for_memory : (result : UnitRefusal) → FailsBy {H = H} {T = T} c s mid new (Err steps.Memory) result → IsCheckRefused c s old new result
-    for_memory result h = subst (λ (r : UnitRefusal). IsCheckRefused c s old new r) (sym h.0) tt
+    for_memory : (result : UnitRefusal) → GivenUp hands.Check e s mid new 0 (endings.Stopped steps.Memory) result → IsCheckRefused e s old new result
+    for_memory (units.Stopped told) h = subst (λ (r : StepRefusal). IsCheckRefused e s old new (units.Stopped r)) (sym h.0) tt
+    for_memory (units.Failed why) h = absurd h
+    for_memory units.Stale h = absurd h
 
-    for_turns : (result : UnitRefusal) → Spends s mid steps.TurnsSpent → FailsBy {H = H} {T = T} c s mid new (Err steps.TurnsSpent) result → IsCheckRefused c s old new result
-    for_turns result spends h = subst (λ (r : UnitRefusal). IsCheckRefused c s old new r) (sym h.0) (subst (λ (log : List Moment). Spends s log steps.TurnsSpent) (sym h.1) spends)
+    for_turns : (result : UnitRefusal) → Grounds s mid 0 steps.TurnsSpent → GivenUp hands.Check e s mid new 0 (endings.Stopped steps.TurnsSpent) result → IsCheckRefused e s old new result
+    for_turns (units.Stopped told) spends h =
+        subst (λ (r : StepRefusal). IsCheckRefused e s old new (units.Stopped r)) (sym h.0) (subst (λ (log : List Moment). Grounds s log 0 steps.TurnsSpent) (sym h.1) spends)
+    for_turns (units.Failed why) spends h = absurd h
+    for_turns units.Stale spends h = absurd h
 
-    refused_ends : (e : StepRefusal) (result : UnitRefusal) → IsFetchRefusal s mid e → FailsBy {H = H} {T = T} c s mid new (cause_refused e) result → IsCheckRefused c s old new result
-    refused_ends steps.Memory result shown h = for_memory result h
-    refused_ends steps.TurnsSpent result shown h = for_turns result shown h
-    refused_ends (steps.Refused refusals.DepotFault) result shown h = for_cause (record { why = whys.Depot; by = shows.Entry }) result h
-    refused_ends (steps.Refused x) result shown h = absurd shown
+    refused_ends : (refusal : StepRefusal) (result : UnitRefusal) → IsFetchRefusal s mid refusal → ByUnit {S = S} {F = F} {H = H} {T = T} hands.Check e ⊥ s mid 0 (troubles.Step refusal) → GivenUp hands.Check e s mid new 0 (ending_by {S = S} {F = F} {H = H} {T = T} (troubles.Step refusal)) result
+        → IsReported {S = S} {F = F} {H = H} {T = T} hands.Check s mid new 0 (ending_by {S = S} {F = F} {H = H} {T = T} (troubles.Step refusal)) result → IsCheckRefused e s old new result
+    refused_ends steps.Memory result refused shown h report = for_memory result h
+    refused_ends steps.TurnsSpent result refused shown h report = for_turns result refused h
+    refused_ends (steps.Refused refusals.DepotFault) result refused shown h report = for_cause whys.Depot shows.Entry result shown h report
+    refused_ends (steps.Refused x) result refused shown h report = absurd refused
 
-    pub trouble_ends : (trouble : Trouble F) (result : UnitRefusal) → Shown c.fetch s mid trouble → FailsBy {H = H} {T = T} c s mid new (cause_by trouble) result → IsCheckRefused c s old new result
-    trouble_ends (troubles.Step e) result shown h = refused_ends e result shown h
-    trouble_ends (troubles.Fetch fetch) result shown h = for_cause (record { why = whys.Depot; by = shows.Object (objects.Fetch fetch) }) result h
-    trouble_ends (troubles.Found why) result shown h = for_cause (record { why = why; by = shows.Nothing }) result h
+    by_trouble : (trouble : Trouble S F) (result : UnitRefusal) → Shown e.fetch_faults s mid trouble → ByUnit {S = S} {F = F} {H = H} {T = T} hands.Check e ⊥ s mid 0 trouble → GivenUp hands.Check e s mid new 0 (ending_by {S = S} {F = F} {H = H} {T = T} trouble) result
+        → IsReported {S = S} {F = F} {H = H} {T = T} hands.Check s mid new 0 (ending_by {S = S} {F = F} {H = H} {T = T} trouble) result → IsCheckRefused e s old new result
+    by_trouble (troubles.Step refusal) result was shown h report = refused_ends refusal result was shown h report
+    by_trouble (troubles.Fetch fetch) result was shown h report = for_cause whys.Depot (shows.Object (objects.Fetch fetch)) result shown h report
+    by_trouble (troubles.Found why) result was shown h report = for_cause why shows.Nothing result shown h report
+    by_trouble trouble result was shown h report = absurd was
+
+    pub trouble_ends : (trouble : Trouble S F) (ending : Ending S F H T) (result : UnitRefusal) → ending ≡ ending_by trouble → Shown e.fetch_faults s mid trouble → ByUnit {S = S} {F = F} {H = H} {T = T} hands.Check e ⊥ s mid 0 trouble → GivenUp hands.Check e s mid new 0 ending result
+        → IsReported hands.Check s mid new 0 ending result → IsCheckRefused e s old new result
+    trouble_ends trouble ending result is was shown h report =
+        by_trouble trouble result was shown (subst (λ (x : Ending S F H T). GivenUp hands.Check e s mid new 0 x result) is h) (subst (λ (x : Ending S F H T). IsReported hands.Check s mid new 0 x result) is report)
 
 -- the end of the check isn't refused, but for want of memory or of turns
-pub end_stops : RefusesSo → (s : Start) (old mid new : List Moment) (snapshots blobs : ℕ) (e : StepRefusal) → s.alone ≡ true → IsAlive s mid → Refusing s mid new 0 (ReadStep (CheckedAll snapshots blobs)) (told_refusal e) × Spends s new e → StopsCheck s old new e
+pub end_stops : RefusesSo → (s : Start) (old mid new : List Moment) (snapshots blobs : ℕ) (e : StepRefusal) → s.alone ≡ true → IsAlive s mid → Refusing s mid new 0 (ReadStep (CheckedAll snapshots blobs)) (told_refusal e) × Grounds s new 0 e → StopsCheck s old new e
 end_stops law s old mid new snapshots blobs steps.Memory alone alive h = tt
 end_stops law s old mid new snapshots blobs steps.TurnsSpent alone alive h = h.1
-end_stops law s old mid new snapshots blobs (steps.Refused x) alone alive h = absurd (live_refusal law s mid new (ReadStep (CheckedAll snapshots blobs)) (refusal_of x) alone alive h.0)
+end_stops law s old mid new snapshots blobs (steps.Refused x) alone alive h = absurd (⊎_elim
+    (λ (abort : IsAbort (refusal_of x)). never_aborted s new x abort h.1)
+    (λ (none : HowRefused (ReadStep (CheckedAll snapshots blobs)) (refusal_of x)). none)
+    (live_refusal law s mid new (ReadStep (CheckedAll snapshots blobs)) (refusal_of x) alone alive h.0))
 
 -- ---- the look was refused
 
 deposed_caller : (s : Start) (old new : List Moment) (place : ℕ) → s.alone ≡ true → Stepped s old new 0 LookStep (Refused (DeposedAt place)) → caller_of s new ≡ caller_of s old
 deposed_caller s old new place alone h = ap (λ (w : World). w.caller) (world_is s old new LookStep (Refused (DeposedAt place)) alone h)
 
-look_other : RefusesSo → (s : Start) (old new : List Moment) (x : EntryRefusal) → Stepped s old new 0 LookStep (Refused (refusal_of x)) → ((place : ℕ) → refusal_of x ≡ DeposedAt place → ⊥) → ⊥
-look_other law s old new x h live = ⊎_elim (λ (dead : IsDeposal (refusal_of x)). live dead.0 dead.1) (λ none. absurd none) (refused_so law s old new LookStep (refusal_of x) h)
+look_other : RefusesSo → (s : Start) (old new : List Moment) (x : EntryRefusal) → Stepped s old new 0 LookStep (Refused (refusal_of x)) → Grounds s new 0 (steps.Refused x) → ((place : ℕ) → refusal_of x ≡ DeposedAt place → ⊥) → ⊥
+look_other law s old new x h grounds live = ⊎_elim
+    (λ (dead : IsDeposal (refusal_of x)). live dead.0 dead.1)
+    (λ (rest : IsAbort (refusal_of x) ⊎ ⊥). ⊎_elim (λ (abort : IsAbort (refusal_of x)). never_aborted s new x abort grounds) (λ none. absurd none) rest)
+    (refused_so law s old new LookStep (refusal_of x) h)
 
-pub look_stops : RefusesSo → (s : Start) (old new : List Moment) (e : StepRefusal) → s.alone ≡ true → Refusing s old new 0 LookStep (told_refusal e) × Spends s new e → StopsCheck s old new e
+pub look_stops : RefusesSo → (s : Start) (old new : List Moment) (e : StepRefusal) → s.alone ≡ true → Refusing s old new 0 LookStep (told_refusal e) × Grounds s new 0 e → StopsCheck s old new e
 look_stops law s old new steps.Memory alone h = tt
 look_stops law s old new steps.TurnsSpent alone h = h.1
 look_stops law s old new (steps.Refused (refusals.Deposed entry)) alone h = (record { front = h.0.front; image = h.0.image; is = h.0.is }, deposed_caller s old new entry alone h.0)
-look_stops law s old new (steps.Refused x) alone h = absurd (look_other law s old new x h.0 (λ place e. cc))
+look_stops law s old new (steps.Refused x) alone h = absurd (look_other law s old new x h.0 h.1 (λ place e. cc))
 
 -- ---- the check ended well
 

@@ -5,21 +5,27 @@ use Rattle.esr_model.specs.Names.{BlobName, Latest}
 use Rattle.esr_model.specs.Values.{Bytes, Has, RootSnap}
 use Rattle.esr_model.specs.Image.{Blobs, At}
 use Rattle.esr_core.specs.World.{Caller}
-use Rattle.esr_core.specs.Restores.{AreOnce, WasRead}
+use Rattle.esr_core.specs.Restores.{AreOnce, IsTestOf, WasRead}
 use Rattle.esr_core.specs.Allowed.{InReach}
-use Rattle.esr_core.specs.Entry.{LookStep, ReadStep, ReadBlob, Looked, WasFetched, Moment}
+use Rattle.esr_core.specs.Entry.{Read, LookStep, ReadStep, ReadBlob, Looked, WasFetched, Moment, Step, Entry}
+use Rattle.esr_core.specs.Past.{RepeatsRead, Repeats}
 use Rattle.esr_core.specs.After.{caller_told}
 use Rattle.esr_depot.specs.Told.{Tells}
 use Rattle.esr_desk.specs.Start.{Start, formats_of, told_bytes, world_of}
 use Rattle.esr_desk.specs.Outcome.{Stepped, fetch_reply}
-use Rattle.esr_checking.specs.Caller.{caller_of, fetched_by}
-use Rattle.esr_checking.specs.Checks.{CanCheck}
-use Rattle.esr_checking.specs.CheckShown.{HasFetched}
+use Rattle.esr_desk.specs.Own.{caller_of, own_of, Own, made_of}
+use Rattle.esr_desk.specs.Once.{IsFresh}
+use Rattle.esr_desk.specs.Made.{client_made}
+use Rattle.esr_desk.specs.Hands.{own_fetched}
+use Rattle.esr_desk.specs.declared.hand.Hand.TheVariants as hands
+use Rattle.esr_desk.specs.Caller.{found_by}
+use Rattle.esr_desk.specs.Check.Conditions.{CanCheck}
+use Rattle.esr_desk.specs.Check.Shown.{HasFetched}
 use Rattle.esr_reach.specs.Members.{has_push, has_left, has_right}
 use Rattle.esr_check.specs.Names.{AreUnfetched, Just}
 use Rattle.esr_check.specs.Checked.{AreFetched}
 use Rattle.esr_check.specs.Went.{HasLooked, IsSoFar, Came, Went}
-use Rattle.esr_check.proofs.Living.{moment_of, stepped_is, fetched_there, looked_caller, look_caller, look_alive, in_reach_as}
+use Rattle.esr_check.proofs.Living.{moment_of, stepped_is, fetched_there, looked_caller, look_caller, look_alive, in_reach_as, look_made}
 use Rattle.esr_check.proofs.Going.{step_went}
 
 -- ---- what an answer says
@@ -33,11 +39,29 @@ pub step_told : {F : Type 0} (s : Start) (old new : List Moment) (name : BlobNam
 step_told s old new name None f is h = absurd cc
 step_told s old new name (Some g) f is h = h
 
-pub told_own : {F : Type 0} (left : F → Option Bytes) (o : Option F) (f : F) (s : Start) (name : BlobName) (bytes : Bytes) (c d : Caller) → o ≡ Some f → left f ≡ told_bytes s bytes → d ≡ fetched_by left name o c → d ≡ caller_told c name (told_bytes s bytes)
+pub told_own : {F : Type 0} (left : F → Option Bytes) (o : Option F) (f : F) (s : Start) (name : BlobName) (bytes : Bytes) (c d : Caller) → o ≡ Some f → left f ≡ told_bytes s bytes → d ≡ found_by left name o c → d ≡ caller_told c name (told_bytes s bytes)
 told_own left None f s name bytes c d is holds own = absurd cc
 told_own {F} left (Some g) f s name bytes c d is holds own =
     let same : g ≡ f = cc in
     own ∙ ap (λ (x : F). caller_told c name (left x)) same ∙ ap (λ (o : Option Bytes). caller_told c name o) holds
+
+-- who 0 has read it
+pub caller_own : {F : Type 0} (left : F → Option Bytes) (s : Start) (old new : List Moment) (name : BlobName) (o : Option F) → own_of s new 0 ≡ own_fetched hands.Check left name o (own_of s old 0) → caller_of s new ≡ found_by left name o (caller_of s old)
+caller_own left s old new name o own = ap (λ (o : Own). o.caller) own
+
+-- ---- what is fresh
+
+same_fetch : (read : Read) (name : BlobName) → RepeatsRead read (ReadBlob name) → read ≡ ReadBlob name
+same_fetch (ReadBlob a) name same = ap (λ (n : BlobName). ReadBlob n) same
+same_fetch read name same = absurd same
+
+repeats_fetch : (step : Step) (name : BlobName) → Repeats step (ReadStep (ReadBlob name)) → step ≡ ReadStep (ReadBlob name)
+repeats_fetch (ReadStep read) name same = ap (λ (r : Read). ReadStep r) (same_fetch read name same)
+repeats_fetch step name same = absurd same
+
+-- a fetch of the check that may be made repeats none
+pub is_fresh : (s : Start) (log : List Moment) (count : ℕ) (name : BlobName) → IsSoFar s log count → CanCheck s log name → IsFresh s log 0 (ReadStep (ReadBlob name))
+is_fresh s log count name so may e has same = may.once ((so.looked.fetched name).1 (so.made e name has (repeats_fetch e.step name same)))
 
 told_fetched : (c : Caller) (name : BlobName) (told : Option Bytes) → (caller_told c name told).fetched ≡ name ∷ c.fetched
 told_fetched c name None = refl
@@ -116,6 +140,7 @@ module _ (s : Start) (old new : List Moment) (snapshots : List RootSnap) (safe :
     is_open = record { looked = ap (λ (c : Caller). c.looked) is_caller; undrawn = ap (λ (c : Caller). c.drawn) is_caller; unspent = ap (λ (c : Caller). c.spent) is_caller };
     names = [];
     looked = has_looked;
+    made = λ e name has is. absurd (subst (λ (entries : List Entry). Has entries e) (look_made s old new snapshots safe alone h) has);
     count_is = refl;
     counted = sym (ap (λ (l : List BlobName). length l) look_found);
     within = omega arith;
@@ -192,6 +217,15 @@ module _ (s : Start) (old new : List Moment) (count : ℕ) (name : BlobName) (by
       (λ (here : At (formats_of s) (world_of s old).blobs n b). here)
       (fetched_there s old new name alone h n b has))
 
+  fetch_name : (a b : BlobName) → ReadStep (ReadBlob a) ≡ ReadStep (ReadBlob b) → a ≡ b
+  fetch_name a b e = cc
+
+  made_next : (e : Entry) (n : BlobName) → Has (made_of s new 0) e → e.step ≡ ReadStep (ReadBlob n) → Has (so.names ++ name ∷ []) n
+  made_next e n has is = ⊎_elim
+      (λ (before : Has (made_of s old 0) e). has_left so.names (name ∷ []) n (so.made e n before is))
+      (λ (here : e.step ≡ ReadStep (ReadBlob name)). has_right so.names (name ∷ []) n (inl (fetch_name name n (sym here ∙ is))))
+      (client_made s old new (ReadStep (ReadBlob name)) WasFetched alone h e has)
+
   pub next_so_far : IsSoFar s new (count + 1)
   next_so_far =
       let names_len : length (so.names ++ name ∷ []) ≡ length so.names + 1 = length-append so.names (name ∷ []) in
@@ -202,6 +236,7 @@ module _ (s : Start) (old new : List Moment) (count : ℕ) (name : BlobName) (by
         is_open = record { looked = went.same.looked ∙ may.is_open.looked; undrawn = went.same.drawn ∙ may.is_open.undrawn; unspent = went.same.spent ∙ may.is_open.unspent };
         names = so.names ++ name ∷ [];
         looked = looked_next;
+        made = made_next;
         count_is = omega (arith, names_len, so.count_is);
         counted = omega (arith, found_len, so.counted);
         within = omega (arith, longer, so.within);
@@ -216,8 +251,8 @@ module _ (s : Start) (old new : List Moment) (count : ℕ) (name : BlobName) (by
 -- ---- what a fetch needs
 
 -- one that isn't fetched yet, and is reached
-pub can_check : (s : Start) (log : List Moment) (count : ℕ) (name : BlobName) → IsSoFar s log count → AreUnfetched (caller_of s log) (Just name) → name ≢ Latest → (s.tells ≡ true → InReach (formats_of s) (world_of s log) name) → CanCheck s log name
-can_check s log count name so new stored reached = record { is_open = so.is_open; once = λ has. new name refl has; stored = stored; reached = reached }
+pub can_check : (s : Start) (log : List Moment) (count : ℕ) (name : BlobName) → IsSoFar s log count → AreUnfetched (caller_of s log) (Just name) → name ≢ Latest → ((id : ℕ) → IsTestOf id name → ⊥) → (s.tells ≡ true → InReach (formats_of s) (world_of s log) name) → CanCheck s log name
+can_check s log count name so new stored untested reached = record { is_open = so.is_open; once = λ has. new name refl has; stored = stored; untested = untested; reached = reached }
 
 -- none of them, where none was fetched
 pub all_new : (c : Caller) (P : BlobName → Type 0) → c.fetched ≡ [] → AreUnfetched c P

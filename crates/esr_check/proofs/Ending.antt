@@ -13,7 +13,7 @@ use Rattle.esr_core.specs.Allowed.{InReach, IsWhole, CheckedBy}
 use Rattle.esr_core.specs.Entry.{Moment}
 use Rattle.esr_formats.specs.Clusters.{count_of}
 use Rattle.esr_desk.specs.Start.{Start, formats_of, world_of}
-use Rattle.esr_checking.specs.Caller.{caller_of}
+use Rattle.esr_desk.specs.Own.{caller_of}
 use Rattle.esr_reach.specs.Reached.{index_found}
 use Rattle.esr_restore.proofs.Pairs.{pairs_map}
 use Rattle.esr_agreement.specs.Lists.{IsOf}

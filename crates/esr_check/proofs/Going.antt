@@ -12,8 +12,8 @@ use Rattle.esr_desk.specs.Refusals.{told_refusal}
 use Rattle.esr_desk.specs.Start.{Start, formats_of, world_of}
 use Rattle.esr_desk.specs.Outcome.{Stepped, Refusing, Outcome}
 use Rattle.esr_desk.specs.Grew.{grew_by_none, grew_by_on, stepped_grew_by}
-use Rattle.esr_checking.specs.Caller.{caller_of}
-use Rattle.esr_checking.specs.CheckShown.{AllFetches, ReadAs}
+use Rattle.esr_desk.specs.Own.{caller_of}
+use Rattle.esr_desk.specs.Check.Shown.{AllFetches, ReadAs}
 use Rattle.esr_restore.proofs.Pairs.{pairs_map}
 use Rattle.esr_check.specs.Names.{Just, AreUnfetched}
 use Rattle.esr_check.specs.Went.{Grown, IsSame, Went}

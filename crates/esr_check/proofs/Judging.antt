@@ -19,9 +19,9 @@ use Rattle.esr_formats.specs.Formats.{formats}
 use Rattle.esr_formats.specs.Shards.{entry_of}
 use Rattle.esr_desk.specs.declared.entry.Why.{Why}
 use Rattle.esr_desk.specs.Start.{Start, formats_of}
-use Rattle.esr_checking.specs.Caller.{caller_of}
-use Rattle.esr_checking.specs.CheckShown.{HasReadFile, IsMisprinted, Disagree, FileBeside}
-use Rattle.esr_reading.specs.Parts.{AreFronts, AreExact}
+use Rattle.esr_desk.specs.Own.{caller_of}
+use Rattle.esr_desk.specs.Check.Shown.{HasReadFile, IsMisprinted, Disagree, FileBeside}
+use Rattle.esr_desk.specs.Restore.Parts.{AreFronts, AreExact}
 use Rattle.esr_restore.proofs.Standing.{there_sized, full_sized, same_concat}
 use Rattle.esr_check.specs.Parts.{ReadParts}
 use Rattle.esr_check.specs.Pieces.{HasHeld, HasFile}

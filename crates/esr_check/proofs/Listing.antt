@@ -13,7 +13,7 @@ use Rattle.esr_desk.specs.Start.{Start}
 use Rattle.esr_reach.specs.Names.{AreOnce}
 use Rattle.esr_reach.specs.Members.{has_left, has_right, in_map, once_distinct}
 use Rattle.esr_agreement.proofs.Loops.{next, has_at}
-use Rattle.esr_checking.specs.Caller.{caller_of}
+use Rattle.esr_desk.specs.Own.{caller_of}
 use Rattle.esr_check.specs.Names.{AreUnfetched}
 use Rattle.esr_check.specs.Went.{Went}
 use Rattle.esr_check.proofs.Going.{went_as, went_both, still_new}

@@ -7,14 +7,15 @@ use Rattle.esr_model.specs.Image.{Blobs, Image, IsStored, At, Reads}
 use Rattle.esr_model.specs.Reach.{Reached}
 use Rattle.esr_core.specs.World.{World, Caller, no_caller}
 use Rattle.esr_core.specs.Restores.{WasRead}
-use Rattle.esr_core.specs.Entry.{Read, ReadBlob, CheckedAll, Step, LookStep, ReadStep, Reply, Refused, DepotFault, DeposedAt, WasFetched, WasAbsent, Looked, HasEnded, Moment}
+use Rattle.esr_core.specs.Entry.{Read, ReadBlob, CheckedAll, Step, LookStep, ReadStep, Reply, Refused, DepotFault, DeposedAt, WasFetched, WasAbsent, Looked, HasEnded, Moment, Entry, Refusal}
 use Rattle.esr_core.specs.After.{after, heard, answered, blobs_in, told_blob, caller_told, caller_after}
 use Rattle.esr_core.specs.Allowed as allowed
-use Rattle.esr_core.specs.Allowed.{InReach, SameBlobs, ReadAllows, ReadFound, VerifyAllows, DrawingTest, Allows, Allowed}
+use Rattle.esr_core.specs.Allowed.{InReach, SameBlobs, ReadAllows, ReadFound, VerifyAllows, DrawingTest, Allows, Allowed, Blocks, ByFailedSwap, ByDelete}
+use Rattle.esr_core.specs.Past.{with_entry, entries_by}
 use Rattle.esr_core.specs.History.{world_from, IsLegal}
 use Rattle.esr_desk.specs.Start.{Start, Legal, formats_of, world_of}
 use Rattle.esr_desk.specs.Outcome.{Waited, Stepped}
-use Rattle.esr_checking.specs.Caller.{caller_of}
+use Rattle.esr_desk.specs.Own.{caller_of, made_of}
 use Rattle.esr_check.specs.Went.{Grown, IsSame}
 
 -- ---- histories
@@ -89,11 +90,24 @@ tells f size w who step reply image (allowed.Verifying read rep im a) = verify_t
 tells f size w who step reply image (allowed.Looking im same) = (refl, refl)
 tells f size w who step reply image a = tt
 
+-- a refusal tells nothing
+refused_tells : (f : Formats) (w : World) (step : Step) (refusal : Refusal) → Tells f w step (Refused refusal)
+refused_tells f w (ReadStep (ReadBlob name)) refusal = tt
+refused_tells f w LookStep refusal = tt
+refused_tells f w step refusal = tt
+
+blocked_tells : (f : Formats) (w : World) (who : ℕ) (step : Step) (reply : Reply) (refusal : Refusal) → reply ≡ Refused refusal → Tells f w step reply
+blocked_tells f w who step reply refusal is = subst (λ (r : Reply). Tells f w step r) (sym is) (refused_tells f w step refusal)
+
+block_alive : (w : World) (who : ℕ) (step : Step) (refusal : Refusal) → Blocks w who step refusal → ((place : ℕ) → refusal ≡ DeposedAt place → ⊥) → w.deposed ≡ false
+block_alive w who step refusal (ByFailedSwap place deposed) live = absurd (live place refl)
+block_alive w who step refusal (ByDelete op deposed aborted) live = deposed
+
 -- one that isn't the refusal of a deposed world is given by one that isn't deposed
 told_by : (f : Formats) (size : ℕ) (w : World) (m : Moment) → ((place : ℕ) → m.entry.reply ≡ Refused (DeposedAt place) → ⊥) → Allowed f size w m → (w.deposed ≡ false) × Tells f w m.entry.step m.entry.reply
 told_by f size w m live a = elim a.answered [
   | inl alive ↦ (alive.0, tells f size w m.entry.who m.entry.step m.entry.reply m.image alive.1)
-  | inr dead ↦ absurd (live dead.place dead.refused)
+  | inr b ↦ (block_alive w m.entry.who m.entry.step b.refusal b.blocks (λ place is. live place (b.refused ∙ ap (λ (r : Refusal). Refused r) is)), blocked_tells f w m.entry.who m.entry.step m.entry.reply b.refusal b.refused)
 ]
 
 -- ---- one step
@@ -146,12 +160,12 @@ module _ (s : Start) (old new : List Moment) (name : BlobName) (reply : Reply) (
   moment = moment_of s old new (ReadStep (ReadBlob name)) reply alone h
 
   abbrev left_world : World
-  left_world = heard (formats_of s) (record (world_of s old) { blobs = blobs_in h.image (world_of s old).blobs }) moment
+  left_world = record (heard (formats_of s) (record (world_of s old) { blobs = blobs_in h.image (world_of s old).blobs }) moment) { entries = with_entry (world_of s old).entries moment.entry }
 
   pub fetch_world : world_of s new ≡ left_world
   fetch_world =
       world_is s old new (ReadStep (ReadBlob name)) reply alone h
-      ∙ ap (λ (v : World). heard (formats_of s) (record v { blobs = blobs_in h.image (world_of s old).blobs }) moment) (answered_fetch (formats_of s) (world_of s old) name reply h.image)
+      ∙ ap (λ (v : World). record (heard (formats_of s) (record v { blobs = blobs_in h.image (world_of s old).blobs }) moment) { entries = with_entry (world_of s old).entries moment.entry }) (answered_fetch (formats_of s) (world_of s old) name reply h.image)
 
   pub fetch_blobs : SameBlobs (world_of s old) h.image
   fetch_blobs = left_by (formats_of s) s.part_size (world_of s old) moment (allowed_at s old new (ReadStep (ReadBlob name)) reply alone h)
@@ -198,7 +212,10 @@ abbrev pub looked_caller : Caller
 looked_caller = record no_caller { looked = true }
 
 module _ (s : Start) (old new : List Moment) (snapshots : List RootSnap) (safe : ℕ) (alone : s.alone ≡ true) (h : Stepped s old new 0 LookStep (Looked snapshots safe)) where
-  look_world : world_of s new ≡ record (record (world_of s old) { blobs = blobs_in h.image (world_of s old).blobs }) { caller = looked_caller }
+  abbrev look_entry : Entry
+  look_entry = record { who = 0; step = LookStep; reply = Looked snapshots safe }
+
+  look_world : world_of s new ≡ record (record (record (world_of s old) { blobs = blobs_in h.image (world_of s old).blobs }) { caller = looked_caller }) { entries = look_entry ∷ (world_of s old).entries }
   look_world = world_is s old new LookStep (Looked snapshots safe) alone h
 
   look_told : ((world_of s old).deposed ≡ false) × ((snapshots ≡ (world_of s old).root.snapshots) × (safe ≡ (world_of s old).safe))
@@ -206,6 +223,10 @@ module _ (s : Start) (old new : List Moment) (snapshots : List RootSnap) (safe :
 
   pub look_caller : caller_of s new ≡ looked_caller
   look_caller = ap (λ (w : World). w.caller) look_world
+
+  -- it began anew
+  pub look_made : made_of s new 0 ≡ []
+  look_made = ap (λ (w : World). entries_by w.entries 0) look_world
 
   pub look_alive : (world_of s new).deposed ≡ false
   look_alive = ap (λ (w : World). w.deposed) look_world ∙ look_told.0
@@ -225,7 +246,9 @@ module _ (s : Start) (old new : List Moment) (snapshots : List RootSnap) (safe :
 -- ---- the end of a check
 
 module _ (s : Start) (old new : List Moment) (snapshots blobs : ℕ) (alone : s.alone ≡ true) (h : Stepped s old new 0 (ReadStep (CheckedAll snapshots blobs)) HasEnded) where
-  end_world : world_of s new ≡ record (record (world_of s old) { blobs = blobs_in h.image (world_of s old).blobs }) { caller = no_caller }
+  end_world :
+      world_of s new
+      ≡ record (record (record (world_of s old) { blobs = blobs_in h.image (world_of s old).blobs }) { caller = no_caller }) { entries = record { who = 0; step = ReadStep (CheckedAll snapshots blobs); reply = HasEnded } ∷ (world_of s old).entries }
   end_world = world_is s old new (ReadStep (CheckedAll snapshots blobs)) HasEnded alone h
 
   pub end_blobs : (world_of s new).blobs ≡ (world_of s old).blobs

@@ -18,8 +18,8 @@ use Rattle.esr_shardidx.specs.declared.entry.FileEntry.{FileEntry as CodeEntry}
 use Rattle.esr_shardidx.specs.Parts.{part_count as code_count}
 use Rattle.esr_formats.specs.Shards.{entry_of}
 use Rattle.esr_desk.specs.Start.{Start}
-use Rattle.esr_checking.specs.Caller.{caller_of}
-use Rattle.esr_reading.specs.Parts.{sized, sized_parts, IsFront}
+use Rattle.esr_desk.specs.Own.{caller_of}
+use Rattle.esr_desk.specs.Restore.Parts.{sized, sized_parts, IsFront}
 use Rattle.esr_reach.specs.Members.{has_push}
 use Rattle.esr_restore.proofs.Pairs.{pairs_push, pairs_pop, pairs_map}
 use Rattle.esr_restore.proofs.Sizes.{blob_name, size_of, sizes, sizes_next, sizes_all}

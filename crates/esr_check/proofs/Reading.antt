@@ -28,10 +28,11 @@ use Rattle.esr_formats.specs.Globals.{global_kind}
 use Rattle.esr_formats.specs.IndexMetas.{index_meta_kind}
 use Rattle.esr_formats.specs.Shards.{shard_snap_kind, shard_index_kind}
 use Rattle.esr_desk.specs.Start.{Start, formats_of}
-use Rattle.esr_checking.specs.Caller.{caller_of}
-use Rattle.esr_checking.specs.CheckShown.{HasFetched, ReadAs}
-use Rattle.esr_check.specs.declared.trouble.Trouble.{Trouble}
-use Rattle.esr_check.specs.Trouble.{Shown, unread}
+use Rattle.esr_desk.specs.Own.{caller_of}
+use Rattle.esr_desk.specs.Check.Shown.{HasFetched, ReadAs}
+use Rattle.esr_unit.specs.declared.trouble.Trouble.{Trouble}
+use Rattle.esr_unit.specs.Ending.{unread_as}
+use Rattle.esr_check.specs.Trouble.{Shown}
 
 -- ---- names of the layout
 
@@ -91,38 +92,38 @@ module _ (s : Start) (c : Caller) (name : BlobName) (bytes read : Bytes) (same :
 
 -- ---- they don't
 
-module _ {F : Type 0} (faults : F → ℕ) (s : Start) (log : List Moment) (bytes read : Bytes) (refusal : ReadRefusal) (trouble : Trouble F) (same : read ≡ bytes) where
-  by_refusal : (name : CodeName) (r : ReadRefusal) → HasFetched s (caller_of s log) (name_of name) bytes → ((why : Reason) → r ≡ reads.Damaged why → unreadable (name_of name) bytes ≡ Some (reason_of why)) → Shown faults s log (unread {F = F} name r)
+module _ {S F : Type 0} (faults : F → ℕ) (s : Start) (log : List Moment) (bytes read : Bytes) (refusal : ReadRefusal) (trouble : Trouble S F) (same : read ≡ bytes) where
+  by_refusal : (name : CodeName) (r : ReadRefusal) → HasFetched s (caller_of s log) (name_of name) bytes → ((why : Reason) → r ≡ reads.Damaged why → unreadable (name_of name) bytes ≡ Some (reason_of why)) → Shown faults s log (unread_as {S = S} {F = F} name r)
   by_refusal name reads.Memory fetched h = tt
   by_refusal name (reads.Damaged why) fetched h = (bytes, fetched, h why refl)
 
-  unread_shown : (name : CodeName) → trouble ≡ unread name refusal → HasFetched s (caller_of s log) (name_of name) bytes → ((why : Reason) → refusal ≡ reads.Damaged why → unreadable (name_of name) bytes ≡ Some (reason_of why)) → Shown faults s log trouble
-  unread_shown name is fetched h = subst (λ (t : Trouble F). Shown faults s log t) (sym is) (by_refusal name refusal fetched h)
+  unread_shown : (name : CodeName) → trouble ≡ unread_as name refusal → HasFetched s (caller_of s log) (name_of name) bytes → ((why : Reason) → refusal ≡ reads.Damaged why → unreadable (name_of name) bytes ≡ Some (reason_of why)) → Shown faults s log trouble
+  unread_shown name is fetched h = subst (λ (t : Trouble S F). Shown faults s log t) (sym is) (by_refusal name refusal fetched h)
 
   -- the reason that the reader gave is that of the reading
   first_reason : {C : Type 0} (from : Bytes → Result C Reason) → Fails refusal (from read) → (why : Reason) → refusal ≡ reads.Damaged why → refused (from bytes) ≡ Some (reason_of why)
   first_reason from fails why is = subst (λ (b : Bytes). refused (from b) ≡ Some (reason_of why)) same (refused_for (from read) refusal why is fails)
 
-  pub root_unread : (n : ℕ) → trouble ≡ unread (names.Root n) refusal → HasFetched s (caller_of s log) (name_of (names.Root n)) bytes → Fails refusal (root_from read) → Shown faults s log trouble
+  pub root_unread : (n : ℕ) → trouble ≡ unread_as (names.Root n) refusal → HasFetched s (caller_of s log) (name_of (names.Root n)) bytes → Fails refusal (root_from read) → Shown faults s log trouble
   unfolding unreadable
   root_unread n is fetched fails = unread_shown (names.Root n) is fetched (first_reason root_from fails)
 
-  pub info_unread : (u : Id) → trouble ≡ unread (names.Snap u) refusal → HasFetched s (caller_of s log) (name_of (names.Snap u)) bytes → Fails refusal (info_from read) → Shown faults s log trouble
+  pub info_unread : (u : Id) → trouble ≡ unread_as (names.Snap u) refusal → HasFetched s (caller_of s log) (name_of (names.Snap u)) bytes → Fails refusal (info_from read) → Shown faults s log trouble
   unfolding unreadable
   info_unread u is fetched fails = unread_shown (names.Snap u) is fetched (first_reason info_from fails)
 
-  pub global_unread : (u : Id) → trouble ≡ unread (names.Meta u) refusal → HasFetched s (caller_of s log) (name_of (names.Meta u)) bytes → Fails refusal (global_from read) → Shown faults s log trouble
+  pub global_unread : (u : Id) → trouble ≡ unread_as (names.Meta u) refusal → HasFetched s (caller_of s log) (name_of (names.Meta u)) bytes → Fails refusal (global_from read) → Shown faults s log trouble
   unfolding unreadable
   global_unread u is fetched fails = unread_shown (names.Meta u) is fetched (first_reason global_from fails)
 
-  pub meta_unread : (i u : Id) → trouble ≡ unread (names.IndexMeta i u) refusal → HasFetched s (caller_of s log) (name_of (names.IndexMeta i u)) bytes → Fails refusal (index_meta_from read) → Shown faults s log trouble
+  pub meta_unread : (i u : Id) → trouble ≡ unread_as (names.IndexMeta i u) refusal → HasFetched s (caller_of s log) (name_of (names.IndexMeta i u)) bytes → Fails refusal (index_meta_from read) → Shown faults s log trouble
   unfolding unreadable
   meta_unread i u is fetched fails = unread_shown (names.IndexMeta i u) is fetched (first_reason index_meta_from fails)
 
-  pub snap_unread : (at : ShardId) (u : Id) → trouble ≡ unread (names.ShardSnap at u) refusal → HasFetched s (caller_of s log) (name_of (names.ShardSnap at u)) bytes → Fails refusal (shard_snap_from read) → Shown faults s log trouble
+  pub snap_unread : (at : ShardId) (u : Id) → trouble ≡ unread_as (names.ShardSnap at u) refusal → HasFetched s (caller_of s log) (name_of (names.ShardSnap at u)) bytes → Fails refusal (shard_snap_from read) → Shown faults s log trouble
   unfolding unreadable
   snap_unread at u is fetched fails = unread_shown (names.ShardSnap at u) is fetched (first_reason shard_snap_from fails)
 
-  pub held_unread : (at : ShardId) (g : Id) → trouble ≡ unread (names.ShardIndex at g) refusal → HasFetched s (caller_of s log) (name_of (names.ShardIndex at g)) bytes → Fails refusal (shard_index_from read) → Shown faults s log trouble
+  pub held_unread : (at : ShardId) (g : Id) → trouble ≡ unread_as (names.ShardIndex at g) refusal → HasFetched s (caller_of s log) (name_of (names.ShardIndex at g)) bytes → Fails refusal (shard_index_from read) → Shown faults s log trouble
   unfolding unreadable
   held_unread at g is fetched fails = unread_shown (names.ShardIndex at g) is fetched (first_reason shard_index_from fails)

@@ -1,27 +1,31 @@
 -- Steps of a check that were refused, and objects that failed.
-use Rattle.std.proofs.Common.{◌≡◌, ◌⊎◌, inl, inr, ⊎_elim, ℕ, Bool, true, false, List, [], ◌∷◌, ◌++◌, Option, Some, None, Result, Ok, Err, IfErr, OnOk, refl, sym, ap, ◌∙◌, subst, arith}
+use Rattle.std.proofs.Common.{◌≡◌, ◌⊎◌, inl, inr, ⊎_elim, ℕ, ◌≤◌, Bool, true, false, List, [], ◌∷◌, ◌++◌, append_assoc, Option, Some, None, Result, Ok, Err, IfErr, OnOk, refl, sym, ap, ◌∙◌, subst, arith}
 use Rattle.std.specs.Result.{IsErr, IsErrAnd, is_err}
 use Rattle.std.proofs.lemmas.Bool.{cases_Bool}
 use Rattle.esr_depot.specs.Calls.{HasCause, has_failed}
 use Rattle.esr_depot.specs.declared.error.CallError.{CallError}
 use Rattle.esr_depot.specs.declared.error.CallError.TheVariants.{Failed}
 use Rattle.esr_model.specs.Names.{BlobName}
-use Rattle.esr_core.specs.Entry.{ReadBlob, CheckedAll, ReadFails, Entry, Step, LookStep, ReadStep, Reply, WasAbsent, Refusal, DeposedAt, DepotFault, Refused, Moment}
-use Rattle.esr_core.specs.Refusing.{MayRefuse, ReadFault, SaysDeposed}
+use Rattle.esr_core.specs.Entry.{ReadBlob, CheckedAll, ReadFails, Entry, Step, LookStep, ReadStep, Reply, WasAbsent, Refusal, DeposedAt, AbortedBy, DepotFault, Refused, Moment}
+use Rattle.esr_core.specs.World.{World}
+use Rattle.esr_core.specs.Allowed.{Blocks, ByFailedSwap, ByDelete}
+use Rattle.esr_core.specs.Refusing.{MayRefuse, ReadFault}
 use Rattle.esr_desk.specs.declared.refusal.EntryRefusal.{EntryRefusal}
 use Rattle.esr_desk.specs.declared.refusal.EntryRefusal.TheVariants as refusals
 use Rattle.esr_desk.specs.declared.refusal.StepRefusal.{StepRefusal}
 use Rattle.esr_desk.specs.declared.refusal.StepRefusal.TheVariants as steps
-use Rattle.esr_desk.specs.Refusals.{refusal_of, told_refusal}
-use Rattle.esr_desk.specs.Start.{Start, formats_of, world_of, Legal}
-use Rattle.esr_desk.specs.Outcome.{Stepped, Refusing, Spends, fetch_reply}
-use Rattle.esr_desk.specs.Shown.{Faulty}
-use Rattle.esr_checking.specs.CheckShown.{AllFetches, HadAnswer}
-use Rattle.esr_check.specs.Law.{RefusesSo}
+use Rattle.esr_desk.specs.Refusals.{refusal_of}
+use Rattle.esr_desk.specs.Start.{Start, world_of}
+use Rattle.esr_desk.specs.Outcome.{Stepped, Grounds, fetch_reply}
+use Rattle.esr_desk.specs.Evidence.{Faulty}
+use Rattle.esr_desk.specs.Check.Shown.{AllFetches}
+use Rattle.esr_unit.specs.Fetch.{IsRefusedBy}
+use Rattle.esr_unit.specs.Refusals.{RefusesSo, last_refused}
+use Rattle.esr_reach.specs.Members.{has_right}
 use Rattle.esr_check.specs.Checked.{AreFetched}
 use Rattle.esr_check.specs.Went.{IsAlive, IsSoFar}
-use Rattle.esr_check.specs.Trouble.{IsFetchRefusal}
-use Rattle.esr_check.proofs.Living.{legal_last, front_is, moment_of, stepped_is}
+use Rattle.esr_check.specs.Trouble.{HadAnswer, IsFetchRefusal}
+use Rattle.esr_check.proofs.Living.{front_is, moment_of, stepped_is}
 
 contra : (b : Bool) → b ≡ true → b ≡ false → ⊥
 contra b x y = cc (x, y)
@@ -53,24 +57,39 @@ how_refused step refusal may = tt
 abbrev pub IsDeposal : Refusal → Type 0
 IsDeposal refusal = (place : ℕ) × (refusal ≡ DeposedAt place)
 
+-- as a delete aborted the op of who made it
+abbrev pub IsAbort : Refusal → Type 0
+IsAbort (AbortedBy op) = Unit {0}
+IsAbort refusal = ⊥
+
+block_so : (w : World) (who : ℕ) (step : Step) (refusal : Refusal) → Blocks w who step refusal → IsDeposal refusal ⊎ IsAbort refusal
+block_so w who step refusal (ByFailedSwap place deposed) = inl (place, refl)
+block_so w who step refusal (ByDelete op deposed aborted) = inr tt
+
+live_block : (w : World) (who : ℕ) (step : Step) (refusal : Refusal) → w.deposed ≡ false → Blocks w who step refusal → IsAbort refusal
+live_block w who step refusal alive (ByFailedSwap place deposed) = absurd (contra w.deposed deposed alive)
+live_block w who step refusal alive (ByDelete op deposed aborted) = tt
+
 -- by the law
-pub refused_so : RefusesSo → (s : Start) (old new : List Moment) (step : Step) (refusal : Refusal) → Stepped s old new 0 step (Refused refusal) → IsDeposal refusal ⊎ HowRefused step refusal
-refused_so law s old new step refusal h =
-    let m : Moment = record { entry = record { who = 0; step = step; reply = Refused refusal }; image = h.image } in
-    ⊎_elim
-    (λ (dead : SaysDeposed (world_of s h.front) refusal). inl (dead.place, dead.is))
-    (λ (may : MayRefuse step refusal). inr (how_refused step refusal may))
-    (law (formats_of s) s.part_size (world_of s h.front) m refusal (legal_last (formats_of s) s.part_size s.world h.front m (subst (Legal s) h.is h.legal)) refl)
+pub refused_so : RefusesSo → (s : Start) (old new : List Moment) (step : Step) (refusal : Refusal) → Stepped s old new 0 step (Refused refusal) → IsDeposal refusal ⊎ (IsAbort refusal ⊎ HowRefused step refusal)
+refused_so law s old new step refusal h = ⊎_elim
+    (λ (blocks : Blocks (world_of s h.front) 0 step refusal). ⊎_elim (λ (dead : IsDeposal refusal). inl dead) (λ (abort : IsAbort refusal). inr (inl abort)) (block_so (world_of s h.front) 0 step refusal blocks))
+    (λ (may : MayRefuse step refusal). inr (inr (how_refused step refusal may)))
+    (last_refused law s old new 0 step refusal h)
 
 -- in a world that isn't deposed
-pub live_refusal : RefusesSo → (s : Start) (old new : List Moment) (step : Step) (refusal : Refusal) → s.alone ≡ true → IsAlive s old → Stepped s old new 0 step (Refused refusal) → HowRefused step refusal
+pub live_refusal : RefusesSo → (s : Start) (old new : List Moment) (step : Step) (refusal : Refusal) → s.alone ≡ true → IsAlive s old → Stepped s old new 0 step (Refused refusal) → IsAbort refusal ⊎ HowRefused step refusal
 live_refusal law s old new step refusal alone alive h =
     let now : IsAlive s h.front = ap (λ (log : List Moment). (world_of s log).deposed) (front_is s old h.front 0 alone h.waited) ∙ alive in
-    let m : Moment = record { entry = record { who = 0; step = step; reply = Refused refusal }; image = h.image } in
     ⊎_elim
-    (λ (dead : SaysDeposed (world_of s h.front) refusal). absurd (contra (world_of s h.front).deposed dead.deposed now))
-    (λ (may : MayRefuse step refusal). how_refused step refusal may)
-    (law (formats_of s) s.part_size (world_of s h.front) m refusal (legal_last (formats_of s) s.part_size s.world h.front m (subst (Legal s) h.is h.legal)) refl)
+    (λ (blocks : Blocks (world_of s h.front) 0 step refusal). inl (live_block (world_of s h.front) 0 step refusal now blocks))
+    (λ (may : MayRefuse step refusal). inr (how_refused step refusal may))
+    (last_refused law s old new 0 step refusal h)
+
+-- no delete aborts a step of who 0
+pub never_aborted : (s : Start) (log : List Moment) (x : EntryRefusal) → IsAbort (refusal_of x) → Grounds s log 0 (steps.Refused x) → ⊥
+never_aborted s log (refusals.Aborted op) is grounds = let ticket : 1 ≤ 0 = grounds.ticket in omega (arith, ticket)
+never_aborted s log x is grounds = is
 
 -- ---- a fetch
 
@@ -79,36 +98,41 @@ fetched_all [] names are = tt
 fetched_all (m ∷ moments) [] are = absurd are
 fetched_all (m ∷ moments) (n ∷ names) are = (ap (λ (e : Entry). e.who) are.0, (n, ap (λ (e : Entry). e.step) are.0), fetched_all moments names are.1)
 
+all_push : (moments : List Moment) (m : Moment) → AllFetches moments → m.entry.who ≡ 0 → (name : BlobName) × (m.entry.step ≡ ReadStep (ReadBlob name)) → AllFetches (moments ++ m ∷ [])
+all_push [] m all of step = (of, step, tt)
+all_push (x ∷ moments) m all of step = (all.0, all.1, all_push moments m all.2 of step)
+
 -- one of the check that is open was answered so
 pub had_answer : (s : Start) (old new : List Moment) (count : ℕ) (name : BlobName) (reply : Reply) → s.alone ≡ true → IsSoFar s old count → Stepped s old new 0 (ReadStep (ReadBlob name)) reply → HadAnswer new name reply
 had_answer s old new count name reply alone so h =
     let m = moment_of s old new (ReadStep (ReadBlob name)) reply alone h in
     let was = so.looked in
     record {
-      before = was.before;
-      look = was.look;
-      between = was.fetches;
-      moment = m;
-      back = [];
-      is = stepped_is s old new (ReadStep (ReadBlob name)) reply alone h ∙ ap (λ (log : List Moment). log ++ m ∷ []) was.is;
-      looker = was.looker;
-      looks = was.looks;
-      earlier = fetched_all was.fetches so.names was.are;
-      of = refl;
-      step = refl;
-      reply_is = refl;
-      later = tt;
+      since = record {
+        before = was.before;
+        look = was.look;
+        fetches = was.fetches ++ m ∷ [];
+        is = stepped_is s old new (ReadStep (ReadBlob name)) reply alone h ∙ ap (λ (log : List Moment). log ++ m ∷ []) was.is ∙ append_assoc was.before (was.look ∷ was.fetches) (m ∷ []);
+        looker = was.looker;
+        looks = was.looks;
+        all = all_push was.fetches m (fetched_all was.fetches so.names was.are) refl (name, refl);
+      };
+      had = record { image = h.image; there = has_right was.fetches (m ∷ []) m (inl refl) };
     }
 
-entry_refused : (s : Start) (new : List Moment) (name : BlobName) (x : EntryRefusal) → IsFault (refusal_of x) → HadAnswer new name (Refused (refusal_of x)) → IsFetchRefusal s new (steps.Refused x)
-entry_refused s new name refusals.DepotFault how had = (name, had)
-entry_refused s new name x how had = absurd how
+entry_refused : (s : Start) (new : List Moment) (name : BlobName) (x : EntryRefusal) → IsFault (refusal_of x) → HadAnswer new name (Refused (refusal_of x)) → Grounds s new 0 (steps.Refused x) → IsFetchRefusal s new (steps.Refused x)
+entry_refused s new name refusals.DepotFault how had grounds = ((name, had), grounds)
+entry_refused s new name x how had grounds = absurd how
 
-pub fetch_refused : RefusesSo → (s : Start) (old new : List Moment) (count : ℕ) (name : BlobName) (e : StepRefusal) → s.alone ≡ true → IsSoFar s old count → Refusing s old new 0 (ReadStep (ReadBlob name)) (told_refusal e) × Spends s new e → IsFetchRefusal s new e
+pub fetch_refused : RefusesSo → (s : Start) (old new : List Moment) (count : ℕ) (name : BlobName) (e : StepRefusal) → s.alone ≡ true → IsSoFar s old count → IsRefusedBy s old new 0 (ReadStep (ReadBlob name)) e → IsFetchRefusal s new e
 fetch_refused law s old new count name steps.Memory alone so h = tt
 fetch_refused law s old new count name steps.TurnsSpent alone so h = h.1
 fetch_refused law s old new count name (steps.Refused x) alone so h =
-    entry_refused s new name x (live_refusal law s old new (ReadStep (ReadBlob name)) (refusal_of x) alone so.alive h.0) (had_answer s old new count name (Refused (refusal_of x)) alone so h.0)
+    let how : IsFault (refusal_of x) = ⊎_elim
+    (λ (abort : IsAbort (refusal_of x)). absurd (never_aborted s new x abort h.1))
+    (λ (how : HowRefused (ReadStep (ReadBlob name)) (refusal_of x)). how)
+    (live_refusal law s old new (ReadStep (ReadBlob name)) (refusal_of x) alone so.alive h.0) in
+    entry_refused s new name x how (had_answer s old new count name (Refused (refusal_of x)) alone so h.0) h.1
 
 -- none is there
 pub absent : {F : Type 0} (o : Option F) (s : Start) (old new : List Moment) (count : ℕ) (name : BlobName) → o ≡ None → s.alone ≡ true → IsSoFar s old count → Stepped s old new 0 (ReadStep (ReadBlob name)) (fetch_reply o) → HadAnswer new name WasAbsent

@@ -10,8 +10,8 @@ use Rattle.esr_model.specs.Image.{AllPairs, Lists, at_shard}
 use Rattle.esr_core.specs.World.{Caller}
 use Rattle.esr_core.specs.Entry.{Moment}
 use Rattle.esr_desk.specs.Start.{Start, formats_of}
-use Rattle.esr_checking.specs.Caller.{caller_of}
-use Rattle.esr_checking.specs.CheckShown.{ReadAs, Disagree, IndexBeside, SnapBeside}
+use Rattle.esr_desk.specs.Own.{caller_of}
+use Rattle.esr_desk.specs.Check.Shown.{ReadAs, Disagree, IndexBeside, SnapBeside}
 use Rattle.esr_reach.proofs.Shards.{at_push}
 use Rattle.esr_agreement.specs.Lists.{HaveShard, IsUnlisted}
 use Rattle.esr_agreement.proofs.Loops.{next as next_item}

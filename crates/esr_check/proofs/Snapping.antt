@@ -11,8 +11,8 @@ use Rattle.esr_model.specs.Agreement.{Agrees}
 use Rattle.esr_core.specs.World.{Caller}
 use Rattle.esr_core.specs.Entry.{Moment}
 use Rattle.esr_desk.specs.Start.{Start, formats_of}
-use Rattle.esr_checking.specs.Caller.{caller_of}
-use Rattle.esr_checking.specs.CheckShown.{ReadAs, Disagree, InfoBeside, GlobalBeside, IndexMetaBeside}
+use Rattle.esr_desk.specs.Own.{caller_of}
+use Rattle.esr_desk.specs.Check.Shown.{ReadAs, Disagree, InfoBeside, GlobalBeside, IndexMetaBeside}
 use Rattle.esr_agreement.proofs.Loops.{next as next_item}
 use Rattle.esr_restore.proofs.Pairs.{pairs_push}
 use Rattle.esr_check.specs.Went.{Grown, Went}

@@ -2,7 +2,8 @@
 use Rattle.std.specs.Prelude.{◌≡◌, ◌≢◌, ℕ, List, ◌∷◌, [], ◌++◌, Result, Ok, Err}
 use Rattle.esr_model.specs.Values.{Has}
 use Rattle.esr_core.specs.Entry.{Read, ReadBlob, RestoredShard, CheckedAll, DrawTest, BeginTest, CommitTest, RemoveTests, VerifiedAll, ReadFails, LookStep, ReadStep, HasEnded, Moment}
-use Rattle.esr_checking.specs.CheckShown.{AllFetches}
+use Rattle.esr_desk.specs.Start.{Start, Legal}
+use Rattle.esr_desk.specs.Check.Shown.{AllFetches}
 use Rattle.esr_desk.specs.declared.unit.UnitRefusal.{UnitRefusal}
 use Rattle.esr_desk.specs.declared.unit.UnitRefusal.TheVariants as units
 use Rattle.esr_desk.specs.declared.refusal.StepRefusal.TheVariants as steps
@@ -23,6 +24,13 @@ IsOfCheck VerifiedAll = ⊥
 abbrev pub AllOfCheck : List Moment → Type 0
 AllOfCheck [] = Unit {0}
 AllOfCheck (m ∷ more) = (m.entry.who ≡ 0) × ((read : Read) × (m.entry.step ≡ ReadStep read) × IsOfCheck read) × AllOfCheck more
+
+-- the history went on by further steps of the check
+pub record GrewOfCheck (s : Start) (old new : List Moment) : Type 0 where
+  pub more : List Moment
+  pub is : new ≡ old ++ more
+  pub legal : Legal s old → Legal s new
+  pub all : AllOfCheck more
 
 -- the history went on by a look and further steps of its check
 pub record HasBegun (old new : List Moment) : Type 0 where
@@ -45,6 +53,7 @@ AsksOne old new (Err (units.Failed why)) = HasBegun old new
 AsksOne old new (Err (units.Stopped (steps.Refused refusal))) = HasBegun old new
 AsksOne old new (Err (units.Stopped steps.Memory)) = BeganOne old new
 AsksOne old new (Err (units.Stopped steps.TurnsSpent)) = BeganOne old new
+AsksOne old new (Err units.Stale) = ⊥
 
 -- no check ended well in what was added
 pub record NoneChecked (old new : List Moment) : Type 0 where

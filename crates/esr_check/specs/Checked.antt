@@ -8,7 +8,7 @@ use Rattle.esr_core.specs.Restores.{AreOnce}
 use Rattle.esr_core.specs.Allowed.{InReach, IsWhole, CheckedBy}
 use Rattle.esr_core.specs.Entry.{LookStep, ReadStep, ReadBlob, CheckedAll, Looked, WasFetched, HasEnded, Moment}
 use Rattle.esr_desk.specs.Start.{Start, formats_of, world_of}
-use Rattle.esr_checking.specs.Caller.{caller_of}
+use Rattle.esr_desk.specs.Own.{caller_of}
 
 -- the last of so many roots up to the safe one, if there is any
 abbrev pub last_root : ℤ → Option ℕ

@@ -1,4 +1,3 @@
-pub mod Law
 pub mod Names
 pub mod Began
 pub mod Checked
@@ -6,6 +5,4 @@ pub mod Went
 pub mod Pieces
 pub mod Parts
 pub mod Trouble
-pub mod Cause
 pub mod Refused
-pub mod Fails

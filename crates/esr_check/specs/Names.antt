@@ -5,7 +5,7 @@ use Rattle.esr_model.specs.Values.{Has}
 use Rattle.esr_core.specs.World.{Caller}
 use Rattle.esr_core.specs.Entry.{Moment}
 use Rattle.esr_desk.specs.Start.{Start}
-use Rattle.esr_checking.specs.Caller.{caller_of}
+use Rattle.esr_desk.specs.Own.{caller_of}
 
 -- whichever
 abbrev pub IsAny : BlobName → Type 0

@@ -13,7 +13,7 @@ use Rattle.esr_parts.specs.Reads.{Fed}
 use Rattle.esr_shardidx.specs.declared.entry.FileEntry.{FileEntry as CodeEntry}
 use Rattle.esr_formats.specs.Shards.{entry_of}
 use Rattle.esr_desk.specs.Start.{Start}
-use Rattle.esr_reading.specs.Parts.{IsFront, AreFronts, AreExact}
+use Rattle.esr_desk.specs.Restore.Parts.{IsFront, AreFronts, AreExact}
 
 -- a part was read, to one byte past its size at most, and hashed; whether it has exactly that size
 pub record ReadPart (s : Start) (c : Caller) (hasher_old hasher_new : Hasher) (name : BlobName) (size : ℕ) (exact : Bool) : Type 0 where

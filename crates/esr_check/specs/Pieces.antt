@@ -9,8 +9,8 @@ use Rattle.esr_core.specs.World.{Caller}
 use Rattle.esr_core.specs.Restores.{WasRead}
 use Rattle.esr_core.specs.Entry.{Moment}
 use Rattle.esr_desk.specs.Start.{Start, formats_of, world_of}
-use Rattle.esr_checking.specs.Caller.{caller_of}
-use Rattle.esr_checking.specs.CheckShown.{ReadAs}
+use Rattle.esr_desk.specs.Own.{caller_of}
+use Rattle.esr_desk.specs.Check.Shown.{ReadAs}
 use Rattle.esr_agreement.specs.Lists.{IsOf, AreKept}
 
 -- the safe root, of this generation, was read, and is this

@@ -6,11 +6,11 @@ use Rattle.esr_model.specs.Image.{At}
 use Rattle.esr_core.specs.World.{World, Caller}
 use Rattle.esr_core.specs.Restores.{AreOnce, WasRead}
 use Rattle.esr_core.specs.Allowed.{IsChecking, InReach}
-use Rattle.esr_core.specs.Entry.{LookStep, Moment}
+use Rattle.esr_core.specs.Entry.{ReadBlob, LookStep, ReadStep, Entry, Moment}
 use Rattle.esr_desk.specs.Grew.{GrewBy}
 use Rattle.esr_desk.specs.Start.{Start, Legal, formats_of, told_bytes, world_of}
-use Rattle.esr_checking.specs.Caller.{caller_of}
-use Rattle.esr_checking.specs.CheckShown.{AllFetches}
+use Rattle.esr_desk.specs.Own.{caller_of, made_of}
+use Rattle.esr_desk.specs.Check.Shown.{AllFetches}
 use Rattle.esr_check.specs.Checked.{AreFetched}
 use Rattle.esr_check.specs.Names.{FetchesOnly}
 
@@ -38,6 +38,7 @@ pub record IsSoFar (s : Start) (log : List Moment) (count : ℕ) : Type 0 where
   pub is_open : IsChecking (world_of s log)
   pub names : List BlobName
   pub looked : HasLooked s log names
+  pub made : (e : Entry) (name : BlobName) → Has (made_of s log 0) e → e.step ≡ ReadStep (ReadBlob name) → Has names name
   pub count_is : count ≡ length names
   pub counted : count ≡ length (caller_of s log).found
   pub within : count ≤ length log

@@ -3,24 +3,21 @@ ghost use Rattle.std.specs.Prelude.{◌≡◌, ◌<◌, ◌^◌, [], suc, true, 
 ghost use Rattle.esr_formats.specs.Clusters.{count_of};
 ghost use Rattle.esr_desk.specs.Grew.{GrewBy};
 ghost use Rattle.esr_desk.specs.Start.{world_of};
-ghost use Rattle.esr_checking.specs.Caller.{caller_of};
+ghost use Rattle.esr_desk.specs.Own.{caller_of};
+ghost use Rattle.esr_desk.specs.Evidence.{evidence};
 ghost use Rattle.esr_check.specs.Began.{AsksOne, NoneChecked};
-ghost use Rattle.esr_check.specs.Cause.{cause_by};
 ghost use Rattle.esr_check.specs.Checked.{last_root, HasChecked, HasReadAll};
-ghost use Rattle.esr_check.specs.Fails.{MayFail, FailsBy, GrewOfCheck};
 ghost use Rattle.esr_check.specs.Names.{IsAny};
 ghost use Rattle.esr_check.specs.Refused.{IsCheckRefused};
 ghost use Rattle.esr_check.specs.Trouble.{Shown};
 ghost use Rattle.esr_check.specs.Went.{IsSoFar, Went};
 
-use crate::cause::cause_of;
 use crate::index::check_indices;
 use crate::law::laws;
 use crate::root::fetch_root;
 use crate::snap::check_snaps;
-use crate::trouble::Trouble;
-use esr_checking::CheckDesk;
-use esr_desk::{Desk, Look, UnitRefusal};
+use esr_desk::{Client, Hand, Look, UnitRefusal};
+use esr_unit::{Trouble, ending_of, give_up};
 use std::alloc::Global;
 
 /// What a check has read: so many listed snapshots, and so many blobs.
@@ -46,11 +43,11 @@ fn last_root(safe: i64) -> Option<u64>
 }
 
 /// Reads the safe root, of this generation, and all that it reaches, once each, and answers how many blobs these are.
-fn read_root<Q: CheckDesk>(
+fn read_root<Q: Client>(
     alloc: Global,
     desk: &mut Q,
     number: u64,
-) -> Result<u64, Trouble<Q::Fetch>>
+) -> Result<u64, Trouble<Q::Stage, Q::Fetch>>
     requires alone { Q.start.alone ≡ true }
     requires number { number < 2 ^ 63 }
     requires safe { (world_of Q.start (Q.seen desk.old)).safe ≡ suc number }
@@ -69,7 +66,11 @@ fn read_root<Q: CheckDesk>(
 }
 
 /// The same; none where there is no root.
-fn read_all<Q: CheckDesk>(alloc: Global, desk: &mut Q, safe: i64) -> Result<u64, Trouble<Q::Fetch>>
+fn read_all<Q: Client>(
+    alloc: Global,
+    desk: &mut Q,
+    safe: i64,
+) -> Result<u64, Trouble<Q::Stage, Q::Fetch>>
     requires alone { Q.start.alone ≡ true }
     requires safe { count_of safe ≡ (world_of Q.start (Q.seen desk.old)).safe }
     requires first { (caller_of Q.start (Q.seen desk.old)).fetched ≡ [] }
@@ -86,36 +87,13 @@ fn read_all<Q: CheckDesk>(alloc: Global, desk: &mut Q, safe: i64) -> Result<u64,
     }
 }
 
-/// Ends the check for a trouble, unless that stops it.
-fn fail<Q: CheckDesk>(alloc: Global, desk: &mut Q, trouble: Trouble<Q::Fetch>) -> UnitRefusal
-    requires alone { Q.start.alone ≡ true }
-    requires may { IfOk (cause_by {S = Q.Stage} {H = Q.Shard} {T = Q.Target} trouble)
-        (MayFail (record { stage = Q.Stage.faults; fetch = Q.Fetch.faults }) Q.start (Q.seen desk.old)) }
-    ensures failed { FailsBy (record { stage = Q.Stage.faults; fetch = Q.Fetch.faults }) Q.start (Q.seen desk.old) (Q.seen desk.new)
-        (cause_by {S = Q.Stage} {H = Q.Shard} {T = Q.Target} trouble) result }
-    ensures unchecked { NoneChecked (Q.seen desk.old) (Q.seen desk.new) }
-    ensures grew { GrewOfCheck Q.start (Q.seen desk.old) (Q.seen desk.new) }
-{
-    laws();
-    match cause_of(trouble) {
-        Ok(cause) => {
-            let why = cause.why;
-            match desk.unchecked(alloc, why, cause.by) {
-                Ok(()) => UnitRefusal::Failed(why),
-                Err(refusal) => UnitRefusal::Stopped(refusal),
-            }
-        }
-        Err(refusal) => UnitRefusal::Stopped(refusal),
-    }
-}
-
 /// Checks the repository: looks, reads the safe root and each blob that it reaches, once, compares what it read, and ends the
 /// check. Where a fetch failed, or a blob is absent, doesn't read, has another print than is stated or disagrees with one that was
 /// read before, the check ends as failed, with the first of these.
-pub fn check<Q: CheckDesk>(alloc: Global, desk: &mut Q) -> Result<Checked, UnitRefusal>
+pub fn check<Q: Client>(alloc: Global, desk: &mut Q) -> Result<Checked, UnitRefusal>
     requires alone { Q.start.alone ≡ true }
     ensures ok { IfOk result (λ c. HasChecked Q.start (Q.seen desk.old) (Q.seen desk.new) c.snapshots c.blobs) }
-    ensures refused { IfErr result (IsCheckRefused (record { stage = Q.Stage.faults; fetch = Q.Fetch.faults }) Q.start
+    ensures refused { IfErr result (IsCheckRefused (evidence Q.Stage.faults Q.Fetch.faults Q.Shard.faults Q.Target.faults Q.Shard.told Q.Target.told) Q.start
         (Q.seen desk.old) (Q.seen desk.new)) }
     ensures asked { AsksOne (Q.seen desk.old) (Q.seen desk.new) result }
     ensures unchecked { OnErr result (NoneChecked (Q.seen desk.old) (Q.seen desk.new)) }
@@ -129,12 +107,9 @@ pub fn check<Q: CheckDesk>(alloc: Global, desk: &mut Q) -> Result<Checked, UnitR
     let snapshots = listed_count(&look);
     let blobs = match read_all(alloc, desk, look.safe) {
         Ok(blobs) => blobs,
-        Err(trouble) => {
-            desk.never_fails();
-            return Err(fail(alloc, desk, trouble));
-        }
+        Err(trouble) => return Err(give_up(alloc, desk, Hand::Check, 0, ending_of(trouble))),
     };
-    match desk.checked(alloc, snapshots, blobs) {
+    match desk.end_check(alloc, snapshots, blobs) {
         Ok(()) => Ok(Checked { snapshots, blobs }),
         Err(refusal) => Err(UnitRefusal::Stopped(refusal)),
     }

@@ -2,30 +2,28 @@
 ghost use Rattle.std.specs.Prelude.{◌≡◌, true, IfOk, IfErr};
 ghost use Rattle.esr_names.specs.Layout.{IsName};
 ghost use Rattle.esr_formats.specs.Names.{name_of};
-ghost use Rattle.esr_checking.specs.Caller.{caller_of};
-ghost use Rattle.esr_checking.specs.Checks.{CanCheck};
-ghost use Rattle.esr_checking.specs.CheckShown.{HasFetched};
+ghost use Rattle.esr_desk.specs.Own.{caller_of};
+ghost use Rattle.esr_desk.specs.Check.Conditions.{CanCheck};
+ghost use Rattle.esr_desk.specs.Check.Shown.{HasFetched};
 ghost use Rattle.esr_check.specs.Names.{Just};
-ghost use Rattle.esr_check.specs.Trouble.{Shown, unread};
+ghost use Rattle.esr_check.specs.Trouble.{Shown};
 ghost use Rattle.esr_check.specs.Went.{IsSoFar, Came, Went};
 
 use crate::law::laws;
-use crate::trouble::Trouble;
-use esr_checking::CheckDesk;
 use esr_depot::{CallError, read_whole};
-use esr_desk::{Desk, StepRefusal, Why};
-use esr_json::ReadRefusal;
+use esr_desk::{Client, Desk, Hand, StepRefusal, Why};
 use esr_names::BlobName;
 use esr_seq::Bytes;
+use esr_unit::Trouble;
 use std::alloc::Global;
 
 /// The blob of that name, which is there, to be read from its first byte.
-pub fn fetch<Q: CheckDesk>(
+pub fn fetch<Q: Client>(
     alloc: Global,
     desk: &mut Q,
     count: &mut u64,
     name: BlobName,
-) -> Result<Q::Fetch, Trouble<Q::Fetch>>
+) -> Result<Q::Fetch, Trouble<Q::Stage, Q::Fetch>>
     requires alone { Q.start.alone ≡ true }
     requires layout { IsName name }
     requires may { CanCheck Q.start (Q.seen desk.old) (name_of name) }
@@ -36,7 +34,7 @@ pub fn fetch<Q: CheckDesk>(
     ensures went { Went Q.start (Q.seen desk.old) (Q.seen desk.new) (Just (name_of name)) }
 {
     laws();
-    match desk.fetch_reached(alloc, name)? {
+    match desk.fetch(alloc, Hand::Check, 0, name)? {
         Some(fetch) => {
             *count += 1;
             Ok(fetch)
@@ -48,12 +46,12 @@ pub fn fetch<Q: CheckDesk>(
 }
 
 /// The bytes of the blob of that name, all of them.
-pub fn fetch_whole<Q: CheckDesk>(
+pub fn fetch_whole<Q: Client>(
     alloc: Global,
     desk: &mut Q,
     count: &mut u64,
     name: BlobName,
-) -> Result<Bytes, Trouble<Q::Fetch>>
+) -> Result<Bytes, Trouble<Q::Stage, Q::Fetch>>
     requires alone { Q.start.alone ≡ true }
     requires layout { IsName name }
     requires may { CanCheck Q.start (Q.seen desk.old) (name_of name) }
@@ -68,17 +66,5 @@ pub fn fetch_whole<Q: CheckDesk>(
         Ok(bytes) => Ok(bytes),
         Err(CallError::Memory) => Err(Trouble::Step(StepRefusal::Memory)),
         Err(CallError::Failed) => Err(Trouble::Fetch { fetch: blob }),
-    }
-}
-
-/// What a text of this name that wasn't read shows: that it doesn't read, for the first reason, unless memory was wanting.
-pub fn unread<F: Drop>(name: BlobName, refusal: ReadRefusal) -> Trouble<F>
-    ensures { result ≡ unread name refusal }
-{
-    match refusal {
-        ReadRefusal::Memory => Trouble::Step(StepRefusal::Memory),
-        ReadRefusal::Damaged { why: reason } => Trouble::Found {
-            why: Why::Unreadable { name, reason },
-        },
     }
 }

@@ -5,20 +5,19 @@ ghost use Rattle.esr_model.specs.Image.{Generation};
 ghost use Rattle.esr_formats.specs.Roots.{root_of};
 ghost use Rattle.esr_formats.specs.Shards.{entry_of, shard_index_of};
 ghost use Rattle.esr_shardidx.specs.Entries.{IsEntry};
-ghost use Rattle.esr_checking.specs.Caller.{caller_of};
+ghost use Rattle.esr_desk.specs.Own.{caller_of};
 ghost use Rattle.esr_check.specs.Names.{IsOfFile, IsPieceOf, AreUnfetched};
 ghost use Rattle.esr_check.specs.Pieces.{HasSafe, HasHeld, HasFile, HasFiles};
 ghost use Rattle.esr_check.specs.Trouble.{Shown, Judged};
 ghost use Rattle.esr_check.specs.Went.{IsSoFar, Went};
 
 use crate::part::read_parts;
-use crate::trouble::Trouble;
-use esr_checking::CheckDesk;
-use esr_desk::Why;
+use esr_desk::{Client, Why};
 use esr_hash::{Hasher, Print};
 use esr_names::{BlobName, Id, ShardId};
 use esr_root::RootData;
 use esr_shardidx::{FileEntry, ShardIndex};
+use esr_unit::Trouble;
 use std::alloc::Global;
 
 /// What is wrong with a file by the print of what was read, and by whether each part has the size that is stated.
@@ -48,7 +47,7 @@ fn judge(
 }
 
 /// A file that the index of a shard lists.
-fn check_file<Q: CheckDesk>(
+fn check_file<Q: Client>(
     alloc: Global,
     desk: &mut Q,
     count: &mut u64,
@@ -58,7 +57,7 @@ fn check_file<Q: CheckDesk>(
     held: &ShardIndex,
     entry: &FileEntry,
     buf: &mut [u8],
-) -> Result<(), Trouble<Q::Fetch>>
+) -> Result<(), Trouble<Q::Stage, Q::Fetch>>
     requires alone { Q.start.alone ≡ true }
     requires root { HasSafe Q.start (Q.seen desk.old) (root_of root.now) }
     requires few { at.number < 1024 }
@@ -95,7 +94,7 @@ fn check_file<Q: CheckDesk>(
 }
 
 /// Each file that the index of a shard lists, those of unlisted snapshots too.
-pub fn check_files<Q: CheckDesk>(
+pub fn check_files<Q: Client>(
     alloc: Global,
     desk: &mut Q,
     count: &mut u64,
@@ -104,7 +103,7 @@ pub fn check_files<Q: CheckDesk>(
     generation: Id,
     held: &ShardIndex,
     buf: &mut [u8],
-) -> Result<(), Trouble<Q::Fetch>>
+) -> Result<(), Trouble<Q::Stage, Q::Fetch>>
     requires alone { Q.start.alone ≡ true }
     requires root { HasSafe Q.start (Q.seen desk.old) (root_of root.now) }
     requires few { at.number < 1024 }

@@ -2,28 +2,28 @@
 ghost use Rattle.std.specs.Prelude.{◌≡◌, ◌<◌, true, map, length, IfErr, OnOk};
 ghost use Rattle.esr_formats.specs.Infos.{info_of_code};
 ghost use Rattle.esr_formats.specs.Roots.{root_of};
-ghost use Rattle.esr_checking.specs.Caller.{caller_of};
+ghost use Rattle.esr_desk.specs.Own.{caller_of};
 ghost use Rattle.esr_check.specs.Names.{IsOfAnyShard, AreUnfetched};
 ghost use Rattle.esr_check.specs.Pieces.{HasSafe, HasInfos, HasIndices};
 ghost use Rattle.esr_check.specs.Trouble.{Shown};
 ghost use Rattle.esr_check.specs.Went.{IsSoFar, Went};
 
 use crate::shard::check_shards;
-use crate::trouble::Trouble;
-use esr_checking::CheckDesk;
+use esr_desk::Client;
 use esr_meta::SnapInfo;
 use esr_root::RootData;
+use esr_unit::Trouble;
 use std::alloc::Global;
 
 /// Index by index, shard by shard.
-fn check_each<Q: CheckDesk>(
+fn check_each<Q: Client>(
     alloc: Global,
     desk: &mut Q,
     count: &mut u64,
     root: &RootData,
     infos: &[SnapInfo],
     buf: &mut [u8],
-) -> Result<(), Trouble<Q::Fetch>>
+) -> Result<(), Trouble<Q::Stage, Q::Fetch>>
     requires alone { Q.start.alone ≡ true }
     requires root { HasSafe Q.start (Q.seen desk.old) (root_of root.now) }
     requires infos { HasInfos Q.start (caller_of Q.start (Q.seen desk.old)) (root_of root.now) (map info_of_code infos.now) }
@@ -42,13 +42,13 @@ fn check_each<Q: CheckDesk>(
 }
 
 /// All that the root reaches beside the listed snapshots.
-pub fn check_indices<Q: CheckDesk>(
+pub fn check_indices<Q: Client>(
     alloc: Global,
     desk: &mut Q,
     count: &mut u64,
     root: &RootData,
     infos: &[SnapInfo],
-) -> Result<(), Trouble<Q::Fetch>>
+) -> Result<(), Trouble<Q::Stage, Q::Fetch>>
     requires alone { Q.start.alone ≡ true }
     requires root { HasSafe Q.start (Q.seen desk.old) (root_of root.now) }
     requires infos { HasInfos Q.start (caller_of Q.start (Q.seen desk.old)) (root_of root.now) (map info_of_code infos.now) }

@@ -1,5 +1,5 @@
 //! The law on which a check rests.
-ghost use Rattle.esr_check.specs.Law.{RefusesSo};
+ghost use Rattle.esr_unit.specs.Refusals.{RefusesSo};
 
 /// How steps may be refused.
 pub(crate) fn laws()

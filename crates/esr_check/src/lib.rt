@@ -1,7 +1,6 @@
 //! The check of a repository: the safe root and each blob that it reaches is read, once, and what was read agrees.
 #![tactic(auto)]
 
-mod cause;
 mod checking;
 mod fetch;
 mod file;
@@ -12,6 +11,5 @@ mod part;
 mod root;
 mod shard;
 mod snap;
-mod trouble;
 
 pub use checking::{Checked, check};

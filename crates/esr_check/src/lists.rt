@@ -8,28 +8,27 @@ ghost use Rattle.esr_formats.specs.Infos.{info_of_code};
 ghost use Rattle.esr_formats.specs.Roots.{root_of};
 ghost use Rattle.esr_formats.specs.Shards.{shard_index_of, shard_snap_of, snap_list_of};
 ghost use Rattle.esr_shardidx.specs.Indices.{IsShardIndex};
-ghost use Rattle.esr_checking.specs.Caller.{caller_of};
-ghost use Rattle.esr_checking.specs.CheckShown.{ReadAs};
+ghost use Rattle.esr_desk.specs.Own.{caller_of};
+ghost use Rattle.esr_desk.specs.Check.Shown.{ReadAs};
 ghost use Rattle.esr_agreement.specs.Lists.{IsListed};
 ghost use Rattle.esr_check.specs.Names.{Just, IsSnapOf, AreUnfetched};
 ghost use Rattle.esr_check.specs.Pieces.{HasSafe, HasInfos, HasHeld, HasSnap, HasListed, HasLists};
 ghost use Rattle.esr_check.specs.Trouble.{Shown};
 ghost use Rattle.esr_check.specs.Went.{IsSoFar, Went};
 
-use crate::fetch::{fetch_whole, unread};
-use crate::trouble::Trouble;
+use crate::fetch::fetch_whole;
 use esr_agreement::{has_shard, is_listed, lists};
-use esr_checking::CheckDesk;
-use esr_desk::Why;
+use esr_desk::{Client, Why};
 use esr_formats::read_shard_snap;
 use esr_meta::SnapInfo;
 use esr_names::{BlobName, Id, ShardId};
 use esr_root::RootData;
 use esr_shardidx::{ShardIndex, ShardSnap, SnapList};
+use esr_unit::{Trouble, unread};
 use std::alloc::Global;
 
 /// What a listed snapshot has of a shard.
-fn fetch_list<Q: CheckDesk>(
+fn fetch_list<Q: Client>(
     alloc: Global,
     desk: &mut Q,
     count: &mut u64,
@@ -38,7 +37,7 @@ fn fetch_list<Q: CheckDesk>(
     generation: Id,
     held: &ShardIndex,
     list: &SnapList,
-) -> Result<ShardSnap, Trouble<Q::Fetch>>
+) -> Result<ShardSnap, Trouble<Q::Stage, Q::Fetch>>
     requires alone { Q.start.alone ≡ true }
     requires root { HasSafe Q.start (Q.seen desk.old) (root_of root.now) }
     requires few { at.number < 1024 }
@@ -62,7 +61,7 @@ fn fetch_list<Q: CheckDesk>(
 }
 
 /// What a listed snapshot has of a shard; where the shard is one of the snapshot, the index lists these files.
-fn check_list<Q: CheckDesk>(
+fn check_list<Q: Client>(
     alloc: Global,
     desk: &mut Q,
     count: &mut u64,
@@ -72,7 +71,7 @@ fn check_list<Q: CheckDesk>(
     generation: Id,
     held: &ShardIndex,
     list: &SnapList,
-) -> Result<(), Trouble<Q::Fetch>>
+) -> Result<(), Trouble<Q::Stage, Q::Fetch>>
     requires alone { Q.start.alone ≡ true }
     requires root { HasSafe Q.start (Q.seen desk.old) (root_of root.now) }
     requires infos { HasInfos Q.start (caller_of Q.start (Q.seen desk.old)) (root_of root.now) (map info_of_code infos.now) }
@@ -102,7 +101,7 @@ fn check_list<Q: CheckDesk>(
 }
 
 /// The same, if the root lists the snapshot; one that it doesn't list is not reached.
-fn check_listed<Q: CheckDesk>(
+fn check_listed<Q: Client>(
     alloc: Global,
     desk: &mut Q,
     count: &mut u64,
@@ -112,7 +111,7 @@ fn check_listed<Q: CheckDesk>(
     generation: Id,
     held: &ShardIndex,
     list: &SnapList,
-) -> Result<(), Trouble<Q::Fetch>>
+) -> Result<(), Trouble<Q::Stage, Q::Fetch>>
     requires alone { Q.start.alone ≡ true }
     requires root { HasSafe Q.start (Q.seen desk.old) (root_of root.now) }
     requires infos { HasInfos Q.start (caller_of Q.start (Q.seen desk.old)) (root_of root.now) (map info_of_code infos.now) }
@@ -141,7 +140,7 @@ fn index_rule(held: &ShardIndex)
 }
 
 /// What each listed snapshot has of a shard.
-pub fn check_lists<Q: CheckDesk>(
+pub fn check_lists<Q: Client>(
     alloc: Global,
     desk: &mut Q,
     count: &mut u64,
@@ -150,7 +149,7 @@ pub fn check_lists<Q: CheckDesk>(
     at: ShardId,
     generation: Id,
     held: &ShardIndex,
-) -> Result<(), Trouble<Q::Fetch>>
+) -> Result<(), Trouble<Q::Stage, Q::Fetch>>
     requires alone { Q.start.alone ≡ true }
     requires root { HasSafe Q.start (Q.seen desk.old) (root_of root.now) }
     requires infos { HasInfos Q.start (caller_of Q.start (Q.seen desk.old)) (root_of root.now) (map info_of_code infos.now) }

@@ -8,8 +8,8 @@ ghost use Rattle.esr_formats.specs.Names.{name_of};
 ghost use Rattle.esr_formats.specs.Roots.{root_of};
 ghost use Rattle.esr_formats.specs.Shards.{entry_of, shard_index_of};
 ghost use Rattle.esr_shardidx.specs.Entries.{IsEntry};
-ghost use Rattle.esr_checking.specs.Caller.{caller_of};
-ghost use Rattle.esr_checking.specs.Checks.{CanCheck};
+ghost use Rattle.esr_desk.specs.Own.{caller_of};
+ghost use Rattle.esr_desk.specs.Check.Conditions.{CanCheck};
 ghost use Rattle.esr_check.specs.Names.{Just, IsOfFile, AreUnfetched};
 ghost use Rattle.esr_check.specs.Parts.{ReadPart, ReadParts};
 ghost use Rattle.esr_check.specs.Pieces.{HasSafe, HasHeld};
@@ -17,17 +17,17 @@ ghost use Rattle.esr_check.specs.Trouble.{Shown};
 ghost use Rattle.esr_check.specs.Went.{IsSoFar, Went};
 
 use crate::fetch::fetch;
-use crate::trouble::Trouble;
-use esr_checking::CheckDesk;
+use esr_desk::Client;
 use esr_hash::Hasher;
 use esr_names::{BlobName, Id, ShardId};
 use esr_parts::{Extent, hash_back, part_plan};
 use esr_root::RootData;
 use esr_shardidx::{FileEntry, ShardIndex, part_count, part_name};
+use esr_unit::Trouble;
 use std::alloc::Global;
 
 /// Reads a part of `size` bytes, and hashes what it reads. It answers whether the part has exactly that size.
-fn read_part<Q: CheckDesk>(
+fn read_part<Q: Client>(
     alloc: Global,
     desk: &mut Q,
     count: &mut u64,
@@ -35,7 +35,7 @@ fn read_part<Q: CheckDesk>(
     size: u64,
     hasher: &mut Hasher,
     buf: &mut [u8],
-) -> Result<bool, Trouble<Q::Fetch>>
+) -> Result<bool, Trouble<Q::Stage, Q::Fetch>>
     requires alone { Q.start.alone ≡ true }
     requires layout { IsName name }
     requires may { CanCheck Q.start (Q.seen desk.old) (name_of name) }
@@ -58,7 +58,7 @@ fn read_part<Q: CheckDesk>(
 }
 
 /// Reads the parts of a file, and hashes what it reads. It answers whether each has exactly the size that is stated.
-pub fn read_parts<Q: CheckDesk>(
+pub fn read_parts<Q: Client>(
     alloc: Global,
     desk: &mut Q,
     count: &mut u64,
@@ -69,7 +69,7 @@ pub fn read_parts<Q: CheckDesk>(
     entry: &FileEntry,
     hasher: &mut Hasher,
     buf: &mut [u8],
-) -> Result<bool, Trouble<Q::Fetch>>
+) -> Result<bool, Trouble<Q::Stage, Q::Fetch>>
     requires alone { Q.start.alone ≡ true }
     requires root { HasSafe Q.start (Q.seen desk.old) (root_of root.now) }
     requires few { at.number < 1024 }

@@ -3,28 +3,28 @@ ghost use Rattle.std.specs.Prelude.{◌≡◌, ◌<◌, ◌^◌, [], suc, true, 
 ghost use Rattle.esr_model.specs.Names.{Root};
 ghost use Rattle.esr_formats.specs.Roots.{root_of};
 ghost use Rattle.esr_root.specs.Root.{IsRoot};
-ghost use Rattle.esr_checking.specs.Caller.{caller_of};
+ghost use Rattle.esr_desk.specs.Own.{caller_of};
 ghost use Rattle.esr_desk.specs.Start.{world_of};
 ghost use Rattle.esr_check.specs.Names.{Just};
 ghost use Rattle.esr_check.specs.Pieces.{HasRoot};
 ghost use Rattle.esr_check.specs.Trouble.{Shown};
 ghost use Rattle.esr_check.specs.Went.{IsSoFar, Went};
 
-use crate::fetch::{fetch_whole, unread};
-use crate::trouble::Trouble;
-use esr_checking::CheckDesk;
+use crate::fetch::fetch_whole;
+use esr_desk::Client;
 use esr_formats::read_root;
 use esr_names::BlobName;
 use esr_root::RootData;
+use esr_unit::{Trouble, unread};
 use std::alloc::Global;
 
 /// The safe root, of this generation.
-pub fn fetch_root<Q: CheckDesk>(
+pub fn fetch_root<Q: Client>(
     alloc: Global,
     desk: &mut Q,
     count: &mut u64,
     number: u64,
-) -> Result<RootData, Trouble<Q::Fetch>>
+) -> Result<RootData, Trouble<Q::Stage, Q::Fetch>>
     requires alone { Q.start.alone ≡ true }
     requires number { number < 2 ^ 63 }
     requires safe { (world_of Q.start (Q.seen desk.old)).safe ≡ suc number }

@@ -6,36 +6,35 @@ ghost use Rattle.esr_formats.specs.Ids.{number_of};
 ghost use Rattle.esr_formats.specs.Infos.{info_of_code};
 ghost use Rattle.esr_formats.specs.Roots.{root_of, root_index_of};
 ghost use Rattle.esr_formats.specs.Shards.{shard_index_of};
-ghost use Rattle.esr_checking.specs.Caller.{caller_of};
+ghost use Rattle.esr_desk.specs.Own.{caller_of};
 ghost use Rattle.esr_agreement.specs.Lists.{AreKept};
 ghost use Rattle.esr_check.specs.Names.{Just, IsOfShard, IsOfShards, AreUnfetched};
 ghost use Rattle.esr_check.specs.Pieces.{HasSafe, HasInfos, HasHeld, HasShard, HasPlace, HasShards};
 ghost use Rattle.esr_check.specs.Trouble.{Shown};
 ghost use Rattle.esr_check.specs.Went.{IsSoFar, Went};
 
-use crate::fetch::{fetch_whole, unread};
+use crate::fetch::fetch_whole;
 use crate::file::check_files;
 use crate::lists::check_lists;
-use crate::trouble::Trouble;
 use esr_agreement::unlisted;
-use esr_checking::CheckDesk;
-use esr_desk::Why;
+use esr_desk::{Client, Why};
 use esr_formats::read_shard_index;
 use esr_meta::SnapInfo;
 use esr_names::{BlobName, Id, ShardId};
 use esr_root::{RootData, RootIndex};
 use esr_shardidx::ShardIndex;
+use esr_unit::{Trouble, unread};
 use std::alloc::Global;
 
 /// The index of a shard.
-fn fetch_held<Q: CheckDesk>(
+fn fetch_held<Q: Client>(
     alloc: Global,
     desk: &mut Q,
     count: &mut u64,
     root: &RootData,
     at: ShardId,
     generation: Id,
-) -> Result<ShardIndex, Trouble<Q::Fetch>>
+) -> Result<ShardIndex, Trouble<Q::Stage, Q::Fetch>>
     requires alone { Q.start.alone ≡ true }
     requires root { HasSafe Q.start (Q.seen desk.old) (root_of root.now) }
     requires few { at.number < 1024 }
@@ -56,7 +55,7 @@ fn fetch_held<Q: CheckDesk>(
 }
 
 /// The index of a shard lists each snapshot that has the shard.
-fn check_held<Q: CheckDesk>(
+fn check_held<Q: Client>(
     alloc: Global,
     desk: &mut Q,
     count: &mut u64,
@@ -64,7 +63,7 @@ fn check_held<Q: CheckDesk>(
     infos: &[SnapInfo],
     at: ShardId,
     generation: Id,
-) -> Result<ShardIndex, Trouble<Q::Fetch>>
+) -> Result<ShardIndex, Trouble<Q::Stage, Q::Fetch>>
     requires alone { Q.start.alone ≡ true }
     requires root { HasSafe Q.start (Q.seen desk.old) (root_of root.now) }
     requires infos { HasInfos Q.start (caller_of Q.start (Q.seen desk.old)) (root_of root.now) (map info_of_code infos.now) }
@@ -91,7 +90,7 @@ fn check_held<Q: CheckDesk>(
 }
 
 /// A shard with a generation: its index, and all that this has.
-fn check_shard<Q: CheckDesk>(
+fn check_shard<Q: Client>(
     alloc: Global,
     desk: &mut Q,
     count: &mut u64,
@@ -100,7 +99,7 @@ fn check_shard<Q: CheckDesk>(
     at: ShardId,
     generation: Id,
     buf: &mut [u8],
-) -> Result<(), Trouble<Q::Fetch>>
+) -> Result<(), Trouble<Q::Stage, Q::Fetch>>
     requires alone { Q.start.alone ≡ true }
     requires root { HasSafe Q.start (Q.seen desk.old) (root_of root.now) }
     requires infos { HasInfos Q.start (caller_of Q.start (Q.seen desk.old)) (root_of root.now) (map info_of_code infos.now) }
@@ -122,7 +121,7 @@ fn check_shard<Q: CheckDesk>(
 }
 
 /// The same, where the shard has a generation.
-fn check_place<Q: CheckDesk>(
+fn check_place<Q: Client>(
     alloc: Global,
     desk: &mut Q,
     count: &mut u64,
@@ -131,7 +130,7 @@ fn check_place<Q: CheckDesk>(
     at: ShardId,
     generation: Option<Id>,
     buf: &mut [u8],
-) -> Result<(), Trouble<Q::Fetch>>
+) -> Result<(), Trouble<Q::Stage, Q::Fetch>>
     requires alone { Q.start.alone ≡ true }
     requires root { HasSafe Q.start (Q.seen desk.old) (root_of root.now) }
     requires infos { HasInfos Q.start (caller_of Q.start (Q.seen desk.old)) (root_of root.now) (map info_of_code infos.now) }
@@ -153,7 +152,7 @@ fn check_place<Q: CheckDesk>(
 }
 
 /// The shards of an index that have a generation, by number.
-pub fn check_shards<Q: CheckDesk>(
+pub fn check_shards<Q: Client>(
     alloc: Global,
     desk: &mut Q,
     count: &mut u64,
@@ -161,7 +160,7 @@ pub fn check_shards<Q: CheckDesk>(
     infos: &[SnapInfo],
     index: &RootIndex,
     buf: &mut [u8],
-) -> Result<(), Trouble<Q::Fetch>>
+) -> Result<(), Trouble<Q::Stage, Q::Fetch>>
     requires alone { Q.start.alone ≡ true }
     requires root { HasSafe Q.start (Q.seen desk.old) (root_of root.now) }
     requires infos { HasInfos Q.start (caller_of Q.start (Q.seen desk.old)) (root_of root.now) (map info_of_code infos.now) }

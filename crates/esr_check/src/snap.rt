@@ -10,34 +10,33 @@ ghost use Rattle.esr_formats.specs.Globals.{global_of_code};
 ghost use Rattle.esr_formats.specs.IndexMetas.{index_meta_of};
 ghost use Rattle.esr_formats.specs.Refs.{ref_of_code};
 ghost use Rattle.esr_formats.specs.Roots.{root_of, root_snap_of};
-ghost use Rattle.esr_checking.specs.Caller.{caller_of};
-ghost use Rattle.esr_checking.specs.CheckShown.{ReadAs};
+ghost use Rattle.esr_desk.specs.Own.{caller_of};
+ghost use Rattle.esr_desk.specs.Check.Shown.{ReadAs};
 ghost use Rattle.esr_check.specs.Names.{Just, IsMetaIn, IsOfSnap, IsOfAnySnap, AreUnfetched};
 ghost use Rattle.esr_check.specs.Pieces.{HasRoot, HasMeta, HasMetas, HasInfo, HasInfos};
 ghost use Rattle.esr_check.specs.Trouble.{Shown};
 ghost use Rattle.esr_check.specs.Went.{IsSoFar, Went};
 
-use crate::fetch::{fetch_whole, unread};
-use crate::trouble::Trouble;
+use crate::fetch::fetch_whole;
 use esr_agreement::{agreement_is, agrees, is_global_of, is_meta_of};
-use esr_checking::CheckDesk;
-use esr_desk::{StepRefusal, Why};
+use esr_desk::{Client, StepRefusal, Why};
 use esr_formats::{read_global, read_index_meta, read_info};
 use esr_meta::{GlobalMeta, IndexMeta, SnapInfo};
 use esr_names::{BlobName, Id, IndexRef};
 use esr_root::{RootData, RootSnap};
 use esr_seq::Seq;
+use esr_unit::{Trouble, unread};
 use std::alloc::Global;
 
 /// The info of a listed snapshot.
-fn fetch_info<Q: CheckDesk>(
+fn fetch_info<Q: Client>(
     alloc: Global,
     desk: &mut Q,
     count: &mut u64,
     root: &RootData,
     number: u64,
     snap: &RootSnap,
-) -> Result<SnapInfo, Trouble<Q::Fetch>>
+) -> Result<SnapInfo, Trouble<Q::Stage, Q::Fetch>>
     requires alone { Q.start.alone ≡ true }
     requires root { HasRoot Q.start (Q.seen desk.old) number (root_of root.now) }
     requires listed { Has (root_of root.now).snapshots (root_snap_of snap.now) }
@@ -57,14 +56,14 @@ fn fetch_info<Q: CheckDesk>(
 }
 
 /// The info of a listed snapshot agrees with the root.
-fn check_info<Q: CheckDesk>(
+fn check_info<Q: Client>(
     alloc: Global,
     desk: &mut Q,
     count: &mut u64,
     root: &RootData,
     number: u64,
     snap: &RootSnap,
-) -> Result<SnapInfo, Trouble<Q::Fetch>>
+) -> Result<SnapInfo, Trouble<Q::Stage, Q::Fetch>>
     requires alone { Q.start.alone ≡ true }
     requires root { HasRoot Q.start (Q.seen desk.old) number (root_of root.now) }
     requires listed { Has (root_of root.now).snapshots (root_snap_of snap.now) }
@@ -88,14 +87,14 @@ fn check_info<Q: CheckDesk>(
 }
 
 /// The global metadata of a listed snapshot.
-fn fetch_global<Q: CheckDesk>(
+fn fetch_global<Q: Client>(
     alloc: Global,
     desk: &mut Q,
     count: &mut u64,
     root: &RootData,
     number: u64,
     snap: &RootSnap,
-) -> Result<GlobalMeta, Trouble<Q::Fetch>>
+) -> Result<GlobalMeta, Trouble<Q::Stage, Q::Fetch>>
     requires alone { Q.start.alone ≡ true }
     requires root { HasRoot Q.start (Q.seen desk.old) number (root_of root.now) }
     requires listed { Has (root_of root.now).snapshots (root_snap_of snap.now) }
@@ -115,7 +114,7 @@ fn fetch_global<Q: CheckDesk>(
 }
 
 /// The global metadata of a listed snapshot are what its info says.
-fn check_global<Q: CheckDesk>(
+fn check_global<Q: Client>(
     alloc: Global,
     desk: &mut Q,
     count: &mut u64,
@@ -123,7 +122,7 @@ fn check_global<Q: CheckDesk>(
     number: u64,
     snap: &RootSnap,
     info: &SnapInfo,
-) -> Result<(), Trouble<Q::Fetch>>
+) -> Result<(), Trouble<Q::Stage, Q::Fetch>>
     requires alone { Q.start.alone ≡ true }
     requires root { HasRoot Q.start (Q.seen desk.old) number (root_of root.now) }
     requires listed { Has (root_of root.now).snapshots (root_snap_of snap.now) }
@@ -146,7 +145,7 @@ fn check_global<Q: CheckDesk>(
 }
 
 /// The metadata of an index in a listed snapshot.
-fn fetch_meta<Q: CheckDesk>(
+fn fetch_meta<Q: Client>(
     alloc: Global,
     desk: &mut Q,
     count: &mut u64,
@@ -155,7 +154,7 @@ fn fetch_meta<Q: CheckDesk>(
     snap: &RootSnap,
     info: &SnapInfo,
     index: &IndexRef,
-) -> Result<IndexMeta, Trouble<Q::Fetch>>
+) -> Result<IndexMeta, Trouble<Q::Stage, Q::Fetch>>
     requires alone { Q.start.alone ≡ true }
     requires root { HasRoot Q.start (Q.seen desk.old) number (root_of root.now) }
     requires agrees { Agrees (root_of root.now) (root_snap_of snap.now) (info_of_code info.now) }
@@ -176,7 +175,7 @@ fn fetch_meta<Q: CheckDesk>(
 }
 
 /// The metadata of an index in a listed snapshot are what the snapshot's info says.
-fn check_meta<Q: CheckDesk>(
+fn check_meta<Q: Client>(
     alloc: Global,
     desk: &mut Q,
     count: &mut u64,
@@ -185,7 +184,7 @@ fn check_meta<Q: CheckDesk>(
     snap: &RootSnap,
     info: &SnapInfo,
     index: &IndexRef,
-) -> Result<(), Trouble<Q::Fetch>>
+) -> Result<(), Trouble<Q::Stage, Q::Fetch>>
     requires alone { Q.start.alone ≡ true }
     requires root { HasRoot Q.start (Q.seen desk.old) number (root_of root.now) }
     requires info { ReadAs Q.start (caller_of Q.start (Q.seen desk.old)) (Snap snap.now.uuid.number) (formats_of Q.start).info (info_of_code info.now) }
@@ -209,7 +208,7 @@ fn check_meta<Q: CheckDesk>(
 }
 
 /// The metadata of each index that the info of a listed snapshot has.
-fn check_metas<Q: CheckDesk>(
+fn check_metas<Q: Client>(
     alloc: Global,
     desk: &mut Q,
     count: &mut u64,
@@ -217,7 +216,7 @@ fn check_metas<Q: CheckDesk>(
     number: u64,
     snap: &RootSnap,
     info: &SnapInfo,
-) -> Result<(), Trouble<Q::Fetch>>
+) -> Result<(), Trouble<Q::Stage, Q::Fetch>>
     requires alone { Q.start.alone ≡ true }
     requires root { HasRoot Q.start (Q.seen desk.old) number (root_of root.now) }
     requires info { ReadAs Q.start (caller_of Q.start (Q.seen desk.old)) (Snap snap.now.uuid.number) (formats_of Q.start).info (info_of_code info.now) }
@@ -236,14 +235,14 @@ fn check_metas<Q: CheckDesk>(
 }
 
 /// A listed snapshot: its info, and beside it its metadata.
-fn check_snap<Q: CheckDesk>(
+fn check_snap<Q: Client>(
     alloc: Global,
     desk: &mut Q,
     count: &mut u64,
     root: &RootData,
     number: u64,
     snap: &RootSnap,
-) -> Result<SnapInfo, Trouble<Q::Fetch>>
+) -> Result<SnapInfo, Trouble<Q::Stage, Q::Fetch>>
     requires alone { Q.start.alone ≡ true }
     requires root { HasRoot Q.start (Q.seen desk.old) number (root_of root.now) }
     requires listed { Has (root_of root.now).snapshots (root_snap_of snap.now) }
@@ -261,13 +260,13 @@ fn check_snap<Q: CheckDesk>(
 }
 
 /// The infos of the listed snapshots, in their order.
-pub fn check_snaps<Q: CheckDesk>(
+pub fn check_snaps<Q: Client>(
     alloc: Global,
     desk: &mut Q,
     count: &mut u64,
     root: &RootData,
     number: u64,
-) -> Result<Seq<SnapInfo>, Trouble<Q::Fetch>>
+) -> Result<Seq<SnapInfo>, Trouble<Q::Stage, Q::Fetch>>
     requires alone { Q.start.alone ≡ true }
     requires root { HasRoot Q.start (Q.seen desk.old) number (root_of root.now) }
     requires new { AreUnfetched (caller_of Q.start (Q.seen desk.old)) IsOfAnySnap }

@@ -1,3 +1,1 @@
-pub mod Trouble
-pub mod Cause
 pub mod Copied

@@ -1,5 +1,7 @@
 //! The files of the source, under the clone's uuid.
 ghost use Rattle.std.specs.Prelude.{◌≡◌, ◌<◌, [], Some, IfErr, OnOk};
+ghost use Rattle.esr_desk.specs.Calls.{HasTaken};
+ghost use Rattle.esr_desk.specs.Evidence.{evidence};
 ghost use Rattle.esr_desk.specs.Start.{ticket_of};
 ghost use Rattle.esr_desk.specs.Told.{TellsAll};
 ghost use Rattle.esr_desk.specs.Grew.{GrewBy};
@@ -12,7 +14,8 @@ use esr_desk::Desk;
 use esr_names::{Id, ShardId};
 use esr_results::ShardResult;
 use esr_shardidx::{FileEntry, ShardIndex, ShardSnap};
-use esr_upload::{Trouble, end_shard};
+use esr_unit::Trouble;
+use esr_upload::end_shard;
 use std::alloc::Global;
 
 /// The sum of the files' lengths in bytes, at most 2^64 - 1.
@@ -38,15 +41,15 @@ pub fn copy<Q: Desk>(
     snap: ShardSnap,
     first: Id,
 ) -> Result<(), Trouble<Q::Stage, Q::Fetch>>
-    requires mine { Q.holds desk.old ticket }
+    requires mine { HasTaken (Q.calls desk.old) ticket }
     requires read { HasRead Q.start at.index.number at.number uuid base.now snap first.number (ticket_of Q.start (Q.seen desk.old) ticket) }
     requires few { at.number < 1024 }
     requires tells { TellsAll Q.start (Q.seen desk.old) ticket }
     ensures ok { OnOk result (HasDone Q.start (Q.seen desk.old) (Q.seen desk.new) ticket) }
-    ensures trouble { IfErr result (Shown Q.Stage.faults Q.Fetch.faults 0 (Some []) Q.start (Q.seen desk.new) ticket) }
+    ensures trouble { IfErr result (Shown (evidence Q.Stage.faults Q.Fetch.faults Q.Shard.faults Q.Target.faults Q.Shard.told Q.Target.told) 0 (Some []) Q.start (Q.seen desk.new) ticket) }
     ensures went { IfErr result (λ e. Went Q.start (Q.seen desk.old) (Q.seen desk.new) ticket) }
     ensures grew { GrewBy Q.start ticket (Q.seen desk.old) (Q.seen desk.new) }
-    ensures holds { Q.holds desk.new ticket }
+    ensures calls { Q.calls desk.new ≡ Q.calls desk.old }
 {
     let files = snap.files();
     let outcome = ShardResult {

@@ -1,11 +1,8 @@
 //! The unit of a clone's shard: the files that another snapshot has of the shard are listed under the clone's uuid.
 #![tactic(auto)]
 
-mod cause;
 mod copy;
-mod refuse;
 mod snap;
-mod trouble;
 mod unit;
 
 pub use unit::run_unit;

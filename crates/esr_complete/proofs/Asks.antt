@@ -1,28 +1,31 @@
 -- Each delete that a history tells as asked for is one for which a line of the script asks.
-use Rattle.std.proofs.Common.{◌≡◌, ℕ, true, true≢false, ◌==◌, ◌&&◌, List, ◌∷◌, sym, ap, ◌∙◌, subst, inl, inr}
+use Rattle.std.proofs.Common.{◌≡◌, ℕ, true, ◌==◌, ◌&&◌, List, ◌∷◌, sym, ap, ◌∙◌, subst, inl, inr}
 use Rattle.esr_model.specs.Values.{Bytes, Has}
 use Rattle.esr_core.specs.Entry.{DeleteSnapshots, Step, AskStep, Entry, Moment}
-use Rattle.esr_core.specs.Allowed.{Allows}
 use Rattle.esr_core.proofs.Reading.{Has-mapped}
 use Rattle.esr_script.specs.declared.item.ScriptLine.{ScriptLine}
 use Rattle.esr_desk.specs.Start.{Start, formats_of, world_of}
 use Rattle.esr_quiet.specs.Asked.{is_line_ask, is_asked, as_asked, asked_steps}
 use Rattle.esr_quiet.specs.Smooth.{IsSmooth}
-use Rattle.esr_quiet.proofs.Callers.{ask_zero}
+use Rattle.esr_quiet.specs.Refusals.{AreByRule}
+use Rattle.esr_quiet.proofs.Askers.{AsksOrElects, asker}
+use Rattle.esr_quiet.proofs.Rules.{rule_unblocked}
 use Rattle.esr_quiet.proofs.Passing.{quiet_at, legal_at}
 use Rattle.esr_quiet.proofs.Prefixes.{place_of}
 use Rattle.esr_complete.specs.Lines.{steps_of, entries_of}
 use Rattle.esr_complete.proofs.Facts.{AsksAll}
 use Rattle.esr_complete.proofs.InTurn.{in_asked, lines_delete}
 
-module _ (s : Start) (log : List Moment) (lines : List ScriptLine) (moment : ℕ) (smooth : IsSmooth s log) (asked : asked_steps log ≡ steps_of moment lines) where
+module _ (s : Start) (log : List Moment) (lines : List ScriptLine) (moment : ℕ) (smooth : IsSmooth s log) (by_rule : AreByRule log) (asked : asked_steps log ≡ steps_of moment lines) where
   -- who 0 asks
   nobody : (m : Moment) (names : List Bytes) → Has log m → m.entry.step ≡ AskStep (DeleteSnapshots names) → m.entry.who ≡ 0
   nobody m names has step =
       let p = place_of log m has in
-      elim (legal_at s log smooth p.front p.back m p.is).answered [
-        | inl alive ↦ ask_zero (formats_of s) s.part_size (world_of s p.front) m.entry.who (DeleteSnapshots names) m.entry.reply m.image (subst (λ (x : Step). Allows (formats_of s) s.part_size (world_of s p.front) m.entry.who x m.entry.reply m.image) step alive.1)
-        | inr dead ↦ absurd (true≢false (sym dead.deposed ∙ (quiet_at s log smooth p.front (m ∷ p.back) p.is).present))
+      elim (asker (formats_of s) s.part_size (world_of s p.front) m (legal_at s log smooth p.front p.back m p.is) (subst AsksOrElects (sym step) tt)) [
+        | inl zero ↦ zero
+        | inr dead ↦
+            let x = by_rule m dead.refusal has dead.refused in
+            absurd (rule_unblocked (world_of s p.front) m.entry.who m.entry.step dead.refusal x.0.0 (quiet_at s log smooth p.front (m ∷ p.back) p.is).present x.1 dead.blocks)
       ]
 
   pub asks_all : AsksAll lines (entries_of log)

@@ -1,13 +1,16 @@
 -- The world of a history where nothing fails, and that no op is open where no unit is ready and none is out.
-use Rattle.std.proofs.Common.{◌≡◌, ℕ, suc, ◌+◌, ◌<◌, true, false, true≢false, List, [], ◌∷◌, ◌++◌, Option, Some, append_assoc, append-nil, refl, sym, ap, ◌∙◌, subst, inl, inr, arith}
+use Rattle.std.proofs.Common.{◌≡◌, ◌⊎◌, ℕ, zero, suc, ◌+◌, ◌<◌, true, false, true≢false, List, [], ◌∷◌, ◌++◌, Option, Some, append_assoc, append-nil, refl, sym, ap, ◌∙◌, subst, inl, inr, arith}
 use Rattle.std.specs.Prelude.{length}
 use Rattle.std.specs.FinMap as fin
-use Rattle.esr_model.specs.Values.{Has, RootData, ClusterRecord, Formats}
+use Rattle.esr_model.specs.Names.{BlobName}
+use Rattle.esr_model.specs.Values.{Bytes, Has, RootIndex, RootData, ClusterRecord, Formats}
 use Rattle.esr_model.specs.Shelf.{Shelved, shelf_after}
-use Rattle.esr_model.specs.Kept.{Kept}
-use Rattle.esr_model.specs.Image.{Blobs, Image}
-use Rattle.esr_core.specs.World.{World, Deletion, Ticket, kept_deletes, numbered_deletes, opened, Opened, OpenedEmpty, OpenedRecord, no_record, no_root}
-use Rattle.esr_core.specs.Ready.{IsOpen, AnyReady}
+use Rattle.esr_model.specs.Kept.{first_id, RootIds, Kept}
+use Rattle.esr_model.specs.Image.{Blobs, Image, At, RootIs}
+use Rattle.esr_core.specs.World.{World, Deletion, Ticket, Reader, kept_deletes, numbered_deletes, opened, Opened, OpenedEmpty, OpenedRecord, no_record, no_root}
+use Rattle.esr_core.specs.Ready.{IsOpen, HasRestore, NoTicketOut, AnyReady}
+use Rattle.esr_core.specs.Tracked.{Tracked, IsOneIndex}
+use Rattle.esr_core.specs.ReadTracked.{ReadTracked}
 use Rattle.esr_core.specs.Ids.{Law}
 use Rattle.esr_core.specs.ReadLaw.{ReadLaw}
 use Rattle.esr_core.specs.Entry.{Asked, Why, Step, AskStep, TakeStep, FailedStep, PruneStep, DeleteFails, Refusal, Reply, NothingReady, HasEnded, Refused, Entry, Moment}
@@ -19,9 +22,11 @@ use Rattle.esr_core.proofs.Opening.{nothing}
 use Rattle.esr_core.proofs.Queues.{was_in}
 use Rattle.esr_core.proofs.Histories.{legal_parts, told_parts, honest_parts}
 use Rattle.esr_desk.specs.Start.{Start, formats_of, world_of, Legal, or_no_ticket}
+use Rattle.esr_desk.specs.Own.{or_no_reader}
 use Rattle.esr_quiet.specs.Refusals.{IsByRule, AreByRule}
 use Rattle.esr_quiet.specs.Smooth.{IsSmooth, NoneFailed, NoneUndeleted}
 use Rattle.esr_quiet.proofs.Passing.{quiet_at, smooth_front}
+use Rattle.esr_quiet.proofs.Rooted.{root_named}
 use Rattle.esr_complete.specs.Lines.{entries_of}
 use Rattle.esr_complete.specs.Answers.{IsIdle}
 use Rattle.esr_complete.proofs.Tickets.{none_some}
@@ -95,10 +100,36 @@ follows_history f size (m ∷ log) w es h legal calm safe =
 pub record Laws : Type 0 where
   pub lawful : (f : Formats) (part_size : ℕ) (image : Image) (shelf : List Shelved) (w : World) (log : List Moment) → TellsHandedOut f w log → Kept f image shelf → Opened f image w → IsLegal f part_size w log → AreTold log → AreHonest f w log
       → Law f (world_from f w log) (shelf_after shelf (committed f (world_from f w log).safe w log))
-  pub ready : (f : Formats) (w : World) (shelf : List Shelved) (o : ℕ) → Law f w shelf → IsOpen w o → ((k : ℕ) (t : Ticket) → fin.get w.tickets k ≡ Some t → t.out ≡ true → ⊥) → AnyReady w
+  pub ready : (f : Formats) (w : World) (shelf : List Shelved) (o : ℕ) → Law f w shelf → ReadTracked w → IsOpen w o ⊎ HasRestore w o → NoTicketOut w → AnyReady w
   pub opening : (f : Formats) (image : Image) (shelf : List Shelved) (w : World) → Kept f image shelf → Opened f image w → Law f w shelf
   pub restores_open : (f : Formats) (blobs : Blobs) (cluster : ClusterRecord) (root : RootData) → ReadLaw f (opened blobs cluster root)
   pub restores_kept : (f : Formats) (part_size : ℕ) (shelf : List Shelved) (w : World) (log : List Moment) → TellsHandedOut f w log → Law f w shelf → ReadLaw f w → IsLegal f part_size w log → AreTold log → AreHonest f w log → ReadLaw f (world_from f w log)
+  pub opened_tracked : (blobs : Blobs) (cluster : ClusterRecord) (root : RootData) → RootIds root (first_id (suc cluster.ledger.term)) → ((x y : RootIndex) → Has root.indices x → Has root.indices y → IsOneIndex x.name x.id y.name y.id)
+      → Tracked (opened blobs cluster root)
+  pub opened_read_tracked : (blobs : Blobs) (cluster : ClusterRecord) (root : RootData) → ReadTracked (opened blobs cluster root)
+  pub tracks : (f : Formats) (part_size : ℕ) (w : World) (log : List Moment) → Tracked w → ReadTracked w → IsLegal f part_size w log → ReadTracked (world_from f w log)
+
+-- two indices of the opened root have one id exactly where they have one name
+root_one : (s : Start) (has : BlobName → Bytes → Type 0) (n : ℕ) (root : RootData) → RootIs (formats_of s) has n root → (x y : RootIndex) → Has root.indices x → Has root.indices y → IsOneIndex x.name x.id y.name y.id
+root_one s has zero root is x y has_x has_y = absurd (subst (λ (r : RootData). Has r.indices x) is has_x)
+root_one s has (suc n) root reads x y has_x has_y =
+    record {
+      one_name = λ same. ap (λ (z : RootIndex). z.name) ((formats_of s).one_each reads.bytes root reads.reads x y has_x has_y same);
+      one_id = λ same. ap (λ (z : RootIndex). z.id) (root_named s reads.bytes root reads.reads x y has_x has_y same);
+    }
+
+-- the opened world is in order
+opened_in_order : Laws → (s : Start) (image : Image) (shelf : List Shelved) (w : World) → Kept (formats_of s) image shelf → Opened (formats_of s) image w → Tracked w × ReadTracked w
+opened_in_order laws s image shelf w kept (OpenedEmpty none) =
+    let ids = (laws.opening (formats_of s) image shelf w kept (OpenedEmpty none)).ids in
+    (laws.opened_tracked image.blobs no_record no_root ids.root (λ x y has_x has_y. absurd has_x), laws.opened_read_tracked image.blobs no_record no_root)
+opened_in_order laws s image shelf w kept (OpenedRecord cluster text root is reads root_is) =
+    let ids = (laws.opening (formats_of s) image shelf w kept (OpenedRecord cluster text root is reads root_is)).ids in
+    (laws.opened_tracked image.blobs cluster root ids.root (root_one s (At (formats_of s) image.blobs) cluster.ledger.safe root root_is), laws.opened_read_tracked image.blobs cluster root)
+
+pub read_opened : Laws → (f : Formats) (image : Image) (w : World) → Opened f image w → ReadLaw f w
+read_opened laws f image w (OpenedEmpty none) = laws.restores_open f image.blobs no_record no_root
+read_opened laws f image w (OpenedRecord cluster text root is reads root_is) = laws.restores_open f image.blobs cluster root
 
 -- what the answer of a take that gives nothing says
 abbrev SaysNone : World → Step → Reply → Type 0
@@ -125,20 +156,30 @@ nothing_ready image = record { entry = record { who = 0; step = TakeStep; reply 
 -- with a take that gives nothing at its end
 closed_front : Laws → (f : Formats) (size : ℕ) (first : Image) (shelf : List Shelved) (w : World) (front : List Moment) (image : Option Image) → AllKnown f → Kept f first shelf → Opened f first w → IsLegal f size w (front ++ nothing_ready image ∷ [])
     → AreTold (front ++ nothing_ready image ∷ []) → AreHonest f w (front ++ nothing_ready image ∷ [])
-    → ((k : ℕ) (t : Ticket) → fin.get (world_from f w (front ++ nothing_ready image ∷ [])).tickets k ≡ Some t → t.out ≡ true → ⊥)
+    → Tracked w × ReadTracked w → NoTicketOut (world_from f w (front ++ nothing_ready image ∷ []))
     → (o : ℕ) → IsOpen (world_from f w (front ++ nothing_ready image ∷ [])) o → ⊥
-closed_front laws f size first shelf w front image known kept start legal told honest none_out o stands =
+closed_front laws f size first shelf w front image known kept start legal told honest in_order none_out o stands =
     let m : Moment = nothing_ready image in
     let last : World = world_from f w front in
     let same : world_from f w (front ++ m ∷ []) ≡ after f last m = world_append f front w m in
     let legals = legal_parts f size front (m ∷ []) w legal in
-    let law = laws.lawful f size first shelf w front (all_handed_out f w front known) kept start legals.0 (told_parts front (m ∷ []) told).0 (honest_parts f front (m ∷ []) w honest).0 in
+    let tolds = told_parts front (m ∷ []) told in
+    let honests = honest_parts f front (m ∷ []) w honest in
+    let handed : TellsHandedOut f w front = all_handed_out f w front known in
+    let law = laws.lawful f size first shelf w front handed kept start legals.0 tolds.0 honests.0 in
+    let tracked : ReadTracked last = laws.tracks f size w front in_order.0 in_order.1 legals.0 in
     none_ready f size last image legals.1.0
-    (laws.ready f last (shelf_after shelf (committed f last.safe w front)) o law (subst (λ (x : World). IsOpen x o) same stands)
-    (λ k t e. none_out k t (ap (λ (x : World). fin.get x.tickets k) same ∙ e)))
+    (laws.ready f last (shelf_after shelf (committed f last.safe w front)) o law tracked (inl (subst (λ (x : World). IsOpen x o) same stands))
+    (record {
+      tickets = λ k t e. none_out.tickets k t (ap (λ (x : World). fin.get x.tickets k) same ∙ e);
+      readers = λ k q e. none_out.readers k q (ap (λ (x : World). fin.get x.readers k) same ∙ e);
+    }))
 
 out_by : (found : Option Ticket) (t : Ticket) → (or_no_ticket found).out ≡ false → found ≡ Some t → t.out ≡ true → ⊥
 out_by found t none is out = true≢false (sym out ∙ sym (ap (λ (o : Option Ticket). (or_no_ticket o).out) is) ∙ none)
+
+pub reader_out : (found : Option Reader) (q : Reader) → (or_no_reader found).out ≡ false → found ≡ Some q → q.out ≡ true → ⊥
+reader_out found q none is out = true≢false (sym out ∙ sym (ap (λ (o : Option Reader). (or_no_reader o).out) is) ∙ none)
 
 -- no op is open at the end, nor a delete
 pub all_closed : Laws → (s : Start) (log : List Moment) → IsSmooth s log → IsIdle s log → (o : ℕ) → IsOpen (world_of s log) o → ⊥
@@ -146,7 +187,11 @@ all_closed laws s log smooth idle o stands =
     let is : log ≡ idle.none_ready.front ++ nothing_ready idle.none_ready.image ∷ [] = idle.none_ready.is in
     closed_front laws (formats_of s) s.part_size smooth.image smooth.shelf s.world idle.none_ready.front idle.none_ready.image smooth.known smooth.kept smooth.opened (subst (Legal s) is smooth.legal) (subst AreTold is smooth.told)
     (subst (AreHonest (formats_of s) s.world) is smooth.honest)
-    (λ k t e out. out_by (fin.get (world_of s log).tickets k) t (idle.none_out k) (ap (λ (l : List Moment). fin.get (world_of s l).tickets k) is ∙ e) out)
+    (opened_in_order laws s smooth.image smooth.shelf s.world smooth.kept smooth.opened)
+    (record {
+      tickets = λ k t e out. out_by (fin.get (world_of s log).tickets k) t (idle.none_out k) (ap (λ (l : List Moment). fin.get (world_of s l).tickets k) is ∙ e) out;
+      readers = λ k q e out. reader_out (fin.get (world_of s log).readers k) q (idle.no_reader k) (ap (λ (l : List Moment). fin.get (world_of s l).readers k) is ∙ e) out;
+    })
     o (subst (λ (l : List Moment). IsOpen (world_of s l) o) is stands)
 
 pub all_safe : Laws → (s : Start) (log : List Moment) → IsSmooth s log → AreSafe (formats_of s) s.world log

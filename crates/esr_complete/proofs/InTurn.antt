@@ -1,6 +1,6 @@
 -- Where no verification and no check fails each draw, and each look of a check, is followed by the end of what it began, before a line
 -- asks for more.
-use Rattle.std.proofs.Common.{◌≡◌, ◌≢◌, ◌⊎◌, ℕ, Bool, true, false, true≢false, ◌==◌, ◌&&◌, if◌then◌else◌, List, [], ◌∷◌, ◌++◌, append-nil, append_assoc, Option, Some, None, refl, sym, ap, ◌∙◌, subst, inl, inr}
+use Rattle.std.proofs.Common.{◌≡◌, ◌≢◌, ◌⊎◌, ℕ, Bool, true, false, ◌==◌, ◌&&◌, if◌then◌else◌, List, [], ◌∷◌, ◌++◌, append-nil, append_assoc, Option, Some, None, refl, sym, ap, ◌∙◌, subst, inl, inr}
 use Rattle.std.proofs.lemmas.Bool.Decides.{eqb_tells}
 use Rattle.esr_model.specs.Names.{BlobName}
 use Rattle.esr_model.specs.Values.{Bytes, Has, Formats}
@@ -14,9 +14,9 @@ use Rattle.esr_script.specs.declared.item.Item.{Item}
 use Rattle.esr_script.specs.declared.item.Item.TheVariants as items
 use Rattle.esr_script.specs.declared.item.ScriptLine.{ScriptLine}
 use Rattle.esr_report.specs.Replies.{is_line_step, is_of_line}
-use Rattle.esr_checking.specs.CheckShown.{AllFetches}
+use Rattle.esr_desk.specs.Check.Shown.{AllFetches}
 use Rattle.esr_desk.specs.Start.{Start, formats_of, world_of}
-use Rattle.esr_checking.specs.Caller.{caller_of}
+use Rattle.esr_desk.specs.Own.{caller_of}
 use Rattle.esr_quiet.specs.Asked.{is_line_ask, is_asked, as_asked, asked_steps}
 use Rattle.esr_quiet.specs.Smooth.{IsSmooth, NoneFailed, NoneUndeleted, NoneUnverified, NoneChecked}
 use Rattle.esr_quiet.specs.Refusals.{AreByRule}
@@ -25,7 +25,7 @@ use Rattle.esr_quiet.proofs.Passing.{quiet_at, legal_at}
 use Rattle.esr_quiet.proofs.Callers.{caller_one, caller_left}
 use Rattle.esr_complete.specs.InTurn.{IsInTurn, IsEndOfCheck, IsCheckPart, IsPart, AreParts, NoneAsksCheck, AreChecksInTurn}
 use Rattle.esr_complete.specs.Lines.{steps_of_item, steps_of, entries_of}
-use Rattle.esr_complete.proofs.OpEnds.{IsCalm}
+use Rattle.esr_complete.proofs.OpEnds.{IsCalm, calm_unblocked}
 use Rattle.esr_complete.proofs.Histories.{all_calm}
 
 -- the step reads nothing
@@ -316,7 +316,9 @@ module _ (s : Start) (log : List Moment) (lines : List ScriptLine) (moment : ℕ
               subst (λ (x : Caller). OneTurn (caller_of s front).drawn x.drawn m.entry) (sym (caller_one s front m))
               (turn_of (formats_of s) s.part_size (world_of s front) m nobody.1 (lined m has nobody.1) (in_turn.asked front back m is nobody.1) (all_calm log none undeleted by_rule m has)
               ((λ why. unverified m why has nobody.1), (λ snapshots blobs. unchecked snapshots blobs nobody.1)) alive.1)
-          | inr dead ↦ absurd (true≢false (sym dead.deposed ∙ (quiet_at s log smooth front (m ∷ back) is).present))
+          | inr dead ↦
+              absurd (calm_unblocked (world_of s front) m.entry.who m.entry.step dead.refusal (quiet_at s log smooth front (m ∷ back) is).present
+              (subst (λ (r : Reply). IsCalm r m.entry.step) dead.refused (all_calm log none undeleted by_rule m has)) dead.blocks)
         ]
         | inr some ↦
             AsideTurn (ap (λ (b : Bool). b && is_line_ask m.entry.step) some.0) (ap (λ (b : Bool). b && is_line_step m.entry.step m.entry.reply) some.0)

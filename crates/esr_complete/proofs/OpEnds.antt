@@ -2,11 +2,14 @@
 use Rattle.std.proofs.Common.{◌≡◌, ◌⊎◌, ℕ, Bool, true, false, List, [], ◌∷◌, ◌++◌, append-nil, append_assoc, Option, Some, None, option_map, if◌then◌else◌, refl, sym, ap, ◌∙◌, subst, inl, inr}
 use Rattle.std.proofs.lemmas.Bool.{eqb-true}
 use Rattle.esr_model.specs.Values.{Bytes, Has}
-use Rattle.esr_core.specs.Entry.{DeleteSnapshots, DeleteFails, SettlePruned, Step, AskStep, SettleStep, FailedStep, PruneStep, Reply, Accepted, WasSettled, HasEnded, Refused, Entry}
+use Rattle.esr_core.specs.Entry.{DeleteSnapshots, DeleteFails, SettlePruned, Step, AskStep, SettleStep, FailedStep, PruneStep, Refusal, Reply, Accepted, WasSettled, HasEnded, Refused, Entry}
+use Rattle.esr_core.specs.World.{World}
+use Rattle.esr_core.specs.Allowed.{Blocks}
 use Rattle.esr_core.specs.After.{or_else}
 use Rattle.esr_core.proofs.Results.{choose_true, choose_false}
 use Rattle.esr_core.proofs.Deleting.{bool_told}
 use Rattle.esr_quiet.specs.Refusals.{IsByRule}
+use Rattle.esr_quiet.proofs.Rules.{rule_unblocked}
 use Rattle.esr_report.specs.Replies as report
 use Rattle.esr_report.specs.Replies.{Made, Deleted, Aborted, op_of_ticket, uuid_of_ticket, is_op, ends_by, ends_at, name_of_op, final_out, has_name, abort_of, aborts_at, end_of_op}
 use Rattle.esr_complete.proofs.Tickets.{none_some, name_stays, name_before, same_op}
@@ -18,6 +21,11 @@ IsCalm (Refused refusal) step = ⊥
 IsCalm HasEnded (FailedStep why) = ⊥
 IsCalm HasEnded (PruneStep (DeleteFails why)) = ⊥
 IsCalm reply step = Unit {0}
+
+-- what is calm nothing blocks
+pub calm_unblocked : (w : World) (who : ℕ) (step : Step) (refusal : Refusal) → w.deposed ≡ false → IsCalm (Refused refusal) step → Blocks w who step refusal → ⊥
+calm_unblocked w who (AskStep command) refusal alive calm blocks = rule_unblocked w who (AskStep command) refusal command alive calm blocks
+calm_unblocked w who step refusal alive calm blocks = calm
 
 -- ---- what an entry answers an op
 

@@ -1,5 +1,5 @@
 -- What the whole history tells of restores, and that none is open where no unit is ready and no ticket is out.
-use Rattle.std.proofs.Common.{◌≡◌, ℕ, suc, ◌<◌, ◌≤◌, true, false, true≢false, List, [], ◌∷◌, ◌++◌, Option, Some, append_assoc, append-nil, refl, sym, ap, ◌∙◌, subst, inl, inr, arith}
+use Rattle.std.proofs.Common.{◌≡◌, ℕ, suc, ◌<◌, ◌≤◌, true, true≢false, List, [], ◌∷◌, ◌++◌, Option, Some, append_assoc, append-nil, refl, sym, ap, ◌∙◌, subst, inl, inr, arith}
 use Rattle.std.specs.FinMap as fin
 use Rattle.esr_model.specs.Values.{Has, RootData, ClusterRecord, IndexRef, Formats}
 use Rattle.esr_model.specs.Places.{places}
@@ -9,7 +9,6 @@ use Rattle.esr_model.specs.Image.{Blobs, Image}
 use Rattle.esr_core.specs.World.{World, ReadState, Unread, BeingRead, Restored, NotRestored, RestoreShard, Restoring, Reader, opened, Opened, OpenedEmpty, OpenedRecord, no_record, no_root}
 use Rattle.esr_core.specs.Restores.{waits}
 use Rattle.esr_core.specs.ReadTracked.{RestoresTracked}
-use Rattle.esr_core.specs.ReadLaw.{ReadLaw}
 use Rattle.esr_core.specs.Ready.{AnyReady, ARestore}
 use Rattle.esr_core.specs.Entry.{Entry, Moment}
 use Rattle.esr_core.specs.After.{after}
@@ -18,7 +17,6 @@ use Rattle.esr_core.proofs.Histories.{legal_parts, told_parts, honest_parts}
 use Rattle.esr_core.proofs.Opening.{nothing}
 use Rattle.esr_core.proofs.Restoring.{one_waits}
 use Rattle.esr_desk.specs.Start.{Start, formats_of, world_of, Legal}
-use Rattle.esr_desk.specs.Readers.{or_no_reader}
 use Rattle.esr_report.specs.Replies.{read_shard}
 use Rattle.esr_quiet.specs.Refusals.{AreByRule}
 use Rattle.esr_quiet.specs.Smooth.{IsSmooth, NoneFailed, NoneUndeleted, NoneUnrestored}
@@ -29,13 +27,9 @@ use Rattle.esr_complete.proofs.Steps.{follows_step}
 use Rattle.esr_complete.proofs.RestoreTickets.{IsRestored}
 use Rattle.esr_complete.proofs.FollowingRestores.{AskedRestore, opens, RestoresIn}
 use Rattle.esr_complete.proofs.RestoreSteps.{IsOrdered, restores_step}
-use Rattle.esr_complete.proofs.Histories.{Laws, AreCalm, all_calm, AreSafe, all_safe, follows_start, none_ready, world_append, nothing_ready}
+use Rattle.esr_complete.proofs.Histories.{Laws, read_opened, reader_out, AreCalm, all_calm, AreSafe, all_safe, follows_start, none_ready, world_append, nothing_ready}
 
 -- ---- each world of the history is in order
-
-read_opened : Laws → (f : Formats) (image : Image) (w : World) → Opened f image w → ReadLaw f w
-read_opened laws f image w (OpenedEmpty none) = laws.restores_open f image.blobs no_record no_root
-read_opened laws f image w (OpenedRecord cluster text root is reads root_is) = laws.restores_open f image.blobs cluster root
 
 below_or_same : (a b : ℕ) → a < b → a ≤ b
 below_or_same a b less = omega (arith, less)
@@ -75,7 +69,7 @@ restores_history f size [] w es h r legal calm safe none ordered = subst (Restor
 restores_history f size (m ∷ log) w es h r legal calm safe none ordered =
     subst (RestoresIn (world_from f (after f w m) log)) (append_assoc es (m.entry ∷ []) (entries_of log))
     (restores_history f size log (after f w m) (es ++ m.entry ∷ []) (follows_step f size w es h m legal.0 (calm m (inl refl)) (safe [] (m ∷ log) refl))
-    (restores_step f size w es r (ordered [] (m ∷ log) refl) h.live m legal.0 (λ why from is. none m why (inl refl) from is)) legal.1 (λ n has. calm n (inr has)) (λ front back is. safe (m ∷ front) back (ap (λ (l : List Moment). m ∷ l) is)) (λ n why has. none n why (inr has))
+    (restores_step f size w es r (ordered [] (m ∷ log) refl) h.live m legal.0 (calm m (inl refl)) (λ why from is. none m why (inl refl) from is)) legal.1 (λ n has. calm n (inr has)) (λ front back is. safe (m ∷ front) back (ap (λ (l : List Moment). m ∷ l) is)) (λ n why has. none n why (inr has))
     (λ front back is. ordered (m ∷ front) back (ap (λ (l : List Moment). m ∷ l) is)))
 
 smooth_ordered : Laws → (s : Start) (log : List Moment) → IsSmooth s log → AreOrdered (formats_of s) s.world log
@@ -100,9 +94,6 @@ restore_ready w o r t there none_out =
     ready s m (BeingRead k) is waiting = let h = t.held o r s k there m is in absurd (none_out k h.q h.there h.out)
     ready s m (Restored files bytes) is waiting = absurd (true≢false (sym waiting))
     ready s m (NotRestored why) is waiting = absurd (true≢false (sym waiting))
-
-reader_out : (found : Option Reader) (q : Reader) → (or_no_reader found).out ≡ false → found ≡ Some q → q.out ≡ true → ⊥
-reader_out found q none is out = true≢false (sym out ∙ sym (ap (λ (o : Option Reader). (or_no_reader o).out) is) ∙ none)
 
 -- with a take that gives nothing at its end
 none_open : (f : Formats) (size : ℕ) (w : World) (front : List Moment) (image : Option Image) → IsLegal f size w (front ++ nothing_ready image ∷ []) → IsOrdered (world_from f w front)

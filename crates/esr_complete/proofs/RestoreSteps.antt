@@ -14,11 +14,12 @@ use Rattle.esr_core.specs.Entry.{Asked, Snapshot, Restore, Clone, CloneOf, Delet
 use Rattle.esr_core.specs.Deletes.{delete_number}
 use Rattle.esr_core.specs.After.{told_blob, taken_restore, taken_restore_shard, read_told, shard_over, read_over, read_by, test_left, answered, after}
 use Rattle.esr_core.specs.Allowed as allowed
-use Rattle.esr_core.specs.Allowed.{Gives, GivesRestore, CloneAllows, OpeningClone, CloneUsed, SourceNotListed, SourceDeleted, IndexMissing, FullOfClones, CloneSpent, CloneFault, DeleteAllows, GoingInto, NotNamed, CloneStands, RestoreStands, FullOfOps, DeleteFault, RestoreAllows, OpeningRestore, NotListed, NamedByDelete, FullOfRestores, ReadAllows, ReadFound, ReadMissing, ReadFault, RestoringShard, ReaderFailing, CheckingAll, CheckFailing, VerifyAllows, DrawingTest, CommittingTest, CommitTestFails, SettlingDelete, PruneAllows, Allows, Allowed}
+use Rattle.esr_core.specs.Allowed.{Gives, GivesRestore, CloneAllows, OpeningClone, CloneUsed, SourceNotListed, SourceDeleted, IndexMissing, FullOfClones, CloneSpent, CloneFault, DeleteAllows, GoingInto, NotNamed, CloneStands, RestoreStands, FullOfOps, DeleteFault, RestoreAllows, OpeningRestore, NotListed, NamedByDelete, FullOfRestores, ReadAllows, ReadFound, ReadMissing, ReadFault, RestoringShard, ReaderFailing, CheckingAll, CheckFailing, VerifyAllows, CommitTestFails, SettlingDelete, PruneAllows, Allows, Allowed}
 use Rattle.esr_report.specs.Replies.{ReadShard, shard_ticket_by, shard_end_by}
 use Rattle.esr_core.proofs.Going.{IsOld, goes_answered}
 use Rattle.esr_core.proofs.Reading.{some_same}
 use Rattle.esr_core.proofs.Results.{choose_true, choose_false}
+use Rattle.esr_complete.proofs.OpEnds.{IsCalm, calm_unblocked}
 use Rattle.esr_complete.proofs.Following.{gave, told}
 use Rattle.esr_complete.proofs.FollowingRestores.{Restores, Readers, opens, FollowsRestores, RestoresIn, IsSilent, silent, silent_caller, WereOut, were_same, were_again, restores_stay, restore_begins, shard_given, shard_ends}
 
@@ -190,8 +191,8 @@ module _ (f : Formats) (size : ℕ) (w : World) (es : List Entry) (h : RestoresI
   restores_by who step reply image (allowed.Pruning k prune rep im p) un = prunes k prune rep im p
   restores_by who step reply image other un = aside who step reply image tt (λ y. refl) refl refl
 
-pub restores_step : (f : Formats) (size : ℕ) (w : World) (es : List Entry) → RestoresIn w es → IsOrdered w → w.deposed ≡ false → (m : Moment) → Allowed f size w m → IsUnfailed m.entry.who m.entry.step m.entry.reply → RestoresIn (after f w m) (es ++ m.entry ∷ [])
-restores_step f size w es h t live m a un = elim a.answered [
+pub restores_step : (f : Formats) (size : ℕ) (w : World) (es : List Entry) → RestoresIn w es → IsOrdered w → w.deposed ≡ false → (m : Moment) → Allowed f size w m → IsCalm m.entry.reply m.entry.step → IsUnfailed m.entry.who m.entry.step m.entry.reply → RestoresIn (after f w m) (es ++ m.entry ∷ [])
+restores_step f size w es h t live m a calm un = elim a.answered [
   | inl alive ↦ restores_by f size w es h t m.entry.who m.entry.step m.entry.reply m.image alive.1 un
-  | inr dead ↦ absurd (true≢false (sym dead.deposed ∙ live))
+  | inr dead ↦ absurd (calm_unblocked w m.entry.who m.entry.step dead.refusal live (subst (λ (r : Reply). IsCalm r m.entry.step) dead.refused calm) dead.blocks)
 ]

@@ -30,7 +30,7 @@ use Rattle.esr_quiet.specs.Refusals.{IsByRule}
 use Rattle.esr_report.specs.Replies as report
 use Rattle.esr_report.specs.Replies.{op_by, uuid_by, name_by, name_of_op, final_out, has_name, abort_of, aborts_at, is_over}
 use Rattle.esr_complete.proofs.Tickets.{op_stays, uuid_stays, name_stays, name_given, IsGiftless, same_op}
-use Rattle.esr_complete.proofs.OpEnds.{IsCalm, abort_names}
+use Rattle.esr_complete.proofs.OpEnds.{IsCalm, calm_unblocked, abort_names}
 use Rattle.esr_complete.proofs.Following.{IsSaid, snapshot_of, delete_of, IsOpenIn, IsDeleteIn, IsSettledIn, IsPrunedIn, IsAbortedIn, HasName, IsNamedBy, IsNameless, IsToldOp, IsToldDelete, IsFinal, IsOutFinal, IsEndedOr, IsDeletedOr, Follows, FollowsIn, stands_at, stands_on, delete_on, aborted_on, named_on, nameless_on, op_on, delete_told_on, IsKin, kin_same, kin_on, out_same, out_on, IsOne, goes_on, told, gave, given_on, handed_on, follows_aside}
 use Rattle.esr_complete.proofs.AbortedOps.{was_op, is_op, not_out, names_it}
 
@@ -755,5 +755,5 @@ module _ (f : Formats) (size : ℕ) (w : World) (es : List Entry) (h : FollowsIn
 pub follows_step : (f : Formats) (size : ℕ) (w : World) (es : List Entry) → FollowsIn w es → (m : Moment) → Allowed f size w m → IsCalm m.entry.reply m.entry.step → IsSafe f w → FollowsIn (after f w m) (es ++ m.entry ∷ [])
 follows_step f size w es h m a calm safe = elim a.answered [
   | inl alive ↦ follows_by f size w es h m.entry.who m.entry.step m.entry.reply m.image alive.1 calm safe
-  | inr dead ↦ absurd (true≢false (sym dead.deposed ∙ h.live))
+  | inr dead ↦ absurd (calm_unblocked w m.entry.who m.entry.step dead.refusal h.live (subst (λ (r : Reply). IsCalm r m.entry.step) dead.refused calm) dead.blocks)
 ]

@@ -10,7 +10,7 @@ use Rattle.esr_report.specs.Status.{ending, AllOk, SomeRefused}
 use Rattle.esr_desk.specs.Start.{Start}
 use Rattle.esr_desk.specs.Grew.{NoneOut}
 use Rattle.esr_desk.specs.Last.{IsLast}
-use Rattle.esr_desk.specs.Readers.{reader_of}
+use Rattle.esr_desk.specs.Own.{reader_of}
 use Rattle.esr_quiet.specs.Refusals.{RefusesSnapshot, RefusesRestore, RefusesClone, RefusesDelete}
 
 -- no ticket of a restore is out

@@ -6,8 +6,8 @@ use Rattle.esr_script.specs.declared.item.Item.{Item}
 use Rattle.esr_script.specs.declared.item.Item.TheVariants as items
 use Rattle.esr_script.specs.declared.item.ScriptLine.{ScriptLine}
 use Rattle.esr_desk.specs.Start.{Start}
-use Rattle.esr_checking.specs.Caller.{caller_of}
-use Rattle.esr_checking.specs.CheckShown.{AllFetches}
+use Rattle.esr_desk.specs.Own.{caller_of}
+use Rattle.esr_desk.specs.Check.Shown.{AllFetches}
 use Rattle.esr_quiet.specs.Asked.{is_line_ask, asked_steps}
 use Rattle.esr_quiet.specs.Smooth.{NoneChecked}
 use Rattle.esr_complete.specs.Lines.{steps_of_item}

@@ -23,4 +23,7 @@ pub fn smooth_runs_are_answered()
     esr_core::opening_is_lawful();
     esr_core::opened_restores_are_lawful();
     esr_core::each_history_keeps_restores();
+    esr_core::opened_worlds_are_tracked();
+    esr_core::opened_worlds_track_restores();
+    esr_core::each_history_tracks_restores();
 }

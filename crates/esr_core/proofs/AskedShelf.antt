@@ -10,7 +10,7 @@ use Rattle.esr_core.specs.World.{World, Restoring, Reader, HeldIn}
 use Rattle.esr_core.specs.Restores.{IsReading, restore_of, restore_opened}
 use Rattle.esr_core.specs.Queue.{Lists}
 use Rattle.esr_core.specs.Ids.{Law}
-use Rattle.esr_core.specs.Entry.{Restore, Step, AskStep, Reply, Refused, DeposedAt, AcceptedRestore, Moment}
+use Rattle.esr_core.specs.Entry.{Restore, Step, AskStep, Refusal, Reply, Refused, AcceptedRestore, Moment}
 use Rattle.esr_core.specs.After.{answered, after}
 use Rattle.esr_core.specs.Allowed as allowed
 use Rattle.esr_core.specs.Allowed.{Told, RestoredBy, RestoreAllows, OpeningRestore, AcceptsRestore, IsInInfo, Allows, Allowed}
@@ -79,13 +79,13 @@ allows_by : (f : Formats) (size : ℕ) (w : World) (who : ℕ) (name place : Byt
 allows_by f size w who name place reply image (allowed.AskingRestore n p rep im h same) o uuid indices e = accepted_by f w n rep im o uuid indices h e
 allows_by f size w who name place reply image (allowed.Cleaning command d x im recorded there clean same) o uuid indices e = absurd (true≢false (sym recorded))
 
-refused_accepted : (o uuid place : ℕ) (indices : List IndexRef) → Refused (DeposedAt place) ≡ AcceptedRestore o uuid indices → ⊥
-refused_accepted o uuid place indices e = cc
+refused_accepted : (refusal : Refusal) (o uuid : ℕ) (indices : List IndexRef) → Refused refusal ≡ AcceptedRestore o uuid indices → ⊥
+refused_accepted refusal o uuid indices e = cc
 
 pub accepted_as : (f : Formats) (size : ℕ) (w : World) (m : Moment) (name place : Bytes) (o uuid : ℕ) (indices : List IndexRef) → Allowed f size w m → m.entry.step ≡ AskStep (Restore name place) → m.entry.reply ≡ AcceptedRestore o uuid indices → AcceptedAs f w m name place o uuid indices
 accepted_as f size w m name place o uuid indices a step reply = elim a.answered [
   | inl alive ↦ record { alive = alive.0; accepts = allows_by f size w m.entry.who name place m.entry.reply m.image (subst (λ s. Allows f size w m.entry.who s m.entry.reply m.image) step alive.1) o uuid indices reply }
-  | inr dead ↦ absurd (refused_accepted o uuid dead.place indices (sym dead.refused ∙ reply))
+  | inr dead ↦ absurd (refused_accepted dead.refusal o uuid indices (sym dead.refused ∙ reply))
 ]
 
 module _ (f : Formats) (w : World) (shelf : List Shelved) (l : Law f w shelf) (m : Moment) (name place : Bytes) (o uuid : ℕ) (indices : List IndexRef) (image : Image) (told : m.image ≡ Some image) (a : AcceptedAs f w m name place o uuid indices) where

@@ -8,60 +8,55 @@ use Rattle.esr_model.specs.Shelf.{Shelved}
 use Rattle.esr_model.specs.Image.{Image}
 use Rattle.esr_core.specs.World.{World, ReadState, Restored, NotRestored, RestoreShard, Restoring, Reader, Caller}
 use Rattle.esr_core.specs.Restores.{restore_shard, restore_opened, shard_handed, more_read, shard_ended}
-use Rattle.esr_core.specs.Entry.{Read, ReadBlob, RestoredShard, CheckedAll, DrawTest, BeginTest, CommitTest, RemoveTests, VerifiedAll, ReadFails, Reply, WasFetched}
+use Rattle.esr_core.specs.Entry.{Read, ReadBlob, RestoredShard, CheckedAll, DrawTest, BeginTest, CommitTest, RemoveTests, VerifiedAll, ReadFails, Reply, WasFetched, Entry}
 use Rattle.esr_core.specs.After.{told_blob, taken_restore_shard, taken_restore, read_told, shard_over, read_over, read_step, read_by}
-use Rattle.esr_core.specs.Turns.{ReadTurn, OpensRestore, HandsShard, ReadsMore, EndsShard, Calls, NamesRemoved}
+use Rattle.esr_core.specs.Turns.{ReadTurn, OpensRestore, HandsShard, ReadsMore, EndsShard, Calls}
 use Rattle.esr_core.specs.Sound.{Sound}
 use Rattle.esr_core.specs.Queue.{QueueIn, Lawful}
 use Rattle.esr_core.specs.Ids.{InTerm}
 use Rattle.esr_core.specs.Tracked.{Tracked}
 
--- restores, their tickets, what who 0 has done and what removals have named may change, and more numbers of ops and tickets be given
+-- restores, their tickets, what who 0 has done and what was done so far may change, and more numbers of ops and tickets be given
 pub record Aside (w new : World) : Type 0 where
   pub restores : FinMap nat_cmp Restoring
   pub readers : FinMap nat_cmp Reader
   pub caller : Caller
-  pub removed : List BlobName
+  pub entries : List Entry
   pub next_op : ℕ
   pub next_ticket : ℕ
   pub ops : w.next_op ≤ next_op
   pub tickets : w.next_ticket ≤ next_ticket
-  pub new_is : new ≡ record w { restores = restores; readers = readers; caller = caller; removed = removed; next_op = next_op; next_ticket = next_ticket }
+  pub new_is : new ≡ record w { restores = restores; readers = readers; caller = caller; entries = entries; next_op = next_op; next_ticket = next_ticket }
 
 pub aside_same : (w : World) → Aside w w
-aside_same w = record { restores = w.restores; readers = w.readers; caller = w.caller; removed = w.removed; next_op = w.next_op; next_ticket = w.next_ticket; ops = omega arith; tickets = omega arith; new_is = refl }
+aside_same w = record { restores = w.restores; readers = w.readers; caller = w.caller; entries = w.entries; next_op = w.next_op; next_ticket = w.next_ticket; ops = omega arith; tickets = omega arith; new_is = refl }
 
 pub aside_opened : (w new : World) (uuid : ℕ) (place : Bytes) (indices : List IndexRef) → new ≡ restore_opened w uuid place indices → Aside w new
 aside_opened w new uuid place indices e =
-    record { restores = (restore_opened w uuid place indices).restores; readers = w.readers; caller = w.caller; removed = w.removed; next_op = suc w.next_op; next_ticket = w.next_ticket; ops = omega arith; tickets = omega arith; new_is = e }
+    record { restores = (restore_opened w uuid place indices).restores; readers = w.readers; caller = w.caller; entries = w.entries; next_op = suc w.next_op; next_ticket = w.next_ticket; ops = omega arith; tickets = omega arith; new_is = e }
 
 pub aside_handed : (w new : World) (o : ℕ) (r : Restoring) (s : RestoreShard) → new ≡ shard_handed w o r s → Aside w new
 aside_handed w new o r s e =
-    record { restores = (shard_handed w o r s).restores; readers = (shard_handed w o r s).readers; caller = w.caller; removed = w.removed; next_op = w.next_op; next_ticket = suc w.next_ticket; ops = omega arith; tickets = omega arith; new_is = e }
+    record { restores = (shard_handed w o r s).restores; readers = (shard_handed w o r s).readers; caller = w.caller; entries = w.entries; next_op = w.next_op; next_ticket = suc w.next_ticket; ops = omega arith; tickets = omega arith; new_is = e }
 
 pub aside_read : (w new : World) (k : ℕ) (q : Reader) (name : BlobName) (bytes : Bytes) → new ≡ more_read w k q name bytes → Aside w new
 aside_read w new k q name bytes e =
-    record { restores = w.restores; readers = (more_read w k q name bytes).readers; caller = w.caller; removed = w.removed; next_op = w.next_op; next_ticket = w.next_ticket; ops = omega arith; tickets = omega arith; new_is = e }
+    record { restores = w.restores; readers = (more_read w k q name bytes).readers; caller = w.caller; entries = w.entries; next_op = w.next_op; next_ticket = w.next_ticket; ops = omega arith; tickets = omega arith; new_is = e }
 
 pub aside_ended : (w new : World) (k : ℕ) (q : Reader) (r : Restoring) (state : ReadState) → new ≡ shard_ended w k q r state → Aside w new
 aside_ended w new k q r state e =
-    record { restores = (shard_ended w k q r state).restores; readers = (shard_ended w k q r state).readers; caller = w.caller; removed = w.removed; next_op = w.next_op; next_ticket = w.next_ticket; ops = omega arith; tickets = omega arith; new_is = e }
+    record { restores = (shard_ended w k q r state).restores; readers = (shard_ended w k q r state).readers; caller = w.caller; entries = w.entries; next_op = w.next_op; next_ticket = w.next_ticket; ops = omega arith; tickets = omega arith; new_is = e }
 
-pub aside_called : (w new : World) (caller : Caller) → new ≡ record w { caller = caller } → Aside w new
-aside_called w new caller e =
-    record { restores = w.restores; readers = w.readers; caller = caller; removed = w.removed; next_op = w.next_op; next_ticket = w.next_ticket; ops = omega arith; tickets = omega arith; new_is = e }
-
-pub aside_removed : (w new : World) (removed : List BlobName) → new ≡ record w { removed = removed } → Aside w new
-aside_removed w new removed e =
-    record { restores = w.restores; readers = w.readers; caller = w.caller; removed = removed; next_op = w.next_op; next_ticket = w.next_ticket; ops = omega arith; tickets = omega arith; new_is = e }
+pub aside_called : (w new : World) (caller : Caller) (entries : List Entry) → new ≡ record w { caller = caller; entries = entries } → Aside w new
+aside_called w new caller entries e =
+    record { restores = w.restores; readers = w.readers; caller = caller; entries = entries; next_op = w.next_op; next_ticket = w.next_ticket; ops = omega arith; tickets = omega arith; new_is = e }
 
 pub aside_of : (f : Formats) (w new : World) → ReadTurn f w new → Aside w new
 aside_of f w new (OpensRestore m uuid place indices h) = aside_opened w m uuid place indices h.new_is
 aside_of f w new (HandsShard m o r s h) = aside_handed w m o r s h.new_is
 aside_of f w new (ReadsMore m k name bytes h) = aside_read w m k h.q name bytes h.new_is
 aside_of f w new (EndsShard m k state h) = aside_ended w m k h.q h.r state h.new_is
-aside_of f w new (Calls m caller e) = aside_called w m caller e
-aside_of f w new (NamesRemoved m removed e) = aside_removed w m removed e
+aside_of f w new (Calls m caller entries e) = aside_called w m caller entries e
 
 -- ---- the steps of a history
 
@@ -152,7 +147,7 @@ pub term_aside : (w new : World) → Aside w new → InTerm w → InTerm new
 term_aside w new a h = subst InTerm (sym a.new_is) (record { from = h.from; below = h.below })
 
 -- a fact that reads none of what changes
-pub kept_aside : (P : World → Type 0) (w new : World) (a : Aside w new) → P (record w { restores = a.restores; readers = a.readers; caller = a.caller; removed = a.removed; next_op = a.next_op; next_ticket = a.next_ticket }) → P new
+pub kept_aside : (P : World → Type 0) (w new : World) (a : Aside w new) → P (record w { restores = a.restores; readers = a.readers; caller = a.caller; entries = a.entries; next_op = a.next_op; next_ticket = a.next_ticket }) → P new
 kept_aside P w new a h = subst P (sym a.new_is) h
 
 -- the order of a world

@@ -1,4 +1,4 @@
--- Where an op is open and no ticket is out, some unit is ready.
+-- Where an op or a restore is open and no ticket is out, some unit is ready.
 use Rattle.std.proofs.Common.{◌≡◌, ◌⊎◌, ℕ, zero, suc, ◌<◌, List, [], ◌∷◌, Bool, true, false, true≢false, Option, Some, None, refl, sym, ap, ◌∙◌, subst, inl, inr, arith, nat_cmp}
 use Rattle.std.proofs.lemmas.Bool.{cases_order}
 use Rattle.std.specs.FinMap.{FinMap}
@@ -6,11 +6,13 @@ use Rattle.std.specs.FinMap as fin
 use Rattle.esr_model.specs.Values.{ShardResult, Formats}
 use Rattle.esr_model.specs.Shelf.{Shelved}
 use Rattle.esr_model.specs.Image.{Has}
-use Rattle.esr_core.specs.World.{World, Op, ShardWork, ShardState, Pending, Out, Done, GivenUp, Ticket, AllDone}
-use Rattle.esr_core.specs.Ready.{Barrier, Goes, Stopped, Before, SwapIsOut, UnitIsOut, AnyReady, AShard, AFinalize, ADrop, ADelete, ACleanup, IsOpen}
+use Rattle.esr_core.specs.World.{World, Op, ShardWork, ShardState, Pending, Out, Done, GivenUp, Ticket, Restoring, AllDone}
+use Rattle.esr_core.specs.Ready.{Barrier, Goes, Stopped, Before, SwapIsOut, UnitIsOut, AnyReady, AShard, AFinalize, ADrop, ADelete, ACleanup, IsOpen, HasRestore, NoTicketOut}
 use Rattle.esr_core.specs.Queue.{Lawful}
 use Rattle.esr_core.proofs.Reading.{some_same, none_some}
+use Rattle.esr_core.specs.ReadTracked.{ReadTracked}
 use Rattle.esr_core.proofs.Queues.{Deletes}
+use Rattle.esr_core.proofs.ReadSteps.{restore_ready}
 
 -- whether a map has a key
 pub has_key : {X : Type 0} (m : FinMap nat_cmp X) (k : ℕ) → ((x : X) × (fin.get m k ≡ Some x)) ⊎ ((x : X) → fin.get m k ≡ Some x → ⊥)
@@ -47,7 +49,7 @@ not_both : (op : Op) → Goes op → Stopped op → ⊥
 not_both op g (inl e) = true≢false (sym e ∙ g.unfailed)
 not_both op g (inr (by, e)) = none_some by (sym g.unaborted ∙ e)
 
-module _ (f : Formats) (w : World) (shelf : List Shelved) (l : Lawful f w shelf) (idle : (k : ℕ) (t : Ticket) → fin.get w.tickets k ≡ Some t → t.out ≡ true → ⊥) where
+module _ (f : Formats) (w : World) (shelf : List Shelved) (l : Lawful f w shelf) (idle : (k : ℕ) (t : Ticket) → fin.get w.tickets k ≡ Some t → t.out ≡ true → ⊥) (no_restore : (o : ℕ) (r : Restoring) → fin.get w.restores o ≡ Some r → ⊥) where
   no_swap : (k : ℕ) → SwapIsOut w.tickets w.term k → ⊥
   no_swap k h = idle k h.t h.there h.out
 
@@ -161,13 +163,39 @@ module _ (f : Formats) (w : World) (shelf : List Shelved) (l : Lawful f w shelf)
             goes = g;
             no_barrier = λ b. least b.number b.before (inr (b.deletion, b.there));
             first = λ p q z lt e m i n wait. least p lt (inl (q, e));
+            unread = λ p r z lt e m i n. absurd (no_restore p r e);
           })
           | inr h ↦ finalize o (record { op = op; there = there; goes = g; no_barrier = λ b. least b.number b.before (inr (b.deletion, b.there)) }) (l.queue.completes o op h.0 there h.1)
         ]
   ]
 
-  pub some_ready : (o : ℕ) → IsOpen w o → AnyReady w
-  some_ready o h = elim (lowest (suc o)) [
+  op_ready : (o : ℕ) → IsOpen w o → AnyReady w
+  op_ready o h = elim (lowest (suc o)) [
     | inl none ↦ absurd (none o (omega arith) h)
     | inr found ↦ ready_at found.0 found.1 found.2
   ]
+
+-- a restore below this number is open, or none is
+restore_below : (w : World) (n : ℕ) → ((o : ℕ) × HasRestore w o) ⊎ ((o : ℕ) (r : Restoring) → o < n → fin.get w.restores o ≡ Some r → ⊥)
+restore_below w zero = inr (λ o r lt e. omega (arith, lt))
+restore_below w (suc n) = elim (has_key w.restores n) [
+  | inl found ↦ inl (n, found)
+  | inr free ↦ elim (restore_below w n) [
+    | inl found ↦ inl found
+    | inr none ↦ inr (λ o r lt e. elim (cases_order o n) [
+      | inl same ↦ free r (ap (fin.get w.restores) (sym same) ∙ e)
+      | inr (inl less) ↦ none o r less e
+      | inr (inr more) ↦ omega (arith, lt, more)
+    ])
+  ]
+]
+
+-- a unit of an open restore, where there is one
+pub some_ready : (f : Formats) (w : World) (shelf : List Shelved) → Lawful f w shelf → ReadTracked w → (o : ℕ) → IsOpen w o ⊎ HasRestore w o → NoTicketOut w → AnyReady w
+some_ready f w shelf l read o opened idle = elim (restore_below w w.next_op) [
+  | inl found ↦ restore_ready w found.0 found.1.0 read found.1.1 (λ k q there out of. idle.readers k q there out)
+  | inr none ↦ elim opened [
+    | inl op ↦ op_ready f w shelf l idle.tickets (λ p r there. none p r (read.tracked.numbers p r there) there) o op
+    | inr restore ↦ absurd (none o restore.0 (read.tracked.numbers o restore.0 restore.1) restore.1)
+  ]
+]

@@ -160,15 +160,12 @@ goes_delete_failed : (w : World) (k : ℕ) (o : Option Ticket) → fin.get w.tic
 goes_delete_failed w k None is = goes_same w
 goes_delete_failed w k (Some t) is = goes_either w (with_ticket w k (record t { out = false })) (delete_failed_by w k t (fin.get w.deletes t.op)) (is_stale w t t.work) (goes_ticket w k t (record t { out = false }) is) (goes_delete_failed_by w k t (fin.get w.deletes t.op) is refl)
 
-goes_removed : (w : World) (removed : List BlobName) → Goes w (record w { removed = removed })
-goes_removed w removed = record { restores = refl; readers = refl; caller = refl; doomed = λ name m. m; next_op = omega arith; next_ticket = omega arith; next_id = omega arith; ops = as_was w.ops w.next_op; deletes = as_was w.deletes w.next_op; tickets = as_was w.tickets w.next_ticket }
-
 goes_prune : (f : Formats) (w : World) (k : ℕ) (prune : Prune) (reply : Reply) (image : Option Image) → Goes w (prune_step f w k prune reply image)
 goes_prune f w k (FetchShard name) WasFetched image = goes_change w k (fetching name (told_blob f image name)) (fin.get w.tickets k) refl
 goes_prune f w k (FetchShard name) reply image = goes_same w
 goes_prune f w k (PlanShards shards) reply image = goes_drawn w k (kept_count shards) (planned f shards w.next_id) (fin.get w.tickets k) refl
 goes_prune f w k SettlePruned reply image = goes_delete_settled f w k (fin.get w.tickets k) refl
-goes_prune f w k (RemoveDoomed names) reply image = goes_removed w (names ++ w.removed)
+goes_prune f w k (RemoveDoomed names) reply image = goes_same w
 goes_prune f w k EndDelete reply image = goes_change w k (λ t. record t { out = false }) (fin.get w.tickets k) refl
 goes_prune f w k (DeleteFails why) reply image = goes_delete_failed w k (fin.get w.tickets k) refl
 
@@ -240,7 +237,6 @@ goes_fault f w room k DroppedStep image old = goes_fallen f w _ image (goes_step
 goes_fault f w room k ElectStep image old = goes_fallen f w _ image (goes_step f w room k ElectStep HasEnded image tt)
 goes_fault f w room k (ReadStep read) image old = absurd old
 goes_fault f w room k (PruneStep SettlePruned) image old = goes_fallen f w _ image (goes_prune f w k SettlePruned HasEnded image)
-goes_fault f w room k (PruneStep (RemoveDoomed names)) image old = goes_removed w (names ++ w.removed)
 goes_fault f w room k step image old = goes_same w
 
 pub goes_answered : (f : Formats) (w : World) (room : w.next_id ≤ first_id (suc w.term)) (k : ℕ) (step : Step) (reply : Reply) (image : Option Image) → IsOld step reply → Goes w (answered f w k step reply image)

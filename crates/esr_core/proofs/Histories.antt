@@ -1,5 +1,6 @@
 -- Over a legal history the law holds, for the shelf with the commands that count.
 use Rattle.std.proofs.Common.{◌≡◌, ◌⊎◌, ℕ, suc, ◌≤◌, List, [], ◌∷◌, ◌++◌, true, false, true≢false, Option, Some, None, map, refl, sym, ap, ◌∙◌, subst, inl, inr, arith}
+use Rattle.std.specs.Prelude.{if◌then◌else◌}
 use Rattle.std.specs.FinMap as fin
 use Rattle.esr_model.specs.Values.{ReadsBack, ShardResult, Formats}
 use Rattle.esr_model.specs.Shelf.{Shelved, Command, shelf_after}
@@ -8,13 +9,15 @@ use Rattle.esr_model.specs.Kept.{Kept}
 use Rattle.esr_core.specs.World.{World, Done, Ticket, Swap, marked, record_of, image_of}
 use Rattle.esr_core.specs.Steps.{MaySettle, completing}
 use Rattle.esr_core.specs.Ids.{Law}
-use Rattle.esr_core.specs.Entry.{DoneStep, HasEnded, Refused, StaleTerm, Moment, DeposedAt}
-use Rattle.esr_core.specs.After.{answered, done_of, done_by, blobs_in, after}
-use Rattle.esr_core.specs.Allowed.{Allows, Allowed, IsDeposed, SameBlobs, DoneAs, Dones as DonesBy}
+use Rattle.esr_core.specs.Past.{is_counted, with_entry}
+use Rattle.esr_core.specs.Entry.{DoneStep, HasEnded, Refusal, Refused, StaleTerm, Moment}
+use Rattle.esr_core.specs.After.{answered, done_of, done_by, blobs_in, stepped, after}
+use Rattle.esr_core.specs.Allowed.{Allows, Allowed, Blocks, ByFailedSwap, ByDelete, IsBlocked, SameBlobs, DoneAs, Dones as DonesBy}
 use Rattle.esr_core.specs.History.{world_from, IsLegal, TellsShards, TellsHandedOut, AreTold, AreHonest, IsHonest, commands_at, committed, Lasts}
-use Rattle.esr_core.specs.Turns.{DoneFound, Turn, Stays, Commits, CommitFails, Finds, Raises, Latests, Fetches, SettlesFinal, SettlesDelete, Elects, TakesShard, TakesFinal, TakesDrop, TakesDelete, TakesCleanup, AsksCleanup, CleanDrops, DrawsShard, DrawsPlan, Dones, Ending, Fails, FailsDelete, Drops, AsksCreate, AsksDelete, Merges, Removing, Deposes, commands_of, Besides, Tests, TestTurn, DrawsTest, AddsTest, RemovesTests}
+use Rattle.esr_core.specs.Turns.{DoneFound, Turn, Stays, Commits, CommitFails, Finds, Raises, Latests, Fetches, SettlesFinal, SettlesDelete, Elects, TakesShard, TakesFinal, TakesDrop, TakesDelete, TakesCleanup, AsksCleanup, CleanDrops, DrawsShard, DrawsPlan, Dones, Ending, Fails, FailsDelete, Drops, AsksCreate, AsksDelete, Merges, Removing, Deposes, commands_of, Besides, Calls, Tests, TestTurn, DrawsTest, AddsTest, RemovesTests}
 use Rattle.esr_core.proofs.Besides.{aside_of}
 use Rattle.esr_core.proofs.Heard.{unheard_stays}
+use Rattle.esr_core.proofs.Blocked.{blocked_none, blocked_stays}
 use Rattle.esr_core.proofs.Reading.{some_same, none_some}
 use Rattle.esr_core.proofs.Turning.{turn_law}
 use Rattle.esr_core.proofs.Moments.{Turned, plain, turn_by}
@@ -70,16 +73,6 @@ turn_safe f w new shelf l (Tests m t) = tests_safe f w m t
 turn_safe f w new shelf l (Besides m up h r) = let a : w.safe ≤ up.safe = turn_safe f w up shelf l h in let b : m.safe ≡ up.safe = ap (λ (x : World). x.safe) (aside_of f up m r).new_is in omega (arith, a, b)
 turn_safe f w new shelf l (Deposes m up h e) = let a : w.safe ≤ up.safe = turn_safe f w up shelf l h in let b : m.safe ≡ up.safe = ap (λ (x : World). x.safe) e in omega (arith, a, b)
 
--- after a record swap that failed the world stays
-pub deposed_stays : (f : Formats) (w : World) (m : Moment) → IsDeposed w m → after f w m ≡ w
-deposed_stays f w m d =
-    unheard_stays f w m (DeposedAt d.place) d.refused refl
-    ((λ j. record (answered f w m.entry.who m.entry.step (d.refused j) m.image) { blobs = blobs_in m.image w.blobs }) ∙ (λ j. record w { blobs = same m.image d.same j }))
-  where
-    same : (image : Option Image) → SameBlobs w image → blobs_in image w.blobs ≡ w.blobs
-    same None h = refl
-    same (Some i) h = h
-
 -- a step of a legal history, with the law of the world after it
 pub record Stepped (f : Formats) (w : World) (shelf : List Shelved) (m : Moment) (new : World) : Type 0 where
   pub commands : List Command
@@ -95,7 +88,7 @@ pub record Stepped (f : Formats) (w : World) (shelf : List Shelved) (m : Moment)
 step_turn : (f : Formats) (size : ℕ) (w : World) (shelf : List Shelved) → TellsShards f w → Law f w shelf → IsHonest f w.blobs → (m : Moment) (i : Image) → m.image ≡ Some i → Allows f size w m.entry.who m.entry.step m.entry.reply m.image → Turned f w m.entry.who m.entry.step m.entry.reply (after f w m)
 step_turn f size w shelf known l honest m i told alive = turn_by f size w shelf l i doing (accepted f w shelf l) (prune_turn f w shelf l i) m.entry.who m.entry.step m.entry.reply m.image told alive
   where
-    doing : (k : ℕ) (r : ShardResult) → DonesBy f size w k r (Some i) → i.blobs ≡ w.blobs → Turned f w k (DoneStep r) HasEnded (after f w (record { entry = record { who = k; step = DoneStep r; reply = HasEnded }; image = Some i }))
+    doing : (k : ℕ) (r : ShardResult) → DonesBy f size w k r (Some i) → i.blobs ≡ w.blobs → Turned f w k (DoneStep r) HasEnded (stepped f w (record { entry = record { who = k; step = DoneStep r; reply = HasEnded }; image = Some i }))
     doing k r d same =
         plain f w k (DoneStep r) HasEnded _
         (Dones _ k r (by_source d.t.source refl d.done _ ((λ j. record (done_of w k r (d.out.there j)) { blobs = i.blobs }) ∙ (λ j. record (done_by w k r d.t (d.op_there j)) { blobs = same j })))) refl refl
@@ -105,30 +98,45 @@ step_turn f size w shelf known l honest m i told alive = turn_by f size w shelf 
         by_source None at b = done_found f size w shelf l honest k d.t d.out r d.is d.op d.op_there d.s d.s_there d.state d.place_is d.name_is (d.source_is ∙ at) b (b.told (known k d.t r.index r.shard d.out.there d.out.out d.is at))
         by_source (Some source) at b = cloned_found f w shelf l k d.t d.out r d.is source at b d.op d.op_there (d.source_is ∙ at) d.s d.s_there d.state
 
+pub turned_law : (f : Formats) (w : World) (shelf : List Shelved) → Law f w shelf → w.deposed ≡ false → (m : Moment) → Turned f w m.entry.who m.entry.step m.entry.reply (after f w m) → Stepped f w shelf m (after f w m)
+turned_law f w shelf l alive m t =
+    record {
+      commands = commands_of f w (after f w m) t.turn;
+      law = turn_law f w (after f w m) shelf l alive t.turn;
+      rises = turn_safe f w (after f w m) shelf l t.turn;
+      early = t.early;
+      counted = t.commands;
+      alone = λ e. absurd (true≢false (sym e ∙ alive));
+      made = inl (alive, (t.turn, refl));
+    }
+
+-- one that is refused before it is looked at
+pub blocked_law : (f : Formats) (w : World) (shelf : List Shelved) → Law f w shelf → (m : Moment) → IsBlocked w m → Stepped f w shelf m (after f w m)
+blocked_law f w shelf l m b = by b.refusal b.blocks b.refused
+  where
+    by : (refusal : Refusal) → Blocks w m.entry.who m.entry.step refusal → m.entry.reply ≡ Refused refusal → Stepped f w shelf m (after f w m)
+    by _ (ByFailedSwap place d) refused =
+        let same : after f w m ≡ w = blocked_stays f w m b ∙ (λ j. record w { entries = if is_counted (refused j) then m.entry ∷ w.entries else w.entries }) in
+        record {
+          commands = [];
+          law = subst (λ x. Law f x shelf) (sym same) l;
+          rises = let e : (after f w m).safe ≡ w.safe = ap (λ (x : World). x.safe) same in omega (arith, e);
+          early = λ safe below. blocked_none f w safe m b;
+          counted = λ safe above only. blocked_none f w safe m b;
+          alone = λ e. (ap (λ (x : World). x.deposed) same ∙ e, ap (λ (x : World). x.safe) same);
+          made = inr (same, refl);
+        }
+    by _ (ByDelete o alive aborted) refused =
+        turned_law f w shelf l alive m (record {
+          turn = Besides _ w (Stays w refl) (Calls _ w.caller (with_entry w.entries m.entry) (blocked_stays f w m b));
+          commands = λ safe above only. blocked_none f w safe m b;
+          early = λ safe below. blocked_none f w safe m b;
+        })
+
 pub step_law : (f : Formats) (size : ℕ) (w : World) (shelf : List Shelved) → TellsShards f w → Law f w shelf → IsHonest f w.blobs → (m : Moment) (i : Image) → m.image ≡ Some i → Allowed f size w m → Stepped f w shelf m (after f w m)
 step_law f size w shelf known l honest m i told a = elim a.answered [
-  | inl alive ↦
-      let t : Turned f w m.entry.who m.entry.step m.entry.reply (after f w m) = step_turn f size w shelf known l honest m i told alive.1 in
-      record {
-        commands = commands_of f w (after f w m) t.turn;
-        law = turn_law f w (after f w m) shelf l alive.0 t.turn;
-        rises = turn_safe f w (after f w m) shelf l t.turn;
-        early = t.early;
-        counted = t.commands;
-        alone = λ e. absurd (true≢false (sym e ∙ alive.0));
-        made = inl (alive.0, (t.turn, refl));
-      }
-  | inr dead ↦
-      let same : after f w m ≡ w = deposed_stays f w m dead in
-      record {
-        commands = [];
-        law = subst (λ x. Law f x shelf) (sym same) l;
-        rises = let e : (after f w m).safe ≡ w.safe = ap (λ (x : World). x.safe) same in omega (arith, e);
-        early = λ safe below. ap (commands_at f safe w m.entry.who m.entry.step) dead.refused;
-        counted = λ safe above only. ap (commands_at f safe w m.entry.who m.entry.step) dead.refused;
-        alone = λ e. (ap (λ (x : World). x.deposed) same ∙ e, ap (λ (x : World). x.safe) same);
-        made = inr (same, refl);
-      }
+  | inl alive ↦ turned_law f w shelf l alive.0 m (step_turn f size w shelf known l honest m i told alive.1)
+  | inr dead ↦ blocked_law f w shelf l m dead
 ]
 
 -- what a list of moments leaves
@@ -248,11 +256,12 @@ each_image f size log rest w shelf m i known l image legal told honest =
     nil [] = refl
     nil (c ∷ cs) = ap (λ ds. c ∷ ds) (nil cs)
 
--- a step of an older term changes nothing
-pub stale_stays : (f : Formats) (w : World) (m : Moment) (own now : ℕ) → m.entry.reply ≡ Refused (StaleTerm own now) → SameBlobs w m.image → after f w m ≡ w
+-- a step of an older term changes nothing, but that it was made
+pub stale_stays : (f : Formats) (w : World) (m : Moment) (own now : ℕ) → m.entry.reply ≡ Refused (StaleTerm own now) → SameBlobs w m.image → after f w m ≡ record w { entries = m.entry ∷ w.entries }
 stale_stays f w m own now e same =
     unheard_stays f w m (StaleTerm own now) e refl
     ((λ j. record (answered f w m.entry.who m.entry.step (e j) m.image) { blobs = blobs_in m.image w.blobs }) ∙ (λ j. record w { blobs = stay m.image same j }))
+    ∙ (λ j. record w { entries = if is_counted (e j) then m.entry ∷ w.entries else w.entries })
   where
     stay : (image : Option Image) → SameBlobs w image → blobs_in image w.blobs ≡ w.blobs
     stay None h = refl

@@ -9,11 +9,11 @@ use Rattle.esr_model.specs.Image.{Image}
 use Rattle.esr_model.specs.Kept.{Kept}
 use Rattle.esr_core.specs.World.{World, Ticket, record_of, image_of}
 use Rattle.esr_core.specs.Ids.{Law}
-use Rattle.esr_core.specs.Entry.{Snapshot, Step, AskStep, BeginStep, LatestStep, RaiseStep, SettleStep, DroppedStep, ElectStep, DeposedAt, DepotFault, Reply, WasSettled, Refused, Moment, Prune, SettlePruned, PruneStep}
+use Rattle.esr_core.specs.Entry.{Snapshot, Step, AskStep, BeginStep, LatestStep, RaiseStep, SettleStep, DroppedStep, ElectStep, Refusal, AbortedBy, DepotFault, Reply, WasSettled, Refused, Moment, Prune, SettlePruned, PruneStep}
 use Rattle.esr_core.specs.After.{asked, raised, with_given, settled_of, dropped_of, done_step, has_text, is_latest, tried, faulted, answered, after, told_blob, test_left, delete_settled}
 use Rattle.esr_core.specs.Entry as entry
 use Rattle.esr_core.specs.Allowed as allowed
-use Rattle.esr_core.specs.Allowed.{Settles, SettlesDeletion, PruneAllows, Allows, Allowed, IsDeposed}
+use Rattle.esr_core.specs.Allowed.{Settles, SettlesDeletion, PruneAllows, Allows, Blocks, ByFailedSwap, ByDelete, IsBlocked, Allowed}
 use Rattle.esr_core.specs.History.{world_from, IsLegal, TellsHandedOut, AreTold, AreHonest, counts, is_settle, command_of, commands_at, committed}
 use Rattle.esr_core.specs.Left.{cut_off, Leaves, safe_of, safe_by, safe_in}
 use Rattle.esr_core.proofs.Reading.{some_same}
@@ -21,7 +21,8 @@ use Rattle.esr_core.proofs.AskedDeletes.{delete_leaves}
 use Rattle.esr_core.proofs.Moments.{moment, settled_plain, delete_settled_plain}
 use Rattle.esr_core.proofs.Laws.{kept_of}
 use Rattle.esr_core.proofs.Lists.{shelf_after-append}
-use Rattle.esr_core.proofs.Histories.{settled_above, deposed_stays, step_law, image_is, legal_parts, later_none}
+use Rattle.esr_core.proofs.Blocked.{block_faultless, blocked_none, blocked_stays}
+use Rattle.esr_core.proofs.Histories.{settled_above, step_law, image_is, legal_parts, later_none}
 
 -- ---- how many roots there are up to the safe one
 
@@ -87,15 +88,23 @@ settles_by_fault (allowed.SettleFails k im s same) = s
 settles_by_answer : {f : Formats} {size : ℕ} {w : World} {who : ℕ} {image : Option Image} → Allows f size w who SettleStep WasSettled image → Settles f w who
 settles_by_answer (allowed.Settling k im s same) = s
 
-no_deposed : (reply : Reply) (place : ℕ) → reply ≡ Refused DepotFault → reply ≡ Refused (DeposedAt place) → ⊥
-no_deposed reply place a b = cc
+no_block : (refusal : Refusal) → Refused DepotFault ≡ Refused refusal → refusal ≡ DepotFault
+no_block refusal e = cc
 
 -- a crash in a call comes in a world that isn't deposed
 cut_alive : (f : Formats) (size : ℕ) (w : World) (m : Moment) (i : Image) → Allowed f size w (cut_off m i) → (w.deposed ≡ false) × Allows f size w m.entry.who m.entry.step (Refused DepotFault) (Some i)
-cut_alive f size w m i cut = elim cut.answered [ inl alive ↦ alive | inr dead ↦ absurd (no_deposed (Refused DepotFault) dead.place refl dead.refused) ]
+cut_alive f size w m i cut = elim cut.answered [ inl alive ↦ alive | inr dead ↦ absurd (block_faultless w m.entry.who m.entry.step dead.refusal dead.blocks (no_block dead.refusal dead.refused)) ]
 
-allows_alive : (f : Formats) (size : ℕ) (w : World) (m : Moment) → w.deposed ≡ false → Allowed f size w m → Allows f size w m.entry.who m.entry.step m.entry.reply m.image
-allows_alive f size w m alive a = elim a.answered [ inl h ↦ h.1 | inr dead ↦ absurd (true≢false (sym dead.deposed ∙ alive)) ]
+not_aborted : (by : ℕ) → Refused DepotFault ≡ Refused (AbortedBy by) → ⊥
+not_aborted by e = cc
+
+-- so the step was looked at there
+allows_alive : (f : Formats) (size : ℕ) (w : World) (m : Moment) (i : Image) → w.deposed ≡ false → Allowed f size w (cut_off m i) → Allowed f size w m → Allows f size w m.entry.who m.entry.step m.entry.reply m.image
+allows_alive f size w m i alive cut a = elim a.answered [ inl h ↦ h.1 | inr dead ↦ absurd (never dead.refusal dead.blocks) ]
+  where
+    never : (refusal : Refusal) → Blocks w m.entry.who m.entry.step refusal → ⊥
+    never _ (ByFailedSwap place d) = true≢false (sym d ∙ alive)
+    never _ (ByDelete by d aborted) = not_aborted by (cut.aborted by d aborted)
 
 -- both count alike, and no later step counts in what the failure leaves: it is no later than the world after the answer, or that is deposed
 record Alike (f : Formats) (w : World) (who : ℕ) (step : Step) (reply : Reply) (image left : Option Image) : Type 0 where
@@ -190,9 +199,9 @@ nil (c ∷ cs) = ap (λ ds. c ∷ ds) (nil cs)
 deposed_none : (f : Formats) (size : ℕ) (log : List Moment) (w : World) (safe : ℕ) → w.deposed ≡ true → IsLegal f size w log → committed f safe w log ≡ []
 deposed_none f size [] w safe d legal = refl
 deposed_none f size (m ∷ log) w safe d legal =
-    let dead : IsDeposed w m = elim legal.0.answered [ inl alive ↦ absurd (true≢false (sym d ∙ alive.0)) | inr h ↦ h ] in
-    let mine : commands_at f safe w m.entry.who m.entry.step m.entry.reply ≡ [] = ap (commands_at f safe w m.entry.who m.entry.step) dead.refused in
-    let rest : committed f safe (after f w m) log ≡ [] = deposed_none f size log (after f w m) safe (ap (λ (x : World). x.deposed) (deposed_stays f w m dead) ∙ d) legal.1 in
+    let dead : IsBlocked w m = elim legal.0.answered [ inl alive ↦ absurd (true≢false (sym d ∙ alive.0)) | inr h ↦ h ] in
+    let mine : commands_at f safe w m.entry.who m.entry.step m.entry.reply ≡ [] = blocked_none f w safe m dead in
+    let rest : committed f safe (after f w m) log ≡ [] = deposed_none f size log (after f w m) safe (ap (λ (x : World). x.deposed) (blocked_stays f w m dead) ∙ d) legal.1 in
     λ j. mine j ++ rest j
 
 now_kept : (f : Formats) (size : ℕ) (log : List Moment) (w : World) (shelf : List Shelved) (i : Image) → TellsHandedOut f w log → Law f w shelf → ReadsBack f.cluster (record_of w) → IsLegal f size w log → AreTold log → AreHonest f w log → i ≡ image_of f w
@@ -211,7 +220,7 @@ cut_kept f size m log w shelf i known l legal told honest cut =
     let c = step_law f size w shelf known.0 l honest.0 (cut_off m i) i refl cut in
     let s = step_law f size w shelf known.0 l honest.0 m told.0.0 told.0.1 legal.0 in
     let alive = cut_alive f size w m i cut in
-    let a = alike_by f size w shelf l m.entry.who m.entry.step m.entry.reply m.image (Some i) s.rises (allows_alive f size w m alive.0 legal.0) alive.1 in
+    let a = alike_by f size w shelf l m.entry.who m.entry.step m.entry.reply m.image (Some i) s.rises (allows_alive f size w m i alive.0 cut legal.0) alive.1 in
     let mine : commands_at f safe w m.entry.who m.entry.step m.entry.reply ≡ c.commands = a.counted safe ∙ c.counted safe (omega (arith, e)) (λ d. e) in
     let rest : committed f safe (after f w m) log ≡ [] = elim a.ends [
       | inl d ↦ deposed_none f size log (after f w m) safe d legal.1
@@ -236,14 +245,14 @@ left_kept f size (m ∷ log) w shelf i known l back legal told honest (inr (inr 
 
 -- ---- a settle that was answered
 
-pub no_answer : (reply : Reply) (place : ℕ) → reply ≡ WasSettled → reply ≡ Refused (DeposedAt place) → ⊥
-no_answer reply place a b = cc
+pub no_answer : (reply : Reply) (refusal : Refusal) → reply ≡ WasSettled → reply ≡ Refused refusal → ⊥
+no_answer reply refusal a b = cc
 
 -- its root is the safe one
 pub settled_safe : (f : Formats) (size : ℕ) (w : World) (m : Moment) (t : Ticket) (n : ℕ) → Allowed f size w m → m.entry.step ≡ SettleStep → m.entry.reply ≡ WasSettled → fin.get w.tickets m.entry.who ≡ Some t → t.raised ≡ Some n → (after f w m).safe ≡ suc n
 settled_safe f size w m t n a step reply there raised =
     let who : ℕ = m.entry.who in
-    let allows : Allows f size w who m.entry.step m.entry.reply m.image = elim a.answered [ inl h ↦ h.1 | inr dead ↦ absurd (no_answer m.entry.reply dead.place reply dead.refused) ] in
+    let allows : Allows f size w who m.entry.step m.entry.reply m.image = elim a.answered [ inl h ↦ h.1 | inr dead ↦ absurd (no_answer m.entry.reply dead.refusal reply dead.refused) ] in
     let s : Settles f w who = settles_by_answer (subst (λ x. Allows f size w who SettleStep x m.image) reply (subst (λ x. Allows f size w who x m.entry.reply m.image) step allows)) in
     let one : s.t ≡ t = some_same s.t t (sym s.may.out.there ∙ there) in
     let same : s.n ≡ n = some_same s.n n (sym s.may.raised ∙ ap (λ (x : Ticket). x.raised) one ∙ raised) in

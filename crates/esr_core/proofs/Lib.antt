@@ -1,4 +1,5 @@
 pub mod Maps
+pub mod Past
 pub mod Frames
 pub mod Tickets
 pub mod Reading
@@ -23,6 +24,7 @@ pub mod Take
 pub mod Testing
 pub mod Besides
 pub mod Heard
+pub mod Blocked
 pub mod Law
 pub mod Queues
 pub mod Evolving
@@ -99,3 +101,9 @@ pub mod OnShelf
 pub mod AskedShelf
 pub mod ReadEnding
 pub mod Refusing
+pub mod Causes
+pub mod Changes
+pub mod Makers
+pub mod StepFrames
+pub mod BlobChanges
+pub mod ReadyAgain

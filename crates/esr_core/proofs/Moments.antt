@@ -18,6 +18,7 @@ use Rattle.esr_core.specs.Pruning.{dooms}
 use Rattle.esr_core.specs.Ids.{Law}
 use Rattle.esr_core.specs.Queue.{Lists}
 use Rattle.esr_core.specs.Entry.{CloneOf, Asked, Snapshot, DeleteSnapshots, Given, GivenShard, GivenFinalize, GivenDrop, Why, Step, AskStep, TakeStep, DrawStep, BeginStep, CommitStep, LatestStep, FetchStep, ListStep, RaiseStep, SettleStep, DoneStep, FailedStep, FinishStep, DroppedStep, ElectStep, LookStep, Refusal, DepotFault, Reply, WasSettled, HasEnded, Refused, Entry, Moment, Restore, Read, ReadBlob, RestoredShard, CheckedAll, ReadFails, ReadStep, AcceptedRestore, GivenRestore, DrawTest, BeginTest, CommitTest, RemoveTests, VerifiedAll, GivenClone, GivenDelete, GivenCleanup, Prune, PruneStep}
+use Rattle.esr_core.specs.Past.{with_entry}
 use Rattle.esr_core.specs.After.{asked, asked_op, cloned_op, clone_opened, taken_by, taken_shard, with_given, change, committing, fetching, told_blob, settled_of, settled_by, failed_of, failed_by, is_stale, dropped_of, is_latest, tried, blobs_in, after, stepped, caller_after, read_told, read_over, shard_over, taken_restore, taken_restore_shard, test_left, delete_settled, delete_settled_by}
 use Rattle.esr_core.specs.Allowed as allowed
 use Rattle.esr_core.specs.Allowed.{PruneAllows, latest_text, Told, SameBlobs, Adds, Accepts, Gives, GivesShard, GivesFinalize, Draws, Commits, Refinds, Puts, Raises, Settles, Fails, Finishes, Drops, Dones, Allows, MayRead, Fetcher, ByReader, ByCheck, MayDelete, DeleteAllows, GoingInto, NotNamed, CloneStands, RestoreStands, FullOfOps, DeleteFault, RestoreAllows, OpeningRestore, NotListed, NamedByDelete, FullOfRestores, AcceptsClone, CloneAllows, OpeningClone, CloneUsed, SourceNotListed, SourceDeleted, IndexMissing, FullOfClones, CloneSpent, CloneFault, ReadAllows, ReadFound, ReadMissing, ReadFault, RestoringShard, ReaderFailing, CheckingAll, CheckFailing, ByVerify, IsOwnTest, MayRemoveTests, VerifyAllows, DrawingTest, TestSpent, BeginningTest, BeginTestFails, CommittingTest, TestTaken, CommitTestFails, RemovingTests, RemoveTestsFails, VerifyingAll, VerifyFailing}
@@ -150,14 +151,14 @@ module _ (f : Formats) (w : World) where
 
   -- ---- blobs
 
-  commit_turn : (k : ℕ) (name : BlobName) (i : Image) (c : Commits f w k name) → Adds f w name c.bytes i.blobs → Turned f w k (CommitStep name) entry.WasDone (record (change w k (committing name (told_blob f (Some i) name))) { blobs = i.blobs })
-  commit_turn k name i c adds =
+  commit_turn : (size k : ℕ) (name : BlobName) (i : Image) (c : Commits f size w k name) → Adds f w name c.bytes i.blobs → Turned f w k (CommitStep name) entry.WasDone (record (change w k (committing name (told_blob f (Some i) name))) { blobs = i.blobs })
+  commit_turn size k name i c adds =
       let told : fin.get i.blobs (f.names.text name) ≡ Some c.bytes = ap (λ (b : Blobs). fin.get b (f.names.text name)) adds.1 ∙ get_same nat_list_cmp_total texts_same w.blobs (f.names.text name) c.bytes in
       plain f w k (CommitStep name) entry.WasDone _
       (turns.Commits _ k name (record { t = c.t; out = c.out; bytes = c.bytes; named = c.named; may = c.may; absent = adds.0; new_is = λ j. record (with_given w k (committing name (told j)) (c.out.there j)) { blobs = adds.1 j } })) refl refl
 
-  commit_fails : (k : ℕ) (name : BlobName) (i : Image) (c : Commits f w k name) → (i.blobs ≡ w.blobs) ⊎ Adds f w name c.bytes i.blobs → Turned f w k (CommitStep name) (Refused DepotFault) (record w { blobs = i.blobs })
-  commit_fails k name i c leaves =
+  commit_fails : (size k : ℕ) (name : BlobName) (i : Image) (c : Commits f size w k name) → (i.blobs ≡ w.blobs) ⊎ Adds f w name c.bytes i.blobs → Turned f w k (CommitStep name) (Refused DepotFault) (record w { blobs = i.blobs })
+  commit_fails size k name i c leaves =
       plain f w k (CommitStep name) (Refused DepotFault) _
       (turns.CommitFails _ k name (record { t = c.t; out = c.out; bytes = c.bytes; named = c.named; may = c.may; leaves = elim leaves [ inl e ↦ inl (λ j. record w { blobs = e j }) | inr adds ↦ inr (adds.0, λ j. record w { blobs = adds.1 j }) ] })) refl refl
 
@@ -293,7 +294,7 @@ module _ (f : Formats) (w : World) where
 
   ends_turn : (k : ℕ) (image : Option Image) → Finishes w k → SameBlobs w image → Turned f w k FinishStep HasEnded (record (change w k (λ (t : Ticket). record t { out = false })) { blobs = blobs_in image w.blobs })
   ends_turn k image c same =
-      plain f w k FinishStep HasEnded _ (Ending _ k (record { t = c.t; out = c.out; no_shard = c.no_shard; done = c.done; new_is = λ j. record (with_given w k (λ (t : Ticket). record t { out = false }) (c.out.there j)) { blobs = blobs_same w image same j } })) refl refl
+      plain f w k FinishStep HasEnded _ (Ending _ k (record { t = c.t; out = c.out; no_shard = c.no_shard; done = elim c.done [ inl h ↦ inl h.0 | inr h ↦ inr h.0 ]; new_is = λ j. record (with_given w k (λ (t : Ticket). record t { out = false }) (c.out.there j)) { blobs = blobs_same w image same j } })) refl refl
 
   dropped : (k : ℕ) (c : Drops w k) → World
   dropped k c = record w { ops = fin.remove w.ops c.may.t.op; deletes = fin.remove w.deletes c.may.t.op; tickets = fin.insert w.tickets k (record c.may.t { out = false }) }
@@ -544,7 +545,7 @@ module _ (f : Formats) (size : ℕ) (w : World) (shelf : List Shelved) (l : Law 
   turn_of who step reply image told (allowed.Beginning k name im c same) = stays f w k (BeginStep name) entry.WasBegun im same refl
   turn_of who step reply image told (allowed.BeginningLatest k im c same) = stays f w k (BeginStep Latest) entry.WasBegun im same refl
   turn_of who step reply image told (allowed.Committing k name im c adds) =
-      subst (λ x. Turned f w k (CommitStep name) entry.WasDone (stepped f w (moment k (CommitStep name) entry.WasDone x))) (sym told) (commit_turn f w k name i c (of_told i im (Adds f w name c.bytes) told adds))
+      subst (λ x. Turned f w k (CommitStep name) entry.WasDone (stepped f w (moment k (CommitStep name) entry.WasDone x))) (sym told) (commit_turn f w size k name i c (of_told i im (Adds f w name c.bytes) told adds))
   turn_of who step reply image told (allowed.Finding k name im c found) =
       let here = of_told i im (λ blobs. Present f w.blobs name × (blobs ≡ w.blobs)) told found in
       find_turn f w k name im c here.0.0 here.0.1 (subst (SameBlobs w) (sym told) here.1)
@@ -592,7 +593,7 @@ module _ (f : Formats) (size : ℕ) (w : World) (shelf : List Shelved) (l : Law 
   turn_of who step reply image told (allowed.BeginLatestFails k im c same) = latest_turn f w k (BeginStep Latest) (Refused DepotFault) im c refl (blobs_in im w.blobs) (inl (blobs_same w im same))
   turn_of who step reply image told (allowed.CommitFails k name im c leaves) =
       subst (λ x. Turned f w k (CommitStep name) (Refused DepotFault) (stepped f w (moment k (CommitStep name) (Refused DepotFault) x))) (sym told)
-      (commit_fails f w k name i c (of_told i im (λ blobs. (blobs ≡ w.blobs) ⊎ Adds f w name c.bytes blobs) told leaves))
+      (commit_fails f w size k name i c (of_told i im (λ blobs. (blobs ≡ w.blobs) ⊎ Adds f w name c.bytes blobs) told leaves))
   turn_of who step reply image told (allowed.ReplaceFails k im c named puts) =
       latest_turn f w k LatestStep (Refused DepotFault) im c refl (blobs_in im w.blobs) (elim (of_told i im (λ blobs. (blobs ≡ w.blobs) ⊎ (blobs ≡ fin.insert w.blobs (f.names.text Latest) (latest_text c.n))) told puts) [
         | inl e ↦ inl (blobs_told w i im told ∙ e)
@@ -614,4 +615,4 @@ module _ (f : Formats) (size : ℕ) (w : World) (shelf : List Shelved) (l : Law 
   pub turn_by : (who : ℕ) (step : Step) (reply : Reply) (image : Option Image) → image ≡ Some i → Allows f size w who step reply image → Turned f w who step reply (after f w (moment who step reply image))
   turn_by who step reply image told a =
       let t = turn_of who step reply image told a in
-      record { turn = Besides _ (stepped f w (moment who step reply image)) t.turn (Calls _ (caller_after f (stepped f w (moment who step reply image)).caller who step reply image) refl); commands = t.commands; early = t.early }
+      record { turn = Besides _ (stepped f w (moment who step reply image)) t.turn (Calls _ (caller_after f (stepped f w (moment who step reply image)).caller who step reply image) (with_entry w.entries (moment who step reply image).entry) refl); commands = t.commands; early = t.early }

@@ -1,5 +1,5 @@
 -- What a step of a delete's ticket leaves, whoever makes it: all but that ticket, the safe root, the deletes and what is doomed.
-use Rattle.std.proofs.Common.{◌≡◌, ◌⊎◌, ℕ, ◌+◌, ◌≤◌, List, ◌++◌, ◌∷◌, Bool, true, false, true≢false, cond, Option, Some, None, refl, sym, ap, ◌∙◌, inl, inr, arith, nat_cmp}
+use Rattle.std.proofs.Common.{◌≡◌, ◌⊎◌, ℕ, ◌+◌, ◌≤◌, List, ◌∷◌, Bool, true, false, true≢false, cond, Option, Some, None, refl, sym, ap, ◌∙◌, inl, inr, arith, nat_cmp}
 use Rattle.std.specs.Prelude.{if◌then◌else◌}
 use Rattle.std.specs.Ordering.{eq_by_cmp}
 use Rattle.std.specs.Cmp.{nat_cmp_total}
@@ -171,9 +171,6 @@ stays_failed : (w : World) (k : ℕ) (o : Option Ticket) → fin.get w.tickets k
 stays_failed w k None there = stays_same w k
 stays_failed w k (Some t) there = stays_either w (with_ticket w k (record t { out = false })) (delete_failed_by w k t (fin.get w.deletes t.op)) k (is_stale w t t.work) (stays_ended w k t there) (stays_failed_by w k t (fin.get w.deletes t.op) there refl)
 
-stays_removed : (w : World) (k : ℕ) (removed : List BlobName) → PruneStays w (record w { removed = removed }) k
-stays_removed w k removed = record { pending = refl; term = refl; completed = refl; next_op = refl; next_ticket = refl; next_id = omega arith; restores = refl; readers = refl; caller = refl; deletes = λ e. e; tickets = inl refl }
-
 pub prune_stays : (f : Formats) (w : World) (k : ℕ) (prune : Prune) (reply : Reply) (image : Option Image) → PruneStays w (prune_step f w k prune reply image) k
 prune_stays f w k (FetchShard name) WasFetched image =
     keeps_id w k (fetching name (told_blob f image name)) (fin.get w.tickets k) (stays_given w k (fetching name (told_blob f image name)) w.next_id (fin.get w.tickets k) (omega arith) (λ t there. fetched w.tickets k t name (told_blob f image name) there))
@@ -181,7 +178,7 @@ prune_stays f w k (FetchShard name) reply image = stays_same w k
 prune_stays f w k (PlanShards shards) reply image =
     stays_given w k (planned f shards w.next_id) (w.next_id + kept_count shards) (fin.get w.tickets k) (omega arith) (λ t there. plan_anew f w.tickets k t shards w.next_id there)
 prune_stays f w k SettlePruned reply image = stays_settled f w k (fin.get w.tickets k) refl
-prune_stays f w k (RemoveDoomed names) reply image = stays_removed w k (names ++ w.removed)
+prune_stays f w k (RemoveDoomed names) reply image = stays_same w k
 prune_stays f w k EndDelete reply image =
     keeps_id w k (λ (t : Ticket). record t { out = false }) (fin.get w.tickets k) (stays_given w k (λ (t : Ticket). record t { out = false }) w.next_id (fin.get w.tickets k) (omega arith) (λ t there. ended w.tickets k t there))
 prune_stays f w k (DeleteFails why) reply image = stays_failed w k (fin.get w.tickets k) refl
@@ -196,7 +193,7 @@ pub prune_fault_stays : (f : Formats) (w : World) (k : ℕ) (prune : Prune) (ima
 prune_fault_stays f w k (FetchShard name) image = stays_same w k
 prune_fault_stays f w k (PlanShards shards) image = stays_same w k
 prune_fault_stays f w k SettlePruned image = stays_fallen f w (delete_settled f w k (fin.get w.tickets k)) k image (stays_settled f w k (fin.get w.tickets k) refl)
-prune_fault_stays f w k (RemoveDoomed names) image = stays_removed w k (names ++ w.removed)
+prune_fault_stays f w k (RemoveDoomed names) image = stays_same w k
 prune_fault_stays f w k EndDelete image = stays_same w k
 prune_fault_stays f w k (DeleteFails why) image = stays_same w k
 

@@ -20,7 +20,7 @@ use Rattle.esr_core.specs.Ids.{Law}
 use Rattle.esr_core.specs.Entry.{Why, Prune, FetchShard, PlanShards, SettlePruned, RemoveDoomed, EndDelete, DeleteFails, PruneStep, DepotFault, Reply, DrawnFrom, WasFetched, WasAbsent, WasSettled, WasRemoved, HasEnded, Refused}
 use Rattle.esr_core.specs.After.{with_given, change, fetching, told_blob, is_stale, delete_settled, delete_failed, delete_failed_by, stepped}
 use Rattle.esr_core.specs.History.{command_of, command_by}
-use Rattle.esr_core.specs.Turns.{SettleDelete, Fetches, DrawsPlan, SettlesDelete, Removing, Ending, FailsDelete, Besides, NamesRemoved}
+use Rattle.esr_core.specs.Turns.{SettleDelete, Fetches, DrawsPlan, SettlesDelete, Removing, Ending, FailsDelete}
 use Rattle.esr_core.specs.Allowed.{FetchesShard, SettlesDeletion, RemovesDoomed, EndsDelete, FailsDeletion, PruneAllows, FetchingShard, ShardMissing, FetchShardFails, Planning, PlanSpent, SettlingDelete, SettleDeleteStale, SettleDeleteFails, RemovingDoomed, RemoveDoomedFails, EndingDelete, FailingDelete}
 use Rattle.esr_core.proofs.Reading.{held_one}
 use Rattle.esr_core.proofs.Finalizing.{root_one_each}
@@ -180,10 +180,9 @@ module _ (f : Formats) (w : World) (shelf : List Shelved) (l : Law f w shelf) wh
 
   -- ---- it removes, and ends
 
-  remove_turn : (k : ℕ) (names : List BlobName) (i : Image) (reply : Reply) → RemovesDoomed f w k names (Some i) → Removes f w.blobs i.blobs names → Turned f w k (PruneStep (RemoveDoomed names)) reply (record w { removed = names ++ w.removed; blobs = i.blobs })
+  remove_turn : (k : ℕ) (names : List BlobName) (i : Image) (reply : Reply) → RemovesDoomed f w k names (Some i) → Removes f w.blobs i.blobs names → Turned f w k (PruneStep (RemoveDoomed names)) reply (record w { blobs = i.blobs })
   remove_turn k names i reply r removes =
       plain f w k (PruneStep (RemoveDoomed names)) reply _
-      (Besides _ (record w { blobs = i.blobs })
       (Removing _ k names (record {
         t = r.t;
         out = r.deleting.out;
@@ -192,8 +191,7 @@ module _ (f : Formats) (w : World) (shelf : List Shelved) (l : Law f w shelf) wh
         now = i.blobs;
         removes = removes;
         new_is = refl;
-      }))
-      (NamesRemoved _ (names ++ w.removed) refl)) refl refl
+      })) refl refl
 
   end_turn : (k : ℕ) (i : Image) → EndsDelete f w k (Some i) → i.blobs ≡ w.blobs → Turned f w k (PruneStep EndDelete) HasEnded (record (change w k (λ (t : Ticket). record t { out = false })) { blobs = i.blobs })
   end_turn k i e same =

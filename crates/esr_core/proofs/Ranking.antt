@@ -19,6 +19,7 @@ use Rattle.esr_core.specs.Allowed.{MayPlan, SettlesDeletion, FailsDeletion, Prun
 use Rattle.esr_core.specs.History.{world_from, IsLegal}
 use Rattle.esr_core.specs.Tracked.{Tracked}
 use Rattle.esr_core.specs.Ranked.{Ranks, Ranked}
+use Rattle.esr_core.proofs.Blocked.{blocked_stays}
 use Rattle.esr_core.proofs.Opening.{nothing}
 use Rattle.esr_core.proofs.Queues.{was_in}
 use Rattle.esr_core.proofs.Besides.{aside_taken, aside_by, kept_aside}
@@ -360,7 +361,7 @@ module _ (f : Formats) (size : ℕ) (w : World) (q : Tracked w) (l : Ranked w) w
 pub ranked_step : (f : Formats) (size : ℕ) (w : World) (m : Moment) → Tracked w → Ranked w → Allowed f size w m → Ranked (after f w m)
 ranked_step f size w m q l a = elim a.answered [
   | inl alive ↦ ranked_by f size w q l m.entry.who m.entry.step m.entry.reply m.image alive.1
-  | inr dead ↦ subst (λ reply. Ranked (record (answered f w m.entry.who m.entry.step reply m.image) { blobs = blobs_in m.image w.blobs })) (sym dead.refused) l
+  | inr dead ↦ subst Ranked (sym (blocked_stays f w m dead)) l
 ]
 
 pub ranked_history : (f : Formats) (size : ℕ) (log : List Moment) (w : World) → Tracked w → Ranked w → IsLegal f size w log → Ranked (world_from f w log)

@@ -12,7 +12,8 @@ use Rattle.esr_core.specs.World.{World, Deletion, ReadState, RestoreShard, Resto
 use Rattle.esr_core.specs.Restores.{WasRead, unread, restore_of, handed, ended, reader_of, read_more}
 use Rattle.esr_core.specs.Queue.{Lists}
 use Rattle.esr_core.specs.Ids.{Law}
-use Rattle.esr_core.specs.Turns.{OpenRestore, HandShard, ReadMore, EndShard, ReadTurn, OpensRestore, HandsShard, ReadsMore, EndsShard, Calls, Turn, Deposes, Besides, commands_of, NamesRemoved}
+use Rattle.esr_core.specs.Entry.{Entry}
+use Rattle.esr_core.specs.Turns.{OpenRestore, HandShard, ReadMore, EndShard, ReadTurn, OpensRestore, HandsShard, ReadsMore, EndsShard, Calls, Turn, Deposes, Besides, commands_of}
 use Rattle.esr_core.specs.ReadTracked.{ReaderTracked, RestoresTracked}
 use Rattle.esr_core.specs.ReadLaw.{RestoreLaw, IsPartOf, ReaderLaw, ReadLaw}
 use Rattle.esr_core.proofs.Reading.{some_same, reads_one, held_one, Has-map}
@@ -281,21 +282,20 @@ module _ (f : Formats) (w : World) (shelf : List Shelved) (l : Law f w shelf) (r
         ];
       })
 
-read_same : (f : Formats) (w : World) (deposed : Bool) (caller : Caller) (removed : List BlobName) → ReadLaw f w → ReadLaw f (record w { deposed = deposed; caller = caller; removed = removed })
-read_same f w deposed caller removed r = record { tracked = r.tracked; restores = r.restores; readers = r.readers }
+read_same : (f : Formats) (w : World) (deposed : Bool) (caller : Caller) (entries : List Entry) → ReadLaw f w → ReadLaw f (record w { deposed = deposed; caller = caller; entries = entries })
+read_same f w deposed caller entries r = record { tracked = r.tracked; restores = r.restores; readers = r.readers }
 
 read_turned : (f : Formats) (w new : World) (shelf : List Shelved) → Law f w shelf → ReadLaw f w → ReadTurn f w new → ReadLaw f new
 read_turned f w new shelf l r (OpensRestore m uuid place indices h) = opens f w shelf l r uuid place indices m h
 read_turned f w new shelf l r (HandsShard m o x s h) = hands f w shelf l r o x s m h
 read_turned f w new shelf l r (ReadsMore m k name bytes h) = grows f w shelf l r k name bytes m h
 read_turned f w new shelf l r (EndsShard m k state h) = ends f w shelf l r k state m h
-read_turned f w new shelf l r (Calls m caller e) = subst (ReadLaw f) (sym e) (read_same f w w.deposed caller w.removed r)
-read_turned f w new shelf l r (NamesRemoved m removed e) = subst (ReadLaw f) (sym e) (read_same f w w.deposed w.caller removed r)
+read_turned f w new shelf l r (Calls m caller entries e) = subst (ReadLaw f) (sym e) (read_same f w w.deposed caller entries r)
 
 -- ---- each turn
 
 pub turn_read : (f : Formats) (w new : World) (shelf : List Shelved) → Law f w shelf → ReadLaw f w → w.deposed ≡ false → Turn f w new → ReadLaw f new
-turn_read f w new shelf l r d (Deposes m up h e) = subst (ReadLaw f) (sym e) (read_same f up true up.caller up.removed (turn_read f w up shelf l r d h))
+turn_read f w new shelf l r d (Deposes m up h e) = subst (ReadLaw f) (sym e) (read_same f up true up.caller up.entries (turn_read f w up shelf l r d h))
 turn_read f w new shelf l r d (Besides m up h step) = read_turned f up m (shelf_after shelf (commands_of f w up h)) (turn_law f w up shelf l d h) (turn_read f w up shelf l r d h) step
 turn_read f w new shelf l r d turn = read_framed f w new (shelf_after shelf (commands_of f w new turn)) (turn_law f w new shelf l d turn) r (frame f w new shelf l turn tt)
 

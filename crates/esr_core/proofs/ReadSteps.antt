@@ -10,14 +10,15 @@ use Rattle.esr_model.specs.Image.{Image, Blobs}
 use Rattle.esr_core.specs.World.{World, ReadState, Unread, BeingRead, Restored, NotRestored, RestoreShard, Restoring, Reader, Caller, no_caller, opened}
 use Rattle.esr_core.specs.Ready.{AnyReady, ARestore}
 use Rattle.esr_core.specs.Restores.{IsReading, AreApart, restore_of, waits, ended, restore_opened, shard_handed, more_read, shard_ended}
-use Rattle.esr_core.specs.Entry.{Restore, GivenRestore, Why, Read, ReadBlob, RestoredShard, ReadFails, Step, AskStep, TakeStep, LookStep, ReadStep, DepotFault, Reply, Gave, WasFetched, WasAbsent, HasEnded, Refused, Moment}
+use Rattle.esr_core.specs.Past.{with_entry}
+use Rattle.esr_core.specs.Entry.{Restore, GivenRestore, Why, Read, ReadBlob, RestoredShard, ReadFails, Step, AskStep, TakeStep, LookStep, ReadStep, DepotFault, Reply, Gave, WasFetched, WasAbsent, HasEnded, Refused, Entry, Moment}
 use Rattle.esr_core.specs.After.{told_blob, taken_restore, taken_restore_shard, read_told, shard_over, read_over, read_by, is_heard, caller_told, caller_wrote, caller_by, caller_after, answered, blobs_in, after, test_left}
 use Rattle.esr_core.specs.Allowed as allowed
 use Rattle.esr_core.specs.Allowed.{Gives, GivesRestore, Fetcher, ByReader, ByCheck, RestoreAllows, OpeningRestore, NotListed, NamedByDelete, FullOfRestores, ReadAllows, ReadFound, ReadMissing, ReadFault, RestoringShard, ReaderFailing, CheckingAll, CheckFailing, Allows, Allowed, ByVerify, VerifyAllows, DrawingTest, TestSpent, BeginningTest, BeginTestFails, CommittingTest, TestTaken, CommitTestFails, RemovingTests, RemoveTestsFails, VerifyingAll, VerifyFailing}
 use Rattle.esr_core.specs.History.{world_from, IsLegal}
 use Rattle.esr_core.specs.Tracked.{Tracked}
 use Rattle.esr_core.specs.ReadTracked.{RestoresTracked, ReadTracked, FetchesOnce}
-use Rattle.esr_core.proofs.Histories.{deposed_stays}
+use Rattle.esr_core.proofs.Blocked.{blocked_stays}
 use Rattle.esr_core.proofs.Opening.{nothing}
 use Rattle.esr_core.proofs.Queues.{was_in}
 use Rattle.esr_core.proofs.Restoring.{one_waits, put_was}
@@ -44,8 +45,8 @@ caller_none : (w : World) (looked : Bool) → CallerTracked w (record no_caller 
 caller_none w looked = record { once = once_none looked; drawn = λ v e. absurd (none_drawn v e); doomed = λ name m. absurd m }
 
 -- other blobs, and what who 0 has done
-pub read_aside : (w : World) → ReadTracked w → (blobs : Blobs) (caller : Caller) → CallerTracked w caller → ReadTracked (record w { blobs = blobs; caller = caller })
-read_aside w l blobs caller c = record { tracked = l.tracked; apart = record { ops = l.apart.ops; deletes = l.apart.deletes; tickets = l.apart.tickets }; once = c.once; drawn = c.drawn; doomed = c.doomed }
+pub read_aside : (w : World) → ReadTracked w → (blobs : Blobs) (caller : Caller) (entries : List Entry) → CallerTracked w caller → ReadTracked (record w { blobs = blobs; caller = caller; entries = entries })
+read_aside w l blobs caller entries c = record { tracked = l.tracked; apart = record { ops = l.apart.ops; deletes = l.apart.deletes; tickets = l.apart.tickets }; once = c.once; drawn = c.drawn; doomed = c.doomed }
 
 -- a step that has nothing to do with restores
 pub read_goes : (w new : World) → ReadTracked w → Goes w new → ReadTracked new
@@ -337,8 +338,8 @@ pub read_step_tracked : (f : Formats) (size : ℕ) (w : World) (m : Moment) → 
 read_step_tracked f size w m t l a = elim a.answered [
   | inl alive ↦
       let now : ReadTracked (answered f w m.entry.who m.entry.step m.entry.reply m.image) = read_answered f size w t l m.entry.who m.entry.step m.entry.reply m.image alive.1 in
-      read_aside (answered f w m.entry.who m.entry.step m.entry.reply m.image) now (blobs_in m.image w.blobs) (after f w m).caller (heard_step f size w t l m.entry.who m.entry.step m.entry.reply m.image alive.1 now)
-  | inr dead ↦ subst ReadTracked (sym (deposed_stays f w m dead)) l
+      read_aside (answered f w m.entry.who m.entry.step m.entry.reply m.image) now (blobs_in m.image w.blobs) (after f w m).caller (after f w m).entries (heard_step f size w t l m.entry.who m.entry.step m.entry.reply m.image alive.1 now)
+  | inr dead ↦ subst ReadTracked (sym (blocked_stays f w m dead)) (read_aside w l w.blobs w.caller (with_entry w.entries m.entry) (record { once = l.once; drawn = l.drawn; doomed = l.doomed }))
 ]
 
 pub read_history_tracked : (f : Formats) (size : ℕ) (log : List Moment) (w : World) → Tracked w → ReadTracked w → IsLegal f size w log → ReadTracked (world_from f w log)

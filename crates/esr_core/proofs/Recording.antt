@@ -179,7 +179,7 @@ keeps_prune f w k (FetchShard name) WasFetched image e = keeps_change w k (fetch
 keeps_prune f w k (FetchShard name) reply image e = keeps_same w
 keeps_prune f w k (PlanShards shards) reply image e = keeps_drawn w k (kept_count shards) (planned f shards w.next_id) (fin.get w.tickets k)
 keeps_prune f w k SettlePruned reply image e = absurd (swaps e)
-keeps_prune f w k (RemoveDoomed names) reply image e = record { ledger = refl; deletes = λ q. refl; ops = λ q. refl }
+keeps_prune f w k (RemoveDoomed names) reply image e = keeps_same w
 keeps_prune f w k EndDelete reply image e = keeps_change w k (λ t. record t { out = false }) (fin.get w.tickets k)
 keeps_prune f w k (DeleteFails why) reply image e = keeps_delete_failed w k (fin.get w.tickets k)
 
@@ -217,7 +217,6 @@ keeps_fault f w k SettleStep image e = absurd (swaps e)
 keeps_fault f w k DroppedStep image e = absurd (swaps e)
 keeps_fault f w k ElectStep image e = absurd (swaps e)
 keeps_fault f w k (PruneStep SettlePruned) image e = absurd (swaps e)
-keeps_fault f w k (PruneStep (RemoveDoomed names)) image e = record { ledger = refl; deletes = λ q. refl; ops = λ q. refl }
 keeps_fault f w k (ReadStep (CommitTest name)) image e = keeps_left w name (fin.get w.blobs (f.names.text name)) (told_blob f image name)
 keeps_fault f w k step image e = keeps_same w
 

@@ -12,7 +12,7 @@ use Rattle.esr_core.specs.Entry.{CloneOf, Asked, Snapshot, Clone, DeleteSnapshot
 use Rattle.esr_core.specs.After.{asked, shard_of, taken_shard, taken_restore_shard, taken_restore, taken_by, with_given, change, told_blob, settled_by, settled_of, done_by, done_of, is_stale, failed_by, failed_of, dropped_of, read_told, shard_over, read_over, read_step, read_by, done_step, swaps_record, fallen, is_latest, tried, test_left, faulted, answered, after, delete_settled_by, delete_settled, delete_failed_by, delete_failed, prune_step}
 use Rattle.esr_core.specs.Pruning.{planned}
 use Rattle.esr_core.specs.Allowed as allowed
-use Rattle.esr_core.specs.Allowed.{RestoreAllows, CloneAllows, DeleteAllows, ReadAllows, VerifyAllows, PruneAllows, Allows, Allowed}
+use Rattle.esr_core.specs.Allowed.{RestoreAllows, CloneAllows, DeleteAllows, ReadAllows, VerifyAllows, PruneAllows, Allows, Blocks, Allowed}
 use Rattle.esr_core.specs.History.{world_from}
 use Rattle.esr_core.specs.Refusing.{MayRefuse, InCleanup, InUse, InFull, NoIdForAsk, AskFault, CloneInUse, NoSource, SourceInDelete, NoSuchIndex, CloneInFull, NoIdForClone, AskCloneFault, NotNamed, CloneStands, RestoreStands, FullOfOps, AskDeleteFault, NotListed, NamedByDelete, FullOfRestores, NoIds, BeginFault, CommitFault, CommitTaken, LatestFault, FetchFault, ListFault, RaiseFault, RaiseStale, RaiseSpent, SettleFault, SettleStale, DropFault, DropStale, ElectFault, NoTerms, ReadFault, NoTestId, BeginTestFault, CommitTestFault, TestTaken, RemoveFault, RefusedSo, SwapFailed, FetchShardFault, NoPlanIds, SettleDeleteFault, SettleDeleteStale, RemoveDoomedFault}
 use Rattle.esr_core.proofs.AskedDeletes.{delete_leaves}
@@ -91,10 +91,10 @@ module _ (f : Formats) (size : ℕ) (w : World) where
 same_refusal : (a b : Refusal) → Refused a ≡ Refused b → a ≡ b
 same_refusal a b e = cc
 
-pub refused_so : (f : Formats) (size : ℕ) (w : World) (m : Moment) (refusal : Refusal) → Allowed f size w m → m.entry.reply ≡ Refused refusal → RefusedSo w m.entry.step refusal
+pub refused_so : (f : Formats) (size : ℕ) (w : World) (m : Moment) (refusal : Refusal) → Allowed f size w m → m.entry.reply ≡ Refused refusal → RefusedSo w m.entry.who m.entry.step refusal
 refused_so f size w m refusal a is = elim a.answered [
   | inl alive ↦ inr (refused_by f size w m.entry.who m.entry.step refusal m.image (subst (λ (reply : Reply). Allows f size w m.entry.who m.entry.step reply m.image) is alive.1))
-  | inr dead ↦ inl (record { deposed = dead.deposed; place = dead.place; is = same_refusal refusal _ (sym is ∙ dead.refused) })
+  | inr dead ↦ inl (subst (Blocks w m.entry.who m.entry.step) (same_refusal _ refusal (sym dead.refused ∙ is)) dead.blocks)
 ]
 
 -- ---- the mark of a deposed world: only a record swap that failed puts it

@@ -17,7 +17,8 @@ use Rattle.esr_core.specs.Tracked.{Tracked}
 use Rattle.esr_core.proofs.Reading.{some_same}
 use Rattle.esr_core.proofs.AskedDeletes.{delete_leaves}
 use Rattle.esr_core.proofs.Moments.{moment, settled_plain, delete_settled_plain}
-use Rattle.esr_core.proofs.Histories.{deposed_stays, legal_parts}
+use Rattle.esr_core.proofs.Blocked.{blocked_stays}
+use Rattle.esr_core.proofs.Histories.{legal_parts}
 use Rattle.esr_core.proofs.Recording.{record_stays}
 use Rattle.esr_core.proofs.TrackingSteps.{tracked_step, tracked_history}
 use Rattle.esr_core.proofs.Ranking.{ranked_step, ranked_history}
@@ -91,7 +92,7 @@ step_rises f size w m l a = elim a.answered [
         (delete_rises f w l m.entry.who m.entry.reply m.image (allows_pruned (subst (λ x. Allows f size w m.entry.who x m.entry.reply m.image) e alive.1)))
     | inr (inr e) ↦ let same : (after f w m).safe ≡ w.safe = by_record f w m (swaps_record m.entry.step) refl e in omega (arith, same)
   ]
-  | inr dead ↦ let same : (after f w m).safe ≡ w.safe = ap (λ (x : World). x.safe) (deposed_stays f w m dead) in omega (arith, same)
+  | inr dead ↦ let same : (after f w m).safe ≡ w.safe = ap (λ (x : World). x.safe) (blocked_stays f w m dead) in omega (arith, same)
 ]
 
 left_rises : (f : Formats) (size : ℕ) (log : List Moment) (w : World) (i : Image) → Tracked w → Ranked w → ReadsBack f.cluster (record_of w) → IsLegal f size w log → Leaves f size w log i → w.safe ≤ safe_in f i
@@ -114,7 +115,7 @@ by_answer (allowed.SettlingDelete k im s present same) = s
 deleted_safe : (f : Formats) (size : ℕ) (w : World) (m : Moment) (t : Ticket) (n : ℕ) → Allowed f size w m → m.entry.step ≡ PruneStep SettlePruned → m.entry.reply ≡ WasSettled → fin.get w.tickets m.entry.who ≡ Some t → t.raised ≡ Some n → (after f w m).safe ≡ suc n
 deleted_safe f size w m t n a step reply there raised =
     let who : ℕ = m.entry.who in
-    let allows : Allows f size w who m.entry.step m.entry.reply m.image = elim a.answered [ inl h ↦ h.1 | inr dead ↦ absurd (no_answer m.entry.reply dead.place reply dead.refused) ] in
+    let allows : Allows f size w who m.entry.step m.entry.reply m.image = elim a.answered [ inl h ↦ h.1 | inr dead ↦ absurd (no_answer m.entry.reply dead.refusal reply dead.refused) ] in
     let s : SettlesDeletion f w who = by_answer (allows_pruned (subst (λ x. Allows f size w who (PruneStep SettlePruned) x m.image) reply (subst (λ x. Allows f size w who x m.entry.reply m.image) step allows))) in
     let one : s.t ≡ t = some_same s.t t (sym s.may.out.there ∙ there) in
     let same : s.n ≡ n = some_same s.n n (sym s.may.raised ∙ ap (λ (x : Ticket). x.raised) one ∙ raised) in

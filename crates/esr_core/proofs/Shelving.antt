@@ -13,7 +13,7 @@ use Rattle.esr_core.specs.Restores.{restore_of, handed, ended}
 use Rattle.esr_core.specs.Ids.{Law}
 use Rattle.esr_core.specs.Entry.{Moment}
 use Rattle.esr_core.specs.After.{after}
-use Rattle.esr_core.specs.Turns.{ReadTurn, OpensRestore, HandsShard, ReadsMore, EndsShard, Calls, Turn, Deposes, Besides, commands_of, NamesRemoved}
+use Rattle.esr_core.specs.Turns.{ReadTurn, OpensRestore, HandsShard, ReadsMore, EndsShard, Calls, Turn, Deposes, Besides, commands_of}
 use Rattle.esr_core.specs.ReadLaw.{ReadLaw, ReadsShelved}
 use Rattle.esr_core.specs.History.{world_from, IsLegal, TellsHandedOut, AreTold, AreHonest, commands_at, committed}
 use Rattle.esr_core.proofs.Reading.{some_same, held_one, safe_root_stands}
@@ -131,9 +131,7 @@ module _ (f : Formats) (o : ℕ) (x : Shelved) where
           | inr is ↦ h.reads y is.1
         ];
       }
-  read_on w new shelf (Calls m caller e) h =
-      record { begun = subst (λ (v : World). o < v.next_op) (sym e) h.begun; reads = λ y is. h.reads y (subst (λ (v : World). fin.get v.restores o ≡ Some y) e is) }
-  read_on w new shelf (NamesRemoved m removed e) h =
+  read_on w new shelf (Calls m caller entries e) h =
       record { begun = subst (λ (v : World). o < v.next_op) (sym e) h.begun; reads = λ y is. h.reads y (subst (λ (v : World). fin.get v.restores o ≡ Some y) e is) }
 
   turn_follows : (w new : World) (shelf : List Shelved) → Law f w shelf → ReadLaw f w → w.deposed ≡ false → (turn : Turn f w new) → Follows w shelf → Follows new (shelf_after shelf (commands_of f w new turn))

@@ -24,7 +24,8 @@ use Rattle.esr_core.proofs.Opening.{nothing}
 use Rattle.esr_core.proofs.Lists.{opening_law}
 use Rattle.esr_core.proofs.Settling.{swap_master}
 use Rattle.esr_core.proofs.Moments.{moment}
-use Rattle.esr_core.proofs.Histories.{Stepped, step_law, legal_law, image_is, deposed_stays, legal_parts, told_parts, honest_parts, known_parts}
+use Rattle.esr_core.proofs.Blocked.{blocked_stays, block_uncounted}
+use Rattle.esr_core.proofs.Histories.{Stepped, step_law, legal_law, image_is, legal_parts, told_parts, honest_parts, known_parts}
 use Rattle.esr_core.proofs.Left.{which, allows_pruned}
 use Rattle.esr_core.proofs.SafeRoots.{by_record}
 use Rattle.esr_core.proofs.PruneTurns.{was_reached, is_left}
@@ -77,7 +78,7 @@ module _ (f : Formats) (w : World) (shelf : List Shelved) (l : Law f w shelf) wh
           (subst (λ x. w.safe < (after f w (moment m.entry.who x m.entry.reply m.image)).safe) e rises)
       | inr (inr e) ↦ let same : (after f w m).safe ≡ w.safe = by_record f w m (swaps_record m.entry.step) refl e in absurd (omega (arith, same, rises))
     ]
-    | inr dead ↦ let same : (after f w m).safe ≡ w.safe = ap (λ (x : World). x.safe) (deposed_stays f w m dead) in absurd (omega (arith, same, rises))
+    | inr dead ↦ let same : (after f w m).safe ≡ w.safe = ap (λ (x : World). x.safe) (blocked_stays f w m dead) in absurd (omega (arith, same, rises))
   ]
 
   step_tidy : (size : ℕ) → TidyIn f w → (m : Moment) → Allowed f size w m → Stepped f w shelf m (after f w m) → TidyIn f (after f w m)
@@ -175,7 +176,7 @@ settled_exact f size image shelf w before rest m known kept tidy opened legal to
     let legals = legal_parts f size before (m ∷ rest) w legal in
     let allows : Allows f size here m.entry.who m.entry.step m.entry.reply m.image = elim legals.1.0.answered [
       | inl alive ↦ alive.1
-      | inr dead ↦ absurd (true≢false (sym counted ∙ ap counts dead.refused))
+      | inr dead ↦ absurd (true≢false (sym counted ∙ ap counts dead.refused ∙ block_uncounted here m.entry.who m.entry.step dead.refusal dead.blocks))
     ] in
     let (s, present) = settles_delete (allows_pruned (subst (λ x. Allows f size (world_from f w before) m.entry.who x m.entry.reply m.image) step allows)) counted in
     (s, exact_over f size image shelf w before m.entry.who (known_parts f before (m ∷ rest) w known).0 kept tidy opened legals.0 (told_parts before (m ∷ rest) told).0 (honest_parts f before (m ∷ rest) w honest).0 s present)

@@ -29,8 +29,9 @@ use Rattle.esr_core.proofs.Lists.{numbered_from}
 use Rattle.esr_core.proofs.Queues.{was_in}
 use Rattle.esr_core.proofs.Evolving.{out_same, pending_out, out_done, up_out, up_done, failed_is, failed_grows}
 use Rattle.esr_core.proofs.Moments.{moment, not_latest, shard_stale, master_stale, no_shard, settled_plain, delete_settled_plain}
-use Rattle.esr_core.proofs.Besides.{aside_opened, aside_taken, aside_by, tracked_aside_of, aside_removed}
+use Rattle.esr_core.proofs.Besides.{aside_opened, aside_taken, aside_by, tracked_aside_of}
 use Rattle.esr_core.proofs.Heard.{aside_heard}
+use Rattle.esr_core.proofs.Blocked.{block_leaves}
 use Rattle.esr_core.proofs.Naming.{named_left, named_root, named_within, new_asked, new_cloned}
 use Rattle.esr_core.proofs.Tracking.{Follows, tracked_aside, tracked_ticket, tracked_new, tracked_drawn, tracked_elect, tracked_planned, tracked_failed}
 use Rattle.esr_core.proofs.TrackingOps.{goes_not_stopped, final_apart, tracked_came, tracked_left}
@@ -431,9 +432,6 @@ module _ (f : Formats) (size : ℕ) (w : World) (l : Tracked w) where
           subst (λ x. Tracked (delete_failed_by w k c.t x)) (sym it.there)
           (tracked_failed v (deletion_ends k c.t c.uuids c.plan c.deleting.out.there c.deleting.work) c.t.op it.x it.there (alone present))
 
-  removed_more : (names : List BlobName) → Tracked (record w { removed = names ++ w.removed })
-  removed_more names = tracked_aside_of w _ (aside_removed w _ (names ++ w.removed) refl) l
-
   prunes : (k : ℕ) (prune : Prune) (reply : Reply) (image : Option Image) → PruneAllows f w k prune reply image → Tracked (stepped f w (moment k (PruneStep prune) reply image))
   prunes who prune reply image (FetchingShard k name im g found) = kept _ (fetches k g.t g.deleting.out.there name (told_blob f im name)) (blobs_in im w.blobs)
   prunes who prune reply image (ShardMissing k name im g found) = kept w l (blobs_in im w.blobs)
@@ -443,8 +441,8 @@ module _ (f : Formats) (size : ℕ) (w : World) (l : Tracked w) where
   prunes who prune reply image (SettlingDelete k im s present same) = kept _ (deletion_settles k s present) (blobs_in im w.blobs)
   prunes who prune reply image (SettleDeleteStale k im s apart same) = kept w l (blobs_in im w.blobs)
   prunes who prune reply image (SettleDeleteFails k im s present same) = falls w _ l (deletion_settles k s present) _ (blobs_in im w.blobs)
-  prunes who prune reply image (RemovingDoomed k names im r removed) = kept _ (removed_more names) (blobs_in im w.blobs)
-  prunes who prune reply image (RemoveDoomedFails k names im r removes) = kept _ (removed_more names) (blobs_in im w.blobs)
+  prunes who prune reply image (RemovingDoomed k names im r removed) = kept w l (blobs_in im w.blobs)
+  prunes who prune reply image (RemoveDoomedFails k names im r removes) = kept w l (blobs_in im w.blobs)
   prunes who prune reply image (EndingDelete k im e same) = kept _ (changed k e.t e.deleting.out.there (λ (t : Ticket). record t { out = false }) (ended e.t (λ shard. subst IsShard e.deleting.work shard)) (drew k e.t e.deleting.out.there)) (blobs_in im w.blobs)
   prunes who prune reply image (FailingDelete k why im c same) = kept _ (deletion_fails k c) (blobs_in im w.blobs)
 
@@ -561,9 +559,11 @@ module _ (f : Formats) (size : ℕ) (w : World) (l : Tracked w) where
   tracked_by who step reply image (allowed.ElectFails im room same) = falls w _ l (tracked_elect w l) _ (blobs_in im w.blobs)
 
 pub tracked_step : (f : Formats) (size : ℕ) (w : World) (m : Moment) → Tracked w → Allowed f size w m → Tracked (after f w m)
-tracked_step f size w m l a = tracked_aside_of (stepped f w m) _ (aside_heard f (stepped f w m) m) (elim a.answered [
+tracked_step f size w m l a = tracked_aside_of (stepped f w m) _ (aside_heard f w m) (elim a.answered [
   | inl alive ↦ tracked_by f size w l m.entry.who m.entry.step m.entry.reply m.image alive.1
-  | inr dead ↦ subst (λ reply. Tracked (record (answered f w m.entry.who m.entry.step reply m.image) { blobs = blobs_in m.image w.blobs })) (sym dead.refused) (kept w l (blobs_in m.image w.blobs))
+  | inr dead ↦
+      subst (λ reply. Tracked (record (answered f w m.entry.who m.entry.step reply m.image) { blobs = blobs_in m.image w.blobs })) (sym dead.refused)
+      (subst (λ (x : World). Tracked (record x { blobs = blobs_in m.image w.blobs })) (sym (block_leaves f w m.entry.who m.entry.step dead.refusal m.image dead.blocks)) (kept w l (blobs_in m.image w.blobs)))
 ])
 
 pub tracked_history : (f : Formats) (size : ℕ) (log : List Moment) (w : World) → Tracked w → IsLegal f size w log → Tracked (world_from f w log)

@@ -9,12 +9,13 @@ use Rattle.esr_model.specs.Places.{places}
 use Rattle.esr_model.specs.Delete.{kept_count}
 use Rattle.esr_model.specs.Image.{Blobs, Image}
 use Rattle.esr_core.specs.World.{World, Op, Deletion, ShardWork, Pending, Done, ReadState, Restored, NotRestored, RestoreShard, Restoring, Reader, Caller, no_caller, Work, Shard, Finalize, Deleting, Drop, Ticket, Swap, swap, marked, record_of}
+use Rattle.esr_core.specs.Past.{with_entry}
 use Rattle.esr_core.specs.Restores.{restore_shard, restore_opened, shard_handed, more_read, shard_ended}
 use Rattle.esr_core.specs.Steps.{with_ticket, noting, writing, reading, given, completing, settled, shard_ticket, final_ticket}
 use Rattle.esr_core.specs.Turns.{plain_ticket, fails}
 use Rattle.esr_core.specs.Pruning.{planned, dooms}
 use Rattle.esr_core.specs.Deletes.{asked_delete}
-use Rattle.esr_core.specs.Entry.{AskedIndex, CloneOf, Asked, Snapshot, Clone, DeleteSnapshots, Restore, Cleanup, is_recorded, Given, GivenShard, GivenFinalize, GivenDrop, GivenRestore, GivenClone, GivenDelete, Read, ReadBlob, RestoredShard, CheckedAll, DrawTest, CommitTest, RemoveTests, VerifiedAll, ReadFails, Prune, FetchShard, PlanShards, SettlePruned, RemoveDoomed, EndDelete, DeleteFails, Step, AskStep, TakeStep, DrawStep, BeginStep, CommitStep, LatestStep, FetchStep, RaiseStep, SettleStep, DoneStep, FailedStep, FinishStep, DroppedStep, ElectStep, LookStep, ReadStep, PruneStep, StaleTerm, IdsSpent, DeposedAt, DepotFault, Reply, Gave, DrawnFrom, WasRemoved, WasDone, WasThere, WasFetched, WasAbsent, HasEnded, Refused, AcceptedRestore, Moment}
+use Rattle.esr_core.specs.Entry.{AskedIndex, CloneOf, Asked, Snapshot, Clone, DeleteSnapshots, Restore, Cleanup, is_recorded, Given, GivenShard, GivenFinalize, GivenDrop, GivenRestore, GivenClone, GivenDelete, Read, ReadBlob, RestoredShard, CheckedAll, DrawTest, CommitTest, RemoveTests, VerifiedAll, ReadFails, Prune, FetchShard, PlanShards, SettlePruned, RemoveDoomed, EndDelete, DeleteFails, Step, AskStep, TakeStep, DrawStep, BeginStep, CommitStep, LatestStep, FetchStep, RaiseStep, SettleStep, DoneStep, FailedStep, FinishStep, DroppedStep, ElectStep, LookStep, ReadStep, PruneStep, StaleTerm, AbortedBy, IdsSpent, DeposedAt, DepotFault, Reply, Gave, DrawnFrom, WasRemoved, WasDone, WasThere, WasFetched, WasAbsent, HasEnded, Refused, AcceptedRestore, Moment}
 
 abbrev pub or_else : {A : Type 0} → Option A → Option A → Option A
 or_else None b = b
@@ -256,7 +257,7 @@ prune_step f w k (FetchShard name) WasFetched image = change w k (fetching name 
 prune_step f w k (FetchShard name) reply image = w
 prune_step f w k (PlanShards shards) reply image = record (change w k (planned f shards w.next_id)) { next_id = w.next_id + kept_count shards }
 prune_step f w k SettlePruned reply image = delete_settled f w k (fin.get w.tickets k)
-prune_step f w k (RemoveDoomed names) reply image = record w { removed = names ++ w.removed }
+prune_step f w k (RemoveDoomed names) reply image = w
 prune_step f w k EndDelete reply image = change w k (λ t. record t { out = false })
 prune_step f w k (DeleteFails why) reply image = delete_failed w k (fin.get w.tickets k)
 
@@ -355,8 +356,6 @@ abbrev pub faulted : Formats → World → ℕ → Step → Option Image → Wor
 faulted f w k LatestStep image = tried w k
 faulted f w k (BeginStep name) image = if is_latest name then tried w k else w
 faulted f w k (ReadStep (CommitTest name)) image = test_left w name (fin.get w.blobs (f.names.text name)) (told_blob f image name)
--- a removal that failed has named them, too: they aren't removed again
-faulted f w k (PruneStep (RemoveDoomed names)) image = record w { removed = names ++ w.removed }
 faulted f w k step image = if swaps_record step then fallen f w (done_step f w k step HasEnded image) image else w
 
 abbrev pub answered : Formats → World → ℕ → Step → Reply → Option Image → World
@@ -368,10 +367,11 @@ abbrev pub blobs_in : Option Image → Blobs → Blobs
 blobs_in None blobs = blobs
 blobs_in (Some image) blobs = image.blobs
 
--- what who 0 has done is forgotten where it asks or looks; a step that was refused in a deposed world, or as stale, changes nothing
+-- what who 0 has done is forgotten where it asks or looks; a step that was refused in a deposed world, as stale or as aborted, changes nothing
 abbrev pub is_heard : Reply → Bool
 is_heard (Refused (DeposedAt place)) = false
 is_heard (Refused (StaleTerm own now)) = false
+is_heard (Refused (AbortedBy op)) = false
 is_heard reply = true
 
 abbrev pub caller_told : Caller → BlobName → Option Bytes → Caller
@@ -410,7 +410,7 @@ caller_after f c who LookStep reply image = if is_heard reply then record no_cal
 caller_after f c who (ReadStep read) reply image = caller_by f c who read reply image
 caller_after f c who step reply image = c
 
--- the world after a moment, what who 0 has done aside
+-- the world after a moment, what was done so far aside
 abbrev pub stepped : Formats → World → Moment → World
 stepped f w m = record (answered f w m.entry.who m.entry.step m.entry.reply m.image) { blobs = blobs_in m.image w.blobs }
 
@@ -419,4 +419,4 @@ heard f v m = record v { caller = caller_after f v.caller m.entry.who m.entry.st
 
 -- the world after a moment
 abbrev pub after : Formats → World → Moment → World
-after f w m = heard f (stepped f w m) m
+after f w m = record (heard f (stepped f w m) m) { entries = with_entry w.entries m.entry }

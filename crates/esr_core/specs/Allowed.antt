@@ -1,8 +1,9 @@
 -- What each step asks of the world before it, by its answer.
 use Rattle.std.specs.Prelude.{◌≡◌, ◌≢◌, ◌⊎◌, ℕ, zero, suc, ◌+◌, ◌-◌, ◌^◌, ◌<◌, ◌≤◌, true, false, List, [], ◌∷◌, length, ◌++◌, sum_by, min, Option, Some, None}
 use Rattle.std.specs.FinMap as fin
-use Rattle.esr_model.specs.Names.{BlobName, Root, Latest, Snap, ShardSnap, ShardIndex, TestMaster}
-use Rattle.esr_model.specs.Values.{Bytes, Has, IndexRef, RootSnap, RootIndex, RootData, SnapInfo, FileEntry, ShardSnapshot, ShardFiles, ShardResult, ReadsBack, IsOneEach, Formats}
+use Rattle.esr_model.specs.Names.{BlobName, Root, Latest, Snap, ShardSnap, ShardIndex, File, Part, TestMaster, TestNode}
+use Rattle.esr_model.specs.Parts.{part_count}
+use Rattle.esr_model.specs.Values.{Bytes, Has, IndexRef, RootSnap, RootIndex, RootData, SnapInfo, FileEntry, ShardSnapshot, ShardFiles, ShardResult, ReadsBack, IsOneEach, Formats, files_told}
 use Rattle.esr_model.specs.Shelf.{Command, Delete, names_uuid}
 use Rattle.esr_model.specs.Delete.{PrunedShard, kept_count, deleted_root}
 use Rattle.esr_model.specs.Kept.{first_id}
@@ -12,6 +13,7 @@ use Rattle.esr_model.specs.Agreement.{RootAgrees}
 use Rattle.esr_model.specs.Reach.{Reached}
 use Rattle.esr_model.specs.Uploads.{entries_from, id_after, shard_blobs, clone_blobs, with_snap, no_files}
 use Rattle.esr_core.specs.World.{World, Op, Deletion, ShardWork, Out, Unread, RestoreShard, Restoring, Reader, Shard, Finalize, Deleting, Drop, Ticket, Swap, swap, info_of, metadata, record_of}
+use Rattle.esr_core.specs.Past.{entries_by, removal_names, WasStale, IsNewStep}
 use Rattle.esr_core.specs.Generations.{OpTexts, AreNamedOnce}
 use Rattle.esr_core.specs.Ready.{IsShard, IsMaster, ReadyShard, ReadyFinalize, ReadyDrop, ReadyDelete, ReadyCleanup, ReadyRestore, AnyReady}
 use Rattle.esr_core.specs.Pruning.{IsToRead, AreRead, pruned_shards, AreOfRoot, AreWritable, dooms}
@@ -20,7 +22,7 @@ use Rattle.esr_core.specs.Steps.{IsOut, Drew, Largest, MayCommit, MaySettle, IsT
 use Rattle.esr_core.specs.Texts.{IsMetaOf}
 use Rattle.std.specs.Int.{w64, to_be_bytes}
 use Rattle.esr_core.specs.Deletes.{named_uuids, waiting_delete, running_delete, delete_number}
-use Rattle.esr_core.specs.Entry.{AskedIndex, CloneOf, Asked, Snapshot, Clone, DeleteSnapshots, Restore, is_recorded, Given, GivenShard, GivenFinalize, GivenDrop, GivenRestore, GivenClone, GivenDelete, GivenCleanup, Why, Read, ReadBlob, RestoredShard, CheckedAll, DrawTest, BeginTest, CommitTest, RemoveTests, VerifiedAll, ReadFails, Prune, FetchShard, PlanShards, SettlePruned, RemoveDoomed, EndDelete, DeleteFails, Step, AskStep, TakeStep, DrawStep, BeginStep, CommitStep, LatestStep, FetchStep, ListStep, RaiseStep, SettleStep, DoneStep, FailedStep, FinishStep, DroppedStep, ElectStep, LookStep, ReadStep, PruneStep, CleanupRunning, NameInUse, TooMany, DeposedAt, StaleTerm, GenerationsSpent, TermsSpent, IdsSpent, NameTaken, DepotFault, NoSnapshot, NoIndex, BeingDeleted, CloneRunning, RestoreRunning, Reply, Accepted, NothingReady, Gave, DrawnFrom, WasBegun, WasDone, WasThere, WasReplaced, WasFetched, WasAbsent, WasListed, RaisedTo, WasSettled, HasEnded, ElectedTerm, Looked, Refused, WasRemoved, AcceptedRestore, Moment}
+use Rattle.esr_core.specs.Entry.{AskedIndex, CloneOf, Asked, Snapshot, Clone, DeleteSnapshots, Restore, is_recorded, Given, GivenShard, GivenFinalize, GivenDrop, GivenRestore, GivenClone, GivenDelete, GivenCleanup, Why, Read, ReadBlob, RestoredShard, CheckedAll, DrawTest, BeginTest, CommitTest, RemoveTests, VerifiedAll, ReadFails, Prune, FetchShard, PlanShards, SettlePruned, RemoveDoomed, EndDelete, DeleteFails, Step, AskStep, TakeStep, DrawStep, BeginStep, CommitStep, LatestStep, FetchStep, ListStep, RaiseStep, SettleStep, DoneStep, FailedStep, FinishStep, DroppedStep, ElectStep, LookStep, ReadStep, PruneStep, CleanupRunning, NameInUse, TooMany, DeposedAt, AbortedBy, StaleTerm, GenerationsSpent, TermsSpent, IdsSpent, NameTaken, DepotFault, NoSnapshot, NoIndex, BeingDeleted, CloneRunning, RestoreRunning, Refusal, Reply, Accepted, NothingReady, Gave, DrawnFrom, WasBegun, WasDone, WasThere, WasReplaced, WasFetched, WasAbsent, WasListed, RaisedTo, WasSettled, HasEnded, ElectedTerm, Looked, Refused, WasRemoved, AcceptedRestore, Moment}
 use Rattle.esr_core.specs.After.{asked_op, new_names, chosen_refs, cloned_op, shard_of, after}
 
 -- what `index.latest` holds: the generation as 8 bytes, the highest first
@@ -322,14 +324,31 @@ pub record Draws (f : Formats) (w : World) (k n first : ℕ) : Type 0 where
   pub first_is : first ≡ w.next_id
   pub fits : w.next_id + n < first_id (suc w.term)
 
+-- a file of one part is one blob without a number, and a part of a longer one has the number of one of its parts
+abbrev pub IsPartOfOne : ℕ → List (Bytes × Bytes) → BlobName → Type 0
+IsPartOfOne part_size files (File i k x) = (file : Bytes × Bytes) × Has files file × (length file.1 ≤ part_size)
+IsPartOfOne part_size files (Part i k x p) = (file : Bytes × Bytes) × Has files file × (part_size < length file.1) × (p < part_count (length file.1) part_size)
+IsPartOfOne part_size files name = Unit {0}
+
+abbrev pub IsNoPart : BlobName → Type 0
+IsNoPart (File i k x) = ⊥
+IsNoPart (Part i k x p) = ⊥
+IsNoPart name = Unit {0}
+
+-- where the source tells its files, a part is that of one of them; a clone's ticket has no part
+abbrev pub IsNumbered : Formats → ℕ → Ticket → ℕ → BlobName → Option ℕ → Type 0
+IsNumbered f part_size t number name None = f.known t.place t.name number ≡ true → IsPartOfOne part_size (files_told f t.place t.name number) name
+IsNumbered f part_size t number name (Some source) = IsNoPart name
+
 -- a ticket commits a blob of its unit, before its settle
-pub record Commits (f : Formats) (w : World) (k : ℕ) (name : BlobName) : Type 0 where
+pub record Commits (f : Formats) (part_size : ℕ) (w : World) (k : ℕ) (name : BlobName) : Type 0 where
   pub t : Ticket
   pub out : IsOut w k t
   pub unsettled : t.settled ≡ false
   pub bytes : Bytes
   pub named : IsStored f name
   pub may : MayCommit f t name bytes
+  pub numbered : (index number : ℕ) → t.work ≡ Shard index number → IsNumbered f part_size t number name t.source
 
 -- a finalization's name may be there already, before its settle
 pub record Refinds (f : Formats) (w : World) (k : ℕ) (name : BlobName) : Type 0 where
@@ -460,13 +479,16 @@ pub record Fails (w : World) (k : ℕ) : Type 0 where
   pub op : Op
   pub op_there : (IsShard t.work ⊎ (t.term ≡ w.term)) → fin.get w.ops t.op ≡ Some op
 
--- a settled finalization ends, or a master ticket of an older term; a delete of the present one ends by a step of its own
+-- the ticket is of an older term, and a step of its own was refused so
+abbrev pub IsStale : World → ℕ → Ticket → Type 0
+IsStale w k t = (t.term ≢ w.term) × WasStale w k
+
+-- a settled finalization ends, or a master ticket after its own refusal as stale; a settled delete ends by a step of its own
 pub record Finishes (w : World) (k : ℕ) : Type 0 where
   pub t : Ticket
   pub out : IsOut w k t
   pub no_shard : IsShard t.work → ⊥
-  pub done : (t.settled ≡ true) ⊎ (t.term ≢ w.term)
-  pub unpruned : (uuids : List ℕ) (plan : Option Swap) → t.work ≡ Deleting uuids plan → t.term ≢ w.term
+  pub done : ((t.settled ≡ true) × ((uuids : List ℕ) (plan : Option Swap) → t.work ≡ Deleting uuids plan → ⊥)) ⊎ IsStale w k t
 
 pub record MayDrop (w : World) (k : ℕ) : Type 0 where
   pub t : Ticket
@@ -573,12 +595,13 @@ pub record MayDrawTest (w : World) : Type 0 where
 abbrev pub IsVerifying : World → Type 0
 IsVerifying w = ((id : ℕ) × (w.caller.drawn ≡ Some id)) ⊎ (w.caller.spent ≡ true)
 
--- the name is that of a test blob under the id that was drawn
+-- the name is that of a test blob under the id that was drawn; of workers there are at most 64
 pub record IsOwnTest (f : Formats) (w : World) (name : BlobName) : Type 0 where
   pub id : ℕ
   pub drawn : w.caller.drawn ≡ Some id
   pub below : id < w.next_id
   pub test : IsTestOf id name
+  pub worker : (v n : ℕ) → name ≡ TestNode v n → n < 64
   pub stored : IsStored f name
 
 -- some test blobs that were committed, and may be removed
@@ -665,14 +688,14 @@ pub record RemovesDoomed (f : Formats) (w : World) (k : ℕ) (names : List BlobN
   pub few : length names ≤ 1000
   pub doomed : Told image (λ blobs. (name : BlobName) → Has names name → Has (dooms f t) name)
 
--- it ends once all that it doomed was named
+-- it ends once its removals have named all that it doomed
 pub record EndsDelete (f : Formats) (w : World) (k : ℕ) (image : Option Image) : Type 0 where
   pub t : Ticket
   pub uuids : List ℕ
   pub s : Swap
   pub deleting : IsDeleting w k t uuids (Some s)
   pub settled : t.settled ≡ true
-  pub removed : Told image (λ blobs. (name : BlobName) → Has (dooms f t) name → Has w.removed name)
+  pub removed : Told image (λ blobs. (name : BlobName) → Has (dooms f t) name → Has (removal_names (entries_by w.entries k)) name)
 
 -- it fails before its settle; what a stale one tells ends it alone
 pub record FailsDeletion (w : World) (k : ℕ) : Type 0 where
@@ -707,9 +730,9 @@ pub data Allows (f : Formats) (part_size : ℕ) (w : World) : ℕ → Step → R
   GivingNothing : (image : Option Image) → (AnyReady w → ⊥) → SameBlobs w image → Allows f part_size w 0 TakeStep NothingReady image
   Giving : (k o : ℕ) (unit : Given) (image : Option Image) → k ≡ w.next_ticket → ((p : ℕ) → p < o → HasReady w p → ⊥) → Gives f w o unit → SameBlobs w image → Allows f part_size w 0 TakeStep (Gave k o unit) image
   Drawing : (k n first : ℕ) (image : Option Image) → Draws f w k n first → SameBlobs w image → Allows f part_size w k (DrawStep n) (DrawnFrom first) image
-  Beginning : (k : ℕ) (name : BlobName) (image : Option Image) → Commits f w k name → SameBlobs w image → Allows f part_size w k (BeginStep name) WasBegun image
+  Beginning : (k : ℕ) (name : BlobName) (image : Option Image) → Commits f part_size w k name → SameBlobs w image → Allows f part_size w k (BeginStep name) WasBegun image
   BeginningLatest : (k : ℕ) (image : Option Image) → Puts f w k → SameBlobs w image → Allows f part_size w k (BeginStep Latest) WasBegun image
-  Committing : (k : ℕ) (name : BlobName) (image : Option Image) (c : Commits f w k name) → Told image (Adds f w name c.bytes) → Allows f part_size w k (CommitStep name) WasDone image
+  Committing : (k : ℕ) (name : BlobName) (image : Option Image) (c : Commits f part_size w k name) → Told image (Adds f w name c.bytes) → Allows f part_size w k (CommitStep name) WasDone image
   Finding : (k : ℕ) (name : BlobName) (image : Option Image) → Refinds f w k name → Told image (λ blobs. Present f w.blobs name × (blobs ≡ w.blobs)) → Allows f part_size w k (CommitStep name) WasThere image
   Replacing : (k : ℕ) (image : Option Image) (p : Puts f w k) → ReadsBack f.names Latest → Told image (λ blobs. blobs ≡ fin.insert w.blobs (f.names.text Latest) (latest_text p.n)) → Allows f part_size w k LatestStep WasReplaced image
   Fetching : (k : ℕ) (name : BlobName) (image : Option Image) → Fetches f w k name → Told image (λ blobs. (bytes : Bytes) × (fin.get w.blobs (f.names.text name) ≡ Some bytes) × (blobs ≡ w.blobs)) → Allows f part_size w k (FetchStep name) WasFetched image
@@ -741,11 +764,11 @@ pub data Allows (f : Formats) (part_size : ℕ) (w : World) : ℕ → Step → R
   DropStale : (k : ℕ) (image : Option Image) (may : MayDrop w k) → may.t.term ≢ w.term → SameBlobs w image → Allows f part_size w k DroppedStep (Refused (StaleTerm may.t.term w.term)) image
   RaiseSpent : (k : ℕ) (image : Option Image) (may : MayRaise f w k) → may.t.term ≡ w.term → 2 ^ 63 ≤ w.pending → SameBlobs w image → Allows f part_size w k RaiseStep (Refused (GenerationsSpent w.pending)) image
   ElectSpent : (image : Option Image) → 2 ^ 63 ≤ suc w.term → SameBlobs w image → Allows f part_size w 0 ElectStep (Refused (TermsSpent w.term)) image
-  Taken : (k : ℕ) (name : BlobName) (image : Option Image) → Commits f w k name → (IsMetadata name → ⊥) → Told image (λ blobs. Present f w.blobs name × (blobs ≡ w.blobs)) → Allows f part_size w k (CommitStep name) (Refused (NameTaken name)) image
+  Taken : (k : ℕ) (name : BlobName) (image : Option Image) → Commits f part_size w k name → (IsMetadata name → ⊥) → Told image (λ blobs. Present f w.blobs name × (blobs ≡ w.blobs)) → Allows f part_size w k (CommitStep name) (Refused (NameTaken name)) image
   -- calls that fail: of a commit nothing or the whole blob is left, of a replacement nothing or the blob, of a record swap the old record or the new one
-  BeginFails : (k : ℕ) (name : BlobName) (image : Option Image) → Commits f w k name → SameBlobs w image → Allows f part_size w k (BeginStep name) (Refused DepotFault) image
+  BeginFails : (k : ℕ) (name : BlobName) (image : Option Image) → Commits f part_size w k name → SameBlobs w image → Allows f part_size w k (BeginStep name) (Refused DepotFault) image
   BeginLatestFails : (k : ℕ) (image : Option Image) → Puts f w k → SameBlobs w image → Allows f part_size w k (BeginStep Latest) (Refused DepotFault) image
-  CommitFails : (k : ℕ) (name : BlobName) (image : Option Image) (c : Commits f w k name) → Told image (λ blobs. (blobs ≡ w.blobs) ⊎ Adds f w name c.bytes blobs) → Allows f part_size w k (CommitStep name) (Refused DepotFault) image
+  CommitFails : (k : ℕ) (name : BlobName) (image : Option Image) (c : Commits f part_size w k name) → Told image (λ blobs. (blobs ≡ w.blobs) ⊎ Adds f w name c.bytes blobs) → Allows f part_size w k (CommitStep name) (Refused DepotFault) image
   ReplaceFails : (k : ℕ) (image : Option Image) (p : Puts f w k) → ReadsBack f.names Latest → Told image (λ blobs. (blobs ≡ w.blobs) ⊎ (blobs ≡ fin.insert w.blobs (f.names.text Latest) (latest_text p.n))) → Allows f part_size w k LatestStep (Refused DepotFault) image
   FetchFails : (k : ℕ) (name : BlobName) (image : Option Image) → Fetches f w k name → SameBlobs w image → Allows f part_size w k (FetchStep name) (Refused DepotFault) image
   ListFails : (k : ℕ) (image : Option Image) (t : Ticket) → IsOut w k t → SameBlobs w image → Allows f part_size w k ListStep (Refused DepotFault) image
@@ -755,15 +778,39 @@ pub data Allows (f : Formats) (part_size : ℕ) (w : World) : ℕ → Step → R
   DropFails : (k : ℕ) (image : Option Image) → Drops w k → SameBlobs w image → Allows f part_size w k DroppedStep (Refused DepotFault) image
   ElectFails : (image : Option Image) → suc w.term < 2 ^ 63 → SameBlobs w image → Allows f part_size w 0 ElectStep (Refused DepotFault) image
 
--- after a record swap that failed every step is refused
-pub record IsDeposed (w : World) (m : Moment) : Type 0 where
-  pub deposed : w.deposed ≡ true
-  pub place : ℕ
-  pub refused : m.entry.reply ≡ Refused (DeposedAt place)
+-- ---- steps that are refused before they are looked at
+
+abbrev pub IsFailure : Step → Type 0
+IsFailure (FailedStep why) = Unit {0}
+IsFailure step = ⊥
+
+-- this delete aborted the op of the ticket: the ticket can only fail, unless it is the op's drop
+pub record IsAborted (w : World) (who : ℕ) (step : Step) (by : ℕ) : Type 0 where
+  pub t : Ticket
+  pub out : IsOut w who t
+  pub op : Op
+  pub op_there : fin.get w.ops t.op ≡ Some op
+  pub by_is : op.aborted ≡ Some by
+  pub no_drop : t.work ≢ Drop
+  pub no_failure : IsFailure step → ⊥
+
+-- since a record swap failed, or else since a delete aborted the op of the ticket
+pub data Blocks (w : World) (who : ℕ) (step : Step) : Refusal → Type 0 where
+  ByFailedSwap : (place : ℕ) → w.deposed ≡ true → Blocks w who step (DeposedAt place)
+  ByDelete : (by : ℕ) → w.deposed ≡ false → IsAborted w who step by → Blocks w who step (AbortedBy by)
+
+pub record IsBlocked (w : World) (m : Moment) : Type 0 where
+  pub refusal : Refusal
+  pub blocks : Blocks w m.entry.who m.entry.step refusal
+  pub refused : m.entry.reply ≡ Refused refusal
   pub same : SameBlobs w m.image
 
 -- the moment is a step from this world, and the record's text is that of the world after it
 pub record Allowed (f : Formats) (part_size : ℕ) (w : World) (m : Moment) : Type 0 where
-  pub answered : ((w.deposed ≡ false) × Allows f part_size w m.entry.who m.entry.step m.entry.reply m.image) ⊎ IsDeposed w m
+  pub answered : ((w.deposed ≡ false) × Allows f part_size w m.entry.who m.entry.step m.entry.reply m.image) ⊎ IsBlocked w m
+  -- a step of an aborted op's ticket has no other answer
+  pub aborted : (by : ℕ) → w.deposed ≡ false → IsAborted w m.entry.who m.entry.step by → m.entry.reply ≡ Refused (AbortedBy by)
+  -- no step is made twice
+  pub once : w.deposed ≡ false → IsNewStep w m.entry.who m.entry.step
   pub record_back : ReadsBack f.cluster (record_of (after f w m))
   pub text : (image : Image) → m.image ≡ Some image → image.text ≡ Some (f.cluster.text (record_of (after f w m)))

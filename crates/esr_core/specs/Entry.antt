@@ -72,10 +72,12 @@ pub data Why : Type 0 where
   OfAbsence : (name : BlobName) → Why
   -- what was fetched of a blob doesn't read, for this reason
   OfUnreadable : (name : BlobName) (reason : Reason) → Why
-  -- the index on which a shard builds reads, but has what it can't have yet
-  OfAhead : (name : BlobName) → Why
+  -- the index on which a shard builds reads, but has this id, which it can't have yet
+  OfAhead : (name : BlobName) (id : ℕ) → Why
   -- a blob that it was to commit was there already
   OfTaken : (name : BlobName) → Why
+  -- this delete aborted its op
+  OfAbort : (by : ℕ) → Why
   -- the ids of the term, or the generations, end here
   OfIdsSpent : (next : ℕ) → Why
   OfGenerationsSpent : (pending : ℕ) → Why
@@ -146,6 +148,7 @@ pub data Refusal : Type 0 where
   TooMany : (limit : ℕ) → Refusal
   -- the record swap at this place of the history failed
   DeposedAt : (place : ℕ) → Refusal
+  -- this delete aborted the op of the ticket
   AbortedBy : (op : ℕ) → Refusal
   StaleTerm : (own now : ℕ) → Refusal
   GenerationsSpent : (pending : ℕ) → Refusal

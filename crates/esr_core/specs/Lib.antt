@@ -1,4 +1,5 @@
 pub mod World
+pub mod Past
 pub mod Restores
 pub mod Ready
 pub mod Generations
@@ -22,8 +23,10 @@ pub mod Allowed
 pub mod ReadLaw
 pub mod Restored
 pub mod History
+pub mod Changes
 pub mod ReadEnds
 pub mod Left
 pub mod Refusing
+pub mod Causes
 pub mod Tidy
 pub mod Example

@@ -5,7 +5,9 @@ use Rattle.std.specs.FinMap.{FinMap}
 use Rattle.std.specs.FinMap as fin
 use Rattle.esr_model.specs.Values.{ShardResult}
 use Rattle.esr_model.specs.Image.{Has}
-use Rattle.esr_core.specs.World.{World, Op, Deletion, ShardWork, ShardState, Pending, Out, Done, GivenUp, Unread, RestoreShard, Restoring, Work, Shard, Finalize, Deleting, Drop, Ticket, AllDone}
+use Rattle.esr_core.specs.World.{World, Op, Deletion, ShardWork, ShardState, Pending, Out, Done, GivenUp, Unread, RestoreShard, Restoring, Reader, Work, Shard, Finalize, Deleting, Drop, Ticket, AllDone}
+use Rattle.esr_core.specs.Entry.{Step, ElectStep, LookStep, ReadStep}
+use Rattle.esr_core.specs.Restores.{waits}
 
 -- an open delete stands before the op
 pub record Barrier (deletes : FinMap nat_cmp Deletion) (o : ℕ) : Type 0 where
@@ -78,6 +80,8 @@ pub record ReadyShard (w : World) (o : ℕ) (op : Op) (s : ShardWork) : Type 0 w
   pub no_barrier : Barrier w.deletes o → ⊥
   -- no earlier open op holds the same shard pending or out
   pub first : (p : ℕ) (q : Op) (z : ShardWork) → p < o → fin.get w.ops p ≡ Some q → Has q.shards z → z.ref.id ≡ s.ref.id → z.number ≡ s.number → Waits z.state → ⊥
+  -- no earlier open restore has it unread or being read
+  pub unread : (p : ℕ) (r : Restoring) (z : RestoreShard) → p < o → fin.get w.restores p ≡ Some r → Has r.shards z → z.ref.id ≡ s.ref.id → z.number ≡ s.number → waits z.state ≡ false
 
 pub record ReadyFinalize (w : World) (o : ℕ) (op : Op) (results : List ShardResult) : Type 0 where
   pub op_there : fin.get w.ops o ≡ Some op
@@ -128,3 +132,26 @@ pub data AnyReady (w : World) : Type 0 where
 -- an op of this number is open
 abbrev pub IsOpen : World → ℕ → Type 0
 IsOpen w o = ((op : Op) × (fin.get w.ops o ≡ Some op)) ⊎ ((x : Deletion) × (fin.get w.deletes o ≡ Some x))
+
+-- a restore of this number is open
+abbrev pub HasRestore : World → ℕ → Type 0
+HasRestore w o = (r : Restoring) × (fin.get w.restores o ≡ Some r)
+
+-- no ticket is out, a restore's neither
+pub record NoTicketOut (w : World) : Type 0 where
+  pub tickets : (k : ℕ) (t : Ticket) → fin.get w.tickets k ≡ Some t → t.out ≡ true → ⊥
+  pub readers : (k : ℕ) (q : Reader) → fin.get w.readers k ≡ Some q → q.out ≡ true → ⊥
+
+-- what readiness goes by, the tickets aside, is the same in both
+pub record SameWork (w v : World) : Type 0 where
+  pub ops : v.ops ≡ w.ops
+  pub deletes : v.deletes ≡ w.deletes
+  pub completed : v.completed ≡ w.completed
+  pub restores : v.restores ≡ w.restores
+
+-- of who 0: it neither asks nor takes
+abbrev pub LeavesWork : Step → Type 0
+LeavesWork ElectStep = Unit {0}
+LeavesWork LookStep = Unit {0}
+LeavesWork (ReadStep read) = Unit {0}
+LeavesWork step = ⊥

@@ -4,8 +4,9 @@ use Rattle.esr_model.specs.Names.{BlobName}
 use Rattle.esr_model.specs.Values.{Bytes, Has}
 use Rattle.esr_model.specs.Delete.{PrunedShard}
 use Rattle.esr_core.specs.World.{World}
-use Rattle.esr_core.specs.Entry.{AskedIndex, CloneOf, Asked, Snapshot, Clone, DeleteSnapshots, Restore, is_recorded, ReadBlob, DrawTest, BeginTest, CommitTest, RemoveTests, FetchShard, PlanShards, SettlePruned, RemoveDoomed, Step, AskStep, DrawStep, BeginStep, CommitStep, LatestStep, FetchStep, ListStep, RaiseStep, SettleStep, DroppedStep, ElectStep, ReadStep, PruneStep, Refusal, CleanupRunning, NameInUse, TooMany, DeposedAt, StaleTerm, GenerationsSpent, TermsSpent, IdsSpent, NameTaken, DepotFault, NoSnapshot, NoIndex, BeingDeleted, CloneRunning, RestoreRunning, Refused, Moment}
+use Rattle.esr_core.specs.Entry.{AskedIndex, CloneOf, Asked, Snapshot, Clone, DeleteSnapshots, Restore, is_recorded, ReadBlob, DrawTest, BeginTest, CommitTest, RemoveTests, FetchShard, PlanShards, SettlePruned, RemoveDoomed, Step, AskStep, DrawStep, BeginStep, CommitStep, LatestStep, FetchStep, ListStep, RaiseStep, SettleStep, DroppedStep, ElectStep, ReadStep, PruneStep, Refusal, CleanupRunning, NameInUse, TooMany, StaleTerm, GenerationsSpent, TermsSpent, IdsSpent, NameTaken, DepotFault, NoSnapshot, NoIndex, BeingDeleted, CloneRunning, RestoreRunning, Refused, Moment}
 use Rattle.esr_core.specs.After.{swaps_record}
+use Rattle.esr_core.specs.Allowed.{Blocks}
 
 -- A step may be refused so: a command by a rule of its kind, with the place or the limit that this has, or since its ids are spent; a
 -- step that draws ids or begins a generation or a term, since these are spent; a record swap of a ticket, as its term is over; a
@@ -59,15 +60,9 @@ pub data MayRefuse : Step → Refusal → Type 0 where
   SettleDeleteStale : (own now : ℕ) → MayRefuse (PruneStep SettlePruned) (StaleTerm own now)
   RemoveDoomedFault : (names : List BlobName) → MayRefuse (PruneStep (RemoveDoomed names)) DepotFault
 
--- the world is deposed, and the refusal says so
-pub record SaysDeposed (w : World) (refusal : Refusal) : Type 0 where
-  pub deposed : w.deposed ≡ true
-  pub place : ℕ
-  pub is : refusal ≡ DeposedAt place
-
--- the step was refused as it may be, or since a record swap has failed
-abbrev pub RefusedSo : World → Step → Refusal → Type 0
-RefusedSo w step refusal = SaysDeposed w refusal ⊎ MayRefuse step refusal
+-- the step was refused as it may be, or before it was looked at
+abbrev pub RefusedSo : World → ℕ → Step → Refusal → Type 0
+RefusedSo w who step refusal = Blocks w who step refusal ⊎ MayRefuse step refusal
 
 -- a record swap of the history failed
 pub record SwapFailed (log : List Moment) : Type 0 where

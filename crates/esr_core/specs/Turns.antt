@@ -17,6 +17,7 @@ use Rattle.esr_core.specs.Generations.{OpTexts, Together, AreFilesOf, AreIndices
 use Rattle.esr_core.specs.Swaps.{SwapShape}
 use Rattle.esr_core.specs.World.{World, Ticket, Op, Deletion, ShardWork, ShardState, Pending, Out, Done, GivenUp, ReadState, RestoreShard, Restoring, Reader, Caller, Work, Shard, Finalize, Deleting, Drop, Swap, marked, info_of, HeldIn}
 use Rattle.esr_core.specs.Ready.{IsShard, IsMaster, ReadyShard, ReadyFinalize, ReadyDrop, ReadyDelete, ReadyCleanup, ReadyRestore}
+use Rattle.esr_core.specs.Entry.{Entry}
 use Rattle.esr_core.specs.Restores.{IsTestOf, AreApart, IsReading, ListsPiece, waits, restore_opened, shard_handed, more_read, shard_ended}
 use Rattle.esr_core.specs.Queue.{Lists}
 use Rattle.esr_core.specs.Pruning.{IsPlanned, dooms}
@@ -349,9 +350,8 @@ pub data ReadTurn (f : Formats) (w : World) : World → Type 0 where
   HandsShard : (new : World) → (o : ℕ) (r : Restoring) (s : RestoreShard) → HandShard w o r s new → ReadTurn f w new
   ReadsMore : (new : World) → (k : ℕ) (name : BlobName) (bytes : Bytes) → ReadMore f w k name bytes new → ReadTurn f w new
   EndsShard : (new : World) → (k : ℕ) (state : ReadState) → EndShard w k state new → ReadTurn f w new
-  Calls : (new : World) → (caller : Caller) → new ≡ record w { caller = caller } → ReadTurn f w new
-  -- what removals have named
-  NamesRemoved : (new : World) → (removed : List BlobName) → new ≡ record w { removed = removed } → ReadTurn f w new
+  -- what was done so far
+  Calls : (new : World) → (caller : Caller) (entries : List Entry) → new ≡ record w { caller = caller; entries = entries } → ReadTurn f w new
 
 -- ---- a verification of the container
 

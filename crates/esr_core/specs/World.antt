@@ -10,7 +10,7 @@ use Rattle.esr_model.specs.Places.{comes_first, sorted_by}
 use Rattle.esr_model.specs.Kept.{first_id}
 use Rattle.esr_model.specs.Finalize.{finalized_root}
 use Rattle.esr_model.specs.Image.{Blobs, Image, Has, AllPairs, RootIs, At, global_of}
-use Rattle.esr_core.specs.Entry.{Why}
+use Rattle.esr_core.specs.Entry.{Why, Entry}
 
 pub data ShardState : Type 0 where
   Pending : ShardState
@@ -157,15 +157,15 @@ pub record World : Type 0 where
   pub next_ticket : ℕ
   -- the next id that is drawn
   pub next_id : ℕ
-  -- names that some settled ticket may remove, or who 0 its test blobs
+  -- all that was ever doomed: what settled deletes doomed, each of them its own names, and the test blobs of who 0
   pub doomed : List BlobName
-  -- names that the removals of deletes have named
-  pub removed : List BlobName
   pub deposed : Bool
   -- open restores, under the numbering of ops, and their tickets, under that of tickets; the cluster record has neither
   pub restores : FinMap nat_cmp Restoring
   pub readers : FinMap nat_cmp Reader
   pub caller : Caller
+  -- what was asked and answered so far, the last entry first; a step that was refused as deposed is none of these
+  pub entries : List Entry
 
 -- the blob is there with these bytes, and nobody may remove it
 abbrev pub Safely : Formats → Blobs → List BlobName → BlobName → Bytes → Type 0
@@ -287,11 +287,11 @@ opened blobs cluster root =
       next_ticket = 1;
       next_id = first_id (suc cluster.ledger.term);
       doomed = [];
-      removed = [];
       deposed = false;
       restores = fin.empty;
       readers = fin.empty;
       caller = no_caller;
+      entries = [];
     }
 
 -- a container in which nothing was written has no root, and term 0

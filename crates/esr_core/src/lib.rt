@@ -1,7 +1,7 @@
 //! The core's law, over definitions alone: each function's contract is a law, and its body is empty.
 #![tactic(auto)]
 
-ghost use Rattle.std.specs.Prelude.{◌≡◌, Bool, true, false, Option, Some, None, ℕ, suc, ◌<◌, ◌≤◌, List, [], ◌∷◌, ◌++◌, ◌⊎◌};
+ghost use Rattle.std.specs.Prelude.{◌≡◌, ◌≢◌, Bool, true, false, Option, Some, None, ℕ, suc, ◌<◌, ◌≤◌, List, [], ◌∷◌, ◌++◌, ◌⊎◌};
 ghost use Rattle.esr_model.specs.Values.{Bytes, IndexRef, RootIndex, RootData, FileEntry, ShardResult, ClusterRecord, ReadsBack, Formats};
 ghost use Rattle.esr_model.specs.Names.{BlobName, Root, ShardSnap, ShardIndex};
 ghost use Rattle.esr_model.specs.Image.{Has, Blobs, Image, KeptBy, Present};
@@ -22,20 +22,23 @@ ghost use Rattle.esr_core.specs.Ids.{Law, DoomedIds, IdsIn, InTerm};
 ghost use Rattle.esr_core.specs.Tracked.{IsOneIndex, Tracked};
 ghost use Rattle.esr_core.specs.Ranked.{Ranked};
 ghost use Rattle.esr_core.specs.ReadTracked.{ReadTracked};
-ghost use Rattle.esr_core.specs.ReadEnds.{CanEnd};
+ghost use Rattle.esr_core.specs.ReadEnds.{NoFetchFailed, CanEnd};
 ghost use Rattle.esr_core.specs.ReadLaw.{ReadLaw, ReadsShelved, IsOnShelf};
 ghost use Rattle.esr_core.specs.Restored.{IsServed, IsShelvedAs};
 ghost use Rattle.esr_core.specs.Restores.{IsReading};
-ghost use Rattle.esr_core.specs.Ready.{IsOpen, AnyReady, Barrier, Idle, SwapIsOut};
+ghost use Rattle.esr_core.specs.Ready.{IsOpen, HasRestore, NoTicketOut, SameWork, LeavesWork, AnyReady, Barrier, Idle, SwapIsOut};
 ghost use Rattle.std.specs.FinMap as fin;
 ghost use Rattle.std.specs.FinMap.{FinMap};
 ghost use Rattle.std.specs.Ordering.{nat_cmp};
 ghost use Rattle.esr_core.specs.Turns.{Turn, Turns, commands_of};
 ghost use Rattle.esr_core.specs.Doomed.{Dooms};
-ghost use Rattle.esr_core.specs.Entry.{Moment, AsksNoClone, Restore, AskStep, SettleStep, SettlePruned, PruneStep, WasSettled, Refusal, Refused, StaleTerm, AcceptedRestore};
-ghost use Rattle.esr_core.specs.After.{swaps_record, after};
+ghost use Rattle.esr_core.specs.Entry.{Moment, AsksNoClone, Restore, AskStep, SettleStep, SettlePruned, PruneStep, WasSettled, Refusal, Refused, StaleTerm, AcceptedRestore, Given, Gave, Step, Reply, Entry};
+ghost use Rattle.esr_core.specs.After.{swaps_record, answered, after};
+ghost use Rattle.esr_core.specs.Past.{is_counted, with_entry, begins_anew, entries_by};
+ghost use Rattle.esr_core.specs.Changes.{StepChange, StepFrame, BlobsChange, Maker};
 ghost use Rattle.esr_core.specs.Example.{CanWrite, HasSnapshot};
-ghost use Rattle.esr_core.specs.Allowed.{SameBlobs, SettlesDeletion, ClonedBy, Allowed, RestoredBy};
+ghost use Rattle.esr_core.specs.Allowed.{SameBlobs, SettlesDeletion, ClonedBy, Allowed, RestoredBy, Blocks, IsBlocked};
+ghost use Rattle.esr_core.specs.Causes.{RefusalCause, TakeGave, SettleDid};
 ghost use Rattle.esr_core.specs.History.{world_from, IsLegal, TellsHandedOut, AreTold, AreHonest, committed, counts, Lasts};
 ghost use Rattle.esr_core.specs.Left.{cut_off, Leaves, safe_in};
 ghost use Rattle.esr_core.specs.Refusing.{RefusedSo, SwapFailed};
@@ -71,9 +74,9 @@ pub fn each_turn_is_lawful()
     ensures { (f : Formats) (w new : World) (shelf : List Shelved) → Law f w shelf → w.deposed ≡ false → (turn : Turn f w new) → Law f new (shelf_after shelf (commands_of f w new turn)) }
 {}
 
-/// Where an op is open and no ticket is out, some unit is ready.
+/// Where an op or a restore is open and no ticket is out, some unit is ready.
 pub fn some_unit_is_ready()
-    ensures { (f : Formats) (w : World) (shelf : List Shelved) (o : ℕ) → Law f w shelf → IsOpen w o → ((k : ℕ) (t : Ticket) → fin.get w.tickets k ≡ Some t → t.out ≡ true → ⊥) → AnyReady w }
+    ensures { (f : Formats) (w : World) (shelf : List Shelved) (o : ℕ) → Law f w shelf → ReadTracked w → IsOpen w o ⊎ HasRestore w o → NoTicketOut w → AnyReady w }
 {}
 
 /// The image of a lawful world is kept, where its record can be written.
@@ -102,9 +105,21 @@ pub fn each_history_is_lawful()
         → Law f (world_from f w log) (shelf_after shelf (committed f (world_from f w log).safe w log)) }
 {}
 
-/// While no record swap has failed a step is refused only as it may be, and after it each is refused as deposed.
+/// A step is refused only as it may be, or since a record swap has failed or a delete has aborted the op of its ticket.
 pub fn refusals_are_of_their_steps()
-    ensures { (f : Formats) (part_size : ℕ) (w : World) (m : Moment) (refusal : Refusal) → Allowed f part_size w m → m.entry.reply ≡ Refused refusal → RefusedSo w m.entry.step refusal }
+    ensures { (f : Formats) (part_size : ℕ) (w : World) (m : Moment) (refusal : Refusal) → Allowed f part_size w m → m.entry.reply ≡ Refused refusal → RefusedSo w m.entry.who m.entry.step refusal }
+{}
+
+/// Each refusal has its cause: a rule of accepting, a name that is taken, a term that is over, numbers that are spent, or a call that failed; or the step was not looked at.
+pub fn each_refusal_has_its_cause()
+    ensures { (f : Formats) (part_size : ℕ) (w : World) (m : Moment) (refusal : Refusal) → Allowed f part_size w m → m.entry.reply ≡ Refused refusal
+        → Blocks w m.entry.who m.entry.step refusal ⊎ RefusalCause f part_size w m.entry.who m.entry.step m.image refusal }
+{}
+
+/// A unit that was given is the ready one of the lowest op; what was settled was so by an unsettled swap of the present term.
+pub fn answers_tell_their_steps()
+    ensures gave { (f : Formats) (part_size : ℕ) (w : World) (m : Moment) (k o : ℕ) (unit : Given) → Allowed f part_size w m → m.entry.reply ≡ Gave k o unit → TakeGave f w m.entry.who m.entry.step k o unit }
+    ensures settled { (f : Formats) (part_size : ℕ) (w : World) (m : Moment) → Allowed f part_size w m → m.entry.reply ≡ WasSettled → SettleDid f w m.entry.who m.entry.step }
 {}
 
 /// A world is deposed only after a record swap that failed.
@@ -152,9 +167,9 @@ pub fn leaves_go_on()
     ensures told { (f : Formats) (part_size : ℕ) (w : World) (log rest : List Moment) (m : Moment) (i : Image) → IsLegal f part_size w (log ++ m ∷ rest) → m.image ≡ Some i → Leaves f part_size w (log ++ m ∷ rest) i }
 {}
 
-/// A raise, settle or drop of an older term changes nothing.
+/// A raise, settle or drop of an older term changes nothing, but that it was made.
 pub fn stale_steps_change_nothing()
-    ensures { (f : Formats) (w : World) (m : Moment) (own now : ℕ) → m.entry.reply ≡ Refused (StaleTerm own now) → SameBlobs w m.image → after f w m ≡ w }
+    ensures { (f : Formats) (w : World) (m : Moment) (own now : ℕ) → m.entry.reply ≡ Refused (StaleTerm own now) → SameBlobs w m.image → after f w m ≡ record w { entries = m.entry ∷ w.entries } }
 {}
 
 /// What stands in the container goes on standing: the safe root for the shelf with the commands that count, and each root above it for some shelf.
@@ -310,9 +325,9 @@ pub fn each_restored_snapshot_stays()
         → AreHonest f w log → ReadsShelved (world_from f w log) (shelf_after shelf (committed f (world_from f w log).safe w log)) o x }
 {}
 
-/// In a lawful world each ticket of a restore that is out can read its whole shard and end it: the conditions of its steps can be met.
+/// In a lawful world each ticket of a restore that is out, and of which no fetch has failed, can read its whole shard and end it: the conditions of its steps can be met.
 pub fn each_reader_can_end()
-    ensures { (f : Formats) (part_size : ℕ) (w : World) (shelf : List Shelved) (k : ℕ) (q : Reader) → Law f w shelf → ReadLaw f w → w.deposed ≡ false → ReadsBack f.cluster (record_of w) → IsReading w k q → CanEnd f part_size w k }
+    ensures { (f : Formats) (part_size : ℕ) (w : World) (shelf : List Shelved) (k : ℕ) (q : Reader) → Law f w shelf → ReadLaw f w → ReadTracked w → w.deposed ≡ false → ReadsBack f.cluster (record_of w) → IsReading w k q → NoFetchFailed w k q → CanEnd f part_size w k }
 {}
 
 /// Where a restore is open and none of its tickets is out, some unit is ready.
@@ -380,6 +395,54 @@ pub fn clones_upload_nothing()
     ensures based { (f : Formats) (w : World) (shelf : List Shelved) (k : ℕ) (t : Ticket) (r : ShardResult) (source : ℕ) → Law f w shelf → IsOut w k t → t.work ≡ Shard r.index r.shard → t.source ≡ Some source → (b : ClonedBy f t source r) → (e : FileEntry) → Has b.was.files e → Has b.base.files e }
     ensures wrote { (f : Formats) (t : Ticket) (r : ShardResult) (source : ℕ) → ClonedBy f t source r → (name : BlobName) (bytes : Bytes) → Has t.wrote (name, bytes)
         → (name ≡ ShardSnap r.index r.shard t.uuid) ⊎ (name ≡ ShardIndex r.index r.shard r.generation) }
+{}
+
+/// Whoever makes a step and whatever it is answered, it is one change of the world.
+pub fn each_step_is_one_change()
+    ensures { (f : Formats) (w : World) (who : ℕ) (step : Step) (reply : Reply) (image : Option Image) → StepChange f w who step (answered f w who step reply image) }
+{}
+
+/// A step leaves each ticket but its own and the one that it gives; its own stays the same unit. The term changes with an election alone, the safe root with a settle alone. A ticket's step leaves what who 0 has done.
+pub fn each_step_leaves_the_others()
+    ensures frame { (f : Formats) (w : World) (m : Moment) → StepFrame w (after f w m) m.entry.who m.entry.step }
+    ensures caller { (f : Formats) (part_size : ℕ) (w : World) (m : Moment) → Allowed f part_size w m → m.entry.who ≢ 0 → (after f w m).caller ≡ w.caller }
+{}
+
+/// What a ticket or who 0 has done no step of another changes; its own step is added to it, unless who 0 begins anew. All of it stands in the history.
+pub fn entries_are_of_their_makers()
+    ensures others { (entries : List Entry) (e : Entry) (who : ℕ) → who ≢ e.who → entries_by (with_entry entries e) who ≡ entries_by entries who }
+    ensures among { (entries : List Entry) (who : ℕ) (e : Entry) → Has (entries_by entries who) e → Has entries e × (e.who ≡ who) }
+    ensures from { (f : Formats) (w : World) (log : List Moment) (e : Entry) → Has (world_from f w log).entries e → Has w.entries e ⊎ ((m : Moment) × Has log m × (m.entry ≡ e) × (is_counted e.reply ≡ true)) }
+    ensures own { (entries : List Entry) (e : Entry) → is_counted e.reply ≡ true → begins_anew e.who e.step ≡ false → entries_by (with_entry entries e) e.who ≡ e ∷ entries_by entries e.who }
+{}
+
+/// A step that was looked at was made by who 0, by the ticket of a restore, or by that of another unit, which is out.
+pub fn each_step_has_its_maker()
+    ensures { (f : Formats) (part_size : ℕ) (w : World) (m : Moment) → Allowed f part_size w m → Maker w m.entry.who m.entry.step ⊎ IsBlocked w m }
+{}
+
+/// Where the container tells, a step adds one blob under a free name, puts `index.latest`, removes some names, or leaves the blobs.
+pub fn each_step_changes_blobs_so()
+    ensures { (f : Formats) (part_size : ℕ) (w : World) (m : Moment) (i : Image) → m.image ≡ Some i → Allowed f part_size w m → BlobsChange f w m.entry.step i.blobs }
+{}
+
+/// While no ticket is out, readiness goes by the open ops, deletes and restores alone: an election, a look and what who 0 reads make no unit ready.
+pub fn readiness_goes_by_the_open_ops()
+    ensures again { (w v : World) → SameWork w v → NoTicketOut w → AnyReady v → AnyReady w }
+    ensures leaves { (f : Formats) (w : World) (m : Moment) → m.entry.who ≡ 0 → LeavesWork m.entry.step → SameWork w (after f w m) }
+{}
+
+/// What the law says, part by part: the image is kept, generations serve, what tickets and shards have committed is there, metadata has its text, doomed names are apart, at most one swap is out, and ids lie below the next one.
+pub fn the_law_has_these_parts()
+    ensures kept { (f : Formats) (w : World) (shelf : List Shelved) → Law f w shelf → KeptBy f (HeldIn f w) w.blobs (ledger_of w) shelf }
+    ensures generations { (f : Formats) (w : World) (shelf : List Shelved) → Law f w shelf → Carried f (HeldIn f w) w.safe w.term w.root w.ops w.tickets }
+    ensures committed { (f : Formats) (w : World) (shelf : List Shelved) (k : ℕ) (t : Ticket) → Law f w shelf → fin.get w.tickets k ≡ Some t → TicketLaw f (HeldIn f w) w.doomed (ledger_of w) shelf t }
+    ensures shards { (f : Formats) (w : World) (shelf : List Shelved) → Law f w shelf → Written f w.blobs w.tickets }
+    ensures metadata { (f : Formats) (w : World) (shelf : List Shelved) → Law f w shelf → Texted f w.blobs w.ops w.tickets }
+    ensures doomed { (f : Formats) (w : World) (shelf : List Shelved) (name : BlobName) → Law f w shelf → Has w.doomed name → DoomedIds w.next_id w.ops w.tickets name }
+    ensures one_swap { (f : Formats) (w : World) (shelf : List Shelved) (j k : ℕ) → Law f w shelf → SwapIsOut w.tickets w.term j → SwapIsOut w.tickets w.term k → j ≡ k }
+    ensures queue { (f : Formats) (w : World) (shelf : List Shelved) → Law f w shelf → QueueIn w }
+    ensures ids { (f : Formats) (w : World) (shelf : List Shelved) → Law f w shelf → IdsIn f w × InTerm w }
 {}
 
 /// Where no open op copies a snapshot none does after a step that asks for no clone.

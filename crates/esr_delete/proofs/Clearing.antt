@@ -1,5 +1,5 @@
 -- From the settle of a delete to its end.
-use Rattle.std.proofs.Common.{◌≡◌, ◌↔◌, ⊎_elim, ℕ, true, false, List, map, Some, None, Result, Ok, Err, IfErr, OnOk, OnErr, refl, sym, ap, ◌∙◌, subst}
+use Rattle.std.proofs.Common.{◌≡◌, ◌≤◌, ◌↔◌, ⊎_elim, ℕ, true, false, List, map, Some, None, Result, Ok, Err, IfErr, OnOk, OnErr, refl, sym, ap, ◌∙◌, subst}
 use Rattle.std.specs.List.{AllByRecursion}
 use Rattle.std.specs.Result.{IsErrAnd}
 use Rattle.esr_names.specs.declared.blob.BlobName.{BlobName as CodeName}
@@ -8,18 +8,21 @@ use Rattle.esr_model.specs.Names.{BlobName}
 use Rattle.esr_model.specs.Values.{Has, RootData, Formats}
 use Rattle.esr_core.specs.World.{Ticket, Work, Shard, Finalize, Deleting, Drop}
 use Rattle.esr_core.specs.Pruning.{doomed_by, dooms}
-use Rattle.esr_core.specs.Entry.{SettlePruned, RemoveDoomed, PruneStep, Reply, Moment}
+use Rattle.esr_core.specs.Past.{removal_names}
+use Rattle.esr_core.specs.Entry.{SettlePruned, RemoveDoomed, EndDelete, PruneStep, Reply, HasEnded, Moment}
 use Rattle.esr_formats.specs.Names.{name_of}
 use Rattle.esr_reach.specs.Members.{all_has, has_map, in_map}
 use Rattle.esr_desk.specs.declared.refusal.StepRefusal.{StepRefusal}
-use Rattle.esr_desk.specs.Start.{Start, formats_of, ticket_of, world_of}
-use Rattle.esr_desk.specs.Outcome.{Stepped}
-use Rattle.esr_desk.specs.Told.{TellsAll, stepped_made, none_removed}
-use Rattle.esr_deleting.specs.Conditions.{CanSettleDelete, CanEndDelete}
-use Rattle.esr_deleting.specs.Once.{IsNewRemoval}
-use Rattle.esr_deleting.specs.Named.{AreNamed, HasNamed}
+use Rattle.esr_desk.specs.Start.{Start, formats_of, ticket_of}
+use Rattle.esr_desk.specs.Own.{made_of}
+use Rattle.esr_desk.specs.Outcome.{Stepped, Outcome}
+use Rattle.esr_desk.specs.Taken.{HasEndedAs}
+use Rattle.esr_desk.specs.Told.{TellsAll, none_removed}
+use Rattle.esr_desk.specs.Made.{stepped_made}
+use Rattle.esr_desk.specs.Delete.Conditions.{CanSettleDelete, CanEndDelete}
+use Rattle.esr_desk.specs.Delete.Named.{AreNamed, ended_named}
 use Rattle.esr_delete.specs.Ticket.{IsOver}
-use Rattle.esr_delete.specs.Removed.{NoneRemoved, IsSettledPlan, MayRemove, IsCleared}
+use Rattle.esr_delete.specs.Removed.{NoneRemoved, AreUnnamed, IsSettledPlan, MayRemove, IsCleared}
 
 -- an error that was made of a step's refusal
 pub passed_on : {T E : Type 0} (result : Result T E) (P : E → Type 0) (e : E) → IsErrAnd result (λ x. x ≡ e) → P e → IfErr result P
@@ -58,15 +61,15 @@ over_settled s old new root may is = record {
 no_removal : (was : List BlobName) → PruneStep SettlePruned ≡ PruneStep (RemoveDoomed was) → ⊥
 no_removal was e = cc
 
-pub none_yet : (s : Start) (old new : List Moment) (who : ℕ) (reply : Reply) → TellsAll s old who → (ticket_of s old who).settled ≡ false → Stepped s old new who (PruneStep SettlePruned) reply → NoneRemoved new who
-none_yet s old new who reply tells unsettled h m has by made was is =
+pub none_yet : (s : Start) (old new : List Moment) (who : ℕ) (reply : Reply) → 1 ≤ who → TellsAll s old who → (ticket_of s old who).settled ≡ false → Stepped s old new who (PruneStep SettlePruned) reply → NoneRemoved s new who
+none_yet s old new who reply ticket tells unsettled h e has was is =
     ⊎_elim
-    (λ (before : Has old m). none_removed s old who m was tells unsettled before by made is)
-    (λ (here : m.entry.step ≡ PruneStep SettlePruned). no_removal was (sym here ∙ is))
-    (stepped_made s old new who (PruneStep SettlePruned) reply m h has by made)
+    (λ (before : Has (made_of s old who) e). none_removed s old who e was tells unsettled before is)
+    (λ (here : e.step ≡ PruneStep SettlePruned). no_removal was (sym here ∙ is))
+    (stepped_made s old new who (PruneStep SettlePruned) reply ticket h e has)
 
-pub new_removal : (log : List Moment) (who : ℕ) (names : List BlobName) → NoneRemoved log who → IsNewRemoval log who names
-new_removal log who names none m has by made was is name mine gone = none m has by made was is
+pub none_named : (s : Start) (log : List Moment) (who : ℕ) (names : List BlobName) → NoneRemoved s log who → AreUnnamed s log who names
+none_named s log who names none e has was is name mine gone = none e has was is
 
 -- ---- the names, each once
 
@@ -84,14 +87,14 @@ pub once_layout : (items once : List CodeName) → ((name : CodeName) → Has on
 once_layout items once same laid name has = all_has IsName items name laid ((same name).0 has)
 
 -- all of it was named
-dooms_named : (s : Start) (log : List Moment) (who : ℕ) (names once : List CodeName) → map name_of names ≡ dooms (formats_of s) (ticket_of s log who) → ((name : CodeName) → Has once name ↔ Has names name) → AreNamed s log (map name_of once)
-    → AreNamed s log (dooms (formats_of s) (ticket_of s log who))
+dooms_named : (s : Start) (log : List Moment) (who : ℕ) (names once : List CodeName) → map name_of names ≡ dooms (formats_of s) (ticket_of s log who) → ((name : CodeName) → Has once name ↔ Has names name) → AreNamed s log who (map name_of once)
+    → AreNamed s log who (dooms (formats_of s) (ticket_of s log who))
 dooms_named s log who names once are same named name has =
     let found = has_map name_of names name (subst (λ (l : List BlobName). Has l name) (sym are) has) in
-    subst (Has (world_of s log).removed) found.2 (named (name_of found.0) (in_map name_of once found.0 ((same found.0).1 found.1)))
+    subst (Has (removal_names (made_of s log who))) found.2 (named (name_of found.0) (in_map name_of once found.0 ((same found.0).1 found.1)))
 
 pub can_end : (s : Start) (old log : List Moment) (who : ℕ) (names once : List CodeName) → ticket_of s log who ≡ ticket_of s old who → IsSettledPlan (ticket_of s old who) → (s.tells ≡ true → map name_of names ≡ dooms (formats_of s) (ticket_of s old who))
-    → ((name : CodeName) → Has once name ↔ Has names name) → AreNamed s log (map name_of once) → CanEndDelete s log who
+    → ((name : CodeName) → Has once name ↔ Has names name) → AreNamed s log who (map name_of once) → CanEndDelete s log who
 can_end s old log who names once kept over are same named =
     let here : IsSettledPlan (ticket_of s log who) = subst IsSettledPlan (sym kept) over in
     record {
@@ -106,13 +109,13 @@ can_end s old log who names once kept over are same named =
 -- ---- the end
 
 -- by its answer
-pub ended_ok : (s : Start) (old mid new : List Moment) (who : ℕ) (result : Result (Unit {0}) StepRefusal) → ticket_of s mid who ≡ ticket_of s old who → OnOk result (ticket_of s new who ≡ record (ticket_of s mid who) { out = false }) → OnOk result (HasNamed s new who)
-    → OnOk result (IsCleared s old new who)
-ended_ok s old mid new who (Ok x) kept own named = record {
+pub ended_ok : (s : Start) (old mid new : List Moment) (who : ℕ) (result : Result (Unit {0}) StepRefusal) → 1 ≤ who → ticket_of s mid who ≡ ticket_of s old who → CanEndDelete s mid who → OnOk result (HasEndedAs (ticket_of s mid who) (ticket_of s new who))
+    → Outcome s mid new who (PruneStep EndDelete) (λ x. HasEnded) result → OnOk result (IsCleared s old new who)
+ended_ok s old mid new who (Ok x) ticket kept can own step = record {
   own = own ∙ ap (λ (t : Ticket). record t { out = false }) kept;
-  named = named;
+  named = ended_named s mid new who ticket can step;
 }
-ended_ok s old mid new who (Err e) kept own named = tt
+ended_ok s old mid new who (Err e) ticket kept can own step = tt
 
 pub ended_kept : (a b c : Ticket) (result : Result (Unit {0}) StepRefusal) → b ≡ a → OnErr result (c ≡ b) → OnErr result (c ≡ a)
 ended_kept a b c (Ok x) kept h = tt

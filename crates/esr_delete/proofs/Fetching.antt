@@ -1,7 +1,7 @@
 -- The indices of shards are fetched and read.
-use Rattle.std.proofs.Common.{◌≡◌, ◌<◌, inl, inr, ⊎_elim, ℕ, ◌==◌, ◌&&◌, Bool, true, false, List, [], ◌∷◌, ◌++◌, Option, Some, None, IfSome, Result, Err, refl, sym, ap, ◌∙◌, subst, arith}
-use Rattle.std.specs.Prelude.{if◌then◌else◌, IsTrue}
-use Rattle.std.proofs.lemmas.Bool.{cases_Bool, eq-eqb}
+use Rattle.std.proofs.Common.{◌≡◌, ◌<◌, inl, inr, ⊎_elim, ℕ, ◌==◌, ◌&&◌, Bool, true, false, List, [], ◌∷◌, ◌++◌, Option, Some, None, refl, sym, ap, ◌∙◌, subst}
+use Rattle.std.specs.Prelude.{if◌then◌else◌}
+use Rattle.std.proofs.lemmas.Bool.{eq-eqb}
 use Rattle.esr_names.specs.declared.ids.Id.{Id}
 use Rattle.esr_names.specs.declared.blob.ShardId.{ShardId}
 use Rattle.esr_names.specs.declared.blob.BlobName.TheVariants as names
@@ -11,15 +11,12 @@ use Rattle.esr_model.specs.Values.{Bytes, Has, RootData, ShardFiles, Formats}
 use Rattle.esr_model.specs.Image.{Generation, at_shard_of, index_at}
 use Rattle.esr_model.specs.Delete.{PrunedShard, is_index, index_bytes, files_by, files_read}
 use Rattle.esr_core.specs.World.{Ticket}
-use Rattle.esr_core.specs.Entry.{PruneStep, FetchShard, Reply, WasFetched, WasAbsent, Moment}
+use Rattle.esr_core.specs.Entry.{Step, PruneStep, FetchShard, Reply, WasFetched, WasAbsent, Entry, Moment}
+use Rattle.esr_core.specs.Past.{Repeats}
 use Rattle.esr_core.specs.After.{fetching}
 use Rattle.esr_core.specs.Pruning.{IsToRead, AreOfRoot, bare_shard}
 use Rattle.esr_core.proofs.DeletedRoots.{pair_tells}
 use Rattle.esr_core.proofs.Plans.{in_root}
-use Rattle.esr_depot.specs.Calls.{HasCause, has_failed}
-use Rattle.esr_depot.specs.declared.error.CallError.{CallError}
-use Rattle.esr_depot.specs.declared.error.CallError.TheVariants.{Failed}
-use Rattle.esr_depot.specs.Told.{Tells}
 use Rattle.esr_json.specs.declared.refusal.Reason.{Reason}
 use Rattle.esr_json.specs.declared.refusal.ReadRefusal.{ReadRefusal}
 use Rattle.esr_json.specs.declared.refusal.ReadRefusal.TheVariants as refusals
@@ -33,14 +30,23 @@ use Rattle.esr_reach.specs.Members.{has_push, has_left, has_right}
 use Rattle.esr_dooming.specs.Reading.{HasToRead}
 use Rattle.esr_desk.specs.Start.{Start, formats_of, ticket_of, told_bytes}
 use Rattle.esr_desk.specs.Outcome.{Stepped, fetch_reply}
-use Rattle.esr_desk.specs.Taken.{fetched_by}
-use Rattle.esr_desk.specs.Once.{IsNew, HasMadeNone, uncounted}
+use Rattle.esr_desk.specs.declared.hand.Hand.TheVariants as hands
+use Rattle.esr_desk.specs.declared.refusal.StepRefusal.{StepRefusal}
+use Rattle.esr_desk.specs.Own.{Own, own_of, made_of}
+use Rattle.esr_desk.specs.Hands.{own_fetched}
+use Rattle.esr_desk.specs.Once.{IsFresh}
 use Rattle.esr_desk.specs.Grew.{GrewBy, grew_by_none, grew_by_on}
-use Rattle.esr_desk.specs.Shown.{Faulty}
-use Rattle.esr_deleting.specs.Conditions.{CanFetchShard}
-use Rattle.esr_deleting.specs.Shown.{IsOfDelete, HadShard, WasUnreadable}
-use Rattle.esr_delete.specs.Gathered.{IsUnplanned, HasRead, index_name, MadeFetches, HasMadeFetches, HoldsRead, AreGathered, IsGathered, MadeOneMore, HasFetched, IsSoFar}
-use Rattle.esr_delete.proofs.Going.{read_on, read_same, read_fetched}
+use Rattle.esr_desk.specs.Evidence.{Evidence, HadFetch, WasUnreadable}
+use Rattle.esr_desk.specs.Delete.Conditions.{CanFetchShard}
+use Rattle.esr_desk.specs.Delete.Shown.{IsOfDelete}
+use Rattle.esr_unit.specs.declared.trouble.Trouble.{Trouble}
+use Rattle.esr_unit.specs.declared.trouble.Trouble.TheVariants as troubles
+use Rattle.esr_unit.specs.Ending.{unread_as}
+use Rattle.esr_unit.specs.Fetch.{FetchErr, IsFetched, MadeOne}
+use Rattle.esr_unit.specs.Shown.{Shown}
+use Rattle.esr_unit.specs.Refusals.{RefusesSo, stepped_had}
+use Rattle.esr_delete.specs.Gathered.{IsUnplanned, HasRead, index_name, MadeFetches, HasMadeFetches, HoldsRead, AreGathered, IsGathered, HasFetched, IsSoFar}
+use Rattle.esr_delete.proofs.Going.{read_on, read_same, read_fetched, prune_shown}
 
 -- the name of an index is one of the layout
 pub index_laid : (shard : ShardId) (base : Id) → shard.number < 1024 → IsName (names.ShardIndex shard base)
@@ -49,58 +55,23 @@ index_laid shard base few = few
 
 -- ---- one fetch
 
--- what is ensured of the fetch that came
-pub fetch_came : {F : Type 0} (o : Option F) (f : F) (P : F → Type 0) → o ≡ Some f → IfSome o P → P f
-fetch_came (Some g) f P is holds = let same : g ≡ f = cc in subst P same holds
-fetch_came None f P is holds = absurd cc
+-- it has read more at most
+pub left_read : (s : Start) (old new : List Moment) (who : ℕ) (name : BlobName) → IsFetched hands.Delete s name (own_of s old who) (own_of s new who) → HasRead (ticket_of s old who) (ticket_of s new who)
+left_read s old new who name (inl same) = read_same (ticket_of s old who) (ticket_of s new who) (ap (λ (o : Own). o.ticket) same)
+left_read s old new who name (inr fetched) = read_fetched (ticket_of s old who) (ticket_of s new who) name (told_bytes s fetched.0) (ap (λ (o : Own). o.ticket) fetched.1)
 
--- where the container is quiet none fails
-pub failed_read : {T : Type 0} (s : Start) (before now : ℕ) (result : Result T CallError) (e : CallError) (sure : Bool) → result ≡ Err e → e ≡ Failed → HasCause before now (has_failed result) → (s.quiet ≡ true → IsTrue sure)
-    → (IsTrue sure → has_failed result ≡ false) → Faulty s now
-failed_read {T} s before now result e sure is failed cause quiet serves =
-    let did : has_failed result ≡ true = ap (λ (r : Result T CallError). has_failed r) is ∙ ap (λ (x : CallError). has_failed {T = T} (Err x)) failed in
-    let rose = cause.rose did in (
-      omega (arith, rose),
-      elim (cases_Bool s.quiet) [
-        | inl calm ↦ absurd (contra (has_failed result) did (serves (quiet calm)))
-        | inr other ↦ other
-      ],
-    )
-  where
-    contra : (b : Bool) → b ≡ true → b ≡ false → ⊥
-    contra b x y = cc (x, y)
-
--- the bytes that were told are those that were read
-told_same : (tells : Bool) (left : Option Bytes) (bytes b : Bytes) → left ≡ (if tells then Some bytes else None) → Tells left b → left ≡ (if tells then Some b else None)
-told_same true left bytes b is told = let same : bytes ≡ b = subst (λ (o : Option Bytes). Tells o b) is told in is ∙ ap (λ (x : Bytes). Some x) same
-told_same false left bytes b is told = is
-
-pub was_told : {F : Type 0} (s : Start) (left : F → Option Bytes) (o : Option F) (f : F) (old new : Ticket) (name : BlobName) (b : Bytes) → o ≡ Some f → (bytes : Bytes) × (left f ≡ told_bytes s bytes) → Tells (left f) b → new ≡ fetched_by left name o old
-    → new ≡ fetching name (told_bytes s b) old
-was_told s left None f old new name b is told reads own = absurd cc
-was_told s left (Some g) f old new name b is told reads own =
-    let same : g ≡ f = cc in
-    own ∙ ap (λ (x : Option Bytes). fetching name x old) (ap left same ∙ told_same s.tells (left f) told.0 b told.1 reads)
-
-pub fetch_read : {F : Type 0} (left : F → Option Bytes) (o : Option F) (old new : Ticket) (name : BlobName) → new ≡ fetched_by left name o old → HasRead old new
-fetch_read left None old new name own = read_same old new own
-fetch_read left (Some f) old new name own = read_fetched old new name (left f) own
-
-had_shard : (s : Start) (old new : List Moment) (who : ℕ) (name : BlobName) (answer : Reply) → Stepped s old new who (PruneStep (FetchShard name)) answer → HadShard new who name answer
-had_shard s old new who name answer step = record {
-  front = step.front;
-  moment = record { entry = record { who = who; step = PruneStep (FetchShard name); reply = answer }; image = step.image };
-  back = [];
-  is = step.is;
-  of = refl;
-  step = refl;
-  reply = refl;
-}
+pub came_read : (s : Start) (old new : List Moment) (who : ℕ) (name : BlobName) (o : Option Bytes) → own_of s new who ≡ own_fetched hands.Delete (told_bytes s) name o (own_of s old who) → HasRead (ticket_of s old who) (ticket_of s new who)
+came_read s old new who name None own = read_same (ticket_of s old who) (ticket_of s new who) (ap (λ (x : Own). x.ticket) own)
+came_read s old new who name (Some bytes) own = read_fetched (ticket_of s old who) (ticket_of s new who) name (told_bytes s bytes) (ap (λ (x : Own). x.ticket) own)
 
 -- it was there
-pub was_fetched : {F : Type 0} (o : Option F) (f : F) (s : Start) (old new : List Moment) (who : ℕ) (name : BlobName) → o ≡ Some f → Stepped s old new who (PruneStep (FetchShard name)) (fetch_reply o) → HadShard new who name WasFetched
-was_fetched None f s old new who name is step = absurd cc
-was_fetched (Some g) f s old new who name is step = had_shard s old new who name WasFetched step
+pub came_fetched : (s : Start) (old new : List Moment) (who : ℕ) (name : BlobName) (o : Option Bytes) (b : Bytes) → o ≡ Some b → own_of s new who ≡ own_fetched hands.Delete (told_bytes s) name o (own_of s old who)
+    → ticket_of s new who ≡ fetching name (told_bytes s b) (ticket_of s old who)
+came_fetched s old new who name o b is own = ap (λ (x : Own). x.ticket) (own ∙ ap (λ (y : Option Bytes). own_fetched hands.Delete (told_bytes s) name y (own_of s old who)) is)
+
+pub came_found : (s : Start) (old new : List Moment) (who : ℕ) (name : BlobName) (o : Option Bytes) (b : Bytes) → o ≡ Some b → Stepped s old new who (PruneStep (FetchShard name)) (fetch_reply o) → HadFetch hands.Delete new who name WasFetched
+came_found s old new who name o b is step =
+    stepped_had s old new who (PruneStep (FetchShard name)) WasFetched (subst (λ (reply : Reply). Stepped s old new who (PruneStep (FetchShard name)) reply) (ap (λ (x : Option Bytes). fetch_reply x) is) step)
 
 -- the index is one that the delete is to read
 of_delete : (old new : Ticket) (name : BlobName) → CanFetchShard old name → HasRead old new → IsOfDelete new name
@@ -116,26 +87,44 @@ of_delete old new name can read = subst (λ (t : Ticket). IsOfDelete t name) (sy
 })
 
 -- it was absent
-pub was_absent : {F : Type 0} (left : F → Option Bytes) (o : Option F) (s : Start) (old new : List Moment) (who : ℕ) (name : BlobName) → o ≡ None → CanFetchShard (ticket_of s old who) name → Stepped s old new who (PruneStep (FetchShard name)) (fetch_reply o)
-    → ticket_of s new who ≡ fetched_by left name o (ticket_of s old who) → IsOfDelete (ticket_of s new who) name × HadShard new who name WasAbsent
-was_absent left None s old new who name none can step own = (of_delete (ticket_of s old who) (ticket_of s new who) name can (read_same (ticket_of s old who) (ticket_of s new who) own), had_shard s old new who name WasAbsent step)
-was_absent left (Some f) s old new who name none can step own = absurd cc
+pub was_absent : (s : Start) (old new : List Moment) (who : ℕ) (name : BlobName) (o : Option Bytes) → o ≡ None → CanFetchShard (ticket_of s old who) name → Stepped s old new who (PruneStep (FetchShard name)) (fetch_reply o)
+    → own_of s new who ≡ own_fetched hands.Delete (told_bytes s) name o (own_of s old who) → IsOfDelete (ticket_of s new who) name × HadFetch hands.Delete new who name WasAbsent
+was_absent s old new who name o none can step own = (
+  of_delete (ticket_of s old who) (ticket_of s new who) name can (came_read s old new who name o own),
+  stepped_had s old new who (PruneStep (FetchShard name)) WasAbsent (subst (λ (reply : Reply). Stepped s old new who (PruneStep (FetchShard name)) reply) (ap (λ (x : Option Bytes). fetch_reply x) none) step),
+)
+
+-- the fetch was refused, or memory was wanting as it was read, or it failed
+pub fetch_shown : {S F H T : Type 0} (e : Evidence S F H T) (s : Start) (old new : List Moment) (who : ℕ) (name : BlobName) (trouble : Trouble S F) → RefusesSo → CanFetchShard (ticket_of s old who) name
+    → HasRead (ticket_of s old who) (ticket_of s new who) → FetchErr e.fetch_faults s old new who (PruneStep (FetchShard name)) trouble → Shown {S = S} {F = F} {H = H} {T = T} hands.Delete e ⊥ s new who trouble
+fetch_shown {S} {F} {H} {T} e s old new who name (troubles.Step refusal) law can read (inl refused) =
+    prune_shown {S = S} {F = F} {H = H} {T = T} e s old new who (FetchShard name) refusal can.uuids None law (ap (λ (t : Ticket). t.out) read.is ∙ can.out) (ap (λ (t : Ticket). t.work) read.is ∙ can.work) refused
+fetch_shown {S} {F} {H} {T} e s old new who name (troubles.Step refusal) law can read (inr memory) = subst (λ (r : StepRefusal). Shown {S = S} {F = F} {H = H} {T = T} hands.Delete e ⊥ s new who (troubles.Step r)) (sym memory) tt
+fetch_shown e s old new who name (troubles.Fetch fetch) law can read h = h
+fetch_shown e s old new who name trouble law can read h = absurd h
 
 told_has : (tells : Bool) (old new : Ticket) (name : BlobName) (b : Bytes) → new ≡ fetching name (if tells then Some b else None) old → tells ≡ true → Has new.read (name, b)
 told_has true old new name b is yes_is = subst (λ (t : Ticket). Has t.read (name, b)) (sym is) (inl refl)
 told_has false old new name b is yes_is = absurd cc
 
 -- its bytes don't read: the reader's reason is the first there is
-pub was_damaged : (s : Start) (old new : List Moment) (who index number base : ℕ) (b read : Bytes) (e : ReadRefusal) (why : Reason) → CanFetchShard (ticket_of s old who) (ShardIndex index number base)
-    → ticket_of s new who ≡ fetching (ShardIndex index number base) (told_bytes s b) (ticket_of s old who) → HadShard new who (ShardIndex index number base) WasFetched → read ≡ b → e ≡ refusals.Damaged why → Fails e (shard_index_from read)
-    → IsOfDelete (ticket_of s new who) (ShardIndex index number base) × WasUnreadable s new who (ShardIndex index number base) (reason_of why)
+was_damaged : (s : Start) (old new : List Moment) (who index number base : ℕ) (b read : Bytes) (why : Reason) → CanFetchShard (ticket_of s old who) (ShardIndex index number base)
+    → ticket_of s new who ≡ fetching (ShardIndex index number base) (told_bytes s b) (ticket_of s old who) → HadFetch hands.Delete new who (ShardIndex index number base) WasFetched → read ≡ b → Fails (refusals.Damaged why) (shard_index_from read)
+    → IsOfDelete (ticket_of s new who) (ShardIndex index number base) × WasUnreadable hands.Delete s new who (ShardIndex index number base) (reason_of why)
 unfolding unreadable
-was_damaged s old new who index number base b read e why can fetched had one damaged fails =
+was_damaged s old new who index number base b read why can fetched had one fails =
     let name = ShardIndex index number base in
-    let first = subst (λ (x : Bytes). refused (shard_index_from x) ≡ Some (reason_of why)) one (refused_for (shard_index_from read) e why damaged fails) in (
+    let first = subst (λ (x : Bytes). refused (shard_index_from x) ≡ Some (reason_of why)) one (refused_for (shard_index_from read) (refusals.Damaged why) why refl fails) in (
       of_delete (ticket_of s old who) (ticket_of s new who) name can (read_fetched (ticket_of s old who) (ticket_of s new who) name (told_bytes s b) fetched),
-      (had, b, told_has s.tells (ticket_of s old who) (ticket_of s new who) name b fetched, first),
+      (b, record { had = had; read = told_has s.tells (ticket_of s old who) (ticket_of s new who) name b fetched }, first),
     )
+
+pub unread_shown : {S F H T : Type 0} (e : Evidence S F H T) (s : Start) (old new : List Moment) (who : ℕ) (shard : ShardId) (base : Id) (b read : Bytes) (r : ReadRefusal)
+    → CanFetchShard (ticket_of s old who) (ShardIndex shard.index.number shard.number base.number)
+    → ticket_of s new who ≡ fetching (ShardIndex shard.index.number shard.number base.number) (told_bytes s b) (ticket_of s old who) → HadFetch hands.Delete new who (ShardIndex shard.index.number shard.number base.number) WasFetched → read ≡ b
+    → Fails r (shard_index_from read) → Shown {S = S} {F = F} {H = H} {T = T} hands.Delete e ⊥ s new who (unread_as {S = S} {F = F} (names.ShardIndex shard base) r)
+unread_shown e s old new who shard base b read refusals.Memory can fetched had one fails = tt
+unread_shown e s old new who shard base b read (refusals.Damaged why) can fetched had one fails = was_damaged s old new who shard.index.number shard.number base.number b read why can fetched had one fails
 
 -- ---- what is held
 
@@ -204,14 +193,15 @@ can_fetch old mid root uuids p free read h = subst (λ (t : Ticket). CanFetchSha
   name_is = refl;
 })
 
-fetch_same : (i k g j l h : ℕ) → PruneStep (FetchShard (ShardIndex i k g)) ≡ PruneStep (FetchShard (ShardIndex j l h)) → (i ≡ j) × (k ≡ l)
+fetch_same : (i k g j l h : ℕ) → ShardIndex i k g ≡ ShardIndex j l h → (i ≡ j) × (k ≡ l)
 fetch_same i k g j l h e = (cc, cc)
 
 -- and it wasn't yet
-pub new_fetch : (shards : List PrunedShard) (log : List Moment) (who : ℕ) (p : PrunedShard) → MadeFetches shards log who → ((q : PrunedShard) → Has shards q → p.index ≡ q.index → p.number ≡ q.number → ⊥) → IsNew log who (PruneStep (FetchShard (index_name p)))
-new_fetch shards log who p fetches apart m has by made same =
-    let (q, there, is) = fetches m has by made in
-    let names = fetch_same q.index q.number q.base p.index p.number p.base (sym (ap uncounted is) ∙ same) in
+pub new_fetch : (shards : List PrunedShard) (s : Start) (log : List Moment) (who : ℕ) (p : PrunedShard) → MadeFetches shards s log who → ((q : PrunedShard) → Has shards q → p.index ≡ q.index → p.number ≡ q.number → ⊥)
+    → IsFresh s log who (PruneStep (FetchShard (index_name p)))
+new_fetch shards s log who p fetches apart e has same =
+    let (q, there, is) = fetches e has in
+    let names = fetch_same q.index q.number q.base p.index p.number p.base (subst (λ (x : Step). Repeats x (PruneStep (FetchShard (index_name p)))) is same) in
     apart q there (sym names.0) (sym names.1)
 
 told_more : (tells : Bool) (mid new : Ticket) (name : BlobName) (bytes : Bytes) (blobs : List (BlobName × Bytes)) → new ≡ fetching name (if tells then Some bytes else None) mid → (tells ≡ true → mid.read ≡ blobs) → tells ≡ true → new.read ≡ (name, bytes) ∷ blobs
@@ -223,20 +213,20 @@ unfolding formats
 reads_as s bytes files reads = reads
 
 -- nothing is gathered at first
-pub none_so_far : (s : Start) (log : List Moment) (who : ℕ) → (ticket_of s log who).read ≡ [] → HasMadeNone log who → IsSoFar s log log who [] []
+pub none_so_far : (s : Start) (log : List Moment) (who : ℕ) → (ticket_of s log who).read ≡ [] → made_of s log who ≡ [] → IsSoFar s log log who [] []
 none_so_far s log who unread none = record {
   blobs = [];
   told = λ tells. unread;
   are_held = no_generation (formats_of s) (ticket_of s log who).root;
   gathered = λ p m. absurd m;
-  made = λ m has by made. absurd (none m has by made);
+  made = λ e has. absurd (subst (λ (entries : List Entry). Has entries e) none has);
   read = read_same (ticket_of s log who) (ticket_of s log who) refl;
   grew = grew_by_none s who log;
 }
 
 -- one index more
 pub more_so_far : (s : Start) (old mid new : List Moment) (who : ℕ) (before : List PrunedShard) (held now : List HeldShard) (p : PrunedShard) (files : ShardFiles) → IsSoFar s old mid who before held → Generation (ticket_of s old who).root p.index p.number p.base
-    → ((q : PrunedShard) → Has before q → p.index ≡ q.index → p.number ≡ q.number → ⊥) → HasFetched s (ticket_of s mid who) (ticket_of s new who) (index_name p) files → MadeOneMore mid new who (index_name p) → HasRead (ticket_of s mid who) (ticket_of s new who)
+    → ((q : PrunedShard) → Has before q → p.index ≡ q.index → p.number ≡ q.number → ⊥) → HasFetched s (ticket_of s mid who) (ticket_of s new who) (index_name p) files → MadeOne s mid new who (PruneStep (FetchShard (index_name p))) → HasRead (ticket_of s mid who) (ticket_of s new who)
     → GrewBy s who mid new → Holds held now p.index p.number files → IsSoFar s old new who (before ++ p ∷ []) now
 more_so_far s old mid new who before held now p files so_far there apart fetched made read grew holds =
     let reads = reads_as s fetched.0 files fetched.2 in record {
@@ -244,10 +234,10 @@ more_so_far s old mid new who before held now p files so_far there apart fetched
       told = told_more s.tells (ticket_of s mid who) (ticket_of s new who) (index_name p) fetched.0 so_far.blobs fetched.1 so_far.told;
       are_held = holds_more (formats_of s) (ticket_of s old who).root so_far.blobs held now p fetched.0 files there reads holds so_far.are_held;
       gathered = gathered_more (formats_of s) so_far.blobs p fetched.0 files before reads apart so_far.gathered;
-      made = λ m has by was. ⊎_elim
-          (λ earlier. let (q, in_before, is) = so_far.made m earlier by was in (q, has_left before (p ∷ []) q in_before, is))
+      made = λ e has. ⊎_elim
+          (λ earlier. let (q, in_before, is) = so_far.made e earlier in (q, has_left before (p ∷ []) q in_before, is))
           (λ last. (p, has_right before (p ∷ []) p (inl refl), last))
-          (made m has by was);
+          (made e has);
       read = read_on (ticket_of s old who) (ticket_of s mid who) (ticket_of s new who) so_far.read read;
       grew = grew_by_on s who old mid new so_far.grew grew;
     }
@@ -263,8 +253,8 @@ gathered_all s old new who root uuids shards held free so_far all =
       are_read = λ index number base h. so_far.gathered (bare_shard index number base) (all index number base (subst (λ (r : RootData). IsToRead r uuids index number base) (sym same) h));
     }
 
-pub only_fetches : (shards : List PrunedShard) (log : List Moment) (who : ℕ) → MadeFetches shards log who → HasMadeFetches log who
-only_fetches shards log who fetches m has by made = let (q, there, is) = fetches m has by made in (index_name q, is)
+pub only_fetches : (shards : List PrunedShard) (s : Start) (log : List Moment) (who : ℕ) → MadeFetches shards s log who → HasMadeFetches s log who
+only_fetches shards s log who fetches e has = let (q, there, is) = fetches e has in (index_name q, is)
 
 -- the generation of a shard that is to be read
 pub there_in : (root own : RootData) (shards : List PrunedShard) (p : PrunedShard) → root ≡ own → AreOfRoot root shards → Has shards p → Generation own p.index p.number p.base

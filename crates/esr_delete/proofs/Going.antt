@@ -1,28 +1,28 @@
 -- What the steps before the settle make of a delete's ticket.
-use Rattle.std.proofs.Common.{◌≡◌, ◌⊎◌, inl, ℕ, false, List, ◌∷◌, Option, Some, None, Result, Ok, Err, IfErr, sym, ap, ◌∙◌, subst}
+use Rattle.std.proofs.Common.{◌≡◌, ℕ, true, List, ◌∷◌, Option, Some, None, Result, Ok, Err, IfErr, refl, sym, ap, ◌∙◌, subst}
 use Rattle.std.specs.Result.{IsErrAnd}
 use Rattle.esr_model.specs.Names.{BlobName}
-use Rattle.esr_model.specs.Values.{Bytes, Has, Formats}
+use Rattle.esr_model.specs.Values.{Bytes, Formats}
 use Rattle.esr_model.specs.Delete.{PrunedShard, kept_count}
 use Rattle.esr_core.specs.World.{Ticket, Work, Deleting, Swap}
-use Rattle.esr_core.specs.Entry.{Step, PruneStep, Reply, Refusal, Refused, Moment}
+use Rattle.esr_core.specs.Ready.{IsShard}
+use Rattle.esr_core.specs.Entry.{Prune, PruneStep, Moment}
 use Rattle.esr_core.specs.After.{fetching}
 use Rattle.esr_core.specs.Pruning.{delete_swap, planned_work, planned}
 use Rattle.esr_desk.specs.declared.refusal.StepRefusal.{StepRefusal}
 use Rattle.esr_desk.specs.declared.refusal.StepRefusal.TheVariants as steps
-use Rattle.esr_desk.specs.Refusals.{refusal_of, told_refusal}
-use Rattle.esr_desk.specs.Start.{Start}
-use Rattle.esr_desk.specs.Outcome.{Outcome, Refusing, Spends}
-use Rattle.esr_desk.specs.Once.{WasMade}
-use Rattle.esr_desk.specs.Told.{waited_made, stepped_made}
-use Rattle.esr_desk.specs.Shown.{is_of_latest}
-use Rattle.esr_finish.specs.declared.refusal.PutRefusal.{PutRefusal}
-use Rattle.esr_finish.specs.declared.refusal.PutRefusal.TheVariants as puts
-use Rattle.esr_finish.specs.Refused.{IsWriting, WasPutRefused, IsPutRefused}
+use Rattle.esr_desk.specs.declared.hand.Hand.TheVariants as hands
+use Rattle.esr_desk.specs.Start.{Start, ticket_of}
+use Rattle.esr_desk.specs.Evidence.{Evidence}
+use Rattle.esr_unit.specs.declared.trouble.Trouble.{Trouble}
+use Rattle.esr_unit.specs.declared.trouble.Trouble.TheVariants as troubles
+use Rattle.esr_unit.specs.Fetch.{IsRefusedBy}
+use Rattle.esr_unit.specs.Shown.{Shown}
+use Rattle.esr_unit.specs.Refusals.{RefusesSo, IsMasterOut, delete_refused, delete_refused_in}
+use Rattle.esr_finish.specs.Refused.{IsPutRefused}
 use Rattle.esr_finish.specs.Went.{Worked as PutWorked}
-use Rattle.esr_delete.specs.declared.trouble.Trouble.TheVariants as troubles
+use Rattle.esr_finish.proofs.Stopping.{matters_any, writing_works}
 use Rattle.esr_delete.specs.Gathered.{HasRead}
-use Rattle.esr_delete.specs.Trouble.{of_put, IsEarly, WasEarlyRefused, IsTrouble}
 use Rattle.esr_delete.specs.Went.{Worked}
 
 -- an error that was made of another
@@ -117,34 +117,24 @@ pub read_fetched : (a b : Ticket) (name : BlobName) (left : Option Bytes) → b 
 read_fetched a b name None same = record { read = a.read; is = same }
 read_fetched a b name (Some bytes) same = record { read = (name, bytes) ∷ a.read; is = same }
 
--- ---- the steps that it has made
-
--- one more, or none
-pub outcome_made : {X : Type 0} (s : Start) (old new : List Moment) (who : ℕ) (step : Step) (ok : X → Reply) (result : Result X StepRefusal) (m : Moment) → Outcome s old new who step ok result → Has new m → m.entry.who ≡ who → WasMade m.entry.reply
-    → Has old m ⊎ (m.entry.step ≡ step)
-outcome_made s old new who step ok (Ok x) m h has by made = stepped_made s old new who step (ok x) m h has by made
-outcome_made s old new who step ok (Err steps.Memory) m h has by made = inl (waited_made s old new who m h.0 has by made)
-outcome_made s old new who step ok (Err steps.TurnsSpent) m h has by made = inl (waited_made s old new who m h.0 has by made)
-outcome_made s old new who step ok (Err (steps.Refused refusal)) m h has by made = stepped_made s old new who step (Refused (refusal_of refusal)) m h.0 has by made
-
 -- ---- a refusal
 
--- an early step was refused
-pub early_refused : {S F : Type 0} (s : Start) (stages : S → ℕ) (fetches : F → ℕ) (old new : List Moment) (who : ℕ) (step : Step) (refusal : StepRefusal) → IsEarly step → is_of_latest step ≡ false
-    → Refusing s old new who step (told_refusal refusal) × Spends s new refusal → IsTrouble {S = S} {F = F} s stages fetches new who (troubles.Step refusal)
-early_refused s stages fetches old new who step steps.Memory early other h = (tt, h.1)
-early_refused s stages fetches old new who step steps.TurnsSpent early other h = (tt, h.1)
-early_refused s stages fetches old new who step (steps.Refused refusal) early other h = ((step, record { front = h.0.front; image = h.0.image; is = h.0.is }, λ fault. other, early, h.0.legal), h.1)
+pub master_out : (s : Start) (log : List Moment) (who : ℕ) (uuids : List ℕ) (plan : Option Swap) → (ticket_of s log who).out ≡ true → (ticket_of s log who).work ≡ Deleting uuids plan → IsMasterOut s log who
+master_out s log who uuids plan out work = record { out = out; no_shard = λ shard. subst IsShard work shard }
+
+-- a step of the delete's own was refused, which shows how it ends
+pub prune_shown : {S F H T : Type 0} (e : Evidence S F H T) (s : Start) (old new : List Moment) (who : ℕ) (prune : Prune) (refusal : StepRefusal) (uuids : List ℕ) (plan : Option Swap) → RefusesSo → (ticket_of s new who).out ≡ true
+    → (ticket_of s new who).work ≡ Deleting uuids plan → IsRefusedBy s old new who (PruneStep prune) refusal → Shown {S = S} {F = F} {H = H} {T = T} hands.Delete e ⊥ s new who (troubles.Step refusal)
+prune_shown {S} {F} {H} {T} e s old new who prune refusal uuids plan law out work h =
+    delete_refused {S = S} {F = F} {H = H} {T = T} e ⊥ s old new who (PruneStep prune) law refusal tt (matters_any (ticket_of s new who).work (PruneStep prune) refl) uuids plan work (master_out s new who uuids plan out work) h
 
 -- a blob wasn't put
-early_writing : (step : Step) → IsWriting step → IsEarly step
-early_writing (PruneStep prune) writes = absurd writes
-early_writing step writes = writes
-
-put_early : (s : Start) (log : List Moment) (who : ℕ) (refusal : Option Refusal) → WasPutRefused s log who refusal → WasEarlyRefused s log who refusal
-put_early s log who None h = tt
-put_early s log who (Some refusal) h = (h.0, h.1, h.2, early_writing h.0 h.3, h.4)
-
-pub put_trouble : {S F : Type 0} (s : Start) (stages : S → ℕ) (fetches : F → ℕ) (log : List Moment) (who : ℕ) (e : PutRefusal S) → IsPutRefused s stages log who e → IsTrouble {S = S} {F = F} s stages fetches log who (of_put e)
-put_trouble s stages fetches log who (puts.Step refusal) h = (put_early s log who (told_refusal refusal) h.0, h.1)
-put_trouble s stages fetches log who (puts.Stage stage) h = h
+pub put_shown : {S F H T : Type 0} (e : Evidence S F H T) (s : Start) (log : List Moment) (who : ℕ) (trouble : Trouble S F) (uuids : List ℕ) (plan : Option Swap) → RefusesSo → (ticket_of s log who).out ≡ true
+    → (ticket_of s log who).work ≡ Deleting uuids plan → IsPutRefused s e.stage_faults log who trouble → Shown {S = S} {F = F} {H = H} {T = T} hands.Delete e ⊥ s log who trouble
+put_shown e s log who (troubles.Step steps.Memory) uuids plan law out work h = tt
+put_shown e s log who (troubles.Step steps.TurnsSpent) uuids plan law out work h = h.1
+put_shown {S} {F} {H} {T} e s log who (troubles.Step (steps.Refused x)) uuids plan law out work h =
+    let (before, step, stepped, matters, writes) = h.0 in
+    delete_refused_in {S = S} {F = F} {H = H} {T = T} e ⊥ s before log who step law x (writing_works step writes) (λ fault. matters_any (ticket_of s log who).work step (matters fault)) uuids plan work (master_out s log who uuids plan out work) (stepped, h.1)
+put_shown e s log who (troubles.Stage stage) uuids plan law out work h = h
+put_shown e s log who trouble uuids plan law out work h = absurd h

@@ -22,7 +22,7 @@ use Rattle.esr_desk.specs.Start.{Start, formats_of}
 use Rattle.esr_desk.specs.Conditions.{CanCommit}
 use Rattle.esr_finish.specs.Ticket.{MayStore, noted_with, Wrote}
 use Rattle.esr_finish.proofs.Swaps.{noted_before}
-use Rattle.esr_finish.proofs.Writing.{has_left, has_right}
+use Rattle.esr_finish.proofs.Writing.{swaps_no_shard, has_left, has_right}
 use Rattle.esr_delete.specs.Planned.{IsDraft, Notes, NotesOwn, IsUnwritten, IsIndexOf}
 
 -- ---- one index
@@ -250,6 +250,7 @@ can_commit s t change index number id text out unsettled is own unnoted = record
   may = inl (change, is, inl own);
   stored = not_latest index number id;
   once = λ other. unnoted;
+  numbered = λ i k shard. absurd (swaps_no_shard (formats_of s) t.work t.root change is i k shard);
 }
 
 -- so it is of the ticket that has noted those before it

@@ -10,5 +10,5 @@ pub mod Passing
 pub mod Removing
 pub mod Clearing
 pub mod Once
-pub mod Causing
+pub mod Ends
 pub mod Rooting

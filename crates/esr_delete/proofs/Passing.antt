@@ -1,116 +1,93 @@
 -- What a removal, the settle and the end of a delete's ticket were answered, and where the unit stops then.
-use Rattle.std.proofs.Common.{◌≡◌, ◌⊎◌, inl, inr, ℕ, List, [], ◌∷◌, Result, Ok, Err, IfErr, refl, sym, ap, ◌∙◌, subst}
+use Rattle.std.proofs.Common.{◌≡◌, ◌≤◌, inl, inr, ⊎_elim, ℕ, true, List, ◌++◌, Option, Some, Result, Ok, Err, IfErr, OnErr, refl, sym, ap, ◌∙◌, subst, true≢false}
 use Rattle.esr_model.specs.Names.{BlobName}
-use Rattle.esr_core.specs.World.{World}
-use Rattle.esr_core.specs.Entry.{Why, SettlePruned, RemoveDoomed, EndDelete, DeleteFails, RaiseStep, Step, PruneStep, WasRemoved, HasEnded, Reply, Refusal, DeposedAt, StaleTerm, DepotFault, Refused, Moment}
-use Rattle.esr_core.specs.Refusing.{MayRefuse, SettleDeleteFault, SettleDeleteStale, RemoveDoomedFault, SaysDeposed, RefusedSo}
-use Rattle.esr_core.proofs.Histories.{legal_parts}
-use Rattle.esr_core.proofs.Refusing.{refused_so}
+use Rattle.esr_model.specs.Values.{Has}
+use Rattle.esr_core.specs.World.{World, Ticket, Deleting, Swap}
+use Rattle.esr_core.specs.Past.{is_counted, removal_names}
+use Rattle.esr_core.specs.Entry.{SettlePruned, RemoveDoomed, EndDelete, FinishStep, Step, PruneStep, Reply, WasRemoved, HasEnded, Refusal, DepotFault, Refused, Moment}
+use Rattle.esr_core.specs.Allowed.{ByFailedSwap, ByDelete}
+use Rattle.esr_core.specs.Refusing.{MayRefuse, RemoveDoomedFault, RefusedSo}
+use Rattle.esr_reach.specs.Members.{has_either}
 use Rattle.esr_desk.specs.declared.refusal.EntryRefusal.{EntryRefusal}
 use Rattle.esr_desk.specs.declared.refusal.EntryRefusal.TheVariants as refusals
 use Rattle.esr_desk.specs.declared.refusal.StepRefusal.{StepRefusal}
 use Rattle.esr_desk.specs.declared.refusal.StepRefusal.TheVariants as steps
+use Rattle.esr_desk.specs.declared.unit.UnitRefusal.TheVariants as units
 use Rattle.esr_desk.specs.Refusals.{refusal_of, told_refusal}
-use Rattle.esr_desk.specs.Start.{Start, Legal, formats_of, world_of}
-use Rattle.esr_desk.specs.Outcome.{Stepped, Refusing, Outcome, Spends}
-use Rattle.esr_desk.specs.Last.{IsLast}
+use Rattle.esr_desk.specs.Start.{Start, world_of, ticket_of}
+use Rattle.esr_desk.specs.Own.{made_of}
+use Rattle.esr_desk.specs.Outcome.{Stepped, Refusing, Outcome, Grounds}
+use Rattle.esr_desk.specs.Taken.{LeftBy, IsSettled}
 use Rattle.esr_desk.specs.Halts.{Halts}
-use Rattle.esr_deleting.specs.Conditions.{removed_by}
-use Rattle.esr_deleting.specs.Named.{AreNamed}
-use Rattle.esr_delete.specs.Refused.{Stops}
-use Rattle.esr_delete.specs.Removed.{Removed, passed_by}
-
--- ---- the last step of a legal history was refused as it may be
-
-pub refused_in : (s : Start) (log : List Moment) (who : ℕ) (step : Step) (refusal : Refusal) → Legal s log → (last : IsLast log who step (Refused refusal)) → RefusedSo (world_of s last.front) step refusal
-refused_in s log who step refusal legal last =
-    let m : Moment = record { entry = record { who = who; step = step; reply = Refused refusal }; image = last.image } in
-    let f = formats_of s in
-    refused_so f s.part_size (world_of s last.front) m refusal (legal_parts f s.part_size last.front (m ∷ []) s.world (subst (Legal s) last.is legal)).1.0 refl
-
-last_of : (s : Start) (old new : List Moment) (who : ℕ) (step : Step) (reply : Reply) → Stepped s old new who step reply → IsLast new who step reply
-last_of s old new who step reply h = record { front = h.front; image = h.image; is = h.is }
-
--- ---- where the unit stops
-
--- after its settle only since a record swap had failed
-abbrev pub MayHalt : Refusal → Type 0
-MayHalt (DeposedAt place) = Unit {0}
-MayHalt refusal = ⊥
-
--- before it also since that failed, or since the term is over
-abbrev pub MayStop : Step → Refusal → Type 0
-MayStop step DepotFault = step ≡ PruneStep SettlePruned
-MayStop step (StaleTerm own now) = (step ≡ RaiseStep) ⊎ (step ≡ PruneStep SettlePruned)
-MayStop step (DeposedAt place) = Unit {0}
-MayStop step refusal = ⊥
-
-pub said_stops : (w : World) (step : Step) (refusal : Refusal) → SaysDeposed w refusal → MayStop step refusal
-said_stops w step refusal says = subst (MayStop step) (sym says.is) tt
-
-pub stops : (s : Start) (log : List Moment) (who : ℕ) (step : Step) (refusal : EntryRefusal) → IsLast log who step (Refused (refusal_of refusal)) → MayStop step (refusal_of refusal) → Stops s log who (steps.Refused refusal)
-stops s log who step refusals.DepotFault last is = subst (λ (x : Step). IsLast log who x (Refused DepotFault)) is last
-stops s log who step (refusals.StaleTerm own now) last (inl is) = inl (subst (λ (x : Step). IsLast log who x (Refused (StaleTerm own now))) is last)
-stops s log who step (refusals.StaleTerm own now) last (inr is) = inr (subst (λ (x : Step). IsLast log who x (Refused (StaleTerm own now))) is last)
-stops s log who step (refusals.Deposed entry) last may = (step, last)
-stops s log who step refusal last may = absurd may
-
-step_stops : (s : Start) (old new : List Moment) (who : ℕ) (step : Step) (refusal : StepRefusal) → ((r : Refusal) → MayRefuse step r → MayStop step r) → Refusing s old new who step (told_refusal refusal) × Spends s new refusal → Stops s new who refusal
-step_stops s old new who step steps.Memory may h = tt
-step_stops s old new who step steps.TurnsSpent may h = h.1
-step_stops s old new who step (steps.Refused refusal) may h =
-    let last : IsLast new who step (Refused (refusal_of refusal)) = last_of s old new who step (Refused (refusal_of refusal)) h.0 in
-    stops s new who step refusal last (elim (refused_in s new who step (refusal_of refusal) h.0.legal last) [
-      | inl says ↦ said_stops (world_of s last.front) step (refusal_of refusal) says
-      | inr refuses ↦ may (refusal_of refusal) refuses
-    ])
-
-settle_may : (refusal : Refusal) → MayRefuse (PruneStep SettlePruned) refusal → MayStop (PruneStep SettlePruned) refusal
-settle_may refusal SettleDeleteFault = refl
-settle_may refusal (SettleDeleteStale own now) = inr refl
-
-fails_may : (why : Why) (refusal : Refusal) → MayRefuse (PruneStep (DeleteFails why)) refusal → MayStop (PruneStep (DeleteFails why)) refusal
-fails_may why refusal may = elim may [ ]
-
-pub settle_stops : (s : Start) (old new : List Moment) (who : ℕ) (refusal : StepRefusal) → Refusing s old new who (PruneStep SettlePruned) (told_refusal refusal) × Spends s new refusal → Stops s new who refusal
-settle_stops s old new who refusal h = step_stops s old new who (PruneStep SettlePruned) refusal settle_may h
-
-pub fails_stops : (s : Start) (old new : List Moment) (who : ℕ) (why : Why) (refusal : StepRefusal) → Refusing s old new who (PruneStep (DeleteFails why)) (told_refusal refusal) × Spends s new refusal → Stops s new who refusal
-fails_stops s old new who why refusal h = step_stops s old new who (PruneStep (DeleteFails why)) refusal (fails_may why) h
-
--- where it halts it stops
-pub halts_stops : (s : Start) (log : List Moment) (who : ℕ) (refusal : StepRefusal) → Halts s log who refusal → Stops s log who refusal
-halts_stops s log who (steps.Refused refusals.DepotFault) h = absurd h
-halts_stops s log who (steps.Refused (refusals.StaleTerm own now)) h = absurd h
-halts_stops s log who refusal h = h
+use Rattle.esr_desk.specs.Evidence.{Evidence}
+use Rattle.esr_desk.specs.Delete.Named.{AreNamed, removal_named, still_named}
+use Rattle.esr_unit.specs.Fetch.{IsRefusedBy}
+use Rattle.esr_unit.specs.Refusals.{RefusesSo, last_refused}
+use Rattle.esr_finish.specs.Refused.{is_fault}
+use Rattle.esr_finish.proofs.Stopping.{IsBlock}
+use Rattle.esr_delete.specs.Refused.{Stops, IsHalted}
+use Rattle.esr_delete.specs.Removed.{IsSettledPlan, Removed, passed_by}
 
 -- ---- where it halts
 
-halts_by : (s : Start) (log : List Moment) (who : ℕ) (step : Step) (refusal : EntryRefusal) → IsLast log who step (Refused (refusal_of refusal)) → MayHalt (refusal_of refusal) → Halts s log who (steps.Refused refusal)
-halts_by s log who step (refusals.Deposed entry) last may = (step, last)
-halts_by s log who step refusal last may = absurd may
+so_blocked : (w : World) (who : ℕ) (step : Step) (refusal : Refusal) → (MayRefuse step refusal → ⊥) → RefusedSo w who step refusal → IsBlock refusal
+so_blocked w who step refusal never (inl (ByFailedSwap place deposed)) = tt
+so_blocked w who step refusal never (inl (ByDelete op deposed aborted)) = tt
+so_blocked w who step refusal never (inr may) = absurd (never may)
+
+-- the ticket is a delete's, which no delete aborts
+abbrev pub IsDeletes : Ticket → Type 0
+IsDeletes t = (uuids : List ℕ) × (plan : Option Swap) × (t.work ≡ Deleting uuids plan)
+
+block_halts : (s : Start) (old new : List Moment) (who : ℕ) (step : Step) (x : EntryRefusal) → IsBlock (refusal_of x) → IsDeletes (ticket_of s new who) → Stepped s old new who step (Refused (refusal_of x)) → Grounds s new who (steps.Refused x)
+    → Halts s new who (steps.Refused x)
+block_halts s old new who step (refusals.Deposed entry) block deletes h grounds = (step, record { front = h.front; image = h.image; is = h.is })
+block_halts s old new who step (refusals.Aborted op) block deletes h grounds = absurd (grounds.no_delete deletes.0 deletes.1 deletes.2)
+block_halts s old new who step x block deletes h grounds = absurd block
 
 -- a step was refused that may be refused for nothing else
-step_halts : (s : Start) (old new : List Moment) (who : ℕ) (step : Step) (refusal : EntryRefusal) → (MayRefuse step (refusal_of refusal) → ⊥) → Stepped s old new who step (Refused (refusal_of refusal)) → Halts s new who (steps.Refused refusal)
-step_halts s old new who step refusal never h =
-    let last : IsLast new who step (Refused (refusal_of refusal)) = last_of s old new who step (Refused (refusal_of refusal)) h in
-    halts_by s new who step refusal last (elim (refused_in s new who step (refusal_of refusal) h.legal last) [
-      | inl says ↦ subst MayHalt (sym says.is) tt
-      | inr refuses ↦ absurd (never refuses)
-    ])
+step_halts : (s : Start) (old new : List Moment) (who : ℕ) (step : Step) (x : EntryRefusal) → RefusesSo → (MayRefuse step (refusal_of x) → ⊥) → IsDeletes (ticket_of s new who) → Stepped s old new who step (Refused (refusal_of x))
+    → Grounds s new who (steps.Refused x) → Halts s new who (steps.Refused x)
+step_halts s old new who step x law never deletes h grounds =
+    block_halts s old new who step x (so_blocked (world_of s h.front) who step (refusal_of x) never (last_refused law s old new who step (refusal_of x) h)) deletes h grounds
 
 none_end : (refusal : Refusal) → MayRefuse (PruneStep EndDelete) refusal → ⊥
 none_end refusal may = elim may [ ]
 
-end_halts : (s : Start) (old new : List Moment) (who : ℕ) (refusal : StepRefusal) → Refusing s old new who (PruneStep EndDelete) (told_refusal refusal) × Spends s new refusal → Halts s new who refusal
-end_halts s old new who steps.Memory h = tt
-end_halts s old new who steps.TurnsSpent h = h.1
-end_halts s old new who (steps.Refused refusal) h = step_halts s old new who (PruneStep EndDelete) refusal (none_end (refusal_of refusal)) h.0
+none_finish : (refusal : Refusal) → MayRefuse FinishStep refusal → ⊥
+none_finish refusal may = elim may [ ]
 
--- the end, by its answer
-pub ended_halts : (s : Start) (old new : List Moment) (who : ℕ) (result : Result (Unit {0}) StepRefusal) → Outcome s old new who (PruneStep EndDelete) (λ x. HasEnded) result → IfErr result (λ e. Halts s new who e)
-ended_halts s old new who (Ok x) h = tt
-ended_halts s old new who (Err e) h = end_halts s old new who e h
+-- the end
+end_halts : (s : Start) (old new : List Moment) (who : ℕ) (refusal : StepRefusal) → RefusesSo → IsDeletes (ticket_of s new who) → IsRefusedBy s old new who (PruneStep EndDelete) refusal → Halts s new who refusal
+end_halts s old new who steps.Memory law deletes h = tt
+end_halts s old new who steps.TurnsSpent law deletes h = h.1
+end_halts s old new who (steps.Refused x) law deletes h = step_halts s old new who (PruneStep EndDelete) x law (none_end (refusal_of x)) deletes h.0 h.1
+
+-- that of a ticket whose term is over
+pub finish_halts : (s : Start) (old new : List Moment) (who : ℕ) (refusal : StepRefusal) → RefusesSo → IsDeletes (ticket_of s new who) → IsRefusedBy s old new who FinishStep refusal → Halts s new who refusal
+finish_halts s old new who steps.Memory law deletes h = tt
+finish_halts s old new who steps.TurnsSpent law deletes h = h.1
+finish_halts s old new who (steps.Refused x) law deletes h = step_halts s old new who FinishStep x law (none_finish (refusal_of x)) deletes h.0 h.1
+
+-- by its answer; the ticket stays where it was refused
+pub ended_halts : (s : Start) (old new : List Moment) (who : ℕ) (result : Result (Unit {0}) StepRefusal) → RefusesSo → IsDeletes (ticket_of s old who) → OnErr result (ticket_of s new who ≡ ticket_of s old who)
+    → Outcome s old new who (PruneStep EndDelete) (λ x. HasEnded) result → IfErr result (λ e. Halts s new who e)
+ended_halts s old new who (Ok x) law deletes kept h = tt
+ended_halts s old new who (Err e) law deletes kept h = end_halts s old new who e law (subst IsDeletes (sym kept) deletes) h
+
+-- ---- where it stops
+
+-- what halts it is no failure of its settle
+pub halts_stops : (s : Start) (log : List Moment) (who : ℕ) (refusal : StepRefusal) → Halts s log who refusal → Stops s log who refusal
+halts_stops s log who (steps.Refused refusals.DepotFault) h = absurd h
+halts_stops s log who refusal h = h
+
+-- the record swap of the settle failed; the ticket may have settled
+pub fault_halts : {S F H T : Type 0} (e : Evidence S F H T) (s : Start) (old new : List Moment) (who : ℕ) (refusal : StepRefusal) → is_fault refusal ≡ true
+    → LeftBy {X = Unit {0}} (IsSettled (ticket_of s old who)) (Err refusal) (ticket_of s old who) (ticket_of s new who) → Refusing s old new who (PruneStep SettlePruned) (told_refusal refusal)
+    → IsHalted e s old new who (units.Stopped refusal)
+fault_halts e s old new who (steps.Refused refusals.DepotFault) fault left h = (left, record { front = h.front; image = h.image; is = h.is })
+fault_halts e s old new who refusal fault left h = absurd (true≢false (sym fault))
 
 -- ---- a removal, in which the container may have failed
 
@@ -149,16 +126,23 @@ ok_err x e is = cc
 same_err : (d e : StepRefusal) → ◌≡◌ {A = Result (Unit {0}) StepRefusal} (Err d) (Err e) → d ≡ e
 same_err d e is = cc
 
-removed_as : (s : Start) (old new : List Moment) (who : ℕ) (names : List BlobName) (r : Result (Unit {0}) StepRefusal) (y : Unit {0}) → Passing r → passed_by r ≡ Ok y → Outcome s old new who (PruneStep (RemoveDoomed names)) (λ x. WasRemoved) r
-    → AreNamed s new (removed_by r names (world_of s old).removed) → Removed s old new who names
-removed_as s old new who names r y (Well x) is h more = record { reply = WasRemoved; step = h; more = more }
-removed_as s old new who names r y Failing is h more = record { reply = Refused DepotFault; step = h.0; more = more }
-removed_as s old new who names r y (Halting e same other) is h more = absurd (ok_err y e (sym is ∙ same))
+-- these are named, and what was named before still is
+more : (s : Start) (old new : List Moment) (who : ℕ) (names : List BlobName) (reply : Reply) → 1 ≤ who → is_counted reply ≡ true → Stepped s old new who (PruneStep (RemoveDoomed names)) reply → AreNamed s new who (names ++ removal_names (made_of s old who))
+more s old new who names reply ticket counted h name has = ⊎_elim
+    (λ (here : Has names name). removal_named s old new who names reply counted h name here)
+    (λ (before : Has (removal_names (made_of s old who)) name). still_named s old new who (RemoveDoomed names) reply ticket h name before)
+    (has_either names (removal_names (made_of s old who)) name has)
+
+removed_as : (s : Start) (old new : List Moment) (who : ℕ) (names : List BlobName) (r : Result (Unit {0}) StepRefusal) (y : Unit {0}) → Passing r → passed_by r ≡ Ok y → 1 ≤ who → Outcome s old new who (PruneStep (RemoveDoomed names)) (λ x. WasRemoved) r
+    → Removed s old new who names
+removed_as s old new who names r y (Well x) is ticket h = record { reply = WasRemoved; step = h; more = more s old new who names WasRemoved ticket refl h }
+removed_as s old new who names r y Failing is ticket h = record { reply = Refused DepotFault; step = h.0; more = more s old new who names (Refused DepotFault) ticket refl h.0 }
+removed_as s old new who names r y (Halting e same other) is ticket h = absurd (ok_err y e (sym is ∙ same))
 
 -- where it counts as made its names were named
-pub passed_removed : (s : Start) (old new : List Moment) (who : ℕ) (names : List BlobName) (r : Result (Unit {0}) StepRefusal) (y : Unit {0}) → Ok y ≡ passed_by r → Outcome s old new who (PruneStep (RemoveDoomed names)) (λ x. WasRemoved) r
-    → AreNamed s new (removed_by r names (world_of s old).removed) → Removed s old new who names
-passed_removed s old new who names r y is h more = removed_as s old new who names r y (passing r) (sym is) h more
+pub passed_removed : (s : Start) (old new : List Moment) (who : ℕ) (names : List BlobName) (r : Result (Unit {0}) StepRefusal) (y : Unit {0}) → 1 ≤ who → Ok y ≡ passed_by r → Outcome s old new who (PruneStep (RemoveDoomed names)) (λ x. WasRemoved) r
+    → Removed s old new who names
+passed_removed s old new who names r y ticket is h = removed_as s old new who names r y (passing r) (sym is) ticket h
 
 removal_fault : (names : List BlobName) (refusal : Refusal) → MayRefuse (PruneStep (RemoveDoomed names)) refusal → refusal ≡ DepotFault
 removal_fault names refusal (RemoveDoomedFault ns) = refl
@@ -183,19 +167,22 @@ fault_is (refusals.RestoreRunning op) is = absurd cc
 fault_is (refusals.BusyOp op) is = absurd cc
 fault_is (refusals.BusyTicket ticket) is = absurd cc
 
-removal_halts : (s : Start) (old new : List Moment) (who : ℕ) (names : List BlobName) (e : StepRefusal) → (e ≡ steps.Refused refusals.DepotFault → ⊥) → Refusing s old new who (PruneStep (RemoveDoomed names)) (told_refusal e) × Spends s new e → Halts s new who e
-removal_halts s old new who names steps.Memory other h = tt
-removal_halts s old new who names steps.TurnsSpent other h = h.1
-removal_halts s old new who names (steps.Refused refusal) other h =
-    step_halts s old new who (PruneStep (RemoveDoomed names)) refusal
+removal_halts : (s : Start) (old new : List Moment) (who : ℕ) (names : List BlobName) (e : StepRefusal) → RefusesSo → IsDeletes (ticket_of s new who) → (e ≡ steps.Refused refusals.DepotFault → ⊥)
+    → IsRefusedBy s old new who (PruneStep (RemoveDoomed names)) e → Halts s new who e
+removal_halts s old new who names steps.Memory law deletes other h = tt
+removal_halts s old new who names steps.TurnsSpent law deletes other h = h.1
+removal_halts s old new who names (steps.Refused refusal) law deletes other h =
+    step_halts s old new who (PruneStep (RemoveDoomed names)) refusal law
     (λ may. other (ap (λ (r : EntryRefusal). steps.Refused r) (fault_is refusal (removal_fault names (refusal_of refusal) may))))
-    h.0
+    deletes h.0 h.1
 
-halted_as : (s : Start) (old new : List Moment) (who : ℕ) (names : List BlobName) (r : Result (Unit {0}) StepRefusal) (e : StepRefusal) → Passing r → passed_by r ≡ Err e → Outcome s old new who (PruneStep (RemoveDoomed names)) (λ x. WasRemoved) r → Halts s new who e
-halted_as s old new who names r e (Well x) is h = absurd (ok_err x e is)
-halted_as s old new who names r e Failing is h = absurd (ok_err tt e is)
-halted_as s old new who names r e (Halting d same other) is h = subst (Halts s new who) (same_err d e (sym same ∙ is)) (removal_halts s old new who names d other h)
+halted_as : (s : Start) (old new : List Moment) (who : ℕ) (names : List BlobName) (r : Result (Unit {0}) StepRefusal) (e : StepRefusal) → RefusesSo → IsDeletes (ticket_of s new who) → Passing r → passed_by r ≡ Err e
+    → Outcome s old new who (PruneStep (RemoveDoomed names)) (λ x. WasRemoved) r → Halts s new who e
+halted_as s old new who names r e law deletes (Well x) is h = absurd (ok_err x e is)
+halted_as s old new who names r e law deletes Failing is h = absurd (ok_err tt e is)
+halted_as s old new who names r e law deletes (Halting d same other) is h = subst (Halts s new who) (same_err d e (sym same ∙ is)) (removal_halts s old new who names d law deletes other h)
 
 -- where it doesn't the unit halts
-pub passed_halts : (s : Start) (old new : List Moment) (who : ℕ) (names : List BlobName) (r : Result (Unit {0}) StepRefusal) (e : StepRefusal) → Err e ≡ passed_by r → Outcome s old new who (PruneStep (RemoveDoomed names)) (λ x. WasRemoved) r → Halts s new who e
-passed_halts s old new who names r e is h = halted_as s old new who names r e (passing r) (sym is) h
+pub passed_halts : (s : Start) (old new : List Moment) (who : ℕ) (names : List BlobName) (r : Result (Unit {0}) StepRefusal) (e : StepRefusal) → RefusesSo → IsSettledPlan (ticket_of s old who) → ticket_of s new who ≡ ticket_of s old who → Err e ≡ passed_by r
+    → Outcome s old new who (PruneStep (RemoveDoomed names)) (λ x. WasRemoved) r → Halts s new who e
+passed_halts s old new who names r e law over same is h = halted_as s old new who names r e law (subst IsDeletes (sym same) (over.uuids, Some over.plan, over.work)) (passing r) (sym is) h

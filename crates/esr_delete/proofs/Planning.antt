@@ -1,12 +1,13 @@
 -- The plan of a delete.
-use Rattle.std.proofs.Common.{◌≡◌, ◌<◌, ◌^◌, ⊎_elim, ℕ, ◌+◌, Bool, List, [], map, length, Option, sym, ap, ◌∙◌, subst}
+use Rattle.std.proofs.Common.{◌≡◌, ◌<◌, ◌≤◌, ◌^◌, ⊎_elim, ℕ, ◌+◌, Bool, List, map, length, Option, sym, ap, ◌∙◌, subst}
 use Rattle.std.proofs.lemmas.List.{length-map}
 use Rattle.esr_model.specs.Names.{BlobName}
 use Rattle.esr_model.specs.Values.{Bytes, RootIndex, RootData, IsOneEach, Formats}
 use Rattle.esr_model.specs.Image.{at_shard_of}
 use Rattle.esr_model.specs.Delete.{PrunedShard, deleted_root}
 use Rattle.esr_core.specs.World.{Ticket}
-use Rattle.esr_core.specs.Entry.{PruneStep, FetchShard, PlanShards, Reply, Moment}
+use Rattle.esr_core.specs.Entry.{Step, PruneStep, PlanShards, Reply, Moment}
+use Rattle.esr_core.specs.Past.{Repeats}
 use Rattle.esr_core.specs.Pruning.{AreRead, AreOfRoot, AreWritable, pruned_shards, planned}
 use Rattle.esr_core.proofs.DeletedRoots.{one_found}
 use Rattle.esr_formats.specs.Formats.{formats}
@@ -16,9 +17,10 @@ use Rattle.esr_reach.specs.Held.{HeldShard}
 use Rattle.esr_dooming.specs.Reading.{IsHeld, AreToRead, AreHeldSome}
 use Rattle.esr_desk.specs.Start.{Start, formats_of, ticket_of}
 use Rattle.esr_desk.specs.Outcome.{Stepped}
-use Rattle.esr_desk.specs.Once.{IsNew, uncounted}
-use Rattle.esr_desk.specs.Told.{TellsStep, TellsAll, stepped_made}
-use Rattle.esr_deleting.specs.Conditions.{CanPlan}
+use Rattle.esr_desk.specs.Once.{IsFresh}
+use Rattle.esr_desk.specs.Told.{TellsStep, TellsAll}
+use Rattle.esr_desk.specs.Made.{stepped_made}
+use Rattle.esr_desk.specs.Delete.Conditions.{CanPlan}
 use Rattle.esr_delete.specs.Gathered.{IsUnplanned, HasMadeFetches, HoldsRead, IsGathered}
 use Rattle.esr_delete.specs.Planned.{HasPlanned}
 
@@ -65,21 +67,18 @@ can_plan s t root uuids held shards free g are = record {
   writable = λ tells. subst (λ (blobs : List (BlobName × Bytes)). AreWritable (formats_of s) t.root uuids blobs shards) (sym (g.told tells)) are.writable;
 }
 
-plan_other : (name : BlobName) → PruneStep (FetchShard name) ≡ PruneStep (PlanShards []) → ⊥
-plan_other name e = cc
-
 -- no plan was made
-pub plan_new : (log : List Moment) (who : ℕ) (shards : List PrunedShard) → HasMadeFetches log who → IsNew log who (PruneStep (PlanShards shards))
-plan_new log who shards fetches m has by made same = let (name, is) = fetches m has by made in plan_other name (sym (ap uncounted is) ∙ same)
+pub plan_new : (s : Start) (log : List Moment) (who : ℕ) (shards : List PrunedShard) → HasMadeFetches s log who → IsFresh s log who (PruneStep (PlanShards shards))
+plan_new s log who shards fetches e has same = let (name, is) = fetches e has in subst (λ (x : Step). Repeats x (PruneStep (PlanShards shards))) is same
 
 -- the fetches and the plan are told
-pub plan_tells : (s : Start) (old new : List Moment) (who : ℕ) (shards : List PrunedShard) (reply : Reply) → HasMadeFetches old who → Stepped s old new who (PruneStep (PlanShards shards)) reply → TellsAll s new who
-plan_tells s old new who shards reply fetches h m has by made =
+pub plan_tells : (s : Start) (old new : List Moment) (who : ℕ) (shards : List PrunedShard) (reply : Reply) → 1 ≤ who → HasMadeFetches s old who → Stepped s old new who (PruneStep (PlanShards shards)) reply → TellsAll s new who
+plan_tells s old new who shards reply ticket fetches h e has =
     let t = ticket_of s new who in
     ⊎_elim
-    (λ before. let (name, is) = fetches m before by made in subst (TellsStep t) (sym is) tt)
+    (λ before. let (name, is) = fetches e before in subst (TellsStep t) (sym is) tt)
     (λ last. subst (TellsStep t) (sym last) tt)
-    (stepped_made s old new who (PruneStep (PlanShards shards)) reply m h has by made)
+    (stepped_made s old new who (PruneStep (PlanShards shards)) reply ticket h e has)
 
 pub has_planned : (s : Start) (old new : Ticket) (given root : RootData) (uuids : List ℕ) (held : List HeldShard) (shards : List CodePruned) (first : ℕ) → given ≡ old.root → (g : IsGathered s old uuids held) → AreFound s old.root uuids g.blobs held (map pruned_of shards)
     → new ≡ planned (formats_of s) (map pruned_of shards) first old → root ≡ deleted_root given uuids (map pruned_of shards) first → first + length shards < 2 ^ 128 → HasPlanned s old new uuids held (map pruned_of shards) first root

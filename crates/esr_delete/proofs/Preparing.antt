@@ -15,7 +15,7 @@ use Rattle.esr_dooming.specs.Reading.{AreHeld}
 use Rattle.esr_desk.specs.Start.{Start, formats_of, ticket_of}
 use Rattle.esr_desk.specs.Grew.{GrewBy, grew_by_on}
 use Rattle.esr_desk.specs.Taken.{tried}
-use Rattle.esr_deleting.specs.Conditions.{CanSettleDelete}
+use Rattle.esr_desk.specs.Delete.Conditions.{CanSettleDelete}
 use Rattle.esr_finish.specs.Blobs.{root_blob}
 use Rattle.esr_finish.specs.Ticket.{MayPutRoot, noted_with}
 use Rattle.esr_finish.specs.Went.{Went as PutWent}

@@ -6,16 +6,18 @@ use Rattle.esr_names.specs.Layout.{IsName}
 use Rattle.esr_model.specs.Names.{BlobName}
 use Rattle.esr_model.specs.Values.{Has}
 use Rattle.esr_core.specs.World.{Ticket}
-use Rattle.esr_core.specs.Entry.{RemoveDoomed, PruneStep, Moment}
+use Rattle.esr_core.specs.Entry.{RemoveDoomed, Step, PruneStep, Moment}
+use Rattle.esr_core.specs.Past.{Repeats, ShareName, removal_names}
 use Rattle.esr_formats.specs.Names.{name_of}
 use Rattle.esr_reach.specs.Names.{AreOnce}
 use Rattle.esr_reach.specs.Members.{has_left, has_right, has_either, has_map, in_map}
-use Rattle.esr_desk.specs.Start.{Start, ticket_of, world_of}
-use Rattle.esr_desk.specs.Told.{stepped_made}
-use Rattle.esr_deleting.specs.Conditions.{CanRemove}
-use Rattle.esr_deleting.specs.Once.{IsNewRemoval}
-use Rattle.esr_deleting.specs.Named.{AreNamed}
-use Rattle.esr_delete.specs.Removed.{MayRemove, Removed}
+use Rattle.esr_desk.specs.Start.{Start}
+use Rattle.esr_desk.specs.Own.{made_of}
+use Rattle.esr_desk.specs.Once.{IsFresh}
+use Rattle.esr_desk.specs.Made.{stepped_made}
+use Rattle.esr_desk.specs.Delete.Conditions.{CanRemove}
+use Rattle.esr_desk.specs.Delete.Named.{AreNamed}
+use Rattle.esr_delete.specs.Removed.{AreUnnamed, MayRemove, Removed}
 
 -- ---- parts of a list
 
@@ -47,13 +49,15 @@ once_apart (x ∷ xs) ys once y (inr later) there = once_apart xs ys once.1 y la
 
 -- ---- the first of the names
 
+-- each of them is one of the names
+each_of : (names batch : List CodeName) (n : ℕ) → batch ≡ take n names → (name : BlobName) → Has (map name_of batch) name → Has (map name_of names) name
+each_of names batch n is name has =
+    let found = has_map name_of batch name has in
+    subst (Has (map name_of names)) found.2 (in_map name_of names found.0 (has_take n names found.0 (subst (λ (l : List CodeName). Has l found.0) is found.1)))
+
 -- they may be removed
-pub can_remove : (s : Start) (log : List Moment) (who : ℕ) (names batch : List CodeName) (n : ℕ) → batch ≡ take n names → 1 ≤ n → n ≤ 1000 → n ≤ length names → MayRemove s (ticket_of s log who) (map name_of names)
-    → IsNewRemoval log who (map name_of names) → CanRemove s log who (map name_of batch)
-can_remove s log who names batch n is some few within may fresh =
-    let each : (name : BlobName) → Has (map name_of batch) name → Has (map name_of names) name =
-    λ name has. let found = has_map name_of batch name has in
-    subst (Has (map name_of names)) found.2 (in_map name_of names found.0 (has_take n names found.0 (subst (λ (l : List CodeName). Has l found.0) is found.1))) in
+pub can_remove : (s : Start) (t : Ticket) (names batch : List CodeName) (n : ℕ) → batch ≡ take n names → 1 ≤ n → n ≤ 1000 → n ≤ length names → MayRemove s t (map name_of names) → CanRemove s t (map name_of batch)
+can_remove s t names batch n is some few within may =
     let count : length (map name_of batch) ≡ n = length-map batch name_of ∙ ap (λ (l : List CodeName). length l) is ∙ length-take-le n names within in
     record {
       out = may.over.out;
@@ -63,9 +67,33 @@ can_remove s log who names batch n is some few within may fresh =
       work = may.over.work;
       some = omega (arith, count, some);
       few = omega (arith, count, few);
-      new = λ m has by made was step name mine gone. fresh m has by made was step name (each name mine) gone;
-      doomed = λ tells name mine. may.doomed tells name (each name mine);
+      doomed = λ tells name mine. may.doomed tells name (each_of names batch n is name mine);
     }
+
+removes : (was prune : List BlobName) (step : Step) → step ≡ PruneStep (RemoveDoomed was) → Repeats step (PruneStep (RemoveDoomed prune)) → ShareName was prune
+removes was prune step is same = subst (λ (x : Step). Repeats x (PruneStep (RemoveDoomed prune))) is same
+
+-- a step that repeats the removal is one
+is_removal : (step : Step) (names : List BlobName) → Repeats step (PruneStep (RemoveDoomed names)) → (was : List BlobName) × (step ≡ PruneStep (RemoveDoomed was))
+is_removal (PruneStep (RemoveDoomed was)) names same = (was, refl)
+is_removal step names same = absurd same
+
+-- a removal of some names that are named in no other is fresh
+fresh_of : (s : Start) (log : List Moment) (who : ℕ) (names : List BlobName) → 1 ≤ length names → AreUnnamed s log who names → IsFresh s log who (PruneStep (RemoveDoomed names))
+fresh_of s log who names some unnamed e has same =
+    let (was, is) = is_removal e.step names same in
+    let share = shared was names some (removes was names e.step is same) in
+    unnamed e has was is share.0 share.2 share.1
+  where
+    shared : (was names : List BlobName) → 1 ≤ length names → ShareName was names → (name : BlobName) × Has was name × Has names name
+    shared [] [] some share = absurd (omega (arith, some))
+    shared [] (x ∷ names) some share = share
+    shared (y ∷ was) names some share = share
+
+pub fresh_removal : (s : Start) (log : List Moment) (who : ℕ) (names batch : List CodeName) (n : ℕ) → batch ≡ take n names → 1 ≤ n → n ≤ length names → AreUnnamed s log who (map name_of names) → IsFresh s log who (PruneStep (RemoveDoomed (map name_of batch)))
+fresh_removal s log who names batch n is some within unnamed =
+    let count : length (map name_of batch) ≡ n = length-map batch name_of ∙ ap (λ (l : List CodeName). length l) is ∙ length-take-le n names within in
+    fresh_of s log who (map name_of batch) (omega (arith, count, some)) (λ e has was step name mine gone. unnamed e has was step name (each_of names batch n is name mine) gone)
 
 pub batch_layout : (names batch : List CodeName) (n : ℕ) → batch ≡ take n names → ((name : CodeName) → Has names name → IsName name) → (name : CodeName) → Has batch name → IsName name
 batch_layout names batch n is laid name has = laid name (has_take n names name (subst (λ (l : List CodeName). Has l name) is has))
@@ -75,25 +103,25 @@ batch_layout names batch n is laid name has = laid name (has_take n names name (
 same_names : (one other : List BlobName) → PruneStep (RemoveDoomed one) ≡ PruneStep (RemoveDoomed other) → other ≡ one
 same_names one other e = cc
 
-rest_new : (s : Start) (old new : List Moment) (who : ℕ) (names more : List BlobName) → IsNewRemoval old who (names ++ more) → AreOnce (names ++ more) → Removed s old new who names → IsNewRemoval new who more
-rest_new s old new who names more fresh once removed m has by made was is name mine gone =
+rest_new : (s : Start) (old new : List Moment) (who : ℕ) (names more : List BlobName) → 1 ≤ who → AreUnnamed s old who (names ++ more) → AreOnce (names ++ more) → Removed s old new who names → AreUnnamed s new who more
+rest_new s old new who names more ticket fresh once removed e has was is name mine gone =
     ⊎_elim
-    (λ (before : Has old m). fresh m before by made was is name (has_right names more name mine) gone)
-    (λ (here : m.entry.step ≡ PruneStep (RemoveDoomed names)). once_apart names more once name (subst (λ (l : List BlobName). Has l name) (same_names names was (sym here ∙ is)) gone) mine)
-    (stepped_made s old new who (PruneStep (RemoveDoomed names)) removed.reply m removed.step has by made)
+    (λ (before : Has (made_of s old who) e). fresh e before was is name (has_right names more name mine) gone)
+    (λ (here : e.step ≡ PruneStep (RemoveDoomed names)). once_apart names more once name (subst (λ (l : List BlobName). Has l name) (same_names names was (sym here ∙ is)) gone) mine)
+    (stepped_made s old new who (PruneStep (RemoveDoomed names)) removed.reply ticket removed.step e has)
 
-pub still_new : (s : Start) (old new : List Moment) (who : ℕ) (rest : List CodeName) (n : ℕ) → IsNewRemoval old who (map name_of rest) → AreOnce (map name_of rest) → Removed s old new who (map name_of (take n rest)) → IsNewRemoval new who (map name_of (rest_of n rest))
-still_new s old new who rest n fresh once removed =
-    rest_new s old new who (map name_of (take n rest)) (map name_of (rest_of n rest)) (subst (IsNewRemoval old who) (names_are n rest) fresh) (subst AreOnce (names_are n rest) once) removed
+pub still_new : (s : Start) (old new : List Moment) (who : ℕ) (rest : List CodeName) (n : ℕ) → 1 ≤ who → AreUnnamed s old who (map name_of rest) → AreOnce (map name_of rest) → Removed s old new who (map name_of (take n rest)) → AreUnnamed s new who (map name_of (rest_of n rest))
+still_new s old new who rest n ticket fresh once removed =
+    rest_new s old new who (map name_of (take n rest)) (map name_of (rest_of n rest)) ticket (subst (AreUnnamed s old who) (names_are n rest) fresh) (subst AreOnce (names_are n rest) once) removed
 
 pub still_once : (rest : List CodeName) (n : ℕ) → AreOnce (map name_of rest) → AreOnce (map name_of (rest_of n rest))
 still_once rest n once = once_rest (map name_of (take n rest)) (map name_of (rest_of n rest)) (subst AreOnce (names_are n rest) once)
 
 -- what was named so far, and then some more
-pub more_named : (s : Start) (old new : List Moment) (who : ℕ) (front names : List CodeName) → AreNamed s old (map name_of front) → Removed s old new who (map name_of names) → AreNamed s new (map name_of (front ++ names))
+pub more_named : (s : Start) (old new : List Moment) (who : ℕ) (front names : List CodeName) → AreNamed s old who (map name_of front) → Removed s old new who (map name_of names) → AreNamed s new who (map name_of (front ++ names))
 more_named s old new who front names was removed name has =
     let ns : List BlobName = map name_of names in
-    let before : List BlobName = (world_of s old).removed in
+    let before : List BlobName = removal_names (made_of s old who) in
     removed.more name
     (⊎_elim
     (λ (earlier : Has (map name_of front) name). has_right ns before name (was name earlier))
@@ -120,5 +148,5 @@ no_items : {A : Type 0} (xs : List A) → length xs ≡ 0 → xs ≡ []
 no_items [] e = refl
 no_items (x ∷ xs) e = absurd (cc)
 
-pub all_named : (s : Start) (log : List Moment) (all front rest : List CodeName) → all ≡ front ++ rest → length rest ≡ 0 → AreNamed s log (map name_of front) → AreNamed s log (map name_of all)
-all_named s log all front rest is none named = subst (λ (l : List CodeName). AreNamed s log (map name_of l)) (sym (is ∙ ap (λ (l : List CodeName). front ++ l) (no_items rest none) ∙ append-nil front)) named
+pub all_named : (s : Start) (log : List Moment) (who : ℕ) (all front rest : List CodeName) → all ≡ front ++ rest → length rest ≡ 0 → AreNamed s log who (map name_of front) → AreNamed s log who (map name_of all)
+all_named s log who all front rest is none named = subst (λ (l : List CodeName). AreNamed s log who (map name_of l)) (sym (is ∙ ap (λ (l : List CodeName). front ++ l) (no_items rest none) ∙ append-nil front)) named

@@ -13,14 +13,16 @@ use Rattle.esr_formats.specs.Roots.{root_of}
 use Rattle.esr_desk.specs.declared.unit.UnitRefusal.{UnitRefusal}
 use Rattle.esr_desk.specs.declared.unit.UnitRefusal.TheVariants as units
 use Rattle.esr_desk.specs.Start.{Start, ticket_of}
-use Rattle.esr_desk.specs.Taken.{TookWork}
-use Rattle.esr_deleting.specs.Conditions.{CanFailDelete}
+use Rattle.esr_desk.specs.Taken.{TookWork, HasEndedAs}
+use Rattle.esr_desk.specs.Evidence.{Evidence}
+use Rattle.esr_desk.specs.Delete.Conditions.{CanFailDelete}
 use Rattle.esr_dooming.specs.Pieces.{root_count}
 use Rattle.esr_delete.specs.Work.{last_root}
 use Rattle.esr_delete.specs.Gathered.{IsUnplanned}
 use Rattle.esr_delete.specs.Ticket.{HasWritten, IsOver, Deleted}
 use Rattle.esr_delete.specs.Went.{Worked}
-use Rattle.esr_delete.specs.Refused.{IsUnitRefused, IsHalted, IsGivenUp}
+use Rattle.esr_delete.specs.Refused.{HasEndedUnsettled, IsUnitRefused, IsHalted, IsGivenUp}
+use Rattle.esr_delete.proofs.Passing.{halts_stops}
 
 -- ---- the ticket as it was taken
 
@@ -65,21 +67,22 @@ can_fail old new out unsettled worked = record {
   work = ap (λ (t : Ticket). t.work) worked.is;
 }
 
-pub given_up : {S F : Type 0} (s : Start) (stages : S → ℕ) (fetches : F → ℕ) (old mid new : List Moment) (who : ℕ) (e : UnitRefusal) → (ticket_of s old who).out ≡ true → (ticket_of s old who).settled ≡ false → Worked (ticket_of s old who) (ticket_of s mid who)
-    → IsGivenUp {S = S} {F = F} s stages fetches mid new who e → IsUnitRefused {S = S} {F = F} s stages fetches old new who e
-given_up s stages fetches old mid new who (units.Failed why) out unsettled worked h = (
-  record {
-    worked = ticket_of s mid who;
-    is_worked = worked;
-    is = h.0;
-    unsettled = ap (λ (t : Ticket). t.settled) (h.0 ∙ ap (λ (t : Ticket). record t { out = false }) worked.is) ∙ unsettled;
-  },
-  h.1,
-)
-given_up s stages fetches old mid new who (units.Stopped refusal) out unsettled worked h = (
+ended_unsettled : (old mid new : Ticket) → old.settled ≡ false → Worked old mid → HasEndedAs mid new → HasEndedUnsettled old new
+ended_unsettled old mid new unsettled worked ended = record {
+  worked = mid;
+  is_worked = worked;
+  is = ended;
+  unsettled = ap (λ (t : Ticket). t.settled) (ended ∙ ap (λ (t : Ticket). record t { out = false }) worked.is) ∙ unsettled;
+}
+
+pub given_refused : {S F H T : Type 0} (e : Evidence S F H T) (s : Start) (old mid new : List Moment) (who : ℕ) (result : UnitRefusal) → (ticket_of s old who).out ≡ true → (ticket_of s old who).settled ≡ false → Worked (ticket_of s old who) (ticket_of s mid who)
+    → IsGivenUp e s mid new who result → IsUnitRefused e s old new who result
+given_refused e s old mid new who (units.Failed why) out unsettled worked h = (ended_unsettled (ticket_of s old who) (ticket_of s mid who) (ticket_of s new who) unsettled worked h.0, h.1)
+given_refused e s old mid new who units.Stale out unsettled worked h = (ended_unsettled (ticket_of s old who) (ticket_of s mid who) (ticket_of s new who) unsettled worked h.0, h.1)
+given_refused e s old mid new who (units.Stopped refusal) out unsettled worked h = (
   ap (λ (t : Ticket). t.out) (h.0 ∙ worked.is) ∙ out,
   inl (subst (λ (t : Ticket). Worked (ticket_of s old who) t) (sym h.0) worked),
-  h.1,
+  halts_stops s new who refusal h.1,
 )
 
 -- ---- it has settled, or stopped at its settle or later
@@ -87,15 +90,16 @@ given_up s stages fetches old mid new who (units.Stopped refusal) out unsettled 
 pub deleted : (s : Start) (old mid new : List Moment) (who : ℕ) → HasWritten s (ticket_of s old who) (ticket_of s mid who) → IsOver s mid new who → Deleted s old new who
 deleted s old mid new who written over = record { settled = record { written = ticket_of s mid who; is_written = written; is = over.is }; named = over.named }
 
-pub halted : {S F : Type 0} (s : Start) (stages : S → ℕ) (fetches : F → ℕ) (old mid new : List Moment) (who : ℕ) (e : UnitRefusal) → (ticket_of s old who).out ≡ true → Worked (ticket_of s old who) (ticket_of s mid who) → HasWritten s (ticket_of s old who) (ticket_of s mid who)
-    → IsHalted s mid new who e → IsUnitRefused {S = S} {F = F} s stages fetches old new who e
-halted s stages fetches old mid new who (units.Failed why) out worked written h = absurd h
-halted s stages fetches old mid new who (units.Stopped refusal) out worked written (inl same, stops) = (
+pub halted : {S F H T : Type 0} (e : Evidence S F H T) (s : Start) (old mid new : List Moment) (who : ℕ) (result : UnitRefusal) → (ticket_of s old who).out ≡ true → (ticket_of s old who).settled ≡ false → Worked (ticket_of s old who) (ticket_of s mid who)
+    → HasWritten s (ticket_of s old who) (ticket_of s mid who) → IsHalted e s mid new who result → IsUnitRefused e s old new who result
+halted e s old mid new who (units.Failed why) out unsettled worked written h = (ended_unsettled (ticket_of s old who) (ticket_of s mid who) (ticket_of s new who) unsettled worked h.0, h.1)
+halted e s old mid new who units.Stale out unsettled worked written h = (ended_unsettled (ticket_of s old who) (ticket_of s mid who) (ticket_of s new who) unsettled worked h.0, h.1)
+halted e s old mid new who (units.Stopped refusal) out unsettled worked written (inl same, stops) = (
   ap (λ (t : Ticket). t.out) (same ∙ worked.is) ∙ out,
   inl (subst (λ (t : Ticket). Worked (ticket_of s old who) t) (sym same) worked),
   stops,
 )
-halted s stages fetches old mid new who (units.Stopped refusal) out worked written (inr settled, stops) =
+halted e s old mid new who (units.Stopped refusal) out unsettled worked written (inr settled, stops) =
     let is_out : (ticket_of s mid who).out ≡ true = ap (λ (t : Ticket). t.out) worked.is ∙ out in (
       ap (λ (t : Ticket). t.out) settled ∙ is_out,
       inr (record { written = ticket_of s mid who; is_written = written; is = settled ∙ ap (λ (o : Bool). record (ticket_of s mid who) { settled = true; out = o }) is_out }),

@@ -1,17 +1,17 @@
 -- What a delete's ticket has read of shards, and what is held of them.
-use Rattle.std.specs.Prelude.{◌≡◌, ◌⊎◌, ℕ, true, false, List, [], Some, None}
+use Rattle.std.specs.Prelude.{◌≡◌, ℕ, true, false, List, [], Some, None}
 use Rattle.esr_model.specs.Names.{BlobName, ShardIndex}
 use Rattle.esr_model.specs.Values.{Bytes, Has, RootData, ShardFiles, Formats}
 use Rattle.esr_model.specs.Image.{Generation}
 use Rattle.esr_model.specs.Delete.{PrunedShard, files_read}
 use Rattle.esr_core.specs.World.{Ticket, Deleting}
 use Rattle.esr_core.specs.After.{fetching}
-use Rattle.esr_core.specs.Entry.{PruneStep, FetchShard, Moment}
+use Rattle.esr_core.specs.Entry.{PruneStep, FetchShard, Entry, Moment}
 use Rattle.esr_core.specs.Pruning.{AreRead, bare_shard}
 use Rattle.esr_formats.specs.Shards.{shard_index_kind}
 use Rattle.esr_reach.specs.Held.{HeldShard, held_at}
 use Rattle.esr_desk.specs.Start.{Start, formats_of, ticket_of, told_bytes}
-use Rattle.esr_desk.specs.Once.{WasMade}
+use Rattle.esr_desk.specs.Own.{made_of}
 use Rattle.esr_desk.specs.Grew.{GrewBy}
 
 -- the ticket of a delete of these snapshots of the root is out, and has no plan yet
@@ -35,12 +35,12 @@ abbrev pub index_name : PrunedShard → BlobName
 index_name p = ShardIndex p.index p.number p.base
 
 -- the ticket has made no step but fetches of the indices of these shards
-abbrev pub MadeFetches : List PrunedShard → List Moment → ℕ → Type 0
-MadeFetches shards log who = (m : Moment) → Has log m → m.entry.who ≡ who → WasMade m.entry.reply → (p : PrunedShard) × Has shards p × (m.entry.step ≡ PruneStep (FetchShard (index_name p)))
+abbrev pub MadeFetches : List PrunedShard → Start → List Moment → ℕ → Type 0
+MadeFetches shards s log who = (e : Entry) → Has (made_of s log who) e → (p : PrunedShard) × Has shards p × (e.step ≡ PruneStep (FetchShard (index_name p)))
 
 -- none but fetches
-abbrev pub HasMadeFetches : List Moment → ℕ → Type 0
-HasMadeFetches log who = (m : Moment) → Has log m → m.entry.who ≡ who → WasMade m.entry.reply → (name : BlobName) × (m.entry.step ≡ PruneStep (FetchShard name))
+abbrev pub HasMadeFetches : Start → List Moment → ℕ → Type 0
+HasMadeFetches s log who = (e : Entry) → Has (made_of s log who) e → (name : BlobName) × (e.step ≡ PruneStep (FetchShard name))
 
 -- what is held of each shard of the root is what was read of it, and nothing is where nothing was
 abbrev pub HoldsRead : Formats → RootData → List (BlobName × Bytes) → List HeldShard → Type 0
@@ -59,10 +59,6 @@ pub record IsGathered (s : Start) (t : Ticket) (uuids : List ℕ) (held : List H
 
 -- ---- while it gathers
 
--- the ticket has made the fetch of this index at most since then
-abbrev pub MadeOneMore : List Moment → List Moment → ℕ → BlobName → Type 0
-MadeOneMore old new who name = (m : Moment) → Has new m → m.entry.who ≡ who → WasMade m.entry.reply → Has old m ⊎ (m.entry.step ≡ PruneStep (FetchShard name))
-
 -- this is what was fetched of an index, which reads as these files
 abbrev pub HasFetched : Start → Ticket → Ticket → BlobName → ShardFiles → Type 0
 HasFetched s old new name files = (bytes : Bytes) × (new ≡ fetching name (told_bytes s bytes) old) × (shard_index_kind.read bytes ≡ Some files)
@@ -73,6 +69,6 @@ pub record IsSoFar (s : Start) (old new : List Moment) (who : ℕ) (shards : Lis
   pub told : s.tells ≡ true → (ticket_of s new who).read ≡ blobs
   pub are_held : HoldsRead (formats_of s) (ticket_of s old who).root blobs held
   pub gathered : AreGathered (formats_of s) blobs shards
-  pub made : MadeFetches shards new who
+  pub made : MadeFetches shards s new who
   pub read : HasRead (ticket_of s old who) (ticket_of s new who)
   pub grew : GrewBy s who old new

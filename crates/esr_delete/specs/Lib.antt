@@ -2,8 +2,6 @@ pub mod Work
 pub mod Gathered
 pub mod Planned
 pub mod Went
-pub mod Trouble
 pub mod Ticket
 pub mod Refused
 pub mod Removed
-pub mod Cause

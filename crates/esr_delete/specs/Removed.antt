@@ -5,19 +5,24 @@ use Rattle.esr_model.specs.Names.{BlobName}
 use Rattle.esr_model.specs.Values.{Has}
 use Rattle.esr_core.specs.World.{Ticket, Deleting, Swap}
 use Rattle.esr_core.specs.Pruning.{dooms}
-use Rattle.esr_core.specs.Entry.{RemoveDoomed, PruneStep, Reply, Moment}
+use Rattle.esr_core.specs.Past.{removal_names}
+use Rattle.esr_core.specs.Entry.{RemoveDoomed, PruneStep, Reply, Entry, Moment}
 use Rattle.esr_formats.specs.Names.{name_of}
 use Rattle.esr_desk.specs.declared.refusal.StepRefusal.{StepRefusal}
 use Rattle.esr_desk.specs.declared.refusal.StepRefusal.TheVariants as steps
 use Rattle.esr_desk.specs.declared.refusal.EntryRefusal.TheVariants.{DepotFault}
-use Rattle.esr_desk.specs.Start.{Start, formats_of, ticket_of, world_of}
+use Rattle.esr_desk.specs.Start.{Start, formats_of, ticket_of}
+use Rattle.esr_desk.specs.Own.{made_of}
 use Rattle.esr_desk.specs.Outcome.{Stepped}
-use Rattle.esr_desk.specs.Once.{WasMade}
-use Rattle.esr_deleting.specs.Named.{AreNamed, HasNamed}
+use Rattle.esr_desk.specs.Delete.Named.{AreNamed, HasNamed}
 
 -- the ticket has made no removal
-abbrev pub NoneRemoved : List Moment → ℕ → Type 0
-NoneRemoved log who = (m : Moment) → Has log m → m.entry.who ≡ who → WasMade m.entry.reply → (was : List BlobName) → m.entry.step ≡ PruneStep (RemoveDoomed was) → ⊥
+abbrev pub NoneRemoved : Start → List Moment → ℕ → Type 0
+NoneRemoved s log who = (e : Entry) → Has (made_of s log who) e → (was : List BlobName) → e.step ≡ PruneStep (RemoveDoomed was) → ⊥
+
+-- it has named none of these in a removal
+abbrev pub AreUnnamed : Start → List Moment → ℕ → List BlobName → Type 0
+AreUnnamed s log who names = (e : Entry) → Has (made_of s log who) e → (was : List BlobName) → e.step ≡ PruneStep (RemoveDoomed was) → (name : BlobName) → Has names name → Has was name → ⊥
 
 -- the ticket is out, and has settled its plan
 pub record IsSettledPlan (t : Ticket) : Type 0 where
@@ -36,7 +41,7 @@ pub record MayRemove (s : Start) (t : Ticket) (names : List BlobName) : Type 0 w
 pub record Removed (s : Start) (old new : List Moment) (who : ℕ) (names : List BlobName) : Type 0 where
   pub reply : Reply
   pub step : Stepped s old new who (PruneStep (RemoveDoomed names)) reply
-  pub more : AreNamed s new (names ++ (world_of s old).removed)
+  pub more : AreNamed s new who (names ++ removal_names (made_of s old who))
 
 -- the ticket has ended, and all that it dooms was named before
 pub record IsCleared (s : Start) (old new : List Moment) (who : ℕ) : Type 0 where

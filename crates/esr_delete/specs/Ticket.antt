@@ -8,7 +8,7 @@ use Rattle.esr_core.specs.Entry.{Moment}
 use Rattle.esr_core.specs.Pruning.{AreOfRoot, pruned_shards, delete_swap}
 use Rattle.esr_desk.specs.Start.{Start, formats_of, ticket_of}
 use Rattle.esr_desk.specs.Taken.{tried}
-use Rattle.esr_deleting.specs.Named.{HasNamed}
+use Rattle.esr_desk.specs.Delete.Named.{HasNamed}
 use Rattle.esr_finish.specs.Blobs.{root_blob}
 use Rattle.esr_finish.specs.Ticket.{noted_with, Wrote, raised_to}
 use Rattle.esr_delete.specs.Planned.{Notes}

@@ -6,17 +6,16 @@ ghost use Rattle.esr_formats.specs.Ids.{number_of};
 ghost use Rattle.esr_formats.specs.Roots.{root_of};
 ghost use Rattle.esr_formats.specs.Shards.{shard_index_of, shard_index_kind};
 ghost use Rattle.esr_results.specs.Pruned.{pruned_of};
+ghost use Rattle.esr_desk.specs.Calls.{HasTaken};
 ghost use Rattle.esr_desk.specs.Start.{formats_of, ticket_of};
 ghost use Rattle.esr_desk.specs.Told.{TellsAll};
 ghost use Rattle.esr_finish.specs.Ticket.{MayStore, IsUnnoted, Puts};
 ghost use Rattle.esr_finish.specs.Went.{Went};
+ghost use Rattle.esr_finish.specs.Refused.{IsPutRefused};
 ghost use Rattle.esr_dooming.specs.Reading.{AreFew};
 ghost use Rattle.esr_delete.specs.Planned.{IsUnwritten, IsIndexOf, Notes, NotesOwn};
-ghost use Rattle.esr_delete.specs.Trouble.{IsTrouble};
 
 use crate::plan::Draft;
-use crate::trouble::Trouble;
-use esr_deleting::DeleteDesk;
 use esr_desk::Desk;
 use esr_dooming::left;
 use esr_finish::put;
@@ -27,6 +26,7 @@ use esr_results::PrunedShard;
 use esr_root::RootData;
 use esr_seq::Seq;
 use esr_shardidx::ShardIndex;
+use esr_unit::Trouble;
 use std::alloc::{AllocError, Global};
 
 /// The uuids of the snapshots of a root.
@@ -41,7 +41,7 @@ fn uuids_of(alloc: Global, root: &RootData) -> Result<Ids, AllocError>
 }
 
 /// Writes what these snapshots have of a shard as its index under an id.
-fn write_index<Q: DeleteDesk>(
+fn write_index<Q: Desk>(
     alloc: Global,
     desk: &mut Q,
     ticket: u64,
@@ -50,16 +50,16 @@ fn write_index<Q: DeleteDesk>(
     shard: ShardId,
     id: Id,
 ) -> Result<(), Trouble<Q::Stage, Q::Fetch>>
-    requires mine { Q.holds desk.old ticket }
+    requires mine { HasTaken (Q.calls desk.old) ticket }
     requires few { shard.number < 1024 }
     requires may { MayStore Q.start (ticket_of Q.start (Q.seen desk.old) ticket) (IndexName shard.index.number shard.number id.number) (shard_index_kind.text (surviving (map number_of uuids.now) (shard_index_of index.now))) }
     requires new { IsUnnoted (ticket_of Q.start (Q.seen desk.old) ticket) (IndexName shard.index.number shard.number id.number) }
     requires tells { TellsAll Q.start (Q.seen desk.old) ticket }
     ensures ok { OnOk result (Puts Q.start (Q.seen desk.old) (Q.seen desk.new) ticket ((IndexName shard.index.number shard.number id.number, shard_index_kind.text (surviving (map number_of uuids.now) (shard_index_of index.now))) ∷ [])) }
     ensures tells { OnOk result (TellsAll Q.start (Q.seen desk.new) ticket) }
-    ensures trouble { IfErr result (IsTrouble Q.start Q.Stage.faults Q.Fetch.faults (Q.seen desk.new) ticket) }
+    ensures trouble { IfErr result (IsPutRefused Q.start Q.Stage.faults (Q.seen desk.new) ticket) }
     ensures went { Went Q.start (Q.seen desk.old) (Q.seen desk.new) ticket }
-    ensures holds { Q.holds desk.new ticket }
+    ensures calls { Q.calls desk.new ≡ Q.calls desk.old }
 {
     let index = left(alloc, index, uuids)?;
     let text = write_shard_index(alloc, &index)?;
@@ -69,12 +69,11 @@ fn write_index<Q: DeleteDesk>(
         ticket,
         BlobName::ShardIndex(shard, id),
         text.as_slice(),
-    )?;
-    Ok(())
+    )
 }
 
 /// The same, where something is left of the shard; answers the id for the next one.
-fn write_shard<Q: DeleteDesk>(
+fn write_shard<Q: Desk>(
     alloc: Global,
     desk: &mut Q,
     ticket: u64,
@@ -83,7 +82,7 @@ fn write_shard<Q: DeleteDesk>(
     shard: &PrunedShard,
     id: Id,
 ) -> Result<Id, Trouble<Q::Stage, Q::Fetch>>
-    requires mine { Q.holds desk.old ticket }
+    requires mine { HasTaken (Q.calls desk.old) ticket }
     requires few { shard.now.shard.number < 1024 }
     requires room { id.number + 1 < 2 ^ 128 }
     requires may { IsIndexOf Q.start (ticket_of Q.start (Q.seen desk.old) ticket) held.now (map number_of uuids.now) (pruned_of shard.now) id.number }
@@ -92,9 +91,9 @@ fn write_shard<Q: DeleteDesk>(
         (pruned_blobs (formats_of Q.start) (ticket_of Q.start (Q.seen desk.old) ticket).read (map number_of uuids.now) id.number (pruned_of shard.now ∷ []))) }
     ensures next { IfOk result (λ next. next.number ≡ next_after id.number (pruned_of shard.now)) }
     ensures tells { IfOk result (λ next. TellsAll Q.start (Q.seen desk.new) ticket) }
-    ensures trouble { IfErr result (IsTrouble Q.start Q.Stage.faults Q.Fetch.faults (Q.seen desk.new) ticket) }
+    ensures trouble { IfErr result (IsPutRefused Q.start Q.Stage.faults (Q.seen desk.new) ticket) }
     ensures went { Went Q.start (Q.seen desk.old) (Q.seen desk.new) ticket }
-    ensures holds { Q.holds desk.new ticket }
+    ensures calls { Q.calls desk.new ≡ Q.calls desk.old }
 {
     if !shard.kept {
         return Ok(id);
@@ -109,22 +108,22 @@ fn write_shard<Q: DeleteDesk>(
 }
 
 /// Writes the new index of each shard of the plan of which something is left, in the order of the plan.
-pub fn write_indices<Q: DeleteDesk>(
+pub fn write_indices<Q: Desk>(
     alloc: Global,
     desk: &mut Q,
     ticket: u64,
     held: &ShardIndices,
     draft: &Draft,
 ) -> Result<(), Trouble<Q::Stage, Q::Fetch>>
-    requires mine { Q.holds desk.old ticket }
+    requires mine { HasTaken (Q.calls desk.old) ticket }
     requires may { IsUnwritten Q.start (ticket_of Q.start (Q.seen desk.old) ticket) held.now (map pruned_of draft.now.shards) draft.now.first.number (root_of draft.now.root) }
     requires few { AreFew (map pruned_of draft.now.shards) }
     requires tells { TellsAll Q.start (Q.seen desk.old) ticket }
     ensures ok { OnOk result (NotesOwn Q.start (ticket_of Q.start (Q.seen desk.old) ticket) (ticket_of Q.start (Q.seen desk.new) ticket)) }
     ensures tells { OnOk result (TellsAll Q.start (Q.seen desk.new) ticket) }
-    ensures trouble { IfErr result (IsTrouble Q.start Q.Stage.faults Q.Fetch.faults (Q.seen desk.new) ticket) }
+    ensures trouble { IfErr result (IsPutRefused Q.start Q.Stage.faults (Q.seen desk.new) ticket) }
     ensures went { Went Q.start (Q.seen desk.old) (Q.seen desk.new) ticket }
-    ensures holds { Q.holds desk.new ticket }
+    ensures calls { Q.calls desk.new ≡ Q.calls desk.old }
 {
     let left = uuids_of(alloc, &draft.root)?;
     let mut next = draft.first;

@@ -2,15 +2,13 @@
 //! nothing reaches any more.
 #![tactic(auto)]
 
-mod cause;
+mod end;
 mod gather;
 mod indices;
 mod plan;
-mod refuse;
 mod remove;
 mod root;
 mod settle;
-mod trouble;
 mod unit;
 
 pub use unit::run_unit;

@@ -4,21 +4,23 @@ ghost use Rattle.esr_formats.specs.Ids.{number_of};
 ghost use Rattle.esr_formats.specs.Roots.{root_of};
 ghost use Rattle.esr_results.specs.Pruned.{pruned_of};
 ghost use Rattle.esr_dooming.specs.Reading.{AreFew};
+ghost use Rattle.esr_desk.specs.Calls.{HasTaken};
 ghost use Rattle.esr_desk.specs.Start.{ticket_of};
 ghost use Rattle.esr_desk.specs.Told.{TellsAll};
 ghost use Rattle.esr_desk.specs.Grew.{GrewBy};
+ghost use Rattle.esr_desk.specs.declared.hand.Hand.TheVariants.{Delete};
+ghost use Rattle.esr_desk.specs.Evidence.{evidence};
+ghost use Rattle.esr_unit.specs.Shown.{Shown};
 ghost use Rattle.esr_delete.specs.Gathered.{IsUnplanned, HasMadeFetches, IsGathered};
 ghost use Rattle.esr_delete.specs.Planned.{HasPlanned};
-ghost use Rattle.esr_delete.specs.Trouble.{IsTrouble};
 
-use crate::trouble::Trouble;
-use esr_deleting::{DeleteDesk, Planned};
-use esr_desk::Desk;
+use esr_desk::{Desk, Planned};
 use esr_dooming::pruned;
 use esr_names::{Id, Ids};
 use esr_reach::ShardIndices;
 use esr_results::PrunedShards;
 use esr_root::RootData;
+use esr_unit::Trouble;
 use std::alloc::Global;
 
 /// What a delete is to write: an index for each of these shards of which something is left, under ids from the first one on,
@@ -31,7 +33,7 @@ pub struct Draft {
 }
 
 /// Plans the delete over what was gathered.
-pub fn plan<Q: DeleteDesk>(
+pub fn plan<Q: Desk>(
     alloc: Global,
     desk: &mut Q,
     ticket: u64,
@@ -39,18 +41,19 @@ pub fn plan<Q: DeleteDesk>(
     uuids: &Ids,
     held: &ShardIndices,
 ) -> Result<Draft, Trouble<Q::Stage, Q::Fetch>>
-    requires mine { Q.holds desk.old ticket }
+    requires mine { HasTaken (Q.calls desk.old) ticket }
     requires may { IsUnplanned (ticket_of Q.start (Q.seen desk.old) ticket) (root_of root.now) (map number_of uuids.now) }
     requires gathered { IsGathered Q.start (ticket_of Q.start (Q.seen desk.old) ticket) (map number_of uuids.now) held.now }
-    requires made { HasMadeFetches (Q.seen desk.old) ticket }
+    requires made { HasMadeFetches Q.start (Q.seen desk.old) ticket }
     ensures ok { IfOk result (λ d. HasPlanned Q.start (ticket_of Q.start (Q.seen desk.old) ticket) (ticket_of Q.start (Q.seen desk.new) ticket) (map number_of uuids.now) held.now (map pruned_of d.shards) d.first.number (root_of d.root)) }
     ensures few { IfOk result (λ d. AreFew (map pruned_of d.shards)) }
     ensures tells { IfOk result (λ d. TellsAll Q.start (Q.seen desk.new) ticket) }
-    ensures trouble { IfErr result (IsTrouble Q.start Q.Stage.faults Q.Fetch.faults (Q.seen desk.new) ticket) }
+    ensures trouble { IfErr result (Shown Delete (evidence Q.Stage.faults Q.Fetch.faults Q.Shard.faults Q.Target.faults Q.Shard.told Q.Target.told) ⊥ Q.start (Q.seen desk.new) ticket) }
     ensures kept { OnErr result (ticket_of Q.start (Q.seen desk.new) ticket ≡ ticket_of Q.start (Q.seen desk.old) ticket) }
     ensures grew { GrewBy Q.start ticket (Q.seen desk.old) (Q.seen desk.new) }
-    ensures holds { Q.holds desk.new ticket }
+    ensures calls { Q.calls desk.new ≡ Q.calls desk.old }
 {
+    esr_core::refusals_are_of_their_steps();
     let shards = pruned(alloc, root, uuids, held)?;
     let planned = desk.plan(alloc, ticket, root, uuids, &shards)?;
     let Planned { first, root } = planned;

@@ -6,14 +6,13 @@ ghost use Rattle.esr_names.specs.Layout.{IsName};
 ghost use Rattle.esr_formats.specs.Names.{name_of};
 ghost use Rattle.esr_model.specs.Values.{Has};
 ghost use Rattle.esr_reach.specs.Names.{AreOnce};
+ghost use Rattle.esr_desk.specs.Calls.{HasTaken};
 ghost use Rattle.esr_desk.specs.Start.{ticket_of};
 ghost use Rattle.esr_desk.specs.Grew.{GrewBy};
 ghost use Rattle.esr_desk.specs.Halts.{Halts};
-ghost use Rattle.esr_deleting.specs.Once.{IsNewRemoval};
-ghost use Rattle.esr_deleting.specs.Named.{AreNamed};
-ghost use Rattle.esr_delete.specs.Removed.{MayRemove, Removed, passed_by, IsSetOf, IsWith};
+ghost use Rattle.esr_desk.specs.Delete.Named.{AreNamed};
+ghost use Rattle.esr_delete.specs.Removed.{AreUnnamed, MayRemove, Removed, passed_by, IsSetOf, IsWith};
 
-use esr_deleting::DeleteDesk;
 use esr_desk::{Desk, EntryRefusal, StepRefusal};
 use esr_names::BlobName;
 use esr_seq::Seq;
@@ -64,25 +63,26 @@ fn passed(answer: Result<(), StepRefusal>) -> Result<(), StepRefusal>
 }
 
 /// Takes the first of these blobs away, at most 1,000, and answers how many. Where the container fails in it they stay named.
-fn remove_first<Q: DeleteDesk>(
+fn remove_first<Q: Desk>(
     alloc: Global,
     desk: &mut Q,
     ticket: u64,
     names: &[BlobName],
 ) -> Result<usize, StepRefusal>
-    requires mine { Q.holds desk.old ticket }
+    requires mine { HasTaken (Q.calls desk.old) ticket }
     requires some { 0 < length names.now }
     requires layout { (name : CodeName) → Has names.now name → IsName name }
     requires may { MayRemove Q.start (ticket_of Q.start (Q.seen desk.old) ticket) (map name_of names.now) }
-    requires new { IsNewRemoval (Q.seen desk.old) ticket (map name_of names.now) }
+    requires new { AreUnnamed Q.start (Q.seen desk.old) ticket (map name_of names.now) }
     ensures some { IfOk result (λ n. 0 < n) }
     ensures within { IfOk result (λ n. n ≤ length names.now) }
     ensures removed { IfOk result (λ n. Removed Q.start (Q.seen desk.old) (Q.seen desk.new) ticket (map name_of (take n names.now))) }
     ensures own { ticket_of Q.start (Q.seen desk.new) ticket ≡ ticket_of Q.start (Q.seen desk.old) ticket }
     ensures refused { IfErr result (λ e. Halts Q.start (Q.seen desk.new) ticket e) }
     ensures grew { GrewBy Q.start ticket (Q.seen desk.old) (Q.seen desk.new) }
-    ensures holds { Q.holds desk.new ticket }
+    ensures calls { Q.calls desk.new ≡ Q.calls desk.old }
 {
+    esr_core::refusals_are_of_their_steps();
     let count = names.len().min(1000);
     let batch = Seq::from_slice(alloc, &names[..count])?;
     passed(desk.remove(alloc, ticket, &batch))?;
@@ -90,22 +90,22 @@ fn remove_first<Q: DeleteDesk>(
 }
 
 /// Takes these blobs away, each in one removal.
-pub fn remove_all<Q: DeleteDesk>(
+pub fn remove_all<Q: Desk>(
     alloc: Global,
     desk: &mut Q,
     ticket: u64,
     names: &[BlobName],
 ) -> Result<(), StepRefusal>
-    requires mine { Q.holds desk.old ticket }
+    requires mine { HasTaken (Q.calls desk.old) ticket }
     requires layout { (name : CodeName) → Has names.now name → IsName name }
     requires once { AreOnce (map name_of names.now) }
     requires may { MayRemove Q.start (ticket_of Q.start (Q.seen desk.old) ticket) (map name_of names.now) }
-    requires new { IsNewRemoval (Q.seen desk.old) ticket (map name_of names.now) }
-    ensures named { OnOk result (AreNamed Q.start (Q.seen desk.new) (map name_of names.now)) }
+    requires new { AreUnnamed Q.start (Q.seen desk.old) ticket (map name_of names.now) }
+    ensures named { OnOk result (AreNamed Q.start (Q.seen desk.new) ticket (map name_of names.now)) }
     ensures own { ticket_of Q.start (Q.seen desk.new) ticket ≡ ticket_of Q.start (Q.seen desk.old) ticket }
     ensures refused { IfErr result (λ e. Halts Q.start (Q.seen desk.new) ticket e) }
     ensures grew { GrewBy Q.start ticket (Q.seen desk.old) (Q.seen desk.new) }
-    ensures holds { Q.holds desk.new ticket }
+    ensures calls { Q.calls desk.new ≡ Q.calls desk.old }
 {
     let mut rest = names;
     while !rest.is_empty() {

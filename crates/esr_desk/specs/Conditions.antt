@@ -5,8 +5,10 @@ use Rattle.esr_model.specs.Values.{Bytes, Has, RootData, ShardResult}
 use Rattle.esr_core.specs.World.{Ticket, Shard, Deleting, Drop, Swap, swap}
 use Rattle.esr_core.specs.Ready.{IsShard, IsMaster}
 use Rattle.esr_core.specs.Steps.{Drew, MayCommit, IsToFetch, MostDrawn}
-use Rattle.esr_core.specs.Allowed.{DoneAs, IsMetadata, latest_text}
-use Rattle.esr_desk.specs.Start.{Start, formats_of, told_bytes}
+use Rattle.esr_core.specs.Allowed.{DoneAs, IsMetadata, IsNumbered}
+use Rattle.esr_core.specs.Entry.{Moment}
+use Rattle.esr_core.specs.Past.{WasStale}
+use Rattle.esr_desk.specs.Start.{Start, formats_of, ticket_of, world_of, told_bytes}
 
 -- a shard's ticket draws once: at least one id, and at most one for each file of its source and one more, or of a clone one
 pub record CanDraw (s : Start) (t : Ticket) (n : ℕ) : Type 0 where
@@ -24,6 +26,8 @@ pub record CanCommit (s : Start) (t : Ticket) (name : BlobName) (bytes : Bytes) 
   pub may : MayCommit (formats_of s) t name bytes
   pub stored : name ≢ Latest
   pub once : (IsMetadata name → ⊥) → Has t.noted name → ⊥
+  -- a part has the number of one of the parts of a told file
+  pub numbered : (index number : ℕ) → t.work ≡ Shard index number → IsNumbered (formats_of s) s.part_size t number name t.source
 
 -- `index.latest` follows the root that the ticket raised and committed
 pub record CanPut (s : Start) (t : Ticket) (n : ℕ) : Type 0 where
@@ -86,12 +90,16 @@ pub record CanFail (t : Ticket) : Type 0 where
   pub unit : IsShard t.work ⊎ IsMaster t.work
   pub unpruned : IsUnpruned t
 
--- a swap that has settled ends
-pub record CanFinish (t : Ticket) : Type 0 where
-  pub out : t.out ≡ true
-  pub no_shard : IsShard t.work → ⊥
+-- the swap of a snapshot or a clone has settled
+pub record HasSettled (t : Ticket) : Type 0 where
   pub settled : t.settled ≡ true
   pub unpruned : IsUnpruned t
+
+-- It ends, and so does a unit that is no shard's once a step of its own was refused, as its term is over.
+pub record CanFinish (s : Start) (log : List Moment) (who : ℕ) : Type 0 where
+  pub out : (ticket_of s log who).out ≡ true
+  pub no_shard : IsShard (ticket_of s log who).work → ⊥
+  pub done : HasSettled (ticket_of s log who) ⊎ WasStale (world_of s log) who
 
 -- an op is dropped by the ticket that is for it
 pub record CanDrop (t : Ticket) : Type 0 where

@@ -1,8 +1,8 @@
 -- The entries of the history, as the definitions see them.
-use Rattle.std.specs.Prelude.{ℕ, Some, map, option_map}
+use Rattle.std.specs.Prelude.{Some, map, option_map}
 use Rattle.esr_core.specs.Entry as entry
 use Rattle.esr_core.specs.Entry.{Clone, AskStep, TakeStep, DrawStep, BeginStep, CommitStep, LatestStep, FetchStep, ListStep, RaiseStep, SettleStep, DoneStep, FailedStep, FinishStep, DroppedStep, ElectStep, LookStep, ReadStep, PruneStep, ReadBlob, RestoredShard, CheckedAll, DrawTest, BeginTest, CommitTest, RemoveTests, VerifiedAll, ReadFails, FetchShard, PlanShards, SettlePruned, RemoveDoomed, EndDelete, DeleteFails}
-use Rattle.esr_core.specs.Entry.{OfDepot, OfSource, OfChange, OfAbsence, OfUnreadable, OfAhead, OfTaken, OfIdsSpent, OfGenerationsSpent, OfTarget, OfPrint, OfDisagreement, GivenShard, GivenFinalize, GivenDrop, GivenRestore, GivenClone, GivenDelete, GivenCleanup}
+use Rattle.esr_core.specs.Entry.{OfDepot, OfSource, OfChange, OfAbsence, OfUnreadable, OfAhead, OfTaken, OfAbort, OfIdsSpent, OfGenerationsSpent, OfTarget, OfPrint, OfDisagreement, GivenShard, GivenFinalize, GivenDrop, GivenRestore, GivenClone, GivenDelete, GivenCleanup}
 use Rattle.esr_core.specs.Entry.{Accepted, NothingReady, Gave, DrawnFrom, WasBegun, WasDone, WasThere, WasReplaced, WasFetched, WasAbsent, WasListed, RaisedTo, WasSettled, HasEnded, ElectedTerm, Looked, Refused, WasRemoved, AcceptedRestore}
 use Rattle.esr_formats.specs.Ids.{number_of}
 use Rattle.esr_formats.specs.Names.{name_of}
@@ -35,8 +35,9 @@ why_of whys.Source = OfSource
 why_of (whys.Changed first second) = OfChange first.len first.sha256 second.len second.sha256
 why_of (whys.Absent name) = OfAbsence (name_of name)
 why_of (whys.Unreadable name reason) = OfUnreadable (name_of name) (reason_of reason)
-why_of (whys.Ahead name) = OfAhead (name_of name)
+why_of (whys.Ahead name id) = OfAhead (name_of name) id.number
 why_of (whys.NameTaken name) = OfTaken (name_of name)
+why_of (whys.Aborted op) = OfAbort op
 why_of (whys.IdsSpent next) = OfIdsSpent next.number
 why_of (whys.GenerationsSpent number) = OfGenerationsSpent (count_of number)
 why_of whys.Target = OfTarget

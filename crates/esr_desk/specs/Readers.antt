@@ -1,6 +1,5 @@
--- The tickets of restores, after a history, and what their steps make of them.
-use Rattle.std.specs.Prelude.{◌≡◌, ◌<◌, ℕ, false, true, List, [], Option, Some, None}
-use Rattle.std.specs.FinMap as fin
+-- The tickets of restores as they were taken, and what their steps make of them.
+use Rattle.std.specs.Prelude.{◌≡◌, ◌<◌, ℕ, true, List, [], Option, Some, None}
 use Rattle.esr_model.specs.Names.{BlobName}
 use Rattle.esr_model.specs.Values.{Bytes}
 use Rattle.esr_core.specs.World.{World, Reader}
@@ -11,19 +10,8 @@ use Rattle.esr_progress.specs.declared.unit.Work.{Work}
 use Rattle.esr_progress.specs.declared.unit.Work.TheVariants as works
 use Rattle.esr_desk.specs.declared.unit.Unit.{Unit as Given}
 use Rattle.esr_desk.specs.Start.{Start, world_of}
+use Rattle.esr_desk.specs.Own.{reader_of}
 use Rattle.esr_desk.specs.Taken.{Took}
-
--- stands for a ticket that was not given
-abbrev pub no_reader : Reader
-no_reader = record { op = 0; uuid = 0; index = 0; number = 0; name = []; place = []; read = []; out = false }
-
-abbrev pub or_no_reader : Option Reader → Reader
-or_no_reader None = no_reader
-or_no_reader (Some q) = q
-
--- what a restore's ticket is and has read, after a history
-abbrev pub reader_of : Start → List Moment → ℕ → Reader
-reader_of s log k = or_no_reader (fin.get (world_of s log).readers k)
 
 -- one that has read nothing yet
 abbrev pub fresh_reader : ℕ → ℕ → ℕ → ℕ → Bytes → Bytes → Reader

@@ -1,157 +1,84 @@
--- What shows why a unit failed.
-use Rattle.std.specs.Prelude.{◌≡◌, ◌<◌, ℕ, Bool, true, false, List, ◌∷◌, ◌++◌, length, Some, None}
-use Rattle.esr_model.specs.Names.{BlobName}
-use Rattle.esr_model.specs.Values.{Bytes, Has}
-use Rattle.esr_core.specs.World.{Ticket, Work, Shard, Finalize, Deleting, Drop}
-use Rattle.esr_core.specs.Entry.{Why, OfDepot, OfSource, OfChange, OfAbsence, OfUnreadable, OfAhead, OfTaken, OfIdsSpent, OfGenerationsSpent, OfTarget, OfPrint, OfDisagreement, Step, BeginStep, LatestStep, FailedStep, WasAbsent, HasEnded, Refused, Refusal, DepotFault, NameTaken, IdsSpent, GenerationsSpent, Moment}
-use Rattle.esr_core.specs.After.{is_latest}
-use Rattle.esr_core.specs.Steps.{IsToFetch}
-use Rattle.esr_source.specs.declared.address.Address.{Address}
-use Rattle.esr_desk.specs.declared.fault.FailedObject.TheVariants as objects
+-- What shows a failure, whoever tells it, and that each that a history tells is shown.
+use Rattle.std.specs.Prelude.{◌≡◌, ◌⊎◌, ℕ, ◌≤◌, ◌<◌, List, ◌∷◌, ◌++◌, length, Some}
+use Rattle.esr_model.specs.Values.{Has}
+use Rattle.esr_core.specs.Entry.{Why, HasEnded, Moment}
+use Rattle.esr_desk.specs.declared.hand.Hand.{Hand}
+use Rattle.esr_desk.specs.declared.hand.Hand.TheVariants as hands
 use Rattle.esr_desk.specs.declared.fault.Fault.{Fault}
 use Rattle.esr_desk.specs.declared.fault.By.{By}
-use Rattle.esr_desk.specs.declared.fault.By.TheVariants as by
-use Rattle.esr_desk.specs.Start.{Start, ticket_of}
-use Rattle.esr_desk.specs.Damage.{IsBase, HadFetch, WasUnreadable, WasAhead}
+use Rattle.esr_desk.specs.declared.fault.By.TheVariants as shows
+use Rattle.esr_desk.specs.Start.{Start}
+use Rattle.esr_desk.specs.Hands.{fail_step}
+use Rattle.esr_desk.specs.Evidence.{Evidence}
+use Rattle.esr_desk.specs.Unit.Shown.{IsUnitShown}
+use Rattle.esr_desk.specs.Delete.Shown.{IsDeleteShown}
+use Rattle.esr_desk.specs.Restore.Shown.{IsRestoreShown}
+use Rattle.esr_desk.specs.Check.Shown.{IsCheckShown}
+use Rattle.esr_desk.specs.Verify.Shown.{IsVerifyShown}
 
--- how often an object of each kind has failed, and for which address a shard was made
-pub record Counts (S F H T : Type 0) : Type 0 where
-  pub stage : S → ℕ
-  pub fetch : F → ℕ
-  pub shard : H → ℕ
-  pub target : T → ℕ
-  pub made_for : H → Address
-
--- ---- of one unit
-
--- a step on `index.latest`
-abbrev pub is_of_latest : Step → Bool
-is_of_latest LatestStep = true
-is_of_latest (BeginStep name) = is_latest name
-is_of_latest step = false
-
--- a failure in a step on `index.latest` is no reason for a master's unit to fail; a shard's has no such step
-abbrev pub Matters : Work → Step → Type 0
-Matters (Shard index number) step = Unit {0}
-Matters (Finalize info shards made) step = is_of_latest step ≡ false
-Matters (Deleting uuids plan) step = is_of_latest step ≡ false
-Matters Drop step = is_of_latest step ≡ false
-
--- a step of the ticket that matters was refused, since the container failed in it
-pub record HadFault (s : Start) (log : List Moment) (who : ℕ) : Type 0 where
-  pub front : List Moment
-  pub moment : Moment
-  pub back : List Moment
-  pub is : log ≡ front ++ moment ∷ back
-  pub of : moment.entry.who ≡ who
-  pub reply : moment.entry.reply ≡ Refused DepotFault
-  pub matters : Matters (ticket_of s log who).work moment.entry.step
-
--- a step of the ticket was refused so
-pub record HadRefusal (log : List Moment) (who : ℕ) (refusal : Refusal) : Type 0 where
-  pub front : List Moment
-  pub moment : Moment
-  pub back : List Moment
-  pub is : log ≡ front ++ moment ∷ back
-  pub of : moment.entry.who ≡ who
-  pub reply : moment.entry.reply ≡ Refused refusal
-
--- the ticket is that of the shard of this address, and copies nothing
-pub record IsOf (t : Ticket) (address : Address) : Type 0 where
-  pub index : ℕ
-  pub work : t.work ≡ Shard index address.number
-  pub source : t.source ≡ None
-  pub place : t.place ≡ address.place
-  pub name : t.name ≡ address.index
-
--- the ticket is that of a shard whose files the sources don't tell
-abbrev pub IsUntold : Start → Ticket → Type 0
-IsUntold s t = (index : ℕ) × (number : ℕ) × (t.work ≡ Shard index number) × (s.known t.place t.name number ≡ false)
-
--- an object of the container has failed so often, which it can't where the container is quiet
-abbrev pub Faulty : Start → ℕ → Type 0
-Faulty s count = (0 < count) × (s.quiet ≡ false)
-
--- no entry tells that the container failed
-abbrev pub NeverFailed : List Moment → Type 0
-NeverFailed log = (m : Moment) → Has log m → m.entry.reply ≡ Refused DepotFault → ⊥
-
--- the shard of this address has failed so often, which it can't where its sources are quiet
-abbrev pub FaultyShard : Start → ℕ → Address → Type 0
-FaultyShard s count address = (0 < count) × (s.steady address.place address.index address.number ≡ false)
-
--- a stage or a fetch has failed, or the container did in a step of the ticket, which it can't where it is quiet
-abbrev pub DepotShown : {S F H T : Type 0} → Counts S F H T → Start → List Moment → ℕ → By S F H T → Type 0
-DepotShown c s log who (by.Object (objects.Stage stage)) = Faulty s (c.stage stage)
-DepotShown c s log who (by.Object (objects.Fetch fetch)) = Faulty s (c.fetch fetch)
-DepotShown c s log who (by.Object (objects.Shard shard)) = ⊥
-DepotShown c s log who (by.Object (objects.Target target)) = ⊥
-DepotShown c s log who by.Entry = HadFault s log who × (s.quiet ≡ false)
-DepotShown c s log who by.Nothing = ⊥
-
--- the shard of the unit has failed
-abbrev pub SourceShown : {S F H T : Type 0} → Counts S F H T → Start → Ticket → By S F H T → Type 0
-SourceShown c s t (by.Object (objects.Stage stage)) = ⊥
-SourceShown c s t (by.Object (objects.Fetch fetch)) = ⊥
-SourceShown c s t (by.Object (objects.Shard shard)) = FaultyShard s (c.shard shard) (c.made_for shard) × IsOf t (c.made_for shard)
-SourceShown c s t (by.Object (objects.Target target)) = ⊥
-SourceShown c s t by.Entry = ⊥
-SourceShown c s t by.Nothing = ⊥
-
--- what was read shows it: no object failed
-abbrev pub ReadShown : {S F H T : Type 0} → By S F H T → Type 0 → Type 0
-ReadShown (by.Object object) shown = ⊥
-ReadShown by.Entry shown = ⊥
-ReadShown by.Nothing shown = shown
-
--- a step of the ticket shows it: no object failed
-abbrev pub StepShown : {S F H T : Type 0} → By S F H T → Type 0 → Type 0
-StepShown (by.Object object) shown = ⊥
-StepShown by.Entry shown = shown
-StepShown by.Nothing shown = ⊥
-
--- By its cause: an object that failed, or a step; or two prints of a file, which the sources don't tell, differ; or what it was to fetch
--- was absent, or doesn't read for this reason; or the base is ahead; or a step was refused, since a name was taken or numbers were spent.
-abbrev pub IsShown : {S F H T : Type 0} → Counts S F H T → Start → List Moment → ℕ → Why → By S F H T → Type 0
-IsShown c s log who OfDepot b = DepotShown c s log who b
-IsShown c s log who OfSource b = SourceShown c s (ticket_of s log who) b
-IsShown c s log who (OfChange first_len first_digest second_len second_digest) b =
-    ReadShown b (((first_len ≡ second_len) → (first_digest ≡ second_digest) → ⊥) × IsUntold s (ticket_of s log who))
-IsShown c s log who (OfAbsence name) b = ReadShown b (IsToFetch (ticket_of s log who) name × HadFetch log who name WasAbsent)
-IsShown c s log who (OfUnreadable name reason) b = ReadShown b (IsToFetch (ticket_of s log who) name × WasUnreadable s log who name reason)
-IsShown c s log who (OfAhead name) b = ReadShown b (IsBase (ticket_of s log who) name × WasAhead s (ticket_of s log who) name)
-IsShown c s log who (OfTaken name) b = StepShown b (HadRefusal log who (NameTaken name))
-IsShown c s log who (OfIdsSpent next) b = StepShown b (HadRefusal log who (IdsSpent next))
-IsShown c s log who (OfGenerationsSpent pending) b = StepShown b (HadRefusal log who (GenerationsSpent pending))
--- these are of a restore or a check, which have no unit of a ticket
-IsShown c s log who OfTarget b = ⊥
-IsShown c s log who (OfPrint name stated_len stated_digest found_len found_digest) b = ⊥
-IsShown c s log who (OfDisagreement name other) b = ⊥
+-- the cause of a failure
+abbrev pub IsShown : {S F H T : Type 0} → Hand → Evidence S F H T → Start → List Moment → ℕ → Why → By S F H T → Type 0
+IsShown hands.Unit e s log who why b = IsUnitShown e s log who why b
+IsShown hands.Delete e s log who why b = IsDeleteShown e s log who why b
+IsShown hands.Restore e s log who why b = IsRestoreShown e s log who why b
+IsShown hands.Check e s log who why b = IsCheckShown e s log who why b
+IsShown hands.Verify e s log who why b = IsVerifyShown e s log who why b
 
 -- ---- of a history
 
--- the object is listed with this place of the history
-abbrev pub IsListed : {S F H T : Type 0} → List (Fault S F H T) → ℕ → By S F H T → Type 0
-IsListed faults place (by.Object object) = Has faults (record { entry = Some place; object = object })
-IsListed faults place by.Entry = Unit {0}
-IsListed faults place by.Nothing = Unit {0}
+-- a ticket or who 0 tells the failure
+abbrev pub IsTeller : Hand → ℕ → Type 0
+IsTeller hands.Unit who = Unit {0}
+IsTeller hands.Delete who = Unit {0}
+IsTeller hands.Restore who = 1 ≤ who
+IsTeller hands.Check who = who ≡ 0
+IsTeller hands.Verify who = who ≡ 0
 
--- the report at this place of the history that a unit failed
-pub record IsReport (log : List Moment) (place : ℕ) (who : ℕ) (why : Why) : Type 0 where
+-- the report at this place of the history that the hand failed
+pub record IsReport (hand : Hand) (log : List Moment) (place who : ℕ) (why : Why) : Type 0 where
   pub front : List Moment
   pub moment : Moment
   pub back : List Moment
   pub is : log ≡ front ++ moment ∷ back
   pub place_is : length front ≡ place
+  pub teller : IsTeller hand who
   pub of : moment.entry.who ≡ who
-  pub step : moment.entry.step ≡ FailedStep why
+  pub step : moment.entry.step ≡ fail_step hand why
   pub reply : moment.entry.reply ≡ HasEnded
 
--- its cause was shown when it was made, and the object that failed is listed
-abbrev pub IsShownAt : {S F H T : Type 0} → Counts S F H T → Start → List Moment → ℕ → ℕ → Why → List (Fault S F H T) → Type 0
-IsShownAt {S} {F} {H} {T} c s front place who why faults = (b : By S F H T) × IsShown c s front who why b × IsListed faults place b
+-- the object is listed with this place of the history
+abbrev pub IsListed : {S F H T : Type 0} → List (Fault S F H T) → ℕ → By S F H T → Type 0
+IsListed faults place (shows.Object object) = Has faults (record { entry = Some place; object = object })
+IsListed faults place b = Unit {0}
 
--- Each failure of a unit that the history tells is shown, and each listed object is that of such a failure.
-pub record AreShown {S F H T : Type 0} (c : Counts S F H T) (s : Start) (log : List Moment) (faults : List (Fault S F H T)) : Type 0 where
-  pub shown : (place who : ℕ) (why : Why) (r : IsReport log place who why) → IsShownAt c s r.front place who why faults
-  pub listed : (fault : Fault S F H T) → Has faults fault → (place who : ℕ) × (why : Why) × (fault.entry ≡ Some place) × IsReport log place who why
+-- a check and a verification tell their failures by one step: what was open is shown
+abbrev pub IsShownOf : {S F H T : Type 0} → Hand → Evidence S F H T → Start → List Moment → ℕ → Why → By S F H T → Type 0
+IsShownOf hands.Check e s log who why b = IsCheckShown e s log who why b ⊎ IsVerifyShown e s log who why b
+IsShownOf hands.Verify e s log who why b = IsCheckShown e s log who why b ⊎ IsVerifyShown e s log who why b
+IsShownOf hand e s log who why b = IsShown hand e s log who why b
+
+-- the cause was shown when the report was made, and the object that failed is listed
+pub record IsShownAt {S F H T : Type 0} (hand : Hand) (e : Evidence S F H T) (s : Start) (front : List Moment) (place who : ℕ) (why : Why) (faults : List (Fault S F H T)) : Type 0 where
+  pub by : By S F H T
+  pub shown : IsShownOf hand e s front who why by
+  pub listed : IsListed faults place by
+
+-- the listed object shows the report at its place
+pub record ShowsReport {S F H T : Type 0} (e : Evidence S F H T) (s : Start) (log : List Moment) (fault : Fault S F H T) : Type 0 where
+  pub place : ℕ
+  pub entry_is : fault.entry ≡ Some place
+  pub hand : Hand
+  pub who : ℕ
+  pub why : Why
+  pub report : IsReport hand log place who why
+  pub shown : IsShownOf hand e s report.front who why (shows.Object fault.object)
+
+-- places rise from one to the next, so that each object is listed once
+abbrev pub AreRising : {S F H T : Type 0} → List (Fault S F H T) → Type 0
+AreRising {S} {F} {H} {T} faults = (front back : List (Fault S F H T)) (one next : Fault S F H T) → faults ≡ front ++ one ∷ next ∷ back → (p q : ℕ) → one.entry ≡ Some p → next.entry ≡ Some q → p < q
+
+-- Each failure that the history tells is shown, and each listed object shows such a failure, in the order of their places.
+pub record AreShown {S F H T : Type 0} (e : Evidence S F H T) (s : Start) (log : List Moment) (faults : List (Fault S F H T)) : Type 0 where
+  pub shown : (hand : Hand) (place who : ℕ) (why : Why) (report : IsReport hand log place who why) → IsShownAt hand e s report.front place who why faults
+  pub listed : (fault : Fault S F H T) → Has faults fault → ShowsReport e s log fault
+  pub rising : AreRising faults

@@ -1,7 +1,7 @@
 -- What was told when the history began.
-use Rattle.std.specs.Prelude.{◌≡◌, ℕ, Bool, false, List, [], Option, Some, None, if◌then◌else◌}
+use Rattle.std.specs.Prelude.{ℕ, Bool, false, List, [], Option, Some, None, if◌then◌else◌}
 use Rattle.std.specs.FinMap as fin
-use Rattle.esr_model.specs.Values.{Bytes, RootData, Formats}
+use Rattle.esr_model.specs.Values.{Bytes, Formats}
 use Rattle.esr_core.specs.World.{World, Ticket, Drop}
 use Rattle.esr_core.specs.Entry.{Moment}
 use Rattle.esr_core.specs.History.{world_from, IsLegal}
@@ -18,7 +18,8 @@ pub record Start : Type 0 where
   pub quiet : Bool
   -- the sources tell that no call of the shard of a place, an index name and a number fails
   pub steady : Bytes → Bytes → ℕ → Bool
-  -- the targets tell that no call of one fails
+  -- the targets tell the files that were ended, and that no call of one fails
+  pub targets_tell : Bool
   pub sure_targets : Bool
   -- nobody else makes a step, and there are 2^40 turns
   pub alone : Bool

@@ -1,5 +1,5 @@
 -- The ticket of a unit as it was taken, and what its steps make of it.
-use Rattle.std.specs.Prelude.{◌≡◌, ◌<◌, ℕ, Bool, true, false, List, [], ◌∷◌, map, ◌⊎◌, Option, Some, None, option_map, Result, Ok, Err, if◌then◌else◌}
+use Rattle.std.specs.Prelude.{◌≡◌, ◌<◌, ℕ, true, false, List, [], ◌∷◌, map, ◌⊎◌, Option, Some, None, option_map, Result, Ok, Err, if◌then◌else◌}
 use Rattle.esr_model.specs.Names.{BlobName}
 use Rattle.esr_model.specs.Values.{Bytes, RootData}
 use Rattle.esr_model.specs.Shelf.{Command}

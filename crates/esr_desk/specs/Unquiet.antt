@@ -2,8 +2,13 @@
 use Rattle.std.proofs.Common.{◌≡◌, ℕ, Bool, true, false, List, [], ◌∷◌, ◌++◌, refl, sym, subst, inl, inr}
 use Rattle.esr_model.specs.Values.{Has}
 use Rattle.esr_core.specs.Entry.{Step, Refused, DepotFault, Moment}
+use Rattle.esr_desk.specs.declared.refusal.EntryRefusal.{EntryRefusal}
+use Rattle.esr_desk.specs.declared.refusal.EntryRefusal.TheVariants as refusals
+use Rattle.esr_desk.specs.declared.refusal.StepRefusal.TheVariants as steps
+use Rattle.esr_desk.specs.Start.{Start}
+use Rattle.esr_desk.specs.Outcome.{Grounds, IsOfOp}
 use Rattle.esr_desk.specs.Last.{IsLast}
-use Rattle.esr_desk.specs.Shown.{NeverFailed}
+use Rattle.esr_desk.specs.Evidence.{NeverFailed}
 
 is_false : (b : Bool) → (b ≡ true → ⊥) → b ≡ false
 is_false true never = absurd (never refl)
@@ -22,3 +27,10 @@ pub unquiet_last : (quiet : Bool) (log : List Moment) (who : ℕ) (step : Step) 
 unquiet_last quiet log who step never last =
     let m : Moment = record { entry = record { who = who; step = step; reply = Refused DepotFault }; image = last.image } in
     unquiet quiet log last.front m [] never last.is refl
+
+-- so a refusal has its ground
+pub quiet_grounds : (s : Start) (log : List Moment) (who : ℕ) (refusal : EntryRefusal) → (refusal ≡ refusals.DepotFault → s.quiet ≡ false) → ((by : ℕ) → refusal ≡ refusals.Aborted by → IsOfOp s log who)
+    → Grounds s log who (steps.Refused refusal)
+quiet_grounds s log who refusals.DepotFault unquiet aborted = unquiet refl
+quiet_grounds s log who (refusals.Aborted by) unquiet aborted = aborted by refl
+quiet_grounds s log who refusal unquiet aborted = tt

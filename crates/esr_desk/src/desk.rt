@@ -1,38 +1,47 @@
-//! One call for each step of a repository.
-ghost use Rattle.std.specs.Prelude.{◌≡◌, ◌+◌, ◌<◌, ◌^◌, ◌≤ℤ◌, negsuc, ℕ, List, [], map, Option, Some, None, true, false, IsTrue, IfOk, IfSome, OnOk, OnErr};
+//! One call for each step that works on a repository.
+ghost use Rattle.std.specs.Prelude.{◌≡◌, ◌+◌, ◌<◌, ◌≤◌, ◌^◌, ℕ, List, [], map, length, Some, true, false, IsTrue, IfOk, IfSome, OnOk, OnErr};
 ghost use Rattle.esr_model.specs.Names.{Latest};
-ghost use Rattle.esr_model.specs.Values.{Bytes};
-ghost use Rattle.esr_core.specs.Entry.{Moment, AskStep, TakeStep, DrawStep, BeginStep, CommitStep, LatestStep, FetchStep, RaiseStep, SettleStep, DoneStep, FailedStep, FinishStep, DroppedStep, LookStep, Accepted, DrawnFrom, WasBegun, WasReplaced, RaisedTo, WasSettled, HasEnded, Looked};
+ghost use Rattle.esr_model.specs.Values.{Bytes, Has};
+ghost use Rattle.esr_model.specs.Delete.{deleted_root};
+ghost use Rattle.esr_core.specs.Entry.{Moment, TakeStep, DrawStep, BeginStep, CommitStep, LatestStep, RaiseStep, SettleStep, DoneStep, FinishStep, DroppedStep, ElectStep, ReadStep, RestoredShard, PruneStep, PlanShards, SettlePruned, RemoveDoomed, EndDelete, DrawnFrom, WasBegun, WasReplaced, RaisedTo, WasSettled, WasRemoved, HasEnded, ElectedTerm};
 ghost use Rattle.esr_core.specs.Allowed.{IsMetadata, latest_text};
-ghost use Rattle.esr_core.specs.After.{fetching};
+ghost use Rattle.esr_core.specs.Pruning.{planned};
 ghost use Rattle.esr_names.specs.Layout.{IsName};
+ghost use Rattle.esr_formats.specs.Ids.{number_of};
 ghost use Rattle.esr_formats.specs.Names.{name_of, name_kind};
-ghost use Rattle.esr_formats.specs.Roots.{root_of, root_snap_of};
-ghost use Rattle.esr_formats.specs.Clusters.{count_of};
+ghost use Rattle.esr_formats.specs.Roots.{root_of};
+ghost use Rattle.esr_results.specs.Pruned.{pruned_of};
 ghost use Rattle.esr_results.specs.Results.{result_of};
-ghost use Rattle.esr_progress.specs.Asked.{asked_of, IsAskable};
 ghost use Rattle.esr_desk.specs.Entries.{why_of};
-ghost use Rattle.esr_desk.specs.Start.{Start, ticket_of, told_bytes};
-ghost use Rattle.esr_desk.specs.Once.{IsNew, HasMadeNone};
-ghost use Rattle.esr_desk.specs.Shown.{IsShown, NeverFailed};
+ghost use Rattle.esr_desk.specs.Start.{Start, formats_of, ticket_of};
+ghost use Rattle.esr_desk.specs.Own.{own_of, reader_of, made_of};
+ghost use Rattle.esr_desk.specs.Once.{IsFresh};
+ghost use Rattle.esr_desk.specs.Calls.{Call, HasTaken, IsMine, called, called_by};
+ghost use Rattle.esr_desk.specs.Evidence.{NeverFailed, evidence};
+ghost use Rattle.esr_desk.specs.Shown.{IsShown};
+ghost use Rattle.esr_desk.specs.Hands.{fetch_step, fail_step, MayFetch, MayFail, own_fetched, own_failed};
 ghost use Rattle.esr_desk.specs.Outcome.{Outcome, commit_reply, fetch_reply, take_reply};
-ghost use Rattle.esr_desk.specs.Conditions.{CanDraw, CanCommit, CanPut, CanBegin, Holds, CanFetch, CanRaise, IsUnpruned, CanSettle, CanEnd, CanFail, CanFinish, CanDrop};
+ghost use Rattle.esr_desk.specs.Conditions.{CanDraw, CanCommit, CanPut, CanBegin, Holds, CanRaise, IsUnpruned, CanSettle, CanEnd, CanFinish, CanDrop};
+ghost use Rattle.esr_desk.specs.Delete.Conditions.{CanPlan, CanSettleDelete, CanRemove, CanEndDelete};
+ghost use Rattle.esr_desk.specs.Restore.Conditions.{CanEndRestore};
+ghost use Rattle.esr_desk.specs.Restore.Targets.{IsFilled};
 ghost use Rattle.esr_desk.specs.Readers.{TookUnit, IsBare};
-ghost use Rattle.esr_desk.specs.Taken.{committed_by, begun_by, tried_by, fetched_by, LeftBy, HasRaised, IsSettled, HasEndedAs};
+ghost use Rattle.esr_desk.specs.Taken.{committed_by, begun_by, tried_by, LeftBy, HasRaised, IsSettled, HasEndedAs};
 ghost use Rattle.esr_desk.specs.declared.refusal.StepRefusal.{StepRefusal};
 
-use crate::{By, Look, Named, StepRefusal, Unit, Why};
+use crate::{By, Hand, Named, Planned, RestoredTarget, StepRefusal, Unit, Why};
 use esr_depot::{Commit, Fetch, Stage};
-use esr_names::{BlobName, Id};
-use esr_progress::Command;
-use esr_results::ShardResult;
+use esr_names::{BlobName, Id, Ids};
+use esr_results::{PrunedShards, ShardResult};
 use esr_root::RootData;
+use esr_seq::Seq;
 use esr_source::{Shard, Target};
 use std::alloc::Global;
 
-/// The steps of a repository. Each adds one entry to the history, or none where it answers `Memory` or `TurnsSpent`; nothing
-/// else of the caller's own changes then. A refusal leaves the repository as it was, but for what a failed call of the
-/// container may leave.
+/// The steps that work on a repository: a unit is taken, and its ticket steps until it ends. Each adds one entry to the history,
+/// or none where it answers `Memory` or `TurnsSpent`; nothing else of the caller's own changes then. A refusal leaves the
+/// repository as it was, but for what a failed call of the container may leave. Several may work on one repository, each by a
+/// desk of its own: the steps of others change nothing of a ticket that this one took.
 pub trait Desk {
     type Stage: Stage;
 
@@ -49,37 +58,82 @@ pub trait Desk {
     /// The history, as far as this desk has seen it.
     ghost seen: { Self → List Moment };
 
-    /// The ticket is this desk's: nobody else steps for it.
-    ghost holds: { Self → ℕ → Type 0 };
+    /// The entries of who 0 that this desk made.
+    ghost calls: { Self → List Call };
 
     /// Where the container is quiet, it has failed in no step that the history tells.
     fn never_fails(&self)
         ensures { start.quiet ≡ true → NeverFailed (seen self.now) };
 
-    /// Asks for a command, which is accepted as the op that is answered.
-    fn ask(&mut self, alloc: Global, command: &Command) -> Result<u64, StepRefusal>
-        requires { IsAskable (asked_of command.now) }
-        ensures { Outcome start (seen self.old) (seen self.new) 0 (AskStep (asked_of command.now)) (λ op. Accepted op) result };
-
-    /// Takes the first ready unit of the lowest op, or `None` where no unit is ready.
+    /// Takes the first ready unit of the lowest op, or `None` where no unit is ready. Its ticket has made no step.
     fn take(&mut self, alloc: Global) -> Result<Option<Unit>, StepRefusal>
         ensures step { Outcome start (seen self.old) (seen self.new) 0 TakeStep take_reply result }
         ensures took { IfOk result (λ o. IfSome o (λ u. TookUnit start (seen self.new) u)) }
         ensures bare { IfOk result (λ o. IfSome o (λ u. IsBare start (seen self.new) u)) }
-        ensures new { IfOk result (λ o. IfSome o (λ u. HasMadeNone (seen self.new) u.ready.ticket)) }
-        ensures holds { IfOk result (λ o. IfSome o (λ u. holds self.new u.ready.ticket)) };
+        ensures new { IfOk result (λ o. IfSome o (λ u. made_of start (seen self.new) u.ready.ticket ≡ [])) }
+        ensures mine { IfOk result (λ o. IfSome o (λ u. HasTaken (calls self.new) u.ready.ticket)) }
+        ensures calls { calls self.new ≡ called (seen self.new) TakeStep take_reply result (calls self.old) };
+
+    /// Begins the next term, and answers it. Tickets of earlier terms begin and settle no root any more.
+    fn elect(&mut self, alloc: Global) -> Result<u64, StepRefusal>
+        ensures step { Outcome start (seen self.old) (seen self.new) 0 ElectStep (λ term. ElectedTerm term) result }
+        ensures range { IfOk result (λ term. term < 2 ^ 63) }
+        ensures calls { calls self.new ≡ called (seen self.new) ElectStep (λ term. ElectedTerm term) result (calls self.old) };
+
+    /// The blob of that name, to be read from its first byte, or `None` where there is none. Who 0 fetches for a check or a
+    /// verification.
+    fn fetch(
+        &mut self,
+        alloc: Global,
+        hand: Hand,
+        who: u64,
+        name: BlobName,
+    ) -> Result<Option<Self::Fetch>, StepRefusal>
+        requires mine { IsMine hand (calls self.old) who }
+        requires layout { IsName name }
+        requires may { MayFetch hand start (seen self.old) who (name_of name) }
+        requires new { IsFresh start (seen self.old) who (fetch_step hand (name_of name)) }
+        ensures step { Outcome start (seen self.old) (seen self.new) who (fetch_step hand (name_of name)) fetch_reply result }
+        ensures own { IfOk result (λ o. own_of start (seen self.new) who
+            ≡ own_fetched hand Self.Fetch.left (name_of name) o (own_of start (seen self.old) who)) }
+        ensures told { IfOk result (λ o. IfSome o (λ f. (bytes : Bytes) × Holds start (Self.Fetch.left f) bytes)) }
+        ensures count { IfOk result (λ o. IfSome o (λ f. Self.Fetch.faults f ≡ 0)) }
+        ensures sure { IfOk result (λ o. IfSome o (λ f. start.quiet ≡ true → IsTrue (Self.Fetch.is_sure f))) }
+        // There are 2^40 turns, of which each entry took one.
+        ensures few { OnOk result (start.alone ≡ true → length (seen self.new) ≤ 2 ^ 40) }
+        ensures kept { OnErr result (own_of start (seen self.new) who ≡ own_of start (seen self.old) who) }
+        ensures calls { calls self.new ≡ called_by hand (seen self.new) (fetch_step hand (name_of name)) fetch_reply result (calls self.old) };
+
+    /// A unit, a check or a verification failed, as `by` shows, and ends. An object that failed is given up in each answer.
+    fn fail(
+        &mut self,
+        alloc: Global,
+        hand: Hand,
+        who: u64,
+        why: Why,
+        by: By<Self::Stage, Self::Fetch, Self::Shard, Self::Target>,
+    ) -> Result<(), StepRefusal>
+        requires mine { IsMine hand (calls self.old) who }
+        requires may { MayFail hand start (seen self.old) who }
+        requires shown { IsShown hand
+            (evidence Self.Stage.faults Self.Fetch.faults Self.Shard.faults Self.Target.faults Self.Shard.told Self.Target.told)
+            start (seen self.old) who (why_of why) by }
+        ensures step { Outcome start (seen self.old) (seen self.new) who (fail_step hand (why_of why)) (λ _. HasEnded) result }
+        ensures own { OnOk result (own_of start (seen self.new) who ≡ own_failed hand (own_of start (seen self.old) who)) }
+        ensures kept { OnErr result (own_of start (seen self.new) who ≡ own_of start (seen self.old) who) }
+        ensures calls { calls self.new ≡ called_by hand (seen self.new) (fail_step hand (why_of why)) (λ _. HasEnded) result (calls self.old) };
 
     /// Draws so many ids, one after another, and answers the first.
     fn draw(&mut self, alloc: Global, ticket: u64, count: u64) -> Result<Id, StepRefusal>
-        requires mine { holds self.old ticket }
+        requires mine { HasTaken (calls self.old) ticket }
         requires may { CanDraw start (ticket_of start (seen self.old) ticket) count }
-        requires new { IsNew (seen self.old) ticket (DrawStep count) }
+        requires new { IsFresh start (seen self.old) ticket (DrawStep count) }
         ensures step { Outcome start (seen self.old) (seen self.new) ticket (DrawStep count) (λ first. DrawnFrom first.number) result }
         ensures own { IfOk result (λ first. ticket_of start (seen self.new) ticket
             ≡ record (ticket_of start (seen self.old) ticket) { first = first.number; drawn = count }) }
         ensures range { IfOk result (λ first. first.number + count < 2 ^ 128) }
         ensures kept { OnErr result (ticket_of start (seen self.new) ticket ≡ ticket_of start (seen self.old) ticket) }
-        ensures holds { holds self.new ticket };
+        ensures calls { calls self.new ≡ calls self.old };
 
     /// A new stage for a blob of that name, for at most `room` bytes.
     fn begin(
@@ -89,10 +143,10 @@ pub trait Desk {
         name: BlobName,
         room: usize,
     ) -> Result<Named<Self::Stage>, StepRefusal>
-        requires mine { holds self.old ticket }
+        requires mine { HasTaken (calls self.old) ticket }
         requires layout { IsName name }
         requires may { CanBegin start (ticket_of start (seen self.old) ticket) (name_of name) }
-        requires new { IsNew (seen self.old) ticket (BeginStep (name_of name)) }
+        requires new { IsFresh start (seen self.old) ticket (BeginStep (name_of name)) }
         ensures step { Outcome start (seen self.old) (seen self.new) ticket (BeginStep (name_of name)) (λ stage. WasBegun) result }
         ensures own { ticket_of start (seen self.new) ticket
             ≡ begun_by (name_of name) result (ticket_of start (seen self.old) ticket) }
@@ -101,7 +155,7 @@ pub trait Desk {
         ensures contents { IfOk result (λ s. Holds start (Self.Stage.contents s.stage) []) }
         ensures count { IfOk result (λ s. Self.Stage.faults s.stage ≡ 0) }
         ensures sure { IfOk result (λ s. start.quiet ≡ true → IsTrue (Self.Stage.is_sure s.stage)) }
-        ensures holds { holds self.new ticket };
+        ensures calls { calls self.new ≡ calls self.old };
 
     /// Adds the whole blob. A blob of a finalization that is there already counts as committed; any other is refused as
     /// `NameTaken`.
@@ -112,18 +166,18 @@ pub trait Desk {
         name: BlobName,
         stage: Self::Stage,
     ) -> Result<Commit, StepRefusal>
-        requires mine { holds self.old ticket }
+        requires mine { HasTaken (calls self.old) ticket }
         requires named { Self.Stage.name stage ≡ name_kind.text (name_of name) }
         requires layout { IsName name }
         requires may { (bytes : Bytes) × Holds start (Self.Stage.contents stage) bytes
             × CanCommit start (ticket_of start (seen self.old) ticket) (name_of name) bytes }
-        requires new { IsNew (seen self.old) ticket (CommitStep (name_of name)) }
+        requires new { IsFresh start (seen self.old) ticket (CommitStep (name_of name)) }
         ensures step { Outcome start (seen self.old) (seen self.new) ticket (CommitStep (name_of name)) commit_reply result }
         ensures own { IfOk result (λ c. ticket_of start (seen self.new) ticket
             ≡ committed_by (name_of name) (Self.Stage.contents stage) c (ticket_of start (seen self.old) ticket)) }
         ensures found { result ≡ Ok Commit.Exists → IsMetadata (name_of name) }
         ensures kept { OnErr result (ticket_of start (seen self.new) ticket ≡ ticket_of start (seen self.old) ticket) }
-        ensures holds { holds self.new ticket };
+        ensures calls { calls self.new ≡ calls self.old };
 
     /// Puts `index.latest`, which tells the generation that the ticket raised. Nothing reads it, so a failure is no
     /// reason to stop.
@@ -134,110 +188,155 @@ pub trait Desk {
         name: BlobName,
         stage: Self::Stage,
     ) -> Result<(), StepRefusal>
-        requires mine { holds self.old ticket }
+        requires mine { HasTaken (calls self.old) ticket }
         requires named { Self.Stage.name stage ≡ name_kind.text (name_of name) }
         requires name { name_of name ≡ Latest }
         requires may { (n : ℕ) × CanPut start (ticket_of start (seen self.old) ticket) n
             × Holds start (Self.Stage.contents stage) (latest_text n) }
-        requires new { IsNew (seen self.old) ticket LatestStep }
+        requires new { IsFresh start (seen self.old) ticket LatestStep }
         ensures step { Outcome start (seen self.old) (seen self.new) ticket LatestStep (λ _. WasReplaced) result }
         ensures own { ticket_of start (seen self.new) ticket ≡ tried_by result (ticket_of start (seen self.old) ticket) }
-        ensures holds { holds self.new ticket };
-
-    /// The blob of that name, to be read from its first byte, or `None` where there is none.
-    fn fetch(
-        &mut self,
-        alloc: Global,
-        ticket: u64,
-        name: BlobName,
-    ) -> Result<Option<Self::Fetch>, StepRefusal>
-        requires mine { holds self.old ticket }
-        requires layout { IsName name }
-        requires may { CanFetch (ticket_of start (seen self.old) ticket) (name_of name) }
-        requires new { IsNew (seen self.old) ticket (FetchStep (name_of name)) }
-        ensures step { Outcome start (seen self.old) (seen self.new) ticket (FetchStep (name_of name)) fetch_reply result }
-        ensures own { IfOk result (λ o. ticket_of start (seen self.new) ticket
-            ≡ fetched_by Self.Fetch.left (name_of name) o (ticket_of start (seen self.old) ticket)) }
-        ensures told { IfOk result (λ o. IfSome o (λ f. (bytes : Bytes) × Holds start (Self.Fetch.left f) bytes)) }
-        ensures count { IfOk result (λ o. IfSome o (λ f. Self.Fetch.faults f ≡ 0)) }
-        ensures sure { IfOk result (λ o. IfSome o (λ f. start.quiet ≡ true → IsTrue (Self.Fetch.is_sure f))) }
-        ensures kept { OnErr result (ticket_of start (seen self.new) ticket ≡ ticket_of start (seen self.old) ticket) }
-        ensures holds { holds self.new ticket };
+        ensures calls { calls self.new ≡ calls self.old };
 
     /// Begins a generation for the root that the ticket is to write, and answers it.
     fn raise(&mut self, alloc: Global, ticket: u64) -> Result<u64, StepRefusal>
-        requires mine { holds self.old ticket }
+        requires mine { HasTaken (calls self.old) ticket }
         requires may { CanRaise start (ticket_of start (seen self.old) ticket) }
-        requires new { IsNew (seen self.old) ticket RaiseStep }
+        requires new { IsFresh start (seen self.old) ticket RaiseStep }
         ensures step { Outcome start (seen self.old) (seen self.new) ticket RaiseStep (λ n. RaisedTo n) result }
         ensures own { IfOk result (λ n. ticket_of start (seen self.new) ticket
             ≡ record (ticket_of start (seen self.old) ticket) { raised = Some n }) }
         ensures range { IfOk result (λ n. n < 2 ^ 63) }
         ensures kept { LeftBy (HasRaised (ticket_of start (seen self.old) ticket)) result (ticket_of start (seen self.old) ticket) (ticket_of start (seen self.new) ticket) }
-        ensures holds { holds self.new ticket };
+        ensures calls { calls self.new ≡ calls self.old };
 
-    /// Makes the root that the ticket committed the safe one.
+    /// Makes the root that the ticket of a snapshot or a clone committed the safe one.
     fn settle(&mut self, alloc: Global, ticket: u64, root: &RootData) -> Result<(), StepRefusal>
-        requires mine { holds self.old ticket }
+        requires mine { HasTaken (calls self.old) ticket }
         requires may { CanSettle start (ticket_of start (seen self.old) ticket) (root_of root.now) }
         requires unpruned { IsUnpruned (ticket_of start (seen self.old) ticket) }
-        requires new { IsNew (seen self.old) ticket SettleStep }
+        requires new { IsFresh start (seen self.old) ticket SettleStep }
         ensures step { Outcome start (seen self.old) (seen self.new) ticket SettleStep (λ _. WasSettled) result }
         ensures own { OnOk result (ticket_of start (seen self.new) ticket
             ≡ record (ticket_of start (seen self.old) ticket) { settled = true }) }
         ensures kept { LeftBy (IsSettled (ticket_of start (seen self.old) ticket)) result (ticket_of start (seen self.old) ticket) (ticket_of start (seen self.new) ticket) }
-        ensures holds { holds self.new ticket };
+        ensures calls { calls self.new ≡ calls self.old };
 
-    /// A shard is done; its ticket ends.
-    fn done(&mut self, alloc: Global, ticket: u64, outcome: &ShardResult) -> Result<(), StepRefusal>
-        requires mine { holds self.old ticket }
-        requires may { CanEnd start (ticket_of start (seen self.old) ticket) (result_of outcome.now) }
-        ensures step { Outcome start (seen self.old) (seen self.new) ticket (DoneStep (result_of outcome.now)) (λ _. HasEnded) result }
-        ensures own { OnOk result (ticket_of start (seen self.new) ticket
-            ≡ record (ticket_of start (seen self.old) ticket) { out = false }) }
-        ensures kept { OnErr result (ticket_of start (seen self.new) ticket ≡ ticket_of start (seen self.old) ticket) }
-        ensures holds { holds self.new ticket };
-
-    /// A unit failed, as `by` shows; its ticket ends. An object that failed is given up in each answer.
-    fn failed(
+    /// Plans a delete: draws an id for each of these shards of which something is left, and answers the first one and the root
+    /// without the named snapshots. `root` and `uuids` are those of the ticket.
+    fn plan(
         &mut self,
         alloc: Global,
         ticket: u64,
-        why: Why,
-        by: By<Self::Stage, Self::Fetch, Self::Shard, Self::Target>,
-    ) -> Result<(), StepRefusal>
-        requires mine { holds self.old ticket }
-        requires may { CanFail (ticket_of start (seen self.old) ticket) }
-        requires shown { IsShown (record { stage = Self.Stage.faults; fetch = Self.Fetch.faults; shard = Self.Shard.faults; target = Self.Target.faults; made_for = λ h. (Self.Shard.origin h).address })
-            start (seen self.old) ticket (why_of why) by }
-        ensures step { Outcome start (seen self.old) (seen self.new) ticket (FailedStep (why_of why)) (λ _. HasEnded) result }
-        ensures own { OnOk result (ticket_of start (seen self.new) ticket
-            ≡ record (ticket_of start (seen self.old) ticket) { out = false }) }
+        root: &RootData,
+        uuids: &Ids,
+        shards: &PrunedShards,
+    ) -> Result<Planned, StepRefusal>
+        requires mine { HasTaken (calls self.old) ticket }
+        requires copied { root_of root.now ≡ (ticket_of start (seen self.old) ticket).root }
+        requires may { CanPlan start (ticket_of start (seen self.old) ticket) (map number_of uuids.now) (map pruned_of shards.now) }
+        requires new { IsFresh start (seen self.old) ticket (PruneStep (PlanShards (map pruned_of shards.now))) }
+        ensures step { Outcome start (seen self.old) (seen self.new) ticket (PruneStep (PlanShards (map pruned_of shards.now))) (λ p. DrawnFrom p.first.number) result }
+        ensures own { IfOk result (λ p. ticket_of start (seen self.new) ticket
+            ≡ planned (formats_of start) (map pruned_of shards.now) p.first.number (ticket_of start (seen self.old) ticket)) }
+        ensures root { IfOk result (λ p. root_of p.root ≡ deleted_root (root_of root.now) (map number_of uuids.now) (map pruned_of shards.now) p.first.number) }
+        ensures range { IfOk result (λ p. p.first.number + length shards.now < 2 ^ 128) }
         ensures kept { OnErr result (ticket_of start (seen self.new) ticket ≡ ticket_of start (seen self.old) ticket) }
-        ensures holds { holds self.new ticket };
+        ensures calls { calls self.new ≡ calls self.old };
+
+    /// Makes the root that a delete's ticket committed the safe one. The delete leaves the list, and what its plan dooms may be
+    /// removed.
+    fn settle_delete(
+        &mut self,
+        alloc: Global,
+        ticket: u64,
+        root: &RootData,
+    ) -> Result<(), StepRefusal>
+        requires mine { HasTaken (calls self.old) ticket }
+        requires may { CanSettleDelete start (ticket_of start (seen self.old) ticket) (root_of root.now) }
+        requires new { IsFresh start (seen self.old) ticket (PruneStep SettlePruned) }
+        ensures step { Outcome start (seen self.old) (seen self.new) ticket (PruneStep SettlePruned) (λ _. WasSettled) result }
+        ensures own { OnOk result (ticket_of start (seen self.new) ticket
+            ≡ record (ticket_of start (seen self.old) ticket) { settled = true }) }
+        ensures kept { LeftBy (IsSettled (ticket_of start (seen self.old) ticket)) result (ticket_of start (seen self.old) ticket) (ticket_of start (seen self.new) ticket) }
+        ensures calls { calls self.new ≡ calls self.old };
+
+    /// Takes blobs that the ticket's plan dooms away; those that are gone already are no failure. Where the container fails in it,
+    /// they count as named, too.
+    fn remove(
+        &mut self,
+        alloc: Global,
+        ticket: u64,
+        names: &Seq<BlobName>,
+    ) -> Result<(), StepRefusal>
+        requires mine { HasTaken (calls self.old) ticket }
+        requires layout { (name : BlobName) → Has names.now name → IsName name }
+        requires may { CanRemove start (ticket_of start (seen self.old) ticket) (map name_of names.now) }
+        requires new { IsFresh start (seen self.old) ticket (PruneStep (RemoveDoomed (map name_of names.now))) }
+        ensures step { Outcome start (seen self.old) (seen self.new) ticket (PruneStep (RemoveDoomed (map name_of names.now))) (λ _. WasRemoved) result }
+        ensures own { ticket_of start (seen self.new) ticket ≡ ticket_of start (seen self.old) ticket }
+        ensures calls { calls self.new ≡ calls self.old };
+
+    /// A shard is done; its ticket ends.
+    fn end_shard(
+        &mut self,
+        alloc: Global,
+        ticket: u64,
+        outcome: &ShardResult,
+    ) -> Result<(), StepRefusal>
+        requires mine { HasTaken (calls self.old) ticket }
+        requires may { CanEnd start (ticket_of start (seen self.old) ticket) (result_of outcome.now) }
+        ensures step { Outcome start (seen self.old) (seen self.new) ticket (DoneStep (result_of outcome.now)) (λ _. HasEnded) result }
+        ensures own { OnOk result (HasEndedAs (ticket_of start (seen self.old) ticket) (ticket_of start (seen self.new) ticket)) }
+        ensures kept { OnErr result (ticket_of start (seen self.new) ticket ≡ ticket_of start (seen self.old) ticket) }
+        ensures calls { calls self.new ≡ calls self.old };
+
+    /// A shard is restored, with so many files of so many bytes, which the target has; its ticket ends. The target is listed, or
+    /// given up where the step isn't made.
+    fn end_restore(
+        &mut self,
+        alloc: Global,
+        ticket: u64,
+        files: u64,
+        bytes: u64,
+        target: RestoredTarget<Self::Target>,
+    ) -> Result<(), StepRefusal>
+        requires mine { HasTaken (calls self.old) ticket }
+        requires may { CanEndRestore start (reader_of start (seen self.old) ticket) files bytes }
+        requires filled { IsFilled
+            (evidence Self.Stage.faults Self.Fetch.faults Self.Shard.faults Self.Target.faults Self.Shard.told Self.Target.told)
+            start (reader_of start (seen self.old) ticket) files bytes target }
+        ensures step { Outcome start (seen self.old) (seen self.new) ticket (ReadStep (RestoredShard files bytes)) (λ _. HasEnded) result }
+        ensures own { OnOk result (reader_of start (seen self.new) ticket
+            ≡ record (reader_of start (seen self.old) ticket) { out = false }) }
+        ensures kept { OnErr result (reader_of start (seen self.new) ticket ≡ reader_of start (seen self.old) ticket) }
+        ensures calls { calls self.new ≡ calls self.old };
+
+    /// A delete is over: its removals have named all that its plan dooms. Its ticket ends.
+    fn end_delete(&mut self, alloc: Global, ticket: u64) -> Result<(), StepRefusal>
+        requires mine { HasTaken (calls self.old) ticket }
+        requires may { CanEndDelete start (seen self.old) ticket }
+        ensures step { Outcome start (seen self.old) (seen self.new) ticket (PruneStep EndDelete) (λ _. HasEnded) result }
+        ensures own { OnOk result (HasEndedAs (ticket_of start (seen self.old) ticket) (ticket_of start (seen self.new) ticket)) }
+        ensures kept { OnErr result (ticket_of start (seen self.new) ticket ≡ ticket_of start (seen self.old) ticket) }
+        ensures calls { calls self.new ≡ calls self.old };
 
     /// An op that failed leaves the list; its ticket ends.
-    fn dropped(&mut self, alloc: Global, ticket: u64) -> Result<(), StepRefusal>
-        requires mine { holds self.old ticket }
+    fn end_drop(&mut self, alloc: Global, ticket: u64) -> Result<(), StepRefusal>
+        requires mine { HasTaken (calls self.old) ticket }
         requires may { CanDrop (ticket_of start (seen self.old) ticket) }
         ensures step { Outcome start (seen self.old) (seen self.new) ticket DroppedStep (λ _. HasEnded) result }
-        ensures own { OnOk result (ticket_of start (seen self.new) ticket
-            ≡ record (ticket_of start (seen self.old) ticket) { out = false }) }
+        ensures own { OnOk result (HasEndedAs (ticket_of start (seen self.old) ticket) (ticket_of start (seen self.new) ticket)) }
         ensures kept { LeftBy (HasEndedAs (ticket_of start (seen self.old) ticket)) result (ticket_of start (seen self.old) ticket) (ticket_of start (seen self.new) ticket) }
-        ensures holds { holds self.new ticket };
+        ensures calls { calls self.new ≡ calls self.old };
 
-    /// A settled unit ends.
+    /// The unit of a snapshot or a clone that has settled ends, and so does any but a shard's once its term is over, as a step of
+    /// its own was told.
     fn finish(&mut self, alloc: Global, ticket: u64) -> Result<(), StepRefusal>
-        requires mine { holds self.old ticket }
-        requires may { CanFinish (ticket_of start (seen self.old) ticket) }
+        requires mine { HasTaken (calls self.old) ticket }
+        requires may { CanFinish start (seen self.old) ticket }
         ensures step { Outcome start (seen self.old) (seen self.new) ticket FinishStep (λ _. HasEnded) result }
-        ensures own { OnOk result (ticket_of start (seen self.new) ticket
-            ≡ record (ticket_of start (seen self.old) ticket) { out = false }) }
+        ensures own { OnOk result (HasEndedAs (ticket_of start (seen self.old) ticket) (ticket_of start (seen self.new) ticket)) }
         ensures kept { OnErr result (ticket_of start (seen self.new) ticket ≡ ticket_of start (seen self.old) ticket) }
-        ensures holds { holds self.new ticket };
-
-    /// The snapshots of the safe root, and its generation, which is -1 exactly where there is none.
-    fn look(&mut self, alloc: Global) -> Result<Look, StepRefusal>
-        ensures step { Outcome start (seen self.old) (seen self.new) 0 LookStep (λ l. Looked (map root_snap_of l.listing) (count_of l.safe)) result }
-        ensures least { IfOk result (λ l. negsuc 0 ≤ℤ l.safe) };
+        ensures calls { calls self.new ≡ calls self.old };
 }

@@ -31,13 +31,18 @@ pub enum Why {
         name: BlobName,
         reason: Reason,
     },
-    /// The index on which a shard builds reads, but has what it can't have yet.
+    /// The index on which a shard builds reads, but has this id, which it can't have yet.
     Ahead {
         name: BlobName,
+        id: Id,
     },
     /// A blob of this name, which the unit was to commit, was there already.
     NameTaken {
         name: BlobName,
+    },
+    /// This delete aborted the op of the unit.
+    Aborted {
+        by: u64,
     },
     /// The term has too few ids left from this one on.
     IdsSpent {

@@ -1,20 +1,24 @@
 //! The steps of a repository as its units see them: one call for each step, what it answers and what the history keeps of it.
 #![tactic(auto)]
 
-mod cloning;
+mod client;
 mod desk;
 mod entry;
 mod fault;
+mod hand;
 mod law;
 mod named;
 mod refusal;
+mod target;
 mod unit;
 
-pub use cloning::CloneDesk;
+pub use client::Client;
 pub use desk::Desk;
 pub use entry::{Answer, BlobNames, CloneOf, Entry, Given, History, Prune, Read, Step, Why};
 pub use fault::{By, FailedObject, Fault, Faults};
-pub use law::each_ticket_is_new;
+pub use hand::Hand;
+pub use law::{each_ticket_is_new, no_step_is_made_twice};
 pub use named::Named;
 pub use refusal::{EntryRefusal, StepRefusal};
-pub use unit::{AcceptedRestore, Look, Unit, UnitRefusal};
+pub use target::{RestoredTarget, RestoredTargets};
+pub use unit::{AcceptedRestore, Look, Planned, Unit, UnitRefusal};

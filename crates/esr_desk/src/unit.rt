@@ -29,6 +29,13 @@ pub struct AcceptedRestore {
     pub indices: IndexRefs,
 }
 
+/// What a delete writes: the root, and the first id of its shard indices.
+#[derive(Drop)]
+pub struct Planned {
+    pub first: Id,
+    pub root: RootData,
+}
+
 /// Why a unit didn't do its work.
 #[derive(Clone, Copy, Debug)]
 pub enum UnitRefusal {
@@ -36,6 +43,8 @@ pub enum UnitRefusal {
     Stopped(StepRefusal),
     /// The ticket has ended as failed.
     Failed(Why),
+    /// The ticket has ended, since its term is over; the unit is ready again.
+    Stale,
 }
 
 impl From<StepRefusal> for UnitRefusal {

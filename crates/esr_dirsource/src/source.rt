@@ -78,11 +78,7 @@ where
     R: Sync + Drop,
     R::File: Send,
 {
-    ghost origin = { λ s. record { address = s.address; files = None; is_there = None; is_sure = false } };
-
-    ghost listed = { λ s. s.listed };
-
-    ghost left = { λ _. None };
+    ghost told = { λ s. record { address = s.address; files = None; is_there = None; is_sure = false; listed = s.listed; left = None } };
 
     fn list(&mut self, alloc: Global) -> Result<FileList, CallError> {
         let files = match self.files(alloc) {
@@ -132,11 +128,7 @@ where
 {
     type Shard = DirShard<'a, R>;
 
-    ghost files = { λ _ _ _ _. None };
-
-    ghost is_there = { λ _ _ _ _. None };
-
-    ghost is_quiet = { λ _. false };
+    ghost told = { λ _. record { files = λ _ _ _. None; is_there = λ _ _ _. None; is_quiet = false } };
 
     ghost may_be_listed = { λ _ _ _ _. tt };
 

@@ -118,13 +118,12 @@ where
     R: Sync + Drop,
     R::File: Send,
 {
-    ghost made_for = { λ t. t.address };
-
-    ghost files = { λ _. None };
-
-    ghost begun = { λ t. option_map (λ b. record { name = b.name; bytes = None; room = b.room }) t.begun };
-
-    ghost is_sure = { λ _. false };
+    ghost told = { λ t. record {
+      made_for = t.address;
+      files = None;
+      begun = option_map (λ b. record { name = b.name; bytes = None; room = b.room }) t.begun;
+      is_sure = false;
+    } };
 
     fn create(&mut self, alloc: Global, name: &str, room: u64) -> Result<(), CallError> {
         let name = Text::from_str(alloc, name)?;
@@ -178,9 +177,7 @@ where
 {
     type Target = DirTarget<'a, R>;
 
-    ghost is_told = { λ _. false };
-
-    ghost is_quiet = { λ _. false };
+    ghost told = { λ _. record { tells = false; is_quiet = false } };
 
     fn target(
         &self,

@@ -1,82 +1,135 @@
 -- Which refusals stop the work.
-use Rattle.std.proofs.Common.{◌≡◌, ◌≢◌, inl, inr, IfErr, ℕ, List, [], ◌∷◌, Option, Result, Ok, Err, refl, sym, subst}
-use Rattle.std.specs.Result.{IsErrAnd}
+use Rattle.std.proofs.Common.{◌≡◌, ◌≢◌, ◌≤◌, inl, inr, IfErr, ℕ, true, false, true≢false, List, Option, Result, Ok, Err, refl, sym, ap, ◌∙◌, subst, arith}
 use Rattle.esr_model.specs.Values.{Bytes}
-use Rattle.esr_core.specs.World.{World}
-use Rattle.esr_core.specs.Entry.{SettlePruned, Step, TakeStep, RaiseStep, SettleStep, DroppedStep, PruneStep, Refusal, Refused, Reply, Moment}
-use Rattle.esr_core.specs.Refusing.{MayRefuse, InCleanup, DropFault, DropStale, RefusedSo}
-use Rattle.esr_core.proofs.Histories.{legal_parts}
-use Rattle.esr_core.proofs.Refusing.{refused_so}
+use Rattle.esr_core.specs.World.{World, Ticket, Drop}
+use Rattle.esr_core.specs.Ready.{IsShard}
+use Rattle.esr_core.specs.Entry.{SettlePruned, Step, TakeStep, SettleStep, FinishStep, DroppedStep, PruneStep, Refusal, DeposedAt, StaleTerm, DepotFault, AbortedBy, Reply, Moment}
+use Rattle.esr_core.specs.Allowed.{Blocks, ByFailedSwap, ByDelete}
+use Rattle.esr_core.specs.Refusing.{MayRefuse, DropFault, DropStale, RefusedSo}
+use Rattle.esr_desk.specs.declared.refusal.EntryRefusal.{EntryRefusal}
 use Rattle.esr_desk.specs.declared.refusal.EntryRefusal.TheVariants as refusals
 use Rattle.esr_desk.specs.declared.refusal.StepRefusal.{StepRefusal}
 use Rattle.esr_desk.specs.declared.refusal.StepRefusal.TheVariants as steps
 use Rattle.esr_desk.specs.declared.unit.UnitRefusal.{UnitRefusal}
 use Rattle.esr_desk.specs.declared.unit.UnitRefusal.TheVariants as units
 use Rattle.esr_desk.specs.Refusals.{refusal_of, told_refusal}
-use Rattle.esr_desk.specs.Start.{Start, Legal, formats_of, world_of}
-use Rattle.esr_desk.specs.Outcome.{Stepped, Refusing, Outcome, Spends}
+use Rattle.esr_desk.specs.Start.{Start, world_of, ticket_of}
+use Rattle.esr_desk.specs.Outcome.{Refusing, IsOfOp, Grounds, Outcome}
+use Rattle.esr_desk.specs.Conditions.{CanFinish}
+use Rattle.esr_desk.specs.Taken.{LeftBy, HasEndedAs}
 use Rattle.esr_desk.specs.Halts.{Halts}
-use Rattle.esr_desk.specs.Shown as desk
-use Rattle.esr_reading.specs.Shown as reading
+use Rattle.esr_desk.specs.Evidence.{Evidence}
+use Rattle.esr_unit.specs.Refusals.{last_refused, over}
 use Rattle.esr_upload.specs.Refused as uploads
 use Rattle.esr_finish.specs.Refused as finishes
 use Rattle.esr_restore.specs.Refused as restores
 use Rattle.esr_delete.specs.Refused as deletes
-use Rattle.esr_drive.specs.Stopped.{StopsWork, SaidDeposed, SettleFell, DropFell, DeleteFell, RaiseLate, SettleLate, DropLate, DeleteLate, IsHalted, IsUnitStopped, IsStopped}
+use Rattle.esr_drive.specs.Laws.{Laws}
+use Rattle.esr_drive.specs.Stopped.{StopsWork, SaidDeposed, SettleFell, DropFell, DeleteFell, IsHalted, IsUnitStopped, IsStopped, is_late}
 
--- ---- a step that was refused
+-- ---- a step that nothing but a block refuses
 
--- a step of which each refusal that isn't by a deposed world stops the work
-abbrev pub StopsEach : Step → Type 0
-StopsEach step = (refusal : Refusal) → MayRefuse step refusal → StopsWork step refusal
+-- it is refused before it is looked at
+abbrev IsBlock : Refusal → Type 0
+IsBlock (DeposedAt place) = Unit {0}
+IsBlock (AbortedBy op) = Unit {0}
+IsBlock refusal = ⊥
 
-abbrev IsTake : Step → Type 0
-IsTake TakeStep = Unit {0}
-IsTake step = ⊥
+block_by : (w : World) (who : ℕ) (step : Step) (refusal : Refusal) → Blocks w who step refusal → IsBlock refusal
+block_by w who step _ (ByFailedSwap place deposed) = tt
+block_by w who step _ (ByDelete op deposed aborted) = tt
 
--- no take is refused so
-none_taking : (step : Step) (refusal : Refusal) → IsTake step → MayRefuse step refusal → StopsWork step refusal
-none_taking step refusal takes (InCleanup command op recorded) = absurd takes
-none_taking step refusal takes may = absurd takes
+so_blocked : (w : World) (who : ℕ) (step : Step) (refusal : Refusal) → (MayRefuse step refusal → ⊥) → RefusedSo w who step refusal → IsBlock refusal
+so_blocked w who step refusal none (inl blocks) = block_by w who step refusal blocks
+so_blocked w who step refusal none (inr may) = absurd (none may)
 
-dropping_stops : StopsEach DroppedStep
-dropping_stops refusal DropFault = DropFell
-dropping_stops refusal (DropStale own now) = DropLate own now
+-- where no delete can have aborted its op, a record swap had failed
+block_stops : (s : Start) (log : List Moment) (who : ℕ) (step : Step) (x : EntryRefusal) → IsBlock (refusal_of x) → Grounds s log who (steps.Refused x) → (IsOfOp s log who → ⊥) → StopsWork step (refusal_of x)
+block_stops s log who step (refusals.Deposed entry) block grounds none = SaidDeposed step entry
+block_stops s log who step (refusals.Aborted op) block grounds none = absurd (none grounds)
+block_stops s log who step x block grounds none = absurd block
 
-so_stops : (w : World) (step : Step) (refusal : Refusal) → StopsEach step → RefusedSo w step refusal → StopsWork step refusal
-so_stops w step refusal each (inl says) = subst (StopsWork step) (sym says.is) (SaidDeposed step says.place)
-so_stops w step refusal each (inr may) = each refusal may
+never_takes : (refusal : Refusal) → MayRefuse TakeStep refusal → ⊥
+never_takes refusal may = elim may [ ]
 
-stepped_stops : (s : Start) (old new : List Moment) (who : ℕ) (step : Step) (refusal : Refusal) → StopsEach step → Stepped s old new who step (Refused refusal) → StopsWork step refusal
-stepped_stops s old new who step refusal each h =
-    let m : Moment = record { entry = record { who = who; step = step; reply = Refused refusal }; image = h.image } in
-    let f = formats_of s in
-    let w : World = world_of s h.front in
-    so_stops w step refusal each (refused_so f s.part_size w m refusal (legal_parts f s.part_size h.front (m ∷ []) s.world (subst (Legal s) h.is h.legal)).1.0 refl)
+never_finishes : (refusal : Refusal) → MayRefuse FinishStep refusal → ⊥
+never_finishes refusal may = elim may [ ]
+
+no_op : (s : Start) (log : List Moment) → IsOfOp s log 0 → ⊥
+no_op s log h = let some : 1 ≤ 0 = h.ticket in omega (arith, some)
 
 -- a take
-pub take_stopped : {X : Type 0} (s : Start) (old new : List Moment) (ok : X → Reply) (e : StepRefusal) → Outcome s old new 0 TakeStep ok (Err e) → IsStopped s new e
-take_stopped {X} s old new ok steps.Memory h = tt
-take_stopped {X} s old new ok steps.TurnsSpent h = h.1
-take_stopped {X} s old new ok (steps.Refused refusal) h = (
+pub take_stopped : {X : Type 0} → Laws → (s : Start) (old new : List Moment) (ok : X → Reply) (e : StepRefusal) → Outcome s old new 0 TakeStep ok (Err e) → IsStopped s new e
+take_stopped laws s old new ok steps.Memory h = tt
+take_stopped laws s old new ok steps.TurnsSpent h = h.1
+take_stopped laws s old new ok (steps.Refused x) h = (
   0,
   TakeStep,
   record { front = h.0.front; image = h.0.image; is = h.0.is },
-  stepped_stops s old new 0 TakeStep (refusal_of refusal) (λ r may. none_taking TakeStep r tt may) h.0,
+  block_stops s new 0 TakeStep x (so_blocked (world_of s h.0.front) 0 TakeStep (refusal_of x) (never_takes (refusal_of x)) (last_refused laws.refused s old new 0 TakeStep (refusal_of x) h.0)) h.1 (no_op s new),
   inr refl,
 )
 
--- the drop of an op
-pub drop_halted : (s : Start) (old new : List Moment) (who : ℕ) (e : StepRefusal) → Refusing s old new who DroppedStep (told_refusal e) × Spends s new e → IsHalted s new who e
-drop_halted s old new who steps.Memory h = tt
-drop_halted s old new who steps.TurnsSpent h = h.1
-drop_halted s old new who (steps.Refused refusal) h =
-    (DroppedStep, record { front = h.0.front; image = h.0.image; is = h.0.is }, stepped_stops s old new who DroppedStep (refusal_of refusal) dropping_stops h.0)
+-- ---- the drop of an op
 
--- an error that was made of a step's refusal
-pub stopped_err : {T : Type 0} (s : Start) (log : List Moment) (who : ℕ) (result : Result T UnitRefusal) (refusal : StepRefusal) → IsErrAnd result (λ e. e ≡ units.Stopped refusal) → IsHalted s log who refusal → IfErr result (IsUnitStopped s log who)
-stopped_err s log who (Ok x) refusal is halted = tt
-stopped_err s log who (Err e) refusal is halted = subst (IsUnitStopped s log who) (sym is) halted
+-- how it may be refused
+abbrev MayRefuseDrop : Refusal → Type 0
+MayRefuseDrop DepotFault = Unit {0}
+MayRefuseDrop (StaleTerm own now) = Unit {0}
+MayRefuseDrop refusal = IsBlock refusal
+
+block_drop : (refusal : Refusal) → IsBlock refusal → MayRefuseDrop refusal
+block_drop (DeposedAt place) block = tt
+block_drop (AbortedBy op) block = tt
+block_drop refusal block = absurd block
+
+may_drop : (refusal : Refusal) → MayRefuse DroppedStep refusal → MayRefuseDrop refusal
+may_drop _ DropFault = tt
+may_drop _ (DropStale own now) = tt
+
+so_dropped : (w : World) (who : ℕ) (refusal : Refusal) → RefusedSo w who DroppedStep refusal → MayRefuseDrop refusal
+so_dropped w who refusal (inl blocks) = block_drop refusal (block_by w who DroppedStep refusal blocks)
+so_dropped w who refusal (inr may) = may_drop refusal may
+
+module _ (laws : Laws) (s : Start) (old new : List Moment) (who : ℕ) (work : (ticket_of s old who).work ≡ Drop) where
+  abbrev Left : StepRefusal → Type 0
+  Left e = LeftBy {X = Unit {0}} (HasEndedAs (ticket_of s old who)) (Err e) (ticket_of s old who) (ticket_of s new who)
+
+  still_drop : ticket_of s new who ≡ ticket_of s old who → (ticket_of s new who).work ≡ Drop
+  still_drop same = ap (λ (t : Ticket). t.work) same ∙ work
+
+  drop_entry : (x : EntryRefusal) → MayRefuseDrop (refusal_of x) → Grounds s new who (steps.Refused x) → Left (steps.Refused x) → is_late (steps.Refused x) ≡ false → StopsWork DroppedStep (refusal_of x)
+  drop_entry (refusals.Deposed entry) may grounds left late = SaidDeposed DroppedStep entry
+  drop_entry (refusals.Aborted op) may grounds left late = absurd (grounds.no_drop (still_drop left))
+  drop_entry (refusals.StaleTerm own now) may grounds left late = absurd (true≢false late)
+  drop_entry refusals.DepotFault may grounds left late = DropFell
+  drop_entry x may grounds left late = absurd may
+
+  pub drop_halted : (e : StepRefusal) → Refusing s old new who DroppedStep (told_refusal e) × Grounds s new who e → Left e → is_late e ≡ false → IsHalted s new who e
+  drop_halted steps.Memory h left late = tt
+  drop_halted steps.TurnsSpent h left late = h.1
+  drop_halted (steps.Refused x) h left late = (
+    DroppedStep,
+    record { front = h.0.front; image = h.0.image; is = h.0.is },
+    drop_entry x (so_dropped (world_of s h.0.front) who (refusal_of x) (last_refused laws.refused s old new who DroppedStep (refusal_of x) h.0)) h.1 left late,
+  )
+
+  -- its term is over
+  pub late_over : (e : StepRefusal) → Refusing s old new who DroppedStep (told_refusal e) × Grounds s new who e → Left e → is_late e ≡ true → (ticket_of s old who).out ≡ true → CanFinish s new who × ((ticket_of s new who).work ≡ Drop)
+  late_over (steps.Refused (refusals.StaleTerm own now)) h left late out =
+      (over s old new who DroppedStep own now tt (record { out = ap (λ (t : Ticket). t.out) left ∙ out; no_shard = λ (shard : IsShard (ticket_of s new who).work). subst IsShard (still_drop left) shard }) h.0, still_drop left)
+  late_over e h left late out = absurd (true≢false (sym late))
+
+-- the end of a ticket whose term is over
+pub finish_halted : Laws → (s : Start) (old new : List Moment) (who : ℕ) (e : StepRefusal) → Refusing s old new who FinishStep (told_refusal e) × Grounds s new who e → ticket_of s new who ≡ ticket_of s old who → (ticket_of s old who).work ≡ Drop → IsHalted s new who e
+finish_halted laws s old new who steps.Memory h kept work = tt
+finish_halted laws s old new who steps.TurnsSpent h kept work = h.1
+finish_halted laws s old new who (steps.Refused x) h kept work = (
+  FinishStep,
+  record { front = h.0.front; image = h.0.image; is = h.0.is },
+  block_stops s new who FinishStep x (so_blocked (world_of s h.0.front) who FinishStep (refusal_of x) (never_finishes (refusal_of x)) (last_refused laws.refused s old new who FinishStep (refusal_of x) h.0)) h.1
+      (λ (op : IsOfOp s new who). op.no_drop (ap (λ (t : Ticket). t.work) kept ∙ work)),
+)
 
 -- ---- a unit that was stopped
 
@@ -92,38 +145,38 @@ halted s log who steps.TurnsSpent h = h
 halted s log who (steps.Refused (refusals.Deposed entry)) h = (h.0, h.1, SaidDeposed h.0 entry)
 halted s log who (steps.Refused refusal) h = absurd h
 
-finish_halted : (s : Start) (log : List Moment) (who : ℕ) (e : StepRefusal) → finishes.Stops s log who e → IsHalted s log who e
-finish_halted s log who (steps.Refused refusals.DepotFault) h = (SettleStep, h, SettleFell)
-finish_halted s log who (steps.Refused (refusals.StaleTerm own now)) (inl h) = (RaiseStep, h, RaiseLate own now)
-finish_halted s log who (steps.Refused (refusals.StaleTerm own now)) (inr h) = (SettleStep, h, SettleLate own now)
-finish_halted s log who e h = halted s log who e h
+master_halted : (s : Start) (log : List Moment) (who : ℕ) (e : StepRefusal) → finishes.Stops s log who e → IsHalted s log who e
+master_halted s log who (steps.Refused refusals.DepotFault) h = (SettleStep, h, SettleFell)
+master_halted s log who e h = halted s log who e h
 
 delete_halted : (s : Start) (log : List Moment) (who : ℕ) (e : StepRefusal) → deletes.Stops s log who e → IsHalted s log who e
 delete_halted s log who (steps.Refused refusals.DepotFault) h = (PruneStep SettlePruned, h, DeleteFell)
-delete_halted s log who (steps.Refused (refusals.StaleTerm own now)) (inl h) = (RaiseStep, h, RaiseLate own now)
-delete_halted s log who (steps.Refused (refusals.StaleTerm own now)) (inr h) = (PruneStep SettlePruned, h, DeleteLate own now)
 delete_halted s log who e h = halted s log who e h
 
--- ... of a shard
-pub upload_stopped : {S F H T : Type 0} (c : desk.Counts S F H T) (files : Option (List (Bytes × Bytes))) (s : Start) (old new : List Moment) (who : ℕ) (result : Result (Unit {0}) UnitRefusal) → IfErr result (uploads.IsUnitRefused c files s old new who) → IfErr result (IsUnitStopped s new who)
-upload_stopped c files s old new who (Ok x) h = tt
-upload_stopped c files s old new who (Err (units.Failed why)) h = tt
-upload_stopped c files s old new who (Err (units.Stopped refusal)) h = halted s new who refusal h.1
+module _ {S F H T : Type 0} (e : Evidence S F H T) (s : Start) (old new : List Moment) (who : ℕ) where
+  -- ... of a shard
+  pub upload_stopped : (files : Option (List (Bytes × Bytes))) (result : Result (Unit {0}) UnitRefusal) → IfErr result (uploads.IsUnitRefused e files s old new who) → IfErr result (IsUnitStopped s new who)
+  upload_stopped files (Ok x) h = tt
+  upload_stopped files (Err (units.Failed why)) h = tt
+  upload_stopped files (Err (units.Stopped refusal)) h = halted s new who refusal h.1
+  upload_stopped files (Err units.Stale) h = tt
 
--- ... of a finalization
-pub finish_stopped : {S : Type 0} (s : Start) (faults : S → ℕ) (old new : List Moment) (who : ℕ) (result : Result (Unit {0}) UnitRefusal) → IfErr result (λ e. finishes.IsUnitRefused s faults old new who e) → IfErr result (IsUnitStopped s new who)
-finish_stopped s faults old new who (Ok x) h = tt
-finish_stopped s faults old new who (Err (units.Failed why)) h = tt
-finish_stopped s faults old new who (Err (units.Stopped refusal)) h = finish_halted s new who refusal h.2
+  -- ... of a finalization
+  pub master_stopped : (result : Result (Unit {0}) UnitRefusal) → IfErr result (λ x. finishes.IsUnitRefused e s old new who x) → IfErr result (IsUnitStopped s new who)
+  master_stopped (Ok x) h = tt
+  master_stopped (Err (units.Failed why)) h = tt
+  master_stopped (Err (units.Stopped refusal)) h = master_halted s new who refusal h.2
+  master_stopped (Err units.Stale) h = tt
 
--- ... of a delete
-pub delete_stopped : {S F : Type 0} (s : Start) (stages : S → ℕ) (fetches : F → ℕ) (old new : List Moment) (who : ℕ) (result : Result (Unit {0}) UnitRefusal) → IfErr result (λ e. deletes.IsUnitRefused s stages fetches old new who e) → IfErr result (IsUnitStopped s new who)
-delete_stopped s stages fetches old new who (Ok x) h = tt
-delete_stopped s stages fetches old new who (Err (units.Failed why)) h = tt
-delete_stopped s stages fetches old new who (Err (units.Stopped refusal)) h = delete_halted s new who refusal h.2
+  -- ... of a delete
+  pub delete_stopped : (result : Result (Unit {0}) UnitRefusal) → IfErr result (λ x. deletes.IsUnitRefused e s old new who x) → IfErr result (IsUnitStopped s new who)
+  delete_stopped (Ok x) h = tt
+  delete_stopped (Err (units.Failed why)) h = tt
+  delete_stopped (Err (units.Stopped refusal)) h = delete_halted s new who refusal h.2
+  delete_stopped (Err units.Stale) h = tt
 
--- ... of a restore
-pub restore_halted : {F T : Type 0} (c : reading.Counts F T) (s : Start) (old new : List Moment) (who : ℕ) (e : UnitRefusal) (refusal : StepRefusal) → e ≡ units.Stopped refusal → restores.IsUnitRefused c s old new who e → IsHalted s new who refusal
-restore_halted {F = F} {T = T} c s old new who e refusal is h =
-    let stopped : restores.IsUnitRefused c s old new who (units.Stopped refusal) = subst (restores.IsUnitRefused {F = F} {T = T} c s old new who) is h in
-    halted s new who refusal stopped.1
+  -- ... of a restore
+  pub restore_halted : (x : UnitRefusal) (refusal : StepRefusal) → x ≡ units.Stopped refusal → restores.IsUnitRefused e s old new who x → IsHalted s new who refusal
+  restore_halted x refusal is h =
+      let stopped : restores.IsUnitRefused e s old new who (units.Stopped refusal) = subst (restores.IsUnitRefused {S = S} {F = F} {H = H} {T = T} e s old new who) is h in
+      halted s new who refusal stopped.1

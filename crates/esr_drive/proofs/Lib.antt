@@ -1,12 +1,7 @@
 pub mod Going
 pub mod Halting
 pub mod Readers
-pub mod Acting
-pub mod Ends
-pub mod Units
-pub mod Taken
-pub mod Targets
-pub mod Filling
+pub mod Ended
 pub mod Resting
 pub mod Rounds
 pub mod Works

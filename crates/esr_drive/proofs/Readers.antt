@@ -1,237 +1,175 @@
--- What a step leaves of the tickets of restores: a read step changes its own, a take gives one.
-use Rattle.std.proofs.Common.{◌≡◌, ◌≢◌, ℕ, zero, suc, Bool, true, false, Option, Some, None, refl, ap, ◌∙◌, subst}
-use Rattle.std.specs.Prelude.{if◌then◌else◌}
-use Rattle.std.specs.Ordering.{nat_cmp}
+-- What steps leave of the tickets of restores, and that no number is that of two tickets.
+use Rattle.std.proofs.Common.{◌≡◌, ◌≢◌, ◌⊎◌, ℕ, zero, suc, ◌<◌, ◌≤◌, true, false, true≢false, List, [], ◌∷◌, ◌++◌, Option, Some, None, refl, sym, ap, ◌∙◌, subst, inl, inr, ⊎_elim, arith, nat_cmp}
 use Rattle.std.specs.FinMap.{FinMap}
 use Rattle.std.specs.FinMap as fin
-use Rattle.esr_model.specs.Names.{BlobName}
-use Rattle.esr_model.specs.Values.{Bytes, ShardResult, Formats}
+use Rattle.esr_model.specs.Values.{Formats}
 use Rattle.esr_model.specs.Image.{Image}
-use Rattle.esr_core.specs.World.{World, Op, ShardWork, Swap, Ticket, ReadState, Restored, NotRestored, RestoreShard, Restoring, Reader, swap, record_of}
-use Rattle.esr_core.specs.Restores.{restore_shard}
-use Rattle.esr_core.specs.Steps.{noting}
-use Rattle.esr_core.specs.Entry.{Asked, Snapshot, Clone, DeleteSnapshots, Restore, Cleanup, Given, GivenShard, GivenFinalize, GivenDrop, GivenRestore, GivenClone, Read, ReadBlob, RestoredShard, CheckedAll, DrawTest, CommitTest, ReadFails, Step, AskStep, TakeStep, DrawStep, BeginStep, CommitStep, LatestStep, FetchStep, RaiseStep, SettleStep, DoneStep, FailedStep, FinishStep, DroppedStep, ElectStep, ReadStep, DepotFault, Reply, Gave, DrawnFrom, WasDone, WasThere, WasFetched, HasEnded, Refusal, Refused, AcceptedRestore, Moment, PruneStep}
-use Rattle.esr_core.specs.After.{asked, taken_shard, taken_restore_shard, taken_restore, taken_by, read_told, shard_over, read_over, read_step, read_by, test_left, shard_of, with_given, committing, told_blob, fetching, settled_by, settled_of, done_by, done_of, is_stale, failed_by, failed_of, dropped_of, done_step, has_text, fallen, is_latest, faulted, answered, after}
-use Rattle.esr_core.proofs.AskedDeletes.{delete_leaves}
-use Rattle.esr_core.proofs.PruneFrames.{prune_stays, prune_fault_stays}
+use Rattle.esr_core.specs.World.{World, Reader, Ticket}
+use Rattle.esr_core.specs.Entry.{Step, TakeStep, Reply, Refusal, Refused, Moment}
+use Rattle.esr_core.specs.After.{answered, after}
+use Rattle.esr_core.specs.Allowed.{Blocks, ByFailedSwap, ByDelete, IsBlocked, Allowed}
+use Rattle.esr_core.specs.Changes.{StepChange, NoChange, NewOp, NewDeletion, MergedDeletion, NewRestore, NewTicket, NewReader, OwnTicket, Settlement, UnitEnd, DeletionFailure, OpDrop, Election, ReaderFetch, ReaderEnd, PlainDraw, TestBlob, SwapFault, IsReaders, IsUnits, Maker, ClientStep, ReaderStep, UnitStep}
+use Rattle.esr_core.specs.History.{world_from, IsLegal}
+use Rattle.esr_core.specs.Tracked.{Tracked}
+use Rattle.esr_core.specs.ReadTracked.{ReadTracked}
 use Rattle.esr_core.proofs.Queues.{other_in}
-
-abbrev pub Readers : Type 0
-Readers = FinMap nat_cmp Reader
+use Rattle.esr_desk.specs.Start.{Start, Legal, formats_of, world_of, or_no_ticket, ticket_of}
+use Rattle.esr_desk.specs.Own.{or_no_reader, reader_of}
+use Rattle.esr_desk.specs.Grew.{AllOf, GrewBy}
+use Rattle.esr_drive.specs.Laws.{Laws}
 
 abbrev pub held : World → ℕ → Option Reader
-held w q = fin.get w.readers q
+held w k = fin.get w.readers k
 
--- ---- steps that leave all of them
+pub same_or_not : (a b : ℕ) → (a ≡ b) ⊎ (a ≢ b)
+same_or_not zero zero = inl refl
+same_or_not zero (suc b) = inr (λ (e : zero ≡ suc b). omega (arith, e))
+same_or_not (suc a) zero = inr (λ (e : suc a ≡ zero). omega (arith, e))
+same_or_not (suc a) (suc b) = ⊎_elim (λ e. inl (ap suc e)) (λ n. inr (λ (e : suc a ≡ suc b). n (omega (arith, e)))) (same_or_not a b)
 
-same_change : (w : World) (k : ℕ) (g : Ticket → Ticket) (o : Option Ticket) → (with_given w k g o).readers ≡ w.readers
-same_change w k g None = refl
-same_change w k g (Some t) = refl
+some_none : {A : Type 0} (x : A) → Some x ≡ None → ⊥
+some_none x e = cc
 
-same_asked : (w : World) (command : Asked) → (asked w command).readers ≡ w.readers
-same_asked w (Snapshot name indices moment) = refl
-same_asked w (Clone source name indices moment None) = refl
-same_asked w (Clone source name indices moment (Some taken)) = refl
-same_asked w (DeleteSnapshots names) = ap (λ (x : World). x.readers) (delete_leaves w names)
-same_asked w command = refl
+-- ---- histories
 
-same_settled_by : (f : Formats) (w : World) (k : ℕ) (t : Ticket) (s : Option Swap) (n : Option ℕ) → (settled_by f w k t s n).readers ≡ w.readers
-same_settled_by f w k t (Some s) (Some n) = refl
-same_settled_by f w k t (Some s) None = refl
-same_settled_by f w k t None n = refl
+pub world_both : (f : Formats) (a b : List Moment) (w : World) → world_from f w (a ++ b) ≡ world_from f (world_from f w a) b
+world_both f [] b w = refl
+world_both f (m ∷ a) b w = world_both f a b (after f w m)
 
-same_settled : (f : Formats) (w : World) (k : ℕ) (o : Option Ticket) → (settled_of f w k o).readers ≡ w.readers
-same_settled f w k None = refl
-same_settled f w k (Some t) = same_settled_by f w k t (swap f t) t.raised
+pub legal_rest : (f : Formats) (size : ℕ) (a b : List Moment) (w : World) → IsLegal f size w (a ++ b) → IsLegal f size (world_from f w a) b
+legal_rest f size [] b w h = h
+legal_rest f size (m ∷ a) b w h = legal_rest f size a b (after f w m) h.1
 
-same_done_by : (w : World) (k : ℕ) (r : ShardResult) (t : Ticket) (op : Option Op) → (done_by w k r t op).readers ≡ w.readers
-same_done_by w k r t None = refl
-same_done_by w k r t (Some op) = refl
+-- ---- a step that takes nothing
 
-same_done : (w : World) (k : ℕ) (r : ShardResult) (o : Option Ticket) → (done_of w k r o).readers ≡ w.readers
-same_done w k r None = refl
-same_done w k r (Some t) = same_done_by w k r t (fin.get w.ops t.op)
+own_aside : (w : World) (who k : ℕ) (q v : Reader) → held w who ≡ Some q → (k ≡ who → held w k ≡ None) → fin.get (fin.insert w.readers who v) k ≡ held w k
+own_aside w who k q v there none = elim (same_or_not k who) [
+  | inl e ↦ absurd (some_none q (sym there ∙ ap (held w) (sym e) ∙ none e))
+  | inr apart ↦ other_in w.readers who v k apart
+]
 
-same_failed_by : (w : World) (k : ℕ) (t : Ticket) (op : Option Op) → (failed_by w k t op).readers ≡ w.readers
-same_failed_by w k t None = refl
-same_failed_by w k t (Some op) = refl
+-- it leaves the tickets of restores but its own, and gives none to who has none
+readers_left : (f : Formats) (w : World) (who : ℕ) (step : Step) (new : World) (k : ℕ) → StepChange f w who step new → step ≢ TakeStep → (k ≡ who → held w k ≡ None) → held new k ≡ held w k
+readers_left f w who step _ k NoChange takes none = refl
+readers_left f w who step _ k (NewOp asks op completed next_id is up) takes none = refl
+readers_left f w who step _ k (NewDeletion asks now x aborts clean) takes none = refl
+readers_left f w who step _ k (MergedDeletion asks now d x v aborts there clean failed) takes none = refl
+readers_left f w who step _ k (NewRestore asks r) takes none = refl
+readers_left f w who step _ k (NewTicket is t new now same) takes none = refl
+readers_left f w who step _ k (NewReader is o r s there) takes none = absurd (takes is)
+readers_left f w who step _ k (OwnTicket t v there same settled next_id pending up more) takes none = refl
+readers_left f w who step _ k (Settlement settles t s n names there is raised) takes none = refl
+readers_left f w who step _ k (UnitEnd t op v completed there op_there same) takes none = refl
+readers_left f w who step _ k (DeletionFailure t x there x_there) takes none = refl
+readers_left f w who step _ k (OpDrop is t there) takes none = refl
+readers_left f w who step _ k (Election is) takes none = refl
+readers_left f w who step _ k (ReaderFetch q name bytes there) takes none = own_aside w who k q _ there none
+readers_left f w who step _ k (ReaderEnd q r state there r_there) takes none = own_aside w who k q _ there none
+readers_left f w who step _ k (PlainDraw next_id pending up more) takes none = refl
+readers_left f w who step _ k (TestBlob name is) takes none = refl
+readers_left f w who step _ k (SwapFault swaps up change) takes none = readers_left f w who step up k change takes none
 
-same_either : (r : Readers) (a b : World) (first : Bool) → a.readers ≡ r → b.readers ≡ r → (if first then a else b).readers ≡ r
-same_either r a b true of_a of_b = of_a
-same_either r a b false of_a of_b = of_b
+block_same : (f : Formats) (w : World) (who : ℕ) (step : Step) (refusal : Refusal) (image : Option Image) → Blocks w who step refusal → (answered f w who step (Refused refusal) image).readers ≡ w.readers
+block_same f w who step _ image (ByFailedSwap place deposed) = refl
+block_same f w who step _ image (ByDelete by alive aborted) = refl
 
-same_failed : (w : World) (k : ℕ) (o : Option Ticket) → (failed_of w k o).readers ≡ w.readers
-same_failed w k None = refl
-same_failed w k (Some t) = same_either w.readers _ (failed_by w k t (fin.get w.ops t.op)) (is_stale w t t.work) refl (same_failed_by w k t (fin.get w.ops t.op))
+blocked_same : (f : Formats) (w : World) (m : Moment) → IsBlocked w m → (after f w m).readers ≡ w.readers
+blocked_same f w m b = ap (λ (r : Reply). (answered f w m.entry.who m.entry.step r m.image).readers) b.refused ∙ block_same f w m.entry.who m.entry.step b.refusal m.image b.blocks
 
-same_dropped : (w : World) (k : ℕ) (o : Option Ticket) → (dropped_of w k o).readers ≡ w.readers
-same_dropped w k None = refl
-same_dropped w k (Some t) = refl
+-- a ticket takes nothing
+no_take : (w : World) (who : ℕ) (step : Step) → who ≢ 0 → Maker w who step → step ≢ TakeStep
+no_take w who step some (ClientStep zero_is clients) takes = some zero_is
+no_take w who step some (ReaderStep q reading readers) takes = subst IsReaders takes readers
+no_take w who step some (UnitStep t out units) takes = subst IsUnits takes units
 
--- neither a unit is given nor anything read
-abbrev pub IsOther : Step → Reply → Type 0
-IsOther TakeStep (Gave ticket op unit) = ⊥
-IsOther (ReadStep read) reply = ⊥
-IsOther step reply = Unit {0}
+module _ (laws : Laws) (f : Formats) (size : ℕ) where
+  ticket_left : (w : World) (m : Moment) (who k : ℕ) → Allowed f size w m → m.entry.who ≡ who → who ≢ 0 → (k ≡ who → held w k ≡ None) → held (after f w m) k ≡ held w k
+  ticket_left w m who k a own some none = elim (laws.maker f size w m a) [
+    | inl by ↦ readers_left f w m.entry.who m.entry.step (answered f w m.entry.who m.entry.step m.entry.reply m.image) k (laws.change f w m.entry.who m.entry.step m.entry.reply m.image)
+        (no_take w m.entry.who m.entry.step (λ e. some (sym own ∙ e)) by) (λ e. none (e ∙ own))
+    | inr blocked ↦ ap (λ (r : FinMap nat_cmp Reader). fin.get r k) (blocked_same f w m blocked)
+  ]
 
-pub same_step : (f : Formats) (w : World) (k : ℕ) (step : Step) (reply : Reply) (image : Option Image) → IsOther step reply → (done_step f w k step reply image).readers ≡ w.readers
-same_step f w k (AskStep (Snapshot name indices moment)) reply image other = same_asked w (Snapshot name indices moment)
-same_step f w k (AskStep (Clone source name indices moment taken)) reply image other = same_asked w (Clone source name indices moment taken)
-same_step f w k (AskStep (DeleteSnapshots names)) reply image other = same_asked w (DeleteSnapshots names)
-same_step f w k (AskStep (Restore name place)) (AcceptedRestore o uuid indices) image other = refl
-same_step f w k TakeStep (Gave ticket op unit) image other = absurd other
-same_step f w k (DrawStep n) reply image other = same_change w k (λ t. record t { first = w.next_id; drawn = n }) (fin.get w.tickets k)
-same_step f w k (CommitStep name) WasDone image other = same_change w k (committing name (told_blob f image name)) (fin.get w.tickets k)
-same_step f w k (CommitStep name) WasThere image other = same_change w k (λ t. noting t name) (fin.get w.tickets k)
-same_step f w k LatestStep reply image other = same_change w k (λ t. record t { tried_latest = true }) (fin.get w.tickets k)
-same_step f w k (FetchStep name) WasFetched image other = same_change w k (fetching name (told_blob f image name)) (fin.get w.tickets k)
-same_step f w k RaiseStep reply image other = same_change w k (λ t. record t { raised = Some w.pending }) (fin.get w.tickets k)
-same_step f w k SettleStep reply image other = same_settled f w k (fin.get w.tickets k)
-same_step f w k (DoneStep result) reply image other = same_done w k result (fin.get w.tickets k)
-same_step f w k (FailedStep why) reply image other = same_failed w k (fin.get w.tickets k)
-same_step f w k FinishStep reply image other = same_change w k (λ t. record t { out = false }) (fin.get w.tickets k)
-same_step f w k DroppedStep reply image other = same_dropped w k (fin.get w.tickets k)
-same_step f w k ElectStep reply image other = refl
-same_step f w k (ReadStep read) reply image other = absurd other
-same_step f w k (PruneStep prune) reply image other = (prune_stays f w k prune reply image).readers
-same_step f w k step reply image other = refl
+  -- steps of a ticket
+  pub readers_stay : (more : List Moment) (w : World) (who k : ℕ) → IsLegal f size w more → AllOf who more → who ≢ 0 → (k ≡ who → held w k ≡ None) → held (world_from f w more) k ≡ held w k
+  readers_stay [] w who k legal own some none = refl
+  readers_stay (m ∷ more) w who k legal own some none =
+      let first : held (after f w m) k ≡ held w k = ticket_left w m who k legal.0 own.0 some none in
+      readers_stay more (after f w m) who k legal.1 own.1 some (λ e. first ∙ none e) ∙ first
 
--- ---- a step that failed
+  -- a ticket of another unit comes under a new number alone
+  none_after : (w : World) (m : Moment) (k : ℕ) → k < w.next_ticket → fin.get w.tickets k ≡ None → fin.get (after f w m).tickets k ≡ None
+  none_after w m k below none = go (fin.get (after f w m).tickets k) refl
+    where
+      go : (o : Option Ticket) → fin.get (after f w m).tickets k ≡ o → fin.get (after f w m).tickets k ≡ None
+      go None e = e
+      go (Some v) e = elim ((laws.frame f w m).come k v e) [
+        | inl was ↦ absurd (some_none was.0 (sym was.1 ∙ none))
+        | inr new ↦ let low : k < w.next_ticket = below in let is : k ≡ w.next_ticket = new.0 in absurd (omega (arith, low, is))
+      ]
 
-same_tried : (w : World) (k : ℕ) → (with_given w k (λ t. record t { tried_latest = true }) (fin.get w.tickets k)).readers ≡ w.readers
-same_tried w k = same_change w k (λ t. record t { tried_latest = true }) (fin.get w.tickets k)
+  none_from : (log : List Moment) (w : World) (k : ℕ) → k < w.next_ticket → fin.get w.tickets k ≡ None → fin.get (world_from f w log).tickets k ≡ None
+  none_from [] w k below none = none
+  none_from (m ∷ log) w k below none =
+      let low : k < w.next_ticket = below in
+      let up : w.next_ticket ≤ (after f w m).next_ticket = (laws.frame f w m).next_ticket in
+      none_from log (after f w m) k (omega (arith, low, up)) (none_after w m k below none)
 
-same_fallen : (f : Formats) (w up : World) (image : Option Image) → up.readers ≡ w.readers → (fallen f w up image).readers ≡ w.readers
-same_fallen f w up image same = same_either w.readers up w (has_text image (f.cluster.text (record_of up))) same refl
+-- ---- no number is that of a restore's ticket and of another unit's
 
-same_left : (w : World) (name : BlobName) (was now : Option Bytes) → (test_left w name was now).readers ≡ w.readers
-same_left w name None (Some b) = refl
-same_left w name None None = refl
-same_left w name (Some b) now = refl
+ticket_there : (o : Option Ticket) → (or_no_ticket o).out ≡ true → (t : Ticket) × (o ≡ Some t)
+ticket_there None out = absurd (true≢false (sym out))
+ticket_there (Some t) out = (t, refl)
 
-same_fault : (f : Formats) (w : World) (k : ℕ) (step : Step) (image : Option Image) → (faulted f w k step image).readers ≡ w.readers
-same_fault f w k LatestStep image = same_tried w k
-same_fault f w k (BeginStep name) image = same_either w.readers _ w (is_latest name) (same_tried w k) refl
-same_fault f w k (ReadStep (CommitTest name)) image = same_left w name (fin.get w.blobs (f.names.text name)) (told_blob f image name)
-same_fault f w k (AskStep (Snapshot name indices moment)) image = same_fallen f w _ image (same_step f w k (AskStep (Snapshot name indices moment)) HasEnded image tt)
-same_fault f w k (AskStep (Clone source name indices moment taken)) image = same_fallen f w (asked w (Clone source name indices moment taken)) image (same_asked w (Clone source name indices moment taken))
-same_fault f w k (AskStep (DeleteSnapshots names)) image = same_fallen f w (asked w (DeleteSnapshots names)) image (same_step f w k (AskStep (DeleteSnapshots names)) HasEnded image tt)
-same_fault f w k (AskStep (Restore name place)) image = refl
-same_fault f w k (AskStep Cleanup) image = same_fallen f w w image refl
-same_fault f w k RaiseStep image = same_fallen f w _ image (same_step f w k RaiseStep HasEnded image tt)
-same_fault f w k SettleStep image = same_fallen f w _ image (same_step f w k SettleStep HasEnded image tt)
-same_fault f w k DroppedStep image = same_fallen f w _ image (same_step f w k DroppedStep HasEnded image tt)
-same_fault f w k (PruneStep prune) image = (prune_fault_stays f w k prune image).readers
-same_fault f w k ElectStep image = same_fallen f w _ image (same_step f w k ElectStep HasEnded image tt)
-same_fault f w k step image = refl
+reader_there : (o : Option Reader) → (or_no_reader o).out ≡ true → (q : Reader) × (o ≡ Some q)
+reader_there None out = absurd (true≢false (sym out))
+reader_there (Some q) out = (q, refl)
 
-pub same_refused : (f : Formats) (w : World) (k : ℕ) (step : Step) (refusal : Refusal) (image : Option Image) → (answered f w k step (Refused refusal) image).readers ≡ w.readers
-same_refused f w k step DepotFault image = same_fault f w k step image
-same_refused f w k step refusal image = refl
+no_reader_by : (w : World) (k : ℕ) (t : Ticket) → ReadTracked w → fin.get w.tickets k ≡ Some t → (o : Option Reader) → held w k ≡ o → held w k ≡ None
+no_reader_by w k t l there None is = is
+no_reader_by w k t l there (Some q) is = absurd (l.apart.tickets k q t is there)
 
--- ---- a take
+no_ticket_by : (w : World) (k : ℕ) (q : Reader) → ReadTracked w → held w k ≡ Some q → (o : Option Ticket) → fin.get w.tickets k ≡ o → fin.get w.tickets k ≡ None
+no_ticket_by w k q l there None is = is
+no_ticket_by w k q l there (Some t) is = absurd (l.apart.tickets k q t there is)
 
-given_shard : (w : World) (o : ℕ) (op : Op) (base : Option ℕ) (s : Option ShardWork) → (taken_shard w o op base s).readers ≡ w.readers
-given_shard w o op base None = refl
-given_shard w o op base (Some s) = refl
+-- who 0 has none
+zero_reader : (w : World) → ReadTracked w → (o : Option Reader) → held w 0 ≡ o → held w 0 ≡ None
+zero_reader w l None is = is
+zero_reader w l (Some q) is = let some : 1 ≤ 0 = (l.tracked.tickets 0 q is).0 in absurd (omega (arith, some))
 
-given_restore_shard : (w : World) (o : ℕ) (r : Restoring) (s : Option RestoreShard) (q : ℕ) → q ≢ w.next_ticket → held (taken_restore_shard w o r s) q ≡ held w q
-given_restore_shard w o r None q apart = refl
-given_restore_shard w o r (Some s) q apart = other_in w.readers w.next_ticket _ q apart
+module _ (laws : Laws) (s : Start) (tracked : ReadTracked s.world) (ops : Tracked s.world) where
+  abbrev f : Formats
+  f = formats_of s
 
-given_restore : (w : World) (o index number : ℕ) (r : Option Restoring) (q : ℕ) → q ≢ w.next_ticket → held (taken_restore w o index number r) q ≡ held w q
-given_restore w o index number None q apart = refl
-given_restore w o index number (Some r) q apart = given_restore_shard w o r (restore_shard r.shards index number) q apart
+  reads_at : (log : List Moment) → Legal s log → ReadTracked (world_of s log)
+  reads_at log legal = laws.reads f s.part_size s.world log ops tracked legal
 
-pub others_taken : (f : Formats) (w : World) (o : ℕ) (unit : Given) (op : Option Op) (q : ℕ) → q ≢ w.next_ticket → held (taken_by f w o unit op) q ≡ held w q
-others_taken f w o (GivenShard index number base) (Some op) q apart = ap (λ (m : Readers). fin.get m q) (given_shard w o op base (shard_of op.shards index number))
-others_taken f w o (GivenShard index number base) None q apart = refl
-others_taken f w o (GivenClone index number source base) (Some op) q apart = ap (λ (m : Readers). fin.get m q) (given_shard w o op base (shard_of op.shards index number))
-others_taken f w o (GivenClone index number source base) None q apart = refl
-others_taken f w o (GivenFinalize info results) (Some op) q apart = refl
-others_taken f w o (GivenFinalize info results) None q apart = refl
-others_taken f w o GivenDrop op q apart = refl
-others_taken f w o (GivenRestore index number uuid) op q apart = given_restore w o index number (fin.get w.restores o) q apart
-others_taken f w o unit op q apart = refl
+  pub no_reader_zero : (log : List Moment) → Legal s log → held (world_of s log) 0 ≡ None
+  no_reader_zero log legal = zero_reader (world_of s log) (reads_at log legal) (held (world_of s log) 0) refl
 
--- ---- steps that read: each leaves all but its own
+  -- a ticket's steps leave the restores' tickets but its own
+  pub readers_by : (who : ℕ) (old new : List Moment) (k : ℕ) → Legal s old → s.alone ≡ true → who ≢ 0 → GrewBy s who old new → (k ≡ who → held (world_of s old) k ≡ None) → held (world_of s new) k ≡ held (world_of s old) k
+  readers_by who old new k legal alone some g none =
+      ap (λ (log : List Moment). held (world_of s log) k) g.is
+      ∙ ap (λ (w : World). held w k) (world_both f old g.more s.world)
+      ∙ readers_stay laws f s.part_size g.more (world_of s old) who k (legal_rest f s.part_size old g.more s.world (subst (Legal s) g.is (g.legal legal))) (g.own alone) some none
 
-others_told : (w : World) (k : ℕ) (name : BlobName) (bytes : Option Bytes) (reader : Option Reader) (q : ℕ) → q ≢ k → held (read_told w k name bytes reader) q ≡ held w q
-others_told w k name bytes None q apart = refl
-others_told w k name None (Some reader) q apart = refl
-others_told w k name (Some b) (Some reader) q apart = other_in w.readers k _ q apart
+  -- the unit of an op: none is a restore's
+  pub no_reader : (who : ℕ) (old new : List Moment) → Legal s old → s.alone ≡ true → who ≢ 0 → GrewBy s who old new → (ticket_of s old who).out ≡ true → (reader_of s new who).out ≡ false
+  no_reader who old new legal alone some g out =
+      let w : World = world_of s old in
+      let t = ticket_there (fin.get w.tickets who) out in
+      let none : held w who ≡ None = no_reader_by w who t.0 (reads_at old legal) t.1 (held w who) refl in
+      ap (λ (o : Option Reader). (or_no_reader o).out) (readers_by who old new who legal alone some g (λ e. none) ∙ none)
 
-others_over_shard : (w : World) (k : ℕ) (state : ReadState) (reader : Reader) (r : Option Restoring) (q : ℕ) → q ≢ k → held (shard_over w k state reader r) q ≡ held w q
-others_over_shard w k state reader None q apart = refl
-others_over_shard w k state reader (Some r) q apart = other_in w.readers k _ q apart
-
-others_over : (w : World) (k : ℕ) (state : ReadState) (reader : Option Reader) (q : ℕ) → q ≢ k → held (read_over w k state reader) q ≡ held w q
-others_over w k state None q apart = refl
-others_over w k state (Some reader) q apart = others_over_shard w k state reader (fin.get w.restores reader.op) q apart
-
-others_read : (f : Formats) (w : World) (k : ℕ) (read : Read) (reply : Reply) (image : Option Image) (q : ℕ) → q ≢ k → held (read_step f w k read reply image) q ≡ held w q
-others_read f w k (ReadBlob name) WasFetched image q apart = others_told w k name (told_blob f image name) (fin.get w.readers k) q apart
-others_read f w k (ReadBlob name) reply image q apart = refl
-others_read f w k (RestoredShard files bytes) reply image q apart = others_over w k (Restored files bytes) (fin.get w.readers k) q apart
-others_read f w k (CheckedAll snapshots blobs) reply image q apart = refl
-others_read f w k (ReadFails why) reply image q apart = others_over w k (NotRestored why) (fin.get w.readers k) q apart
-others_read f w k read reply image q apart = refl
-
-others_read_by : (f : Formats) (w : World) (k : ℕ) (read : Read) (reply : Reply) (image : Option Image) (q : ℕ) → q ≢ k → held (read_by f w k read reply image) q ≡ held w q
-others_read_by f w zero DrawTest (DrawnFrom first) image q apart = refl
-others_read_by f w zero (CommitTest name) WasDone image q apart = refl
-others_read_by f w zero read reply image q apart = refl
-others_read_by f w (suc k) read reply image q apart = others_read f w (suc k) read reply image q apart
-
--- ... and its own, where it has none
-none_told : (w : World) (k : ℕ) (name : BlobName) (bytes : Option Bytes) (reader : Option Reader) → reader ≡ None → (read_told w k name bytes reader).readers ≡ w.readers
-none_told w k name bytes reader none = ap (λ (o : Option Reader). (read_told w k name bytes o).readers) none
-
-none_over : (w : World) (k : ℕ) (state : ReadState) (reader : Option Reader) → reader ≡ None → (read_over w k state reader).readers ≡ w.readers
-none_over w k state reader none = ap (λ (o : Option Reader). (read_over w k state o).readers) none
-
-none_read : (f : Formats) (w : World) (k : ℕ) (read : Read) (reply : Reply) (image : Option Image) → held w k ≡ None → (read_step f w k read reply image).readers ≡ w.readers
-none_read f w k (ReadBlob name) WasFetched image none = none_told w k name (told_blob f image name) (fin.get w.readers k) none
-none_read f w k (ReadBlob name) reply image none = refl
-none_read f w k (RestoredShard files bytes) reply image none = none_over w k (Restored files bytes) (fin.get w.readers k) none
-none_read f w k (CheckedAll snapshots blobs) reply image none = refl
-none_read f w k (ReadFails why) reply image none = none_over w k (NotRestored why) (fin.get w.readers k) none
-none_read f w k read reply image none = refl
-
-none_read_by : (f : Formats) (w : World) (k : ℕ) (read : Read) (reply : Reply) (image : Option Image) → held w k ≡ None → (read_by f w k read reply image).readers ≡ w.readers
-none_read_by f w zero DrawTest (DrawnFrom first) image none = refl
-none_read_by f w zero (CommitTest name) WasDone image none = refl
-none_read_by f w zero read reply image none = refl
-none_read_by f w (suc k) read reply image none = none_read f w (suc k) read reply image none
-
--- ---- all steps
-
--- it gives no unit
-abbrev pub GivesNone : Reply → Type 0
-GivesNone reply = (ticket op : ℕ) (unit : Given) → reply ≢ Gave ticket op unit
-
-others_step : (f : Formats) (w : World) (k : ℕ) (step : Step) (reply : Reply) (image : Option Image) (q : ℕ) → q ≢ k → GivesNone reply → held (done_step f w k step reply image) q ≡ held w q
-others_step f w k TakeStep (Gave ticket op unit) image q apart none = absurd (none ticket op unit refl)
-others_step f w k (ReadStep read) reply image q apart none = others_read_by f w k read reply image q apart
-others_step f w k step reply image q apart none = ap (λ (m : Readers). fin.get m q) (same_step f w k step reply image tt)
-
-others_answered : (f : Formats) (w : World) (k : ℕ) (step : Step) (reply : Reply) (image : Option Image) (q : ℕ) → q ≢ k → GivesNone reply → held (answered f w k step reply image) q ≡ held w q
-others_answered f w k step (Refused refusal) image q apart none = ap (λ (m : Readers). fin.get m q) (same_refused f w k step refusal image)
-others_answered f w k step reply image q apart none = others_step f w k step reply image q apart none
-
-pub others_after : (f : Formats) (w : World) (m : Moment) (q : ℕ) → q ≢ m.entry.who → GivesNone m.entry.reply → held (after f w m) q ≡ held w q
-others_after f w m q apart none = others_answered f w m.entry.who m.entry.step m.entry.reply m.image q apart none
-
-none_step : (f : Formats) (w : World) (k : ℕ) (step : Step) (reply : Reply) (image : Option Image) → held w k ≡ None → GivesNone reply → held (done_step f w k step reply image) k ≡ None
-none_step f w k TakeStep (Gave ticket op unit) image none given = absurd (given ticket op unit refl)
-none_step f w k (ReadStep read) reply image none given = ap (λ (m : Readers). fin.get m k) (none_read_by f w k read reply image none) ∙ none
-none_step f w k step reply image none given = ap (λ (m : Readers). fin.get m k) (same_step f w k step reply image tt) ∙ none
-
-none_answered : (f : Formats) (w : World) (k : ℕ) (step : Step) (reply : Reply) (image : Option Image) → held w k ≡ None → GivesNone reply → held (answered f w k step reply image) k ≡ None
-none_answered f w k step (Refused refusal) image none given = ap (λ (m : Readers). fin.get m k) (same_refused f w k step refusal image) ∙ none
-none_answered f w k step reply image none given = none_step f w k step reply image none given
-
--- who has none gets none by its own steps
-pub none_after : (f : Formats) (w : World) (m : Moment) (k : ℕ) → m.entry.who ≡ k → held w k ≡ None → GivesNone m.entry.reply → held (after f w m) k ≡ None
-none_after f w m k own none given =
-    subst (λ (j : ℕ). held (after f w m) j ≡ None) own (none_answered f w m.entry.who m.entry.step m.entry.reply m.image (ap (held w) own ∙ none) given)
+  -- the unit of a restore: none is another's
+  pub no_ticket : (who : ℕ) (old new : List Moment) → Legal s old → GrewBy s who old new → (reader_of s old who).out ≡ true → (ticket_of s new who).out ≡ false
+  no_ticket who old new legal g out =
+      let w : World = world_of s old in
+      let l : ReadTracked w = reads_at old legal in
+      let q = reader_there (held w who) out in
+      let none : fin.get w.tickets who ≡ None = no_ticket_by w who q.0 l q.1 (fin.get w.tickets who) refl in
+      ap (λ (log : List Moment). (ticket_of s log who).out) g.is
+      ∙ ap (λ (x : World). (or_no_ticket (fin.get x.tickets who)).out) (world_both f old g.more s.world)
+      ∙ ap (λ (o : Option Ticket). (or_no_ticket o).out) (none_from laws f s.part_size g.more w who (l.tracked.tickets who q.0 q.1).1 none)

@@ -1,6 +1,5 @@
 pub mod Stopped
-pub mod Restored
-pub mod Filled
+pub mod Outside
 pub mod Over
 pub mod Works
 pub mod Takes

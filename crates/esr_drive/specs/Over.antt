@@ -2,7 +2,7 @@
 use Rattle.std.specs.Prelude.{◌≡◌, ℕ, false, List}
 use Rattle.esr_core.specs.Entry.{Moment}
 use Rattle.esr_desk.specs.Start.{Start, ticket_of}
-use Rattle.esr_desk.specs.Readers.{reader_of}
+use Rattle.esr_desk.specs.Own.{reader_of}
 
 -- no ticket of a restore is out
 abbrev pub NoReaderOut : Start → List Moment → Type 0

@@ -1,21 +1,27 @@
 -- Why the work stopped before all units were done.
-use Rattle.std.specs.Prelude.{◌≡◌, ◌≢◌, ◌⊎◌, ℕ, false, List, Result, Ok, Err}
+use Rattle.std.specs.Prelude.{◌≡◌, ◌≢◌, ◌⊎◌, ℕ, Bool, true, false, List, Result, Ok, Err}
 use Rattle.esr_core.specs.World.{Ticket}
-use Rattle.esr_core.specs.Entry.{SettlePruned, Step, TakeStep, RaiseStep, SettleStep, DroppedStep, PruneStep, Refusal, DeposedAt, StaleTerm, DepotFault, Refused, Moment}
+use Rattle.esr_core.specs.Entry.{SettlePruned, Step, TakeStep, SettleStep, DroppedStep, PruneStep, Refusal, DeposedAt, DepotFault, Refused, Moment}
 use Rattle.esr_progress.specs.declared.unit.Work.{Work}
 use Rattle.esr_progress.specs.declared.unit.Work.TheVariants as works
+use Rattle.esr_desk.specs.declared.refusal.EntryRefusal.TheVariants as refusals
 use Rattle.esr_desk.specs.declared.refusal.StepRefusal.{StepRefusal}
+use Rattle.esr_desk.specs.declared.refusal.StepRefusal.TheVariants as steps
 use Rattle.esr_desk.specs.declared.unit.UnitRefusal.{UnitRefusal}
 use Rattle.esr_desk.specs.declared.unit.UnitRefusal.TheVariants as units
-use Rattle.esr_desk.specs.declared.refusal.StepRefusal.TheVariants as steps
 use Rattle.esr_desk.specs.Refusals.{refusal_of}
 use Rattle.esr_desk.specs.Start.{Start}
-use Rattle.esr_desk.specs.Outcome.{Spends}
+use Rattle.esr_desk.specs.Outcome.{Grounds}
 use Rattle.esr_desk.specs.Last.{IsLast}
 
 abbrev pub IsDrop : Work → Type 0
 IsDrop works.Drop = Unit {0}
 IsDrop work = ⊥
+
+-- the step was refused, as the term of its ticket is over
+abbrev pub is_late : StepRefusal → Bool
+is_late (steps.Refused (refusals.StaleTerm own now)) = true
+is_late refusal = false
 
 -- which refusals of a step stop the work
 pub data StopsWork : Step → Refusal → Type 0 where
@@ -25,31 +31,29 @@ pub data StopsWork : Step → Refusal → Type 0 where
   SettleFell : StopsWork SettleStep DepotFault
   DropFell : StopsWork DroppedStep DepotFault
   DeleteFell : StopsWork (PruneStep SettlePruned) DepotFault
-  -- the term of the ticket is over
-  RaiseLate : (own now : ℕ) → StopsWork RaiseStep (StaleTerm own now)
-  SettleLate : (own now : ℕ) → StopsWork SettleStep (StaleTerm own now)
-  DropLate : (own now : ℕ) → StopsWork DroppedStep (StaleTerm own now)
-  DeleteLate : (own now : ℕ) → StopsWork (PruneStep SettlePruned) (StaleTerm own now)
 
 -- memory was wanting, or turns were spent; or the last step, which is of this ticket, was refused so that the work stops
 abbrev pub IsHalted : Start → List Moment → ℕ → StepRefusal → Type 0
 IsHalted s log who steps.Memory = Unit {0}
-IsHalted s log who steps.TurnsSpent = Spends s log steps.TurnsSpent
+IsHalted s log who steps.TurnsSpent = Grounds s log who steps.TurnsSpent
 IsHalted s log who (steps.Refused refusal) = (step : Step) × IsLast log who step (Refused (refusal_of refusal)) × StopsWork step (refusal_of refusal)
 
--- the unit was stopped so, if it didn't end as failed
+-- the unit was stopped so, if its ticket didn't end
 abbrev pub IsUnitStopped : Start → List Moment → ℕ → UnitRefusal → Type 0
-IsUnitStopped s log who (units.Failed why) = Unit {0}
 IsUnitStopped s log who (units.Stopped refusal) = IsHalted s log who refusal
+IsUnitStopped s log who refusal = Unit {0}
 
 -- the unit's ticket has ended, if the unit wasn't stopped
+abbrev pub EndedBy : UnitRefusal → Ticket → Type 0
+EndedBy (units.Stopped refusal) t = Unit {0}
+EndedBy refusal t = t.out ≡ false
+
 abbrev pub HasEnded : Result Unit UnitRefusal → Ticket → Type 0
 HasEnded (Ok x) t = t.out ≡ false
-HasEnded (Err (units.Failed why)) t = t.out ≡ false
-HasEnded (Err (units.Stopped refusal)) t = Unit {0}
+HasEnded (Err refusal) t = EndedBy refusal t
 
 -- the same of any unit's ticket, or of a take
 abbrev pub IsStopped : Start → List Moment → StepRefusal → Type 0
 IsStopped s log steps.Memory = Unit {0}
-IsStopped s log steps.TurnsSpent = Spends s log steps.TurnsSpent
+IsStopped s log steps.TurnsSpent = Grounds s log 0 steps.TurnsSpent
 IsStopped s log (steps.Refused refusal) = (who : ℕ) × (step : Step) × IsLast log who step (Refused (refusal_of refusal)) × StopsWork step (refusal_of refusal) × ((who ≢ 0) ⊎ (step ≡ TakeStep))

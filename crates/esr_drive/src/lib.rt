@@ -2,9 +2,7 @@
 #![tactic(auto)]
 
 mod law;
-mod restored;
 mod unit;
 mod worker;
 
-pub use restored::{RestoredTarget, RestoredTargets, Worked};
 pub use worker::work;

@@ -1,42 +1,76 @@
 //! One unit.
-ghost use Rattle.std.specs.Prelude.{◌≡◌, ◌≤◌, ◌^◌, true, false, IfErr, OnOk};
+ghost use Rattle.std.specs.Prelude.{◌≡◌, ◌≤◌, ◌^◌, [], true, IfErr, OnOk};
+ghost use Rattle.esr_core.specs.World.{Drop as DropWork};
 ghost use Rattle.esr_core.specs.Tracked.{Tracked};
 ghost use Rattle.esr_core.specs.ReadTracked.{ReadTracked};
-ghost use Rattle.esr_desk.specs.Once.{HasMadeNone};
-ghost use Rattle.esr_desk.specs.Taken.{Took};
-ghost use Rattle.esr_desk.specs.Readers.{TookRestore, TookUnit};
-ghost use Rattle.esr_desk.specs.Start.{Legal, ticket_of};
-ghost use Rattle.esr_desk.specs.Sources.{AreSources};
+ghost use Rattle.esr_desk.specs.Calls.{HasTaken};
+ghost use Rattle.esr_desk.specs.Conditions.{CanFinish};
 ghost use Rattle.esr_desk.specs.Grew.{GrewBy};
-ghost use Rattle.esr_drive.specs.Stopped.{IsDrop, IsHalted, IsUnitStopped, HasEnded};
+ghost use Rattle.esr_desk.specs.Own.{made_of};
+ghost use Rattle.esr_desk.specs.Readers.{TookRestore, TookUnit};
+ghost use Rattle.esr_desk.specs.Sources.{AreSources};
+ghost use Rattle.esr_desk.specs.Start.{Legal, ticket_of};
+ghost use Rattle.esr_desk.specs.Taken.{Took};
+ghost use Rattle.esr_drive.specs.Outside.{IsOutside};
 ghost use Rattle.esr_drive.specs.Over.{NothingOut};
-ghost use Rattle.esr_drive.specs.Restored.{Telling, AreTargetsOf, RestoresNone};
-ghost use Rattle.esr_drive.specs.Filled.{IsRestore, IsFilled, filled_by};
+ghost use Rattle.esr_drive.specs.Stopped.{IsDrop, IsHalted, IsUnitStopped, HasEnded, EndedBy, is_late};
 
 use crate::law::laws;
-use crate::restored::RestoredTarget;
-use esr_deleting::DeleteDesk;
-use esr_desk::{Desk, StepRefusal, Unit, UnitRefusal};
-use esr_progress::{ReadyUnit, Work};
-use esr_reading::RestoreDesk;
-use esr_source::{Gate, Sources, Target, Targets};
+use esr_desk::{Desk, EntryRefusal, StepRefusal, Unit, UnitRefusal};
+use esr_progress::Work;
+use esr_source::{Gate, Sources, Targets};
 use std::alloc::Global;
 
-/// Takes away an op that failed.
+/// Whether a step was refused, as the term of its ticket is over.
+fn is_late(refusal: StepRefusal) -> bool
+    ensures { result ≡ is_late refusal }
+{
+    match refusal {
+        StepRefusal::Refused(EntryRefusal::StaleTerm { own: _, now: _ }) => true,
+        _ => false,
+    }
+}
+
+/// Ends the ticket of a drop, whose term is over.
+fn end_stale<Q: Desk>(alloc: Global, desk: &mut Q, ticket: u64) -> UnitRefusal
+    requires mine { HasTaken (Q.calls desk.old) ticket }
+    requires over { CanFinish Q.start (Q.seen desk.old) ticket }
+    requires work { (ticket_of Q.start (Q.seen desk.old) ticket).work ≡ DropWork }
+    ensures stopped { IsUnitStopped Q.start (Q.seen desk.new) ticket result }
+    ensures ended { EndedBy result (ticket_of Q.start (Q.seen desk.new) ticket) }
+    ensures grew { GrewBy Q.start ticket (Q.seen desk.old) (Q.seen desk.new) }
+{
+    laws();
+    match desk.finish(alloc, ticket) {
+        Ok(()) => UnitRefusal::Stale,
+        Err(refusal) => UnitRefusal::Stopped(refusal),
+    }
+}
+
+/// Takes away an op that failed. Where its term is over the ticket ends, and the op is still there.
 fn drop_op<Q: Desk>(alloc: Global, desk: &mut Q, unit: &Unit) -> Result<(), UnitRefusal>
-    requires mine { Q.holds desk.old unit.now.ready.ticket }
+    requires mine { HasTaken (Q.calls desk.old) unit.now.ready.ticket }
     requires fresh { Took Q.start (Q.seen desk.old) unit.now }
     requires work { IsDrop unit.now.ready.work }
     ensures stopped { IfErr result (IsUnitStopped Q.start (Q.seen desk.new) unit.now.ready.ticket) }
     ensures ended { HasEnded result (ticket_of Q.start (Q.seen desk.new) unit.now.ready.ticket) }
     ensures grew { GrewBy Q.start unit.now.ready.ticket (Q.seen desk.old) (Q.seen desk.new) }
 {
-    desk.dropped(alloc, unit.ready.ticket)?;
-    Ok(())
+    laws();
+    let ticket = unit.ready.ticket;
+    match desk.end_drop(alloc, ticket) {
+        Ok(()) => Ok(()),
+        Err(refusal) => {
+            if is_late(refusal) {
+                return Err(end_stale(alloc, desk, ticket));
+            }
+            Err(UnitRefusal::Stopped(refusal))
+        }
+    }
 }
 
 /// Does what the unit of an op that is no restore is to do.
-fn do_op_unit<Q: DeleteDesk<Shard = S::Shard>, S: Sources, G: Gate>(
+fn do_op_unit<Q: Desk<Shard = S::Shard>, S: Sources, G: Gate>(
     alloc: Global,
     desk: &mut Q,
     unit: &Unit,
@@ -44,10 +78,10 @@ fn do_op_unit<Q: DeleteDesk<Shard = S::Shard>, S: Sources, G: Gate>(
     gate: &G,
     part_size: u64,
 ) -> Result<(), UnitRefusal>
-    requires mine { Q.holds desk.old unit.now.ready.ticket }
+    requires mine { HasTaken (Q.calls desk.old) unit.now.ready.ticket }
     requires fresh { Took Q.start (Q.seen desk.old) unit.now }
-    requires new { HasMadeNone (Q.seen desk.old) unit.now.ready.ticket }
-    requires sources { AreSources Q.start (S.files sources.now) (S.is_there sources.now) (S.is_quiet sources.now) }
+    requires new { made_of Q.start (Q.seen desk.old) unit.now.ready.ticket ≡ [] }
+    requires sources { AreSources Q.start (S.told sources.now) }
     requires size { part_size ≡ Q.start.part_size }
     requires sized { (1 ≤ part_size) × (part_size ≤ 2 ^ 30) }
     ensures stopped { IfErr result (IsUnitStopped Q.start (Q.seen desk.new) unit.now.ready.ticket) }
@@ -64,8 +98,8 @@ fn do_op_unit<Q: DeleteDesk<Shard = S::Shard>, S: Sources, G: Gate>(
     }
 }
 
-/// The same. One that fails is no reason to stop.
-fn do_op<Q: DeleteDesk<Shard = S::Shard>, S: Sources, G: Gate>(
+/// The same. One that fails, or whose term is over, is no reason to stop.
+fn do_op<Q: Desk<Shard = S::Shard>, S: Sources, G: Gate>(
     alloc: Global,
     desk: &mut Q,
     unit: &Unit,
@@ -73,86 +107,60 @@ fn do_op<Q: DeleteDesk<Shard = S::Shard>, S: Sources, G: Gate>(
     gate: &G,
     part_size: u64,
 ) -> Result<(), StepRefusal>
-    requires mine { Q.holds desk.old unit.now.ready.ticket }
+    requires mine { HasTaken (Q.calls desk.old) unit.now.ready.ticket }
     requires fresh { Took Q.start (Q.seen desk.old) unit.now }
-    requires new { HasMadeNone (Q.seen desk.old) unit.now.ready.ticket }
-    requires some { 1 ≤ unit.now.ready.ticket }
+    requires new { made_of Q.start (Q.seen desk.old) unit.now.ready.ticket ≡ [] }
     requires legal { Legal Q.start (Q.seen desk.old) }
-    requires sources { AreSources Q.start (S.files sources.now) (S.is_there sources.now) (S.is_quiet sources.now) }
+    requires sources { AreSources Q.start (S.told sources.now) }
     requires size { part_size ≡ Q.start.part_size }
     requires sized { (1 ≤ part_size) × (part_size ≤ 2 ^ 30) }
     requires tracked { ReadTracked Q.start.world }
     requires ops { Tracked Q.start.world }
     ensures stopped { IfErr result (IsHalted Q.start (Q.seen desk.new) unit.now.ready.ticket) }
     ensures over { OnOk result (Q.start.alone ≡ true → NothingOut Q.start (Q.seen desk.new) unit.now.ready.ticket) }
-    ensures none { Q.start.alone ≡ true → RestoresNone (Q.seen desk.old) (Q.seen desk.new) }
     ensures grew { GrewBy Q.start unit.now.ready.ticket (Q.seen desk.old) (Q.seen desk.new) }
 {
     laws();
     match do_op_unit(alloc, desk, unit, sources, gate, part_size) {
         Ok(()) => Ok(()),
         Err(UnitRefusal::Failed(_)) => Ok(()),
+        Err(UnitRefusal::Stale) => Ok(()),
         Err(UnitRefusal::Stopped(refusal)) => Err(refusal),
     }
 }
 
-/// A target that was filled by the unit of a restore, with its op and its shard.
-fn filled<T: Drop>(unit: Unit, target: T) -> RestoredTarget<T>
-    requires { IsRestore unit.ready.work }
-    ensures { IsFilled unit.ready target result }
-{
-    let Unit { ready, .. } = unit;
-    let ReadyUnit { op, work, .. } = ready;
-    let Work::RestoreShard { shard, index, .. } = work else {
-        unreachable!();
-    };
-    RestoredTarget {
-        op,
-        index,
-        shard: shard.number,
-        target,
-    }
-}
-
 /// Does what the unit of a restore is to do. One that fails is no reason to stop; the target that it gives back is dropped.
-fn do_restore<Q: RestoreDesk, T: Targets<Target = Q::Target>>(
+fn do_restore<Q: Desk, T: Targets<Target = Q::Target>>(
     alloc: Global,
     desk: &mut Q,
     unit: Unit,
     targets: &T,
-) -> Result<Option<RestoredTarget<Q::Target>>, StepRefusal>
-    requires mine { Q.holds desk.old unit.ready.ticket }
+) -> Result<(), StepRefusal>
+    requires mine { HasTaken (Q.calls desk.old) unit.ready.ticket }
     requires fresh { TookRestore Q.start (Q.seen desk.old) unit }
-    requires new { HasMadeNone (Q.seen desk.old) unit.ready.ticket }
-    requires restore { IsRestore unit.ready.work }
-    requires some { 1 ≤ unit.ready.ticket }
+    requires new { made_of Q.start (Q.seen desk.old) unit.ready.ticket ≡ [] }
     requires legal { Legal Q.start (Q.seen desk.old) }
-    requires sure { Q.start.sure_targets ≡ T.is_quiet targets.now }
+    requires sure { Q.start.sure_targets ≡ (T.told targets.now).is_quiet }
+    requires tells { Q.start.targets_tell ≡ (T.told targets.now).tells }
     requires tracked { ReadTracked Q.start.world }
     requires ops { Tracked Q.start.world }
     ensures stopped { IfErr result (IsHalted Q.start (Q.seen desk.new) unit.ready.ticket) }
     ensures over { OnOk result (Q.start.alone ≡ true → NothingOut Q.start (Q.seen desk.new) unit.ready.ticket) }
-    ensures restored { Q.start.alone ≡ true → AreTargetsOf (record { made_for = Q.Target.made_for; files = Q.Target.files; is_sure = Q.Target.is_sure; begun = Q.Target.begun; faults = Q.Target.faults; are_told = T.is_told targets.now; are_quiet = T.is_quiet targets.now })
-        Q.start (Q.seen desk.old) (Q.seen desk.new) (filled_by result) }
     ensures grew { GrewBy Q.start unit.ready.ticket (Q.seen desk.old) (Q.seen desk.new) }
 {
     laws();
-    match esr_restore::run_unit(alloc, desk, &unit, targets) {
-        Ok(target) => Ok(Some(filled(unit, target))),
+    match esr_restore::run_unit(alloc, desk, unit, targets) {
+        Ok(()) => Ok(()),
         Err(left) => match left.refusal {
-            UnitRefusal::Failed(_) => Ok(None),
-            UnitRefusal::Stopped(stop) => Err(stop),
+            UnitRefusal::Failed(_) => Ok(()),
+            UnitRefusal::Stale => unreachable!("a restore has no term"),
+            UnitRefusal::Stopped(refusal) => Err(refusal),
         },
     }
 }
 
-/// Does what a unit is to do, and answers the target that it filled, if it is of a restore. One that fails is no reason to stop.
-pub fn do_next<
-    Q: RestoreDesk<Shard = S::Shard, Target = T::Target> + DeleteDesk,
-    S: Sources,
-    T: Targets,
-    G: Gate,
->(
+/// Does what a unit is to do. One that fails, or whose term is over, is no reason to stop.
+pub fn do_next<Q: Desk<Shard = S::Shard, Target = T::Target>, S: Sources, T: Targets, G: Gate>(
     alloc: Global,
     desk: &mut Q,
     unit: Unit,
@@ -160,29 +168,20 @@ pub fn do_next<
     targets: &T,
     gate: &G,
     part_size: u64,
-) -> Result<Option<RestoredTarget<T::Target>>, StepRefusal>
-    requires mine { Q.holds desk.old unit.ready.ticket }
+) -> Result<(), StepRefusal>
+    requires mine { HasTaken (Q.calls desk.old) unit.ready.ticket }
     requires fresh { TookUnit Q.start (Q.seen desk.old) unit }
-    requires new { HasMadeNone (Q.seen desk.old) unit.ready.ticket }
-    requires some { 1 ≤ unit.ready.ticket }
+    requires new { made_of Q.start (Q.seen desk.old) unit.ready.ticket ≡ [] }
     requires legal { Legal Q.start (Q.seen desk.old) }
-    requires sources { AreSources Q.start (S.files sources.now) (S.is_there sources.now) (S.is_quiet sources.now) }
-    requires sure { Q.start.sure_targets ≡ T.is_quiet targets.now }
-    requires size { part_size ≡ Q.start.part_size }
-    requires sized { (1 ≤ part_size) × (part_size ≤ 2 ^ 30) }
+    requires outside { IsOutside Q.start (S.told sources.now) (T.told targets.now) part_size }
     requires tracked { ReadTracked Q.start.world }
     requires ops { Tracked Q.start.world }
     ensures stopped { IfErr result (IsHalted Q.start (Q.seen desk.new) unit.ready.ticket) }
     ensures over { OnOk result (Q.start.alone ≡ true → NothingOut Q.start (Q.seen desk.new) unit.ready.ticket) }
-    ensures restored { Q.start.alone ≡ true → AreTargetsOf (record { made_for = T.Target.made_for; files = T.Target.files; is_sure = T.Target.is_sure; begun = T.Target.begun; faults = T.Target.faults; are_told = T.is_told targets.now; are_quiet = T.is_quiet targets.now })
-        Q.start (Q.seen desk.old) (Q.seen desk.new) (filled_by result) }
     ensures grew { GrewBy Q.start unit.ready.ticket (Q.seen desk.old) (Q.seen desk.new) }
 {
     if matches!(&unit.ready.work, Work::RestoreShard { .. }) {
         return do_restore(alloc, desk, unit, targets);
     }
-    match do_op(alloc, desk, &unit, sources, gate, part_size) {
-        Ok(()) => Ok(None),
-        Err(refusal) => Err(refusal),
-    }
+    do_op(alloc, desk, &unit, sources, gate, part_size)
 }

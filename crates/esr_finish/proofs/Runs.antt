@@ -1,4 +1,5 @@
 -- Runs of steps, one after another.
+use Rattle.std.specs.Result.{IsErrAnd}
 use Rattle.std.proofs.Common.{◌≡◌, ◌⊎◌, inl, inr, IfOk, IfErr, ℕ, Bool, true, false, List, Some, Result, Ok, Err, refl, sym, ap, ◌∙◌, subst}
 use Rattle.esr_core.specs.World.{Ticket}
 use Rattle.std.specs.Prelude.{if◌then◌else◌}
@@ -9,10 +10,20 @@ use Rattle.esr_desk.specs.declared.refusal.StepRefusal.{StepRefusal}
 use Rattle.esr_desk.specs.declared.refusal.StepRefusal.TheVariants as steps
 use Rattle.esr_desk.specs.declared.refusal.EntryRefusal.TheVariants as refusals
 use Rattle.esr_desk.specs.Start.{Start, ticket_of}
+use Rattle.esr_desk.specs.Calls.{Call, HasTaken}
 use Rattle.esr_desk.specs.Outcome.{Outcome}
 use Rattle.esr_desk.specs.Grew.{grew_by_none, grew_by_on, outcome_grew_by}
 use Rattle.esr_desk.specs.Taken.{tried, tried_by, begun_by, LeftBy, HasRaised}
 use Rattle.esr_finish.specs.Went.{Worked, Went}
+
+-- an error that was made of another
+pub passed : {T E : Type 0} (result : Result T E) (P : E → Type 0) (e : E) → IsErrAnd result (λ x. x ≡ e) → P e → IfErr result P
+passed (Ok x) P e is holds = tt
+passed (Err y) P e is holds = subst P (sym is) holds
+
+-- a ticket stays the desk's own
+pub taken_on : (old new : List Call) (who : ℕ) → new ≡ old → HasTaken old who → HasTaken new who
+taken_on old new who same taken = subst (λ (calls : List Call). HasTaken calls who) (sym same) taken
 
 pub worked_not : (t : Ticket) → Worked t t
 worked_not t = record { noted = t.noted; wrote = t.wrote; raised = t.raised; tried = t.tried_latest; is = refl }

@@ -3,7 +3,7 @@ use Rattle.std.proofs.Common.{◌≡◌, inl, inr, ℕ, true, List, [], ◌∷�
 use Rattle.esr_model.specs.Names.{BlobName, Root, Snap, Meta, IndexMeta}
 use Rattle.esr_model.specs.Values.{Bytes, Has, IndexRef, RootData, SnapInfo, Formats}
 use Rattle.esr_model.specs.Finalize.{finalized_root}
-use Rattle.esr_core.specs.World.{Ticket, Swap, Finalize, Deleting, swap, metadata}
+use Rattle.esr_core.specs.World.{Ticket, Work as TicketWork, Shard, Swap, Finalize, Deleting, Drop, swap, metadata}
 use Rattle.esr_core.specs.Ready.{IsShard, IsMaster}
 use Rattle.esr_root.specs.Root as code
 use Rattle.esr_meta.specs.Info.{Info}
@@ -14,11 +14,12 @@ use Rattle.esr_progress.specs.declared.unit.Work.TheVariants as works
 use Rattle.esr_progress.specs.declared.unit.Copied.{Copied}
 use Rattle.esr_formats.specs.Infos.{info_of_code}
 use Rattle.esr_formats.specs.Roots.{root_of}
-use Rattle.esr_desk.specs.Start.{Start, formats_of}
+use Rattle.esr_core.specs.Entry.{Moment}
+use Rattle.esr_desk.specs.Start.{Start, formats_of, ticket_of}
 use Rattle.esr_desk.specs.Conditions.{CanSettle, CanFail, CanFinish, IsUnpruned}
 use Rattle.esr_desk.specs.Taken.{fresh, TookWork}
 use Rattle.esr_finish.specs.Blobs.{index_blob}
-use Rattle.esr_finish.specs.Ticket.{HasSwap, MayWrite, MayPutRoot, noted_with, Wrote, IsWritten}
+use Rattle.esr_finish.specs.Ticket.{HasSwap, IsUnsettledMaster, MayWrite, MayPutRoot, noted_with, Wrote, IsWritten}
 use Rattle.esr_finish.specs.Went.{Worked}
 use Rattle.esr_finish.proofs.Writing.{swap_stays}
 
@@ -138,16 +139,27 @@ final_fails a b work new op copy info shards work_is took worked =
       unpruned = worked_unpruned a b worked (took_unpruned a work new op copy info shards work_is took);
     }
 
--- it ends when it has settled
-pub final_ends : (a b c : Ticket) (work : Work) (new : Option code.Root) (op : ℕ) (copy : Copied) (info : Info) (shards : List ShardResult) → work ≡ works.Finalize info shards → TookWork work new op copy a → Worked a b
-    → c ≡ record b { settled = true } → CanFinish c
-final_ends a b c work new op copy info shards work_is took worked settled =
-    let fails = final_fails a b work new op copy info shards work_is took worked in
+-- it is one of a finalization that hasn't settled
+pub final_master : (a b : Ticket) (work : Work) (new : Option code.Root) (op : ℕ) (copy : Copied) (info : Info) (shards : List ShardResult) → work ≡ works.Finalize info shards → TookWork work new op copy a → Worked a b → IsUnsettledMaster b
+final_master a b work new op copy info shards work_is took worked =
     let (term, made, t_is, root_is) = subst (λ (w : Work). TookWork w new op copy a) work_is took in
-    let is = ap (λ (t : Ticket). t.work) settled in
     record {
-      out = ap (λ (t : Ticket). t.out) settled ∙ fails.out;
-      no_shard = λ shard. subst IsShard (is ∙ ap (λ (t : Ticket). t.work) worked.is ∙ ap (λ (t : Ticket). t.work) t_is) shard;
-      settled = ap (λ (t : Ticket). t.settled) settled;
-      unpruned = λ uuids plan deletes. fails.unpruned uuids plan (sym is ∙ deletes);
+      fails = final_fails a b work new op copy info shards work_is took worked;
+      master = subst IsMaster (sym (ap (λ (t : Ticket). t.work) worked.is ∙ ap (λ (t : Ticket). t.work) t_is)) tt;
+    }
+
+pub no_master_shard : (work : TicketWork) → IsMaster work → IsShard work → ⊥
+no_master_shard (Shard index number) master shard = master
+no_master_shard (Finalize info results made) master shard = shard
+no_master_shard (Deleting uuids plan) master shard = shard
+no_master_shard Drop master shard = shard
+
+-- it ends when it has settled
+pub settled_ends : (s : Start) (log : List Moment) (who : ℕ) (t : Ticket) → IsUnsettledMaster t → ticket_of s log who ≡ record t { settled = true } → CanFinish s log who
+settled_ends s log who t master settled =
+    let is = ap (λ (u : Ticket). u.work) settled in
+    record {
+      out = ap (λ (u : Ticket). u.out) settled ∙ master.fails.out;
+      no_shard = λ shard. no_master_shard t.work master.master (subst IsShard is shard);
+      done = inl (record { settled = ap (λ (u : Ticket). u.settled) settled; unpruned = λ uuids plan deletes. master.fails.unpruned uuids plan (sym is ∙ deletes) });
     }

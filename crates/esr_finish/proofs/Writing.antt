@@ -1,11 +1,11 @@
 -- A ticket whose swap's blobs are put one after another.
-use Rattle.std.proofs.Common.{◌≡◌, ◌≢◌, inl, inr, ⊎_elim, ℕ, Bool, true, false, List, [], ◌∷◌, ◌++◌, Some, None, Result, Ok, Err, OnOk, refl, sym, ap, ◌∙◌, subst}
+use Rattle.std.proofs.Common.{◌≡◌, ◌≢◌, inl, inr, ⊎_elim, ℕ, Bool, true, false, List, [], ◌∷◌, ◌++◌, Option, Some, None, Result, Ok, Err, OnOk, refl, sym, ap, ◌∙◌, subst}
 use Rattle.std.specs.Prelude.{if◌then◌else◌}
 use Rattle.std.specs.Result.{is_err}
 use Rattle.std.specs.Io.KnownBytes.{append_known}
 use Rattle.esr_model.specs.Names.{BlobName, Root, Latest}
-use Rattle.esr_model.specs.Values.{Bytes, Has, RootData}
-use Rattle.esr_core.specs.World.{Ticket, Swap}
+use Rattle.esr_model.specs.Values.{Bytes, Has, RootData, Formats}
+use Rattle.esr_core.specs.World.{Work, Shard, Ticket, Swap, swap_of}
 use Rattle.esr_core.specs.Allowed.{IsMetadata}
 use Rattle.esr_desk.specs.Start.{Start, formats_of, told_bytes}
 use Rattle.esr_desk.specs.Conditions.{CanCommit}
@@ -31,6 +31,13 @@ pub on_ok : {T E : Type 0} (result : Result T E) (P : Type 0) → is_err result 
 on_ok (Ok x) P ok h = h
 on_ok (Err e) P ok h = absurd cc
 
+-- what has a swap is no shard
+pub swaps_no_shard : (f : Formats) (work : Work) (root : RootData) (change : Swap) → swap_of f work root ≡ Some change → (index number : ℕ) → work ≡ Shard index number → ⊥
+swaps_no_shard f work root change is index number shard = none change (subst (λ (w : Work). swap_of f w root ≡ Some change) shard is)
+  where
+    none : (x : Swap) → ◌≡◌ {A = Option Swap} None (Some x) → ⊥
+    none x same = cc
+
 pub may_commit : (s : Start) (t : Ticket) (b : BlobName × Bytes) → MayPut s t (b ∷ []) → b.0 ≢ Latest → IsMetadata b.0 → CanCommit s t b.0 b.1
 may_commit s t b may stored metadata = record {
   out = may.1.out;
@@ -38,6 +45,7 @@ may_commit s t b may stored metadata = record {
   may = inl (may.0, may.1.is, inl (may.2 b (inl refl)));
   stored = stored;
   once = λ other. absurd (other metadata);
+  numbered = λ index number shard. absurd (swaps_no_shard (formats_of s) t.work t.root may.0 may.1.is index number shard);
 }
 
 -- the root of the swap, under the generation that was raised
@@ -62,6 +70,7 @@ root_commits s a b root n text may is text_is =
       );
       stored = λ same. cc;
       once = λ other has. may.unnoted n has;
+      numbered = λ index number shard. absurd (swaps_no_shard (formats_of s) a.work a.root may.change may.swaps.is index number shard);
     })
 
 pub may_put_some : (s : Start) (t : Ticket) (all some : List (BlobName × Bytes)) → MayPut s t all → ((b : BlobName × Bytes) → Has some b → Has all b) → MayPut s t some

@@ -3,9 +3,10 @@ use Rattle.std.specs.Prelude.{◌≡◌, ◌⊎◌, ℕ, Bool, true, false, List
 use Rattle.esr_model.specs.Names.{BlobName, Root}
 use Rattle.esr_model.specs.Values.{Bytes, Has, RootData, SnapInfo, Formats}
 use Rattle.esr_core.specs.World.{Ticket, Swap, swap, metadata}
+use Rattle.esr_core.specs.Ready.{IsMaster}
 use Rattle.esr_core.specs.Entry.{Moment}
 use Rattle.esr_desk.specs.Start.{Start, formats_of, ticket_of, told_bytes}
-use Rattle.esr_desk.specs.Conditions.{CanCommit}
+use Rattle.esr_desk.specs.Conditions.{CanCommit, CanFail}
 use Rattle.esr_finish.specs.Blobs.{root_blob}
 
 -- ---- what it may do
@@ -47,6 +48,11 @@ pub record MayWrite (s : Start) (t : Ticket) (info : SnapInfo) (root : RootData)
   pub unnoted : t.noted ≡ []
   pub untried : t.tried_latest ≡ false
 
+-- the ticket of a finalization is out and hasn't settled, so that the unit may fail
+pub record IsUnsettledMaster (t : Ticket) : Type 0 where
+  pub fails : CanFail t
+  pub master : IsMaster t.work
+
 -- ---- what its steps make of it
 
 -- the names of blobs, the last first, and then those that were noted before
@@ -87,6 +93,10 @@ pub record HasSettled (f : Formats) (old : Ticket) (out : Bool) (new : Ticket) :
   pub is_written : IsWritten f old written
   pub is : new ≡ record written { settled = true; out = out }
 
--- and it has ended
+-- it has settled and ended
+abbrev pub HasEndedSettled : Ticket → Ticket → Type 0
+HasEndedSettled old new = new ≡ record old { settled = true; out = false }
+
+-- all of this
 abbrev pub Finalized : Start → List Moment → List Moment → ℕ → Type 0
 Finalized s old new who = HasSettled (formats_of s) (ticket_of s old who) false (ticket_of s new who)

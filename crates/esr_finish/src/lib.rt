@@ -3,11 +3,9 @@
 
 mod metadata;
 mod one_blob;
-mod refusal;
 mod root;
 mod unit;
 
 pub use one_blob::put;
-pub use refusal::PutRefusal;
 pub use root::{put_latest, put_root};
-pub use unit::run_unit;
+pub use unit::{is_fault, run_unit};

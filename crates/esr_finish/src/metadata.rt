@@ -7,6 +7,7 @@ ghost use Rattle.esr_formats.specs.Globals.{global_kind};
 ghost use Rattle.esr_formats.specs.IndexMetas.{index_meta_kind};
 ghost use Rattle.esr_formats.specs.Infos.{info_of_code};
 ghost use Rattle.esr_formats.specs.Refs.{ref_of_code};
+ghost use Rattle.esr_desk.specs.Calls.{HasTaken};
 ghost use Rattle.esr_desk.specs.Start.{formats_of, ticket_of};
 ghost use Rattle.esr_desk.specs.Told.{TellsAll};
 ghost use Rattle.esr_finish.specs.Blobs.{info_blob, global_blob, index_blob, index_blobs};
@@ -15,12 +16,12 @@ ghost use Rattle.esr_finish.specs.Went.{Went};
 ghost use Rattle.esr_finish.specs.Refused.{IsPutRefused};
 
 use crate::one_blob::put;
-use crate::refusal::PutRefusal;
 use esr_desk::Desk;
 use esr_formats::{write_global, write_index_meta, write_info};
 use esr_meta::{GlobalMeta, IndexMeta, SnapInfo};
 use esr_names::{BlobName, Id, IndexRef};
 use esr_seq::Bytes;
+use esr_unit::Trouble;
 use std::alloc::{AllocError, Global};
 
 /// The text of the global metadata that an info gives.
@@ -57,8 +58,8 @@ fn put_info<Q: Desk>(
     desk: &mut Q,
     ticket: u64,
     info: &SnapInfo,
-) -> Result<(), PutRefusal<Q::Stage>>
-    requires mine { Q.holds desk.old ticket }
+) -> Result<(), Trouble<Q::Stage, Q::Fetch>>
+    requires mine { HasTaken (Q.calls desk.old) ticket }
     requires may { MayPut Q.start (ticket_of Q.start (Q.seen desk.old) ticket) (info_blob (formats_of Q.start) (info_of_code info.now) ∷ []) }
     requires new { IsUnnoted (ticket_of Q.start (Q.seen desk.old) ticket) (Snap info.now.uuid.number) }
     requires tells { TellsAll Q.start (Q.seen desk.old) ticket }
@@ -66,7 +67,7 @@ fn put_info<Q: Desk>(
     ensures tells { OnOk result (TellsAll Q.start (Q.seen desk.new) ticket) }
     ensures refused { IfErr result (λ e. IsPutRefused Q.start Q.Stage.faults (Q.seen desk.new) ticket e) }
     ensures went { Went Q.start (Q.seen desk.old) (Q.seen desk.new) ticket }
-    ensures holds { Q.holds desk.new ticket }
+    ensures calls { Q.calls desk.new ≡ Q.calls desk.old }
 {
     let text = write_info(alloc, info)?;
     put(
@@ -83,8 +84,8 @@ fn put_global<Q: Desk>(
     desk: &mut Q,
     ticket: u64,
     info: &SnapInfo,
-) -> Result<(), PutRefusal<Q::Stage>>
-    requires mine { Q.holds desk.old ticket }
+) -> Result<(), Trouble<Q::Stage, Q::Fetch>>
+    requires mine { HasTaken (Q.calls desk.old) ticket }
     requires may { MayPut Q.start (ticket_of Q.start (Q.seen desk.old) ticket) (global_blob (formats_of Q.start) (info_of_code info.now) ∷ []) }
     requires new { IsUnnoted (ticket_of Q.start (Q.seen desk.old) ticket) (Meta info.now.uuid.number) }
     requires tells { TellsAll Q.start (Q.seen desk.old) ticket }
@@ -92,7 +93,7 @@ fn put_global<Q: Desk>(
     ensures tells { OnOk result (TellsAll Q.start (Q.seen desk.new) ticket) }
     ensures refused { IfErr result (λ e. IsPutRefused Q.start Q.Stage.faults (Q.seen desk.new) ticket e) }
     ensures went { Went Q.start (Q.seen desk.old) (Q.seen desk.new) ticket }
-    ensures holds { Q.holds desk.new ticket }
+    ensures calls { Q.calls desk.new ≡ Q.calls desk.old }
 {
     let text = global_text(alloc, info)?;
     put(
@@ -110,8 +111,8 @@ fn put_index<Q: Desk>(
     ticket: u64,
     index: &IndexRef,
     uuid: Id,
-) -> Result<(), PutRefusal<Q::Stage>>
-    requires mine { Q.holds desk.old ticket }
+) -> Result<(), Trouble<Q::Stage, Q::Fetch>>
+    requires mine { HasTaken (Q.calls desk.old) ticket }
     requires some { 1 ≤ index.now.shards }
     requires most { index.now.shards ≤ 1024 }
     requires may { MayPut Q.start (ticket_of Q.start (Q.seen desk.old) ticket) (index_blob (formats_of Q.start) uuid.number (ref_of_code index.now) ∷ []) }
@@ -121,7 +122,7 @@ fn put_index<Q: Desk>(
     ensures tells { OnOk result (TellsAll Q.start (Q.seen desk.new) ticket) }
     ensures refused { IfErr result (λ e. IsPutRefused Q.start Q.Stage.faults (Q.seen desk.new) ticket e) }
     ensures went { Went Q.start (Q.seen desk.old) (Q.seen desk.new) ticket }
-    ensures holds { Q.holds desk.new ticket }
+    ensures calls { Q.calls desk.new ≡ Q.calls desk.old }
 {
     let text = index_text(alloc, index, uuid)?;
     put(
@@ -138,8 +139,8 @@ fn put_indices<Q: Desk>(
     desk: &mut Q,
     ticket: u64,
     info: &SnapInfo,
-) -> Result<(), PutRefusal<Q::Stage>>
-    requires mine { Q.holds desk.old ticket }
+) -> Result<(), Trouble<Q::Stage, Q::Fetch>>
+    requires mine { HasTaken (Q.calls desk.old) ticket }
     requires may { MayPut Q.start (ticket_of Q.start (Q.seen desk.old) ticket) (index_blobs (formats_of Q.start) (info_of_code info.now)) }
     requires new { (id : ℕ) → IsUnnoted (ticket_of Q.start (Q.seen desk.old) ticket) (IndexMetaName id info.now.uuid.number) }
     requires tells { TellsAll Q.start (Q.seen desk.old) ticket }
@@ -147,7 +148,7 @@ fn put_indices<Q: Desk>(
     ensures tells { OnOk result (TellsAll Q.start (Q.seen desk.new) ticket) }
     ensures refused { IfErr result (λ e. IsPutRefused Q.start Q.Stage.faults (Q.seen desk.new) ticket e) }
     ensures went { Went Q.start (Q.seen desk.old) (Q.seen desk.new) ticket }
-    ensures holds { Q.holds desk.new ticket }
+    ensures calls { Q.calls desk.new ≡ Q.calls desk.old }
 {
     for index in info.indices.as_slice() {
         put_index(alloc, desk, ticket, index, info.uuid)?;
@@ -161,8 +162,8 @@ pub fn put_metadata<Q: Desk>(
     desk: &mut Q,
     ticket: u64,
     info: &SnapInfo,
-) -> Result<(), PutRefusal<Q::Stage>>
-    requires mine { Q.holds desk.old ticket }
+) -> Result<(), Trouble<Q::Stage, Q::Fetch>>
+    requires mine { HasTaken (Q.calls desk.old) ticket }
     requires may { MayPut Q.start (ticket_of Q.start (Q.seen desk.old) ticket) (metadata (formats_of Q.start) (info_of_code info.now)) }
     requires new { (ticket_of Q.start (Q.seen desk.old) ticket).noted ≡ [] }
     requires tells { TellsAll Q.start (Q.seen desk.old) ticket }
@@ -170,7 +171,7 @@ pub fn put_metadata<Q: Desk>(
     ensures tells { OnOk result (TellsAll Q.start (Q.seen desk.new) ticket) }
     ensures refused { IfErr result (λ e. IsPutRefused Q.start Q.Stage.faults (Q.seen desk.new) ticket e) }
     ensures went { Went Q.start (Q.seen desk.old) (Q.seen desk.new) ticket }
-    ensures holds { Q.holds desk.new ticket }
+    ensures calls { Q.calls desk.new ≡ Q.calls desk.old }
 {
     put_info(alloc, desk, ticket, info)?;
     put_global(alloc, desk, ticket, info)?;

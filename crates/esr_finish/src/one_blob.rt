@@ -1,17 +1,18 @@
 //! One blob.
-ghost use Rattle.std.specs.Prelude.{[], ◌∷◌, IfErr, OnOk};
+ghost use Rattle.std.specs.Prelude.{◌≡◌, [], ◌∷◌, IfErr, OnOk};
 ghost use Rattle.esr_names.specs.Layout.{IsName};
 ghost use Rattle.esr_formats.specs.Names.{name_of};
+ghost use Rattle.esr_desk.specs.Calls.{HasTaken};
 ghost use Rattle.esr_desk.specs.Start.{ticket_of};
 ghost use Rattle.esr_desk.specs.Told.{TellsAll};
 ghost use Rattle.esr_finish.specs.Ticket.{MayStore, IsUnnoted, Puts};
 ghost use Rattle.esr_finish.specs.Went.{Went};
 ghost use Rattle.esr_finish.specs.Refused.{IsPutRefused};
 
-use crate::refusal::PutRefusal;
 use esr_depot::Stage;
 use esr_desk::{Desk, Named};
 use esr_names::BlobName;
+use esr_unit::Trouble;
 use std::alloc::Global;
 
 /// Writes a blob and commits it; one of its name that is there already counts as written.
@@ -21,8 +22,8 @@ pub fn put<Q: Desk>(
     ticket: u64,
     name: BlobName,
     bytes: &[u8],
-) -> Result<(), PutRefusal<Q::Stage>>
-    requires mine { Q.holds desk.old ticket }
+) -> Result<(), Trouble<Q::Stage, Q::Fetch>>
+    requires mine { HasTaken (Q.calls desk.old) ticket }
     requires layout { IsName name }
     requires may { MayStore Q.start (ticket_of Q.start (Q.seen desk.old) ticket) (name_of name) bytes.now }
     requires new { IsUnnoted (ticket_of Q.start (Q.seen desk.old) ticket) (name_of name) }
@@ -31,11 +32,11 @@ pub fn put<Q: Desk>(
     ensures tells { OnOk result (TellsAll Q.start (Q.seen desk.new) ticket) }
     ensures refused { IfErr result (λ e. IsPutRefused Q.start Q.Stage.faults (Q.seen desk.new) ticket e) }
     ensures went { Went Q.start (Q.seen desk.old) (Q.seen desk.new) ticket }
-    ensures holds { Q.holds desk.new ticket }
+    ensures calls { Q.calls desk.new ≡ Q.calls desk.old }
 {
     let mut named = desk.begin(alloc, ticket, name, bytes.len())?;
     if named.stage.write(bytes).is_err() {
-        return Err(PutRefusal::Stage { stage: named.stage });
+        return Err(Trouble::Stage { stage: named.stage });
     }
     let Named { name, stage } = named;
     desk.commit(alloc, ticket, name, stage)?;

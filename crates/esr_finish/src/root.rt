@@ -2,6 +2,7 @@
 ghost use Rattle.std.specs.Prelude.{◌≡◌, ◌<◌, ◌^◌, false, IfErr, IfOk, OnOk};
 ghost use Rattle.esr_formats.specs.Infos.{info_of_code};
 ghost use Rattle.esr_formats.specs.Roots.{root_of};
+ghost use Rattle.esr_desk.specs.Calls.{HasTaken};
 ghost use Rattle.esr_desk.specs.Start.{formats_of, ticket_of};
 ghost use Rattle.esr_desk.specs.Conditions.{CanPut};
 ghost use Rattle.esr_desk.specs.Taken.{tried};
@@ -12,13 +13,14 @@ ghost use Rattle.esr_finish.specs.Refused.{IsPutRefused};
 
 use crate::metadata::put_metadata;
 use crate::one_blob::put;
-use crate::refusal::PutRefusal;
+use crate::unit::is_fault;
 use esr_depot::Stage;
 use esr_desk::{Desk, EntryRefusal, Named, StepRefusal};
 use esr_formats::write_root;
 use esr_meta::SnapInfo;
 use esr_names::BlobName;
 use esr_root::RootData;
+use esr_unit::Trouble;
 use std::alloc::Global;
 
 /// Begins a generation and writes its root, `index-N`; answers N.
@@ -27,15 +29,15 @@ pub fn put_root<Q: Desk>(
     desk: &mut Q,
     ticket: u64,
     root: &RootData,
-) -> Result<u64, PutRefusal<Q::Stage>>
-    requires mine { Q.holds desk.old ticket }
+) -> Result<u64, Trouble<Q::Stage, Q::Fetch>>
+    requires mine { HasTaken (Q.calls desk.old) ticket }
     requires may { MayPutRoot Q.start (ticket_of Q.start (Q.seen desk.old) ticket) (root_of root.now) }
     requires tells { TellsAll Q.start (Q.seen desk.old) ticket }
     ensures ok { IfOk result (λ n. PutsRoot Q.start (Q.seen desk.old) (Q.seen desk.new) ticket (root_of root.now) n) }
     ensures tells { IfOk result (λ n. TellsAll Q.start (Q.seen desk.new) ticket) }
     ensures refused { IfErr result (λ e. IsPutRefused Q.start Q.Stage.faults (Q.seen desk.new) ticket e) }
     ensures went { Went Q.start (Q.seen desk.old) (Q.seen desk.new) ticket }
-    ensures holds { Q.holds desk.new ticket }
+    ensures calls { Q.calls desk.new ≡ Q.calls desk.old }
 {
     let generation = desk.raise(alloc, ticket)?;
     let text = write_root(alloc, root)?;
@@ -55,8 +57,8 @@ pub fn put_latest<Q: Desk>(
     desk: &mut Q,
     ticket: u64,
     generation: u64,
-) -> Result<(), PutRefusal<Q::Stage>>
-    requires mine { Q.holds desk.old ticket }
+) -> Result<(), Trouble<Q::Stage, Q::Fetch>>
+    requires mine { HasTaken (Q.calls desk.old) ticket }
     requires may { CanPut Q.start (ticket_of Q.start (Q.seen desk.old) ticket) generation }
     requires untried { (ticket_of Q.start (Q.seen desk.old) ticket).tried_latest ≡ false }
     requires tells { TellsAll Q.start (Q.seen desk.old) ticket }
@@ -64,21 +66,25 @@ pub fn put_latest<Q: Desk>(
     ensures tells { OnOk result (TellsAll Q.start (Q.seen desk.new) ticket) }
     ensures refused { IfErr result (λ e. IsPutRefused Q.start Q.Stage.faults (Q.seen desk.new) ticket e) }
     ensures went { Went Q.start (Q.seen desk.old) (Q.seen desk.new) ticket }
-    ensures holds { Q.holds desk.new ticket }
+    ensures calls { Q.calls desk.new ≡ Q.calls desk.old }
 {
     let mut named = match desk.begin(alloc, ticket, BlobName::Latest, 8) {
         Ok(named) => named,
         Err(StepRefusal::Refused(EntryRefusal::DepotFault)) => return Ok(()),
-        Err(refusal) => return Err(PutRefusal::Step(refusal)),
+        Err(refusal) => return Err(Trouble::Step(refusal)),
     };
     if named.stage.write(&generation.to_be_bytes()).is_err() {
-        return Err(PutRefusal::Stage { stage: named.stage });
+        return Err(Trouble::Stage { stage: named.stage });
     }
     let Named { name, stage } = named;
     match desk.latest(alloc, ticket, name, stage) {
         Ok(()) => Ok(()),
-        Err(StepRefusal::Refused(EntryRefusal::DepotFault)) => Ok(()),
-        Err(refusal) => Err(PutRefusal::Step(refusal)),
+        Err(refusal) => {
+            if is_fault(refusal) {
+                return Ok(());
+            }
+            Err(Trouble::Step(refusal))
+        }
     }
 }
 
@@ -89,15 +95,15 @@ pub fn write_swap<Q: Desk>(
     ticket: u64,
     info: &SnapInfo,
     root: &RootData,
-) -> Result<(), PutRefusal<Q::Stage>>
-    requires mine { Q.holds desk.old ticket }
+) -> Result<(), Trouble<Q::Stage, Q::Fetch>>
+    requires mine { HasTaken (Q.calls desk.old) ticket }
     requires may { MayWrite Q.start (ticket_of Q.start (Q.seen desk.old) ticket) (info_of_code info.now) (root_of root.now) }
     requires tells { TellsAll Q.start (Q.seen desk.old) ticket }
     ensures ok { OnOk result (IsWritten (formats_of Q.start) (ticket_of Q.start (Q.seen desk.old) ticket) (ticket_of Q.start (Q.seen desk.new) ticket)) }
     ensures tells { OnOk result (TellsAll Q.start (Q.seen desk.new) ticket) }
     ensures refused { IfErr result (λ e. IsPutRefused Q.start Q.Stage.faults (Q.seen desk.new) ticket e) }
     ensures went { Went Q.start (Q.seen desk.old) (Q.seen desk.new) ticket }
-    ensures holds { Q.holds desk.new ticket }
+    ensures calls { Q.calls desk.new ≡ Q.calls desk.old }
 {
     put_metadata(alloc, desk, ticket, info)?;
     let generation = put_root(alloc, desk, ticket, root)?;

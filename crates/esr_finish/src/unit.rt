@@ -1,33 +1,40 @@
 //! The unit of a finalization.
-ghost use Rattle.std.specs.Prelude.{◌≡◌, IfErr, OnOk};
-ghost use Rattle.esr_desk.specs.Entries.{why_of};
+ghost use Rattle.std.specs.Prelude.{◌≡◌, [], IfErr, OnOk};
+ghost use Rattle.esr_formats.specs.Roots.{root_of};
+ghost use Rattle.esr_desk.specs.Evidence.{evidence};
+ghost use Rattle.esr_desk.specs.Own.{made_of};
+ghost use Rattle.esr_desk.specs.Calls.{HasTaken};
 ghost use Rattle.esr_desk.specs.Start.{ticket_of};
-ghost use Rattle.esr_desk.specs.Once.{HasMadeNone};
-ghost use Rattle.esr_desk.specs.Shown.{IsShown};
-ghost use Rattle.esr_desk.specs.Conditions.{CanFail};
+ghost use Rattle.esr_desk.specs.Told.{TellsAll};
+ghost use Rattle.esr_desk.specs.Conditions.{CanFinish, CanSettle};
 ghost use Rattle.esr_desk.specs.Taken.{Took};
-ghost use Rattle.esr_finish.specs.Work.{IsFinalize};
-ghost use Rattle.esr_finish.specs.Ticket.{Finalized};
 ghost use Rattle.esr_desk.specs.Grew.{GrewBy};
-ghost use Rattle.esr_finish.specs.Refused.{failed_by, IsUnitRefused, Reported};
+ghost use Rattle.esr_unit.specs.Shown.{EndingShown};
+ghost use Rattle.esr_finish.specs.Work.{IsFinalize};
+ghost use Rattle.esr_finish.specs.Ticket.{Finalized, HasEndedSettled, IsUnsettledMaster};
+ghost use Rattle.esr_finish.specs.Refused.{EndsAsMaster, IsGivenUp, IsHalted, IsUnitRefused, is_fault};
 
-use crate::refusal::PutRefusal;
 use crate::root::write_swap;
-use esr_desk::{By, Desk, EntryRefusal, FailedObject, StepRefusal, Unit, UnitRefusal, Why};
+use esr_desk::{Desk, EntryRefusal, Hand, StepRefusal, Unit, UnitRefusal};
 use esr_progress::Work;
+use esr_root::RootData;
+use esr_unit::{Ending, Trouble, ending_of, give_up};
 use std::alloc::Global;
 
 /// Writes the metadata of the unit's snapshot and the new root, settles on it, and ends the ticket. Where the container
-/// fails before the settle, the name of the root is taken or no generation is left, the ticket ends as failed.
+/// fails before the settle, the name of the root is taken, a delete aborted the op or no generation is left, the ticket ends as
+/// failed; where its term is over, it ends as stale.
 pub fn run_unit<Q: Desk>(alloc: Global, desk: &mut Q, unit: &Unit) -> Result<(), UnitRefusal>
-    requires mine { Q.holds desk.old unit.now.ready.ticket }
+    requires mine { HasTaken (Q.calls desk.old) unit.now.ready.ticket }
     requires fresh { Took Q.start (Q.seen desk.old) unit.now }
-    requires new { HasMadeNone (Q.seen desk.old) unit.now.ready.ticket }
+    requires new { made_of Q.start (Q.seen desk.old) unit.now.ready.ticket ≡ [] }
     requires work { IsFinalize unit.now.ready.work }
     ensures ok { OnOk result (Finalized Q.start (Q.seen desk.old) (Q.seen desk.new) unit.now.ready.ticket) }
-    ensures refused { IfErr result (λ e. IsUnitRefused Q.start Q.Stage.faults (Q.seen desk.old) (Q.seen desk.new) unit.now.ready.ticket e) }
+    ensures refused { IfErr result (λ e. IsUnitRefused
+        (evidence Q.Stage.faults Q.Fetch.faults Q.Shard.faults Q.Target.faults Q.Shard.told Q.Target.told)
+        Q.start (Q.seen desk.old) (Q.seen desk.new) unit.now.ready.ticket e) }
     ensures grew { GrewBy Q.start unit.now.ready.ticket (Q.seen desk.old) (Q.seen desk.new) }
-    ensures holds { Q.holds desk.new unit.now.ready.ticket }
+    ensures calls { Q.calls desk.new ≡ Q.calls desk.old }
 {
     let ticket = unit.ready.ticket;
     let Work::Finalize { info, .. } = &unit.ready.work else {
@@ -36,58 +43,104 @@ pub fn run_unit<Q: Desk>(alloc: Global, desk: &mut Q, unit: &Unit) -> Result<(),
     let Some(root) = &unit.new_root else {
         unreachable!();
     };
+    esr_core::refusals_are_of_their_steps();
     match write_swap(alloc, desk, ticket, info, root) {
-        Ok(()) => {
-            desk.settle(alloc, ticket, root)?;
-            desk.finish(alloc, ticket)?;
-            Ok(())
-        }
-        Err(PutRefusal::Stage { stage }) => {
-            let object = FailedObject::Stage { stage };
-            Err(fail(alloc, desk, ticket, Why::Depot, By::Object { object }))
-        }
-        Err(PutRefusal::Step(refusal)) => match failed_by(refusal) {
-            Some(why) => {
-                desk.never_fails();
-                Err(fail(alloc, desk, ticket, why, By::Entry))
-            }
-            None => Err(UnitRefusal::Stopped(refusal)),
-        },
+        Ok(()) => settle(alloc, desk, ticket, root),
+        Err(trouble) => Err(end_early(alloc, desk, ticket, ending_of(trouble))),
     }
 }
 
-/// Why a refusal before the settle ends the ticket, or `None` where it leaves it out.
-fn failed_by(refusal: StepRefusal) -> Option<Why>
-    ensures { result ≡ failed_by refusal }
+/// Whether the container failed in a step that was refused so.
+pub fn is_fault(refusal: StepRefusal) -> bool
+    ensures { result ≡ is_fault refusal }
 {
     match refusal {
-        StepRefusal::Refused(EntryRefusal::DepotFault) => Some(Why::Depot),
-        StepRefusal::Refused(EntryRefusal::NameTaken { name }) => Some(Why::NameTaken { name }),
-        StepRefusal::Refused(EntryRefusal::GenerationsSpent { number }) => {
-            Some(Why::GenerationsSpent { number })
-        }
-        _ => None,
+        StepRefusal::Refused(EntryRefusal::DepotFault) => true,
+        _ => false,
     }
 }
 
-/// Reports that the unit failed, as `by` shows, which ends the ticket.
-fn fail<Q: Desk>(
+/// Settles on the root and ends the ticket. Where the record swap of the settle failed nobody knows whether the root is the safe
+/// one, and the ticket stays out.
+fn settle<Q: Desk>(
     alloc: Global,
     desk: &mut Q,
     ticket: u64,
-    why: Why,
-    by: By<Q::Stage, Q::Fetch, Q::Shard, Q::Target>,
-) -> UnitRefusal
-    requires mine { Q.holds desk.old ticket }
-    requires may { CanFail (ticket_of Q.start (Q.seen desk.old) ticket) }
-    requires shown { IsShown (record { stage = Q.Stage.faults; fetch = Q.Fetch.faults; shard = Q.Shard.faults; target = Q.Target.faults; made_for = λ h. (Q.Shard.origin h).address })
-        Q.start (Q.seen desk.old) ticket (why_of why) by }
-    ensures reported { Reported Q.start (Q.seen desk.old) (Q.seen desk.new) ticket why result }
+    root: &RootData,
+) -> Result<(), UnitRefusal>
+    requires mine { HasTaken (Q.calls desk.old) ticket }
+    requires may { CanSettle Q.start (ticket_of Q.start (Q.seen desk.old) ticket) (root_of root.now) }
+    requires masters { IsUnsettledMaster (ticket_of Q.start (Q.seen desk.old) ticket) }
+    requires tells { TellsAll Q.start (Q.seen desk.old) ticket }
+    ensures ok { OnOk result (HasEndedSettled (ticket_of Q.start (Q.seen desk.old) ticket) (ticket_of Q.start (Q.seen desk.new) ticket)) }
+    ensures refused { IfErr result (IsHalted
+        (evidence Q.Stage.faults Q.Fetch.faults Q.Shard.faults Q.Target.faults Q.Shard.told Q.Target.told)
+        Q.start (Q.seen desk.old) (Q.seen desk.new) ticket) }
     ensures grew { GrewBy Q.start ticket (Q.seen desk.old) (Q.seen desk.new) }
-    ensures holds { Q.holds desk.new ticket }
+    ensures calls { Q.calls desk.new ≡ Q.calls desk.old }
 {
-    match desk.failed(alloc, ticket, why, by) {
-        Ok(()) => UnitRefusal::Failed(why),
-        Err(refusal) => UnitRefusal::Stopped(refusal),
+    esr_core::refusals_are_of_their_steps();
+    match desk.settle(alloc, ticket, root) {
+        Ok(()) => {
+            desk.finish(alloc, ticket)?;
+            Ok(())
+        }
+        Err(refusal) => {
+            if is_fault(refusal) {
+                return Err(UnitRefusal::Stopped(refusal));
+            }
+            let trouble = Trouble::Step(refusal);
+            Err(end_early(alloc, desk, ticket, ending_of(trouble)))
+        }
+    }
+}
+
+/// Ends the ticket before its settle: as failed, or as stale; or stops.
+fn end_early<Q: Desk>(
+    alloc: Global,
+    desk: &mut Q,
+    ticket: u64,
+    ending: Ending<Q::Stage, Q::Fetch, Q::Shard, Q::Target>,
+) -> UnitRefusal
+    requires mine { HasTaken (Q.calls desk.old) ticket }
+    requires masters { IsUnsettledMaster (ticket_of Q.start (Q.seen desk.old) ticket) }
+    requires shown { EndingShown Hand.Unit
+        (evidence Q.Stage.faults Q.Fetch.faults Q.Shard.faults Q.Target.faults Q.Shard.told Q.Target.told)
+        ⊥ Q.start (Q.seen desk.old) ticket ending }
+    requires cause { EndsAsMaster ending }
+    ensures given_up { IsGivenUp
+        (evidence Q.Stage.faults Q.Fetch.faults Q.Shard.faults Q.Target.faults Q.Shard.told Q.Target.told)
+        Q.start (Q.seen desk.old) (Q.seen desk.new) ticket result }
+    ensures grew { GrewBy Q.start ticket (Q.seen desk.old) (Q.seen desk.new) }
+    ensures calls { Q.calls desk.new ≡ Q.calls desk.old }
+{
+    match ending {
+        Ending::Failed { why, by } => {
+            give_up(alloc, desk, Hand::Unit, ticket, Ending::Failed { why, by })
+        }
+        Ending::Own => unreachable!(),
+        Ending::Stale => end_stale(alloc, desk, ticket),
+        Ending::Stopped(refusal) => UnitRefusal::Stopped(refusal),
+    }
+}
+
+/// Ends the ticket, whose term is over. Where a delete has aborted its op meanwhile, it fails.
+fn end_stale<Q: Desk>(alloc: Global, desk: &mut Q, ticket: u64) -> UnitRefusal
+    requires mine { HasTaken (Q.calls desk.old) ticket }
+    requires masters { IsUnsettledMaster (ticket_of Q.start (Q.seen desk.old) ticket) }
+    requires over { CanFinish Q.start (Q.seen desk.old) ticket }
+    ensures given_up { IsGivenUp
+        (evidence Q.Stage.faults Q.Fetch.faults Q.Shard.faults Q.Target.faults Q.Shard.told Q.Target.told)
+        Q.start (Q.seen desk.old) (Q.seen desk.new) ticket result }
+    ensures grew { GrewBy Q.start ticket (Q.seen desk.old) (Q.seen desk.new) }
+    ensures calls { Q.calls desk.new ≡ Q.calls desk.old }
+{
+    esr_core::refusals_are_of_their_steps();
+    match desk.finish(alloc, ticket) {
+        Ok(()) => UnitRefusal::Stale,
+        Err(refusal) => {
+            let trouble = Trouble::Step(refusal);
+            give_up(alloc, desk, Hand::Unit, ticket, ending_of(trouble))
+        }
     }
 }

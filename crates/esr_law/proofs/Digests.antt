@@ -8,13 +8,12 @@ use Rattle.esr_model.specs.Kept.{Kept}
 use Rattle.esr_core.specs.World.{World, Done, Ticket, marked, record_of, image_of}
 use Rattle.esr_core.specs.Steps.{completing}
 use Rattle.esr_core.specs.Ids.{Law}
-use Rattle.esr_core.specs.Entry.{DoneStep, HasEnded, Refused, Moment, DeposedAt, Step, SettleStep, DepotFault, Reply, WasSettled, Prune, SettlePruned, PruneStep}
-use Rattle.esr_core.specs.After.{done_of, done_by, after, settled_of, has_text, faulted, delete_settled}
-use Rattle.esr_core.specs.Allowed.{Allows, Allowed, IsDeposed, DoneAs, Dones as DonesBy, Settles, SettlesDeletion, PruneAllows}
+use Rattle.esr_core.specs.Entry.{DoneStep, HasEnded, Refusal, AbortedBy, Refused, Moment, Step, SettleStep, DepotFault, Reply, WasSettled, Prune, SettlePruned, PruneStep}
+use Rattle.esr_core.specs.After.{done_of, done_by, stepped, after, settled_of, has_text, faulted, delete_settled}
+use Rattle.esr_core.specs.Allowed.{Allows, Blocks, ByFailedSwap, ByDelete, IsBlocked, Allowed, DoneAs, Dones as DonesBy, Settles, SettlesDeletion, PruneAllows}
 use Rattle.esr_core.specs.History.{IsLegal, TellsShards, TellsHandedOut, AreTold, IsHonest, commands_at, committed, counts, is_settle, command_of}
-use Rattle.esr_core.specs.Turns.{DoneFound, Dones, commands_of}
+use Rattle.esr_core.specs.Turns.{DoneFound, Dones}
 use Rattle.esr_core.proofs.Reading.{some_same}
-use Rattle.esr_core.proofs.Turning.{turn_law}
 use Rattle.esr_core.proofs.Moments.{Turned, plain, turn_by, moment, settled_plain, delete_settled_plain}
 use Rattle.esr_core.proofs.Accepting.{accepted}
 use Rattle.esr_core.proofs.PruneTurns.{prune_turn}
@@ -25,7 +24,8 @@ use Rattle.esr_core.proofs.Lists.{shelf_after-append}
 use Rattle.std.specs.Prelude.{if◌then◌else◌, ◌&&◌}
 use Rattle.esr_core.specs.Allowed as allowed
 use Rattle.esr_core.specs.Left.{cut_off, Leaves, safe_in}
-use Rattle.esr_core.proofs.Histories.{Stepped, settled_above, turn_safe, deposed_stays, image_is}
+use Rattle.esr_core.proofs.Blocked.{block_faultless, blocked_none, blocked_stays}
+use Rattle.esr_core.proofs.Histories.{Stepped, settled_above, turned_law, blocked_law, image_is}
 use Rattle.esr_core.proofs.Left.{safe_now, safe_cut, fault_safe, LeftLasts}
 use Rattle.esr_law.specs.Digests.{HasUpload, HonestUploads}
 
@@ -33,7 +33,7 @@ use Rattle.esr_law.specs.Digests.{HasUpload, HonestUploads}
 step_turn : (f : Formats) (size : ℕ) (w : World) (shelf : List Shelved) → TellsShards f w → Law f w shelf → (HasUpload w → IsHonest f w.blobs) → (m : Moment) (i : Image) → m.image ≡ Some i → Allows f size w m.entry.who m.entry.step m.entry.reply m.image → Turned f w m.entry.who m.entry.step m.entry.reply (after f w m)
 step_turn f size w shelf known l honest m i told alive = turn_by f size w shelf l i doing (accepted f w shelf l) (prune_turn f w shelf l i) m.entry.who m.entry.step m.entry.reply m.image told alive
   where
-    doing : (k : ℕ) (r : ShardResult) → DonesBy f size w k r (Some i) → i.blobs ≡ w.blobs → Turned f w k (DoneStep r) HasEnded (after f w (record { entry = record { who = k; step = DoneStep r; reply = HasEnded }; image = Some i }))
+    doing : (k : ℕ) (r : ShardResult) → DonesBy f size w k r (Some i) → i.blobs ≡ w.blobs → Turned f w k (DoneStep r) HasEnded (stepped f w (record { entry = record { who = k; step = DoneStep r; reply = HasEnded }; image = Some i }))
     doing k r d same =
         plain f w k (DoneStep r) HasEnded _
         (Dones _ k r (by_source d.t.source refl d.done _ ((λ j. record (done_of w k r (d.out.there j)) { blobs = i.blobs }) ∙ (λ j. record (done_by w k r d.t (d.op_there j)) { blobs = same j })))) refl refl
@@ -45,28 +45,8 @@ step_turn f size w shelf known l honest m i told alive = turn_by f size w shelf 
 
 step_law : (f : Formats) (size : ℕ) (w : World) (shelf : List Shelved) → TellsShards f w → Law f w shelf → (HasUpload w → IsHonest f w.blobs) → (m : Moment) (i : Image) → m.image ≡ Some i → Allowed f size w m → Stepped f w shelf m (after f w m)
 step_law f size w shelf known l honest m i told a = elim a.answered [
-  | inl alive ↦
-      let t : Turned f w m.entry.who m.entry.step m.entry.reply (after f w m) = step_turn f size w shelf known l honest m i told alive.1 in
-      record {
-        commands = commands_of f w (after f w m) t.turn;
-        law = turn_law f w (after f w m) shelf l alive.0 t.turn;
-        rises = turn_safe f w (after f w m) shelf l t.turn;
-        early = t.early;
-        counted = t.commands;
-        alone = λ e. absurd (true≢false (sym e ∙ alive.0));
-        made = inl (alive.0, (t.turn, refl));
-      }
-  | inr dead ↦
-      let same : after f w m ≡ w = deposed_stays f w m dead in
-      record {
-        commands = [];
-        law = subst (λ x. Law f x shelf) (sym same) l;
-        rises = let e : (after f w m).safe ≡ w.safe = ap (λ (x : World). x.safe) same in omega (arith, e);
-        early = λ safe below. ap (commands_at f safe w m.entry.who m.entry.step) dead.refused;
-        counted = λ safe above only. ap (commands_at f safe w m.entry.who m.entry.step) dead.refused;
-        alone = λ e. (ap (λ (x : World). x.deposed) same ∙ e, ap (λ (x : World). x.safe) same);
-        made = inr (same, refl);
-      }
+  | inl alive ↦ turned_law f w shelf l alive.0 m (step_turn f size w shelf known l honest m i told alive.1)
+  | inr dead ↦ blocked_law f w shelf l m dead
 ]
 
 -- no later command counts in an image
@@ -88,15 +68,23 @@ settles_by_fault (allowed.SettleFails k im s same) = s
 settles_by_answer : {f : Formats} {size : ℕ} {w : World} {who : ℕ} {image : Option Image} → Allows f size w who SettleStep WasSettled image → Settles f w who
 settles_by_answer (allowed.Settling k im s same) = s
 
-no_deposed : (reply : Reply) (place : ℕ) → reply ≡ Refused DepotFault → reply ≡ Refused (DeposedAt place) → ⊥
-no_deposed reply place a b = cc
+no_block : (refusal : Refusal) → Refused DepotFault ≡ Refused refusal → refusal ≡ DepotFault
+no_block refusal e = cc
 
 -- a crash in a call comes in a world that isn't deposed
 cut_alive : (f : Formats) (size : ℕ) (w : World) (m : Moment) (i : Image) → Allowed f size w (cut_off m i) → (w.deposed ≡ false) × Allows f size w m.entry.who m.entry.step (Refused DepotFault) (Some i)
-cut_alive f size w m i cut = elim cut.answered [ inl alive ↦ alive | inr dead ↦ absurd (no_deposed (Refused DepotFault) dead.place refl dead.refused) ]
+cut_alive f size w m i cut = elim cut.answered [ inl alive ↦ alive | inr dead ↦ absurd (block_faultless w m.entry.who m.entry.step dead.refusal dead.blocks (no_block dead.refusal dead.refused)) ]
 
-allows_alive : (f : Formats) (size : ℕ) (w : World) (m : Moment) → w.deposed ≡ false → Allowed f size w m → Allows f size w m.entry.who m.entry.step m.entry.reply m.image
-allows_alive f size w m alive a = elim a.answered [ inl h ↦ h.1 | inr dead ↦ absurd (true≢false (sym dead.deposed ∙ alive)) ]
+not_aborted : (by : ℕ) → Refused DepotFault ≡ Refused (AbortedBy by) → ⊥
+not_aborted by e = cc
+
+-- so the step was looked at there
+allows_alive : (f : Formats) (size : ℕ) (w : World) (m : Moment) (i : Image) → w.deposed ≡ false → Allowed f size w (cut_off m i) → Allowed f size w m → Allows f size w m.entry.who m.entry.step m.entry.reply m.image
+allows_alive f size w m i alive cut a = elim a.answered [ inl h ↦ h.1 | inr dead ↦ absurd (never dead.refusal dead.blocks) ]
+  where
+    never : (refusal : Refusal) → Blocks w m.entry.who m.entry.step refusal → ⊥
+    never _ (ByFailedSwap place d) = true≢false (sym d ∙ alive)
+    never _ (ByDelete by d aborted) = not_aborted by (cut.aborted by d aborted)
 
 -- both count alike, and no later step counts in what the failure leaves: it is no later than the world after the answer, or that is deposed
 record Alike (f : Formats) (w : World) (who : ℕ) (step : Step) (reply : Reply) (image left : Option Image) : Type 0 where
@@ -184,9 +172,9 @@ nil (c ∷ cs) = ap (λ ds. c ∷ ds) (nil cs)
 deposed_none : (f : Formats) (size : ℕ) (log : List Moment) (w : World) (safe : ℕ) → w.deposed ≡ true → IsLegal f size w log → committed f safe w log ≡ []
 deposed_none f size [] w safe d legal = refl
 deposed_none f size (m ∷ log) w safe d legal =
-    let dead : IsDeposed w m = elim legal.0.answered [ inl alive ↦ absurd (true≢false (sym d ∙ alive.0)) | inr h ↦ h ] in
-    let mine : commands_at f safe w m.entry.who m.entry.step m.entry.reply ≡ [] = ap (commands_at f safe w m.entry.who m.entry.step) dead.refused in
-    let rest : committed f safe (after f w m) log ≡ [] = deposed_none f size log (after f w m) safe (ap (λ (x : World). x.deposed) (deposed_stays f w m dead) ∙ d) legal.1 in
+    let dead : IsBlocked w m = elim legal.0.answered [ inl alive ↦ absurd (true≢false (sym d ∙ alive.0)) | inr h ↦ h ] in
+    let mine : commands_at f safe w m.entry.who m.entry.step m.entry.reply ≡ [] = blocked_none f w safe m dead in
+    let rest : committed f safe (after f w m) log ≡ [] = deposed_none f size log (after f w m) safe (ap (λ (x : World). x.deposed) (blocked_stays f w m dead) ∙ d) legal.1 in
     λ j. mine j ++ rest j
 
 now_kept : (f : Formats) (size : ℕ) (log : List Moment) (w : World) (shelf : List Shelved) (i : Image) → TellsHandedOut f w log → Law f w shelf → ReadsBack f.cluster (record_of w) → IsLegal f size w log → AreTold log → HonestUploads f w log → i ≡ image_of f w
@@ -205,7 +193,7 @@ cut_kept f size m log w shelf i known l legal told honest cut =
     let c = step_law f size w shelf known.0 l honest.0 (cut_off m i) i refl cut in
     let s = step_law f size w shelf known.0 l honest.0 m told.0.0 told.0.1 legal.0 in
     let alive = cut_alive f size w m i cut in
-    let a = alike_by f size w shelf l m.entry.who m.entry.step m.entry.reply m.image (Some i) s.rises (allows_alive f size w m alive.0 legal.0) alive.1 in
+    let a = alike_by f size w shelf l m.entry.who m.entry.step m.entry.reply m.image (Some i) s.rises (allows_alive f size w m i alive.0 cut legal.0) alive.1 in
     let mine : commands_at f safe w m.entry.who m.entry.step m.entry.reply ≡ c.commands = a.counted safe ∙ c.counted safe (omega (arith, e)) (λ d. e) in
     let rest : committed f safe (after f w m) log ≡ [] = elim a.ends [
       | inl d ↦ deposed_none f size log (after f w m) safe d legal.1

@@ -181,7 +181,6 @@ fault_clones f w k SettleStep image other h = fallen_clones f w (done_step f w k
 fault_clones f w k DroppedStep image other h = fallen_clones f w (done_step f w k DroppedStep HasEnded image) image h (step_clones f w k DroppedStep HasEnded image other h)
 fault_clones f w k ElectStep image other h = fallen_clones f w (done_step f w k ElectStep HasEnded image) image h (step_clones f w k ElectStep HasEnded image other h)
 fault_clones f w k (PruneStep SettlePruned) image other h = fallen_clones f w (done_step f w k (PruneStep SettlePruned) HasEnded image) image h (step_clones f w k (PruneStep SettlePruned) HasEnded image other h)
-fault_clones f w k (PruneStep (RemoveDoomed names)) image other h = h
 fault_clones f w k step image other h = h
 
 answered_clones : (f : Formats) (w : World) (k : ℕ) (step : Step) (reply : Reply) (image : Option Image) → AsksNoSnapshot step → AreClones w.ops → AreClones (answered f w k step reply image).ops

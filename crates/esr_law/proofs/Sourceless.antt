@@ -10,7 +10,7 @@ use Rattle.esr_core.specs.Allowed as allowed
 use Rattle.esr_core.specs.Allowed.{Allows, Allowed}
 use Rattle.esr_core.specs.History.{IsLegal, TellsHandedOut}
 use Rattle.esr_core.specs.Tracked.{Tracked}
-use Rattle.esr_core.proofs.Histories.{deposed_stays}
+use Rattle.esr_core.proofs.Blocked.{blocked_stays}
 use Rattle.esr_law.specs.Digests.{HonestUploads, AsksNoSnapshot, AskNoSnapshot, AreClones}
 use Rattle.esr_law.proofs.NoSnapshots.{after_clones}
 
@@ -34,7 +34,7 @@ callers f size w who step reply image a = tt
 clones_after : (f : Formats) (size : ℕ) (w : World) (m : Moment) → Allowed f size w m → (m.entry.who ≡ 0 → AsksNoSnapshot m.entry.step) → AreClones w.ops → AreClones (after f w m).ops
 clones_after f size w m a none clones = elim a.answered [
   | inl alive ↦ after_clones f w m (λ name indices moment is. none (subst (IsCallers m.entry.who) is (callers f size w m.entry.who m.entry.step m.entry.reply m.image alive.1)) name indices moment is) clones
-  | inr dead ↦ subst (λ (x : World). AreClones x.ops) (sym (deposed_stays f w m dead)) clones
+  | inr dead ↦ subst (λ (x : World). AreClones x.ops) (sym (blocked_stays f w m dead)) clones
 ]
 
 -- no ticket is out for a shard whose files come from a source

@@ -40,11 +40,7 @@ impl<'a, R, S: Counted> Counted for MeterShard<'a, R, S> {
 }
 
 impl<'a, R: Eprint + Clock + Sync, S: Shard> Shard for MeterShard<'a, R, S> {
-    ghost origin = { λ s. S.origin s.shard };
-
-    ghost listed = { λ s. S.listed s.shard };
-
-    ghost left = { λ s. S.left s.shard };
+    ghost told = { λ s. S.told s.shard };
 
     fn list(&mut self, alloc: Global) -> Result<Files, CallError> {
         let listed = self.shard.list(alloc);
@@ -74,11 +70,7 @@ impl<'a, R: Eprint + Clock + Sync, S: Shard> Shard for MeterShard<'a, R, S> {
 impl<'a, R: Eprint + Clock + Sync, S: Sources> Sources for MeterSources<'a, R, S> {
     type Shard = MeterShard<'a, R, S::Shard>;
 
-    ghost files = { λ s place index number. S.files s.sources place index number };
-
-    ghost is_there = { λ s place index number. S.is_there s.sources place index number };
-
-    ghost is_quiet = { λ s. S.is_quiet s.sources };
+    ghost told = { λ s. S.told s.sources };
 
     ghost may_be_listed = { λ s place index number. S.may_be_listed s.sources place index number };
 

@@ -40,13 +40,7 @@ impl<'a, R, T: Counted> Counted for MeterTarget<'a, R, T> {
 }
 
 impl<'a, R: Eprint + Clock + Sync, T: Target> Target for MeterTarget<'a, R, T> {
-    ghost made_for = { λ t. T.made_for t.target };
-
-    ghost files = { λ t. T.files t.target };
-
-    ghost begun = { λ t. T.begun t.target };
-
-    ghost is_sure = { λ t. T.is_sure t.target };
+    ghost told = { λ t. T.told t.target };
 
     fn create(&mut self, alloc: Global, name: &str, room: u64) -> Result<(), CallError> {
         let created = self.target.create(alloc, name, room);
@@ -72,9 +66,7 @@ impl<'a, R: Eprint + Clock + Sync, T: Target> Target for MeterTarget<'a, R, T> {
 impl<'a, R: Eprint + Clock + Sync, T: Targets> Targets for MeterTargets<'a, R, T> {
     type Target = MeterTarget<'a, R, T::Target>;
 
-    ghost is_told = { λ t. T.is_told t.targets };
-
-    ghost is_quiet = { λ t. T.is_quiet t.targets };
+    ghost told = { λ t. T.told t.targets };
 
     fn target(
         &self,

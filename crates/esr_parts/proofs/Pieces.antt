@@ -1,11 +1,11 @@
 -- One piece after another.
-use Rattle.std.proofs.Common.{◌≡◌, ℕ, true, false, Bool, List, ◌++◌, Option, Some, None, Result, Ok, Err, OnOk, OnErr, is_err, refl, sym, ◌∙◌, ap, subst, arith, append_assoc, length-append}
+use Rattle.std.proofs.Common.{◌≡◌, ℕ, true, false, Bool, List, [], ◌++◌, Option, Some, None, Result, Ok, Err, OnOk, OnErr, is_err, refl, sym, ◌∙◌, ap, subst, arith, append_assoc, length-append}
 use Rattle.std.specs.Io.KnownBytes.{append_known, Consumes}
 use Rattle.esr_hash.specs.declared.hasher.Hasher.{Hasher}
 use Rattle.esr_hash.specs.Fed.{HasFed}
-use Rattle.esr_source.specs.Origin.{Origin}
 use Rattle.esr_source.specs.Sure.{ServesAll}
-use Rattle.esr_parts.specs.Reads.{Fed}
+use Rattle.esr_source.specs.Told.{ShardTold}
+use Rattle.esr_parts.specs.Reads.{Fed, ReadOn}
 
 pub fed_more : (a b c : Hasher) (xs ys : List ℕ) → Fed a b xs → Fed b c ys → Fed a c (xs ++ ys)
 fed_more a b c xs ys h k =
@@ -24,6 +24,10 @@ consumes_more (Some a) None c xs ys h k = absurd h
 consumes_more (Some a) (Some b) None xs ys h k = absurd k
 consumes_more (Some a) (Some b) (Some c) xs ys h k = h ∙ ap (λ (l : List ℕ). xs ++ l) k ∙ sym (append_assoc xs ys c)
 
+pub consumes_none : (a : Option (List ℕ)) → Consumes a a []
+consumes_none None = tt
+consumes_none (Some a) = refl
+
 pub on_ok : {T E : Type 0} (P : Type 0) (r : Result T E) → is_err r ≡ false → OnOk r P → P
 on_ok P (Ok x) is h = h
 on_ok P (Err e) is h = absurd cc
@@ -32,6 +36,15 @@ pub on_err : {T E : Type 0} (P : Type 0) (r : Result T E) → is_err r ≡ true 
 on_err P (Ok x) is h = absurd cc
 on_err P (Err e) is h = h
 
+-- a shard that was read, and once more
+pub read_on : (a b c : ShardTold) → ReadOn a b → ReadOn b c → ReadOn a c
+read_on a b c first second = second ∙ ap (λ (t : ShardTold). record t { left = c.left }) first
+
+-- a start of a file reads on, whatever it is answered
+pub read_start : {T E : Type 0} (r : Result T E) (a b : ShardTold) (o : Option (List ℕ)) → OnOk r (b ≡ record a { left = o }) → OnErr r (b ≡ a) → ReadOn a b
+read_start (Ok x) a b o ok err = ok ∙ ap (λ (p : Option (List ℕ)). record a { left = p }) (sym (ap (λ (t : ShardTold). t.left) ok))
+read_start (Err e) a b o ok err = err ∙ ap (λ (p : Option (List ℕ)). record a { left = p }) (sym (ap (λ (t : ShardTold). t.left) err))
+
 -- an object that tells that no call fails has its count still, after one call more
-pub steady_more : {failed : Bool} (a b : Origin) (x y z : ℕ) → b ≡ a → (a.is_sure ≡ true → y ≡ x) → ServesAll b.is_sure y z failed → a.is_sure ≡ true → z ≡ x
-steady_more a b x y z same so_far serves sure = serves.count (ap (λ (o : Origin). o.is_sure) same ∙ sure) ∙ so_far sure
+pub steady_more : {failed : Bool} (a b : ShardTold) (x y z : ℕ) → ReadOn a b → (a.is_sure ≡ true → y ≡ x) → ServesAll b.is_sure y z failed → a.is_sure ≡ true → z ≡ x
+steady_more a b x y z same so_far serves sure = serves.count (ap (λ (t : ShardTold). t.is_sure) same ∙ sure) ∙ so_far sure

@@ -5,8 +5,13 @@ use Rattle.esr_hash.specs.declared.hasher.Hasher.{Hasher}
 use Rattle.esr_hash.specs.declared.print.Print.{Print}
 use Rattle.esr_hash.specs.Fed.{fed_count, HasFed}
 use Rattle.esr_hash.specs.Prints.{print_of}
+use Rattle.esr_source.specs.Told.{ShardTold}
 use Rattle.esr_parts.specs.declared.copy.CopyError.{CopyError}
 use Rattle.esr_parts.specs.declared.copy.CopyError.TheVariants.{Source, Stage}
+
+-- the shard may have gone on in its files, and is as it was else
+abbrev pub ReadOn : ShardTold → ShardTold → Type 0
+ReadOn old new = new ≡ record old { left = new.left }
 
 -- what is told, if anything is, is this
 abbrev pub Tells : Option (List ℕ) → List ℕ → Type 0

@@ -98,21 +98,21 @@ pub fn read_back<F: Fetch, T: Target>(
     size: u64,
     buf: &mut [u8],
 ) -> Result<Extent, BackError>
-    requires room { IsSomeAnd (T.begun target.old) (λ b. size ≤ b.room) }
+    requires room { IsSomeAnd (T.told target.old).begun (λ b. size ≤ b.room) }
     requires bound { fed_count hasher.old + size + 1 < 2 ^ 61 }
     requires buffer { 0 < length buf.old }
-    ensures back { IfOk result (λ extent. ReadBack (F.left fetch.old) (F.left fetch.new) hasher.old hasher.new (T.begun target.old) (T.begun target.new) size extent) }
-    ensures broken { OnErr result (Broken (F.left fetch.old) (F.left fetch.new) hasher.old hasher.new (T.begun target.old) (T.begun target.new) size) }
-    ensures files { T.files target.new ≡ T.files target.old }
-    ensures made_for { T.made_for target.new ≡ T.made_for target.old }
+    ensures back { IfOk result (λ extent. ReadBack (F.left fetch.old) (F.left fetch.new) hasher.old hasher.new (T.told target.old).begun (T.told target.new).begun size extent) }
+    ensures broken { OnErr result (Broken (F.left fetch.old) (F.left fetch.new) hasher.old hasher.new (T.told target.old).begun (T.told target.new).begun size) }
+    ensures files { (T.told target.new).files ≡ (T.told target.old).files }
+    ensures made_for { (T.told target.new).made_for ≡ (T.told target.old).made_for }
     ensures buffer { length buf.new ≡ length buf.old }
     ensures fetch { HasCause (F.faults fetch.old) (F.faults fetch.new) (is_of_fetch result) }
     ensures target { HasCause (T.faults target.old) (T.faults target.new) (is_of_target result) }
     ensures steady { OnOk result (T.faults target.new ≡ T.faults target.old) }
     ensures fetch_sure { F.is_sure fetch.new ≡ F.is_sure fetch.old }
-    ensures target_sure { T.is_sure target.new ≡ T.is_sure target.old }
+    ensures target_sure { (T.told target.new).is_sure ≡ (T.told target.old).is_sure }
     ensures sure_ok { IsTrue (F.is_sure fetch.old) → is_of_fetch result ≡ false }
-    ensures sure { ServesAll (T.is_sure target.old) (T.faults target.old) (T.faults target.new) (is_of_target result) }
+    ensures sure { ServesAll (T.told target.old).is_sure (T.faults target.old) (T.faults target.new) (is_of_target result) }
 {
     let mut missing = size;
     loop {

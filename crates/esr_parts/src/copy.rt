@@ -3,7 +3,7 @@ ghost use Rattle.std.specs.Prelude.{◌≡◌, ◌+◌, ◌-◌, ◌<◌, ◌≤
 ghost use Rattle.std.specs.Io.KnownBytes.{append_known};
 ghost use Rattle.esr_depot.specs.Calls.{HasCause};
 ghost use Rattle.esr_hash.specs.Fed.{fed_count};
-ghost use Rattle.esr_parts.specs.Reads.{Copied, is_of_source, is_of_stage};
+ghost use Rattle.esr_parts.specs.Reads.{Copied, ReadOn, is_of_source, is_of_stage};
 
 use esr_depot::{Failed, Stage};
 use esr_hash::Hasher;
@@ -51,14 +51,13 @@ pub fn copy_part<S: Shard, W: Stage, G: Gate>(
     requires room { size ≤ W.room stage.old }
     requires bound { fed_count hasher.old + size < 2 ^ 61 }
     requires buffer { 0 < length buf.old }
-    ensures listed { S.listed shard.new ≡ S.listed shard.old }
-    ensures origin { S.origin shard.new ≡ S.origin shard.old }
+    ensures kept { ReadOn (S.told shard.old) (S.told shard.new) }
     ensures buffer { length buf.new ≡ length buf.old }
     ensures name { W.name stage.new ≡ W.name stage.old }
-    ensures copied { IfOk result (λ full. Copied (S.left shard.old) (S.left shard.new) (W.contents stage.old) (W.contents stage.new) hasher.old hasher.new size full) }
+    ensures copied { IfOk result (λ full. Copied (S.told shard.old).left (S.told shard.new).left (W.contents stage.old) (W.contents stage.new) hasher.old hasher.new size full) }
     ensures source { HasCause (S.faults shard.old) (S.faults shard.new) (is_of_source result) }
     ensures stage { HasCause (W.faults stage.old) (W.faults stage.new) (is_of_stage result) }
-    ensures steady { (S.origin shard.old).is_sure ≡ true → S.faults shard.new ≡ S.faults shard.old }
+    ensures steady { (S.told shard.old).is_sure ≡ true → S.faults shard.new ≡ S.faults shard.old }
     ensures sure { IsTrue (W.is_sure stage.old) → is_of_stage result ≡ false }
 {
     let mut left = size;

@@ -2,7 +2,7 @@
 ghost use Rattle.std.specs.Prelude.{◌≡◌, ◌<◌, ◌≤◌, ◌^◌, true, IfOk, IfSome, IsSomeAnd, length};
 ghost use Rattle.esr_depot.specs.Calls.{HasCause, has_failed};
 ghost use Rattle.esr_source.specs.Files.{bytes_at};
-ghost use Rattle.esr_parts.specs.Reads.{Hashed};
+ghost use Rattle.esr_parts.specs.Reads.{Hashed, ReadOn};
 
 use esr_depot::CallError;
 use esr_hash::{Hasher, Print};
@@ -17,16 +17,15 @@ pub fn hash_file<S: Shard>(
     len: u64,
     buf: &mut [u8],
 ) -> Result<Print, CallError>
-    requires listed { IsSomeAnd (S.listed shard.old) (λ fs. file < length fs) }
-    requires told { IfSome (bytes_at (S.origin shard.old).files file) (λ b. length b ≡ len) }
+    requires listed { IsSomeAnd (S.told shard.old).listed (λ fs. file < length fs) }
+    requires told { IfSome (bytes_at (S.told shard.old).files file) (λ b. length b ≡ len) }
     requires bound { len < 2 ^ 60 }
     requires buffer { 0 < length buf.old }
-    ensures listed { S.listed shard.new ≡ S.listed shard.old }
-    ensures origin { S.origin shard.new ≡ S.origin shard.old }
+    ensures kept { ReadOn (S.told shard.old) (S.told shard.new) }
     ensures buffer { length buf.new ≡ length buf.old }
-    ensures hashed { IfOk result (λ p. Hashed (bytes_at (S.origin shard.old).files file) len p) }
+    ensures hashed { IfOk result (λ p. Hashed (bytes_at (S.told shard.old).files file) len p) }
     ensures cause { HasCause (S.faults shard.old) (S.faults shard.new) (has_failed result) }
-    ensures steady { (S.origin shard.old).is_sure ≡ true → S.faults shard.new ≡ S.faults shard.old }
+    ensures steady { (S.told shard.old).is_sure ≡ true → S.faults shard.new ≡ S.faults shard.old }
 {
     shard.start(alloc, file)?;
     let mut hasher = Hasher::start();

@@ -1,9 +1,9 @@
 -- When a unit of an op is ready.
 use Rattle.std.proofs.Common.{◌≡◌, ◌≢◌, ◌⊎◌, ℕ, suc, zero, ◌+◌, ◌<◌, ◌≤◌, Bool, true, false, ◌&&◌, ◌||◌, List, [], ◌∷◌, Option, Some, None, cond, eqb, option_map, map, length, get_or, take, refl, sym, ap, ◌∙◌, subst, inl, inr, true≢false, arith, eq-eqb, nat_cmp}
-use Rattle.std.specs.Prelude.{not, is_some, slice_get, ◌==◌}
+use Rattle.std.specs.Prelude.{not, is_some, nat_lt, slice_get, ◌==◌}
 use Rattle.std.specs.List.{list_any, position}
 use Rattle.std.specs.FinMap as fin
-use Rattle.std.proofs.lemmas.Bool.{cases_lt}
+use Rattle.std.proofs.lemmas.Bool.{cases_lt, lt-ltb, ltb-true}
 use Rattle.std.proofs.lemmas.List.Quantifiers.{position-Some}
 use Rattle.std.proofs.lemmas.Option.{slice_get_read, slice_get_within, slice_get-get_or, get_or_from_slice_get}
 use Rattle.esr_model.specs.Values.{Has, ShardResult}
@@ -15,7 +15,8 @@ use Rattle.esr_core.specs.After.{shard_of}
 use Rattle.esr_progress.specs.declared.ready.Kind.{Kind}
 use Rattle.esr_progress.specs.declared.ready.Kind.TheVariants as ready
 use Rattle.esr_progress.specs.declared.unit.Slot.{Slot}
-use Rattle.esr_progress.specs.Shards.{is_pending, waits, waits_for, is_shard}
+use Rattle.esr_progress.specs.Plan.{RestorePlan}
+use Rattle.esr_progress.specs.Shards.{is_pending, waits, waits_for, is_shard, op_before, restore_before}
 use Rattle.esr_progress.specs.Ops.{has_stopped, is_free}
 use Rattle.esr_progress.specs.Inside.{numbers_of, Rise}
 use Rattle.esr_progress.specs.Choice.{barred, is_going, goes_in, is_first_at, is_earliest, is_out_of, is_swapping, ready_by, is_final, ready_of, NoneBefore, IsReadyAt, IsPossible, AreShards}
@@ -25,17 +26,17 @@ use Rattle.esr_progress.proofs.Numbers.{found_member}
 
 -- ---- the search
 
-module _ (ops : List (ℕ × Op)) (deletes : List (ℕ × Deletion)) (completed : List ℕ) (seats : List Slot) (term : ℕ) where
-  pub ready_here : (at : ℕ) (e : ℕ × Op) (kind : Kind) → at < length ops → e ≡ get_or ops at e → ready_of ops deletes completed seats term (take at ops) e ≡ Some kind → NoneBefore ops deletes completed seats term at
-      → IsReadyAt ops deletes completed seats term at kind
+module _ (ops : List (ℕ × Op)) (deletes : List (ℕ × Deletion)) (completed : List ℕ) (seats : List Slot) (restores : List (ℕ × RestorePlan)) (term : ℕ) where
+  pub ready_here : (at : ℕ) (e : ℕ × Op) (kind : Kind) → at < length ops → e ≡ get_or ops at e → ready_of ops deletes completed seats restores term e ≡ Some kind → NoneBefore ops deletes completed seats restores term at
+      → IsReadyAt ops deletes completed seats restores term at kind
   ready_here at e kind lt is found before = record { e = e; there = slice_get_read ops (length ops) at e refl lt is; is = found; before = before }
 
-  pub none_more : (at : ℕ) (e : ℕ × Op) → at < length ops → e ≡ get_or ops at e → ready_of ops deletes completed seats term (take at ops) e ≡ None → NoneBefore ops deletes completed seats term at → NoneBefore ops deletes completed seats term (at + 1)
+  pub none_more : (at : ℕ) (e : ℕ × Op) → at < length ops → e ≡ get_or ops at e → ready_of ops deletes completed seats restores term e ≡ None → NoneBefore ops deletes completed seats restores term at → NoneBefore ops deletes completed seats restores term (at + 1)
   none_more at e lt is none before k x below there = elim (lt_or_same k at below) [
     | inl less ↦ before k x less there
     | inr same ↦
         let one : e ≡ x = some_same e x (sym (slice_get_read ops (length ops) at e refl lt is) ∙ ap (slice_get ops) (sym same) ∙ there) in
-        (λ i. ready_of ops deletes completed seats term (take (same i) ops) (sym one i)) ∙ none
+        ap (ready_of ops deletes completed seats restores term) (sym one) ∙ none
   ]
     where
       lt_or_same : (k at : ℕ) → k < at + 1 → (k < at) ⊎ (k ≡ at)
@@ -179,29 +180,46 @@ waits_by (Out k) e = tt
 waits_by (Done r) e = true≢false (sym e)
 waits_by GivenUp e = true≢false (sym e)
 
--- no op of a lower number waits on the shard
-abbrev pub NoneWaits : List (ℕ × Op) → ℕ → ShardWork → Type 0
-NoneWaits ops number s = (p : ℕ) (q : Op) (z : ShardWork) → p < number → fin.find nat_cmp p ops ≡ Some q → Has q.shards z → z.ref.id ≡ s.ref.id → z.number ≡ s.number → Waits z.state → ⊥
+-- none of a lower number waits on the shard
+abbrev pub NoneWaits : {A : Type 0} → (A → List ShardWork) → List (ℕ × A) → ℕ → ShardWork → Type 0
+NoneWaits {A} shards es o s = (p : ℕ) (q : A) (z : ShardWork) → p < o → fin.find nat_cmp p es ≡ Some q → Has (shards q) z → z.ref.id ≡ s.ref.id → z.number ≡ s.number → Waits z.state → ⊥
 
-module _ (ops : List (ℕ × Op)) (rise : Rise (numbers_of ops)) (at : ℕ) (e : ℕ × Op) (there : slice_get ops at ≡ Some e) where
-  pub free_says : (s : ShardWork) → is_free (take at ops) s ≡ true → (s.state ≡ Pending) × NoneWaits ops e.0 s
-  free_says s free =
-      let (pending, rest) = and_true _ _ free in (
-        pending_by s.state pending,
-        λ p q z lt found m id number w.
-            clash (list_any (λ (x : ℕ × Op). list_any (waits_for s.ref.id s.number) x.1.shards) (take at ops))
-            (any_here (λ (x : ℕ × Op). list_any (waits_for s.ref.id s.number) x.1.shards) (take at ops) (p, q) (place_lower ops rise at e there (p, q) (find-member p ops q found) lt)
-            (any_here (waits_for s.ref.id s.number) q.shards z m (both_true _ _ (both_true _ _ (eq-eqb z.ref.id s.ref.id id) (eq-eqb z.number s.number number)) (waiting z.state w))))
-            (not_true _ rest),
-      )
+module _ {A : Type 0} (shards : A → List ShardWork) (es : List (ℕ × A)) (o : ℕ) (s : ShardWork) where
+  abbrev waits_there : ℕ × A → Bool
+  waits_there e = nat_lt e.0 o && list_any (waits_for s.ref.id s.number) (shards e.1)
 
-  pub says_free : (s : ShardWork) → s.state ≡ Pending → NoneWaits ops e.0 s → is_free (take at ops) s ≡ true
-  says_free s pending none = both_true _ _ (ap is_pending pending) (ap not (is_false _ (λ any.
-      let (x, m, waits_there) = any_true (λ (x : ℕ × Op). list_any (waits_for s.ref.id s.number) x.1.shards) (take at ops) any in
-      let (z, hz, h) = any_true (waits_for s.ref.id s.number) x.1.shards waits_there in
+  none_says : list_any waits_there es ≡ false → NoneWaits shards es o s
+  none_says none p q z lt found m id number w =
+      clash (list_any waits_there es)
+      (any_here waits_there es (p, q) (find-member p es q found)
+      (both_true (nat_lt p o) (list_any (waits_for s.ref.id s.number) (shards q)) (lt-ltb p o lt)
+      (any_here (waits_for s.ref.id s.number) (shards q) z m (both_true _ _ (both_true _ _ (eq-eqb z.ref.id s.ref.id id) (eq-eqb z.number s.number number)) (waiting z.state w)))))
+      none
+
+  says_none : Rise (numbers_of es) → NoneWaits shards es o s → list_any waits_there es ≡ false
+  says_none rise none = is_false (list_any waits_there es) (λ any.
+      let (x, m, here) = any_true waits_there es any in
+      let (lower, held) = and_true (nat_lt x.0 o) (list_any (waits_for s.ref.id s.number) (shards x.1)) here in
+      let (z, hz, h) = any_true (waits_for s.ref.id s.number) (shards x.1) held in
       let (same, w) = and_true _ _ h in
       let (id, number) = and_true _ _ same in
-      none x.0 x.1 z (number_below ops rise at e there x m) (found_member ops rise x (Has-taken ops at x m)) hz (eqb_is _ _ id) (eqb_is _ _ number) (waits_by z.state w))))
+      none x.0 x.1 z (ltb-true x.0 o lower) (found_member es rise x m) hz (eqb_is _ _ id) (eqb_is _ _ number) (waits_by z.state w))
+
+module _ (ops : List (ℕ × Op)) (restores : List (ℕ × RestorePlan)) (o : ℕ) (s : ShardWork) where
+  pub free_says : is_free ops restores o s ≡ true → (s.state ≡ Pending) × NoneWaits (λ (x : Op). x.shards) ops o s × NoneWaits (λ (x : RestorePlan). x.shards) restores o s
+  free_says free =
+      let (first, unread) = and_true (is_pending s.state && not (op_before ops o s.ref.id s.number)) (not (restore_before restores o s.ref.id s.number)) free in
+      let (pending, idle) = and_true (is_pending s.state) (not (op_before ops o s.ref.id s.number)) first in (
+        pending_by s.state pending,
+        none_says (λ (x : Op). x.shards) ops o s (not_true (op_before ops o s.ref.id s.number) idle),
+        none_says (λ (x : RestorePlan). x.shards) restores o s (not_true (restore_before restores o s.ref.id s.number) unread),
+      )
+
+  pub says_free : Rise (numbers_of ops) → Rise (numbers_of restores) → s.state ≡ Pending → NoneWaits (λ (x : Op). x.shards) ops o s → NoneWaits (λ (x : RestorePlan). x.shards) restores o s → is_free ops restores o s ≡ true
+  says_free ops_rise restores_rise pending idle unread =
+      both_true (is_pending s.state && not (op_before ops o s.ref.id s.number)) (not (restore_before restores o s.ref.id s.number))
+      (both_true (is_pending s.state) (not (op_before ops o s.ref.id s.number)) (ap is_pending pending) (ap not (says_none (λ (x : Op). x.shards) ops o s ops_rise idle)))
+      (ap not (says_none (λ (x : RestorePlan). x.shards) restores o s restores_rise unread))
 
 -- ---- what completed first
 
@@ -296,11 +314,11 @@ picked_so false out false (Some i) final = (refl, refl, refl)
 picked_so false out false None true = (refl, refl, refl, refl)
 picked_so false out false None false = inr (refl, inr (refl, refl))
 
-pub picked : (ops : List (ℕ × Op)) (deletes : List (ℕ × Deletion)) (completed : List ℕ) (seats : List Slot) (term : ℕ) (before : List (ℕ × Op)) (e : ℕ × Op) (kind : Option Kind) → ready_of ops deletes completed seats term before e ≡ kind
-    → WasPicked kind (has_stopped e.1) (is_out_of seats term e.0) (barred deletes e.0) (position (is_free before) e.1.shards) (is_final ops deletes completed seats term e)
-picked ops deletes completed seats term before e kind is =
-    subst (λ (k : Option Kind). WasPicked k (has_stopped e.1) (is_out_of seats term e.0) (barred deletes e.0) (position (is_free before) e.1.shards) (is_final ops deletes completed seats term e)) is
-    (picked_so (has_stopped e.1) (is_out_of seats term e.0) (barred deletes e.0) (position (is_free before) e.1.shards) (is_final ops deletes completed seats term e))
+pub picked : (ops : List (ℕ × Op)) (deletes : List (ℕ × Deletion)) (completed : List ℕ) (seats : List Slot) (restores : List (ℕ × RestorePlan)) (term : ℕ) (e : ℕ × Op) (kind : Option Kind) → ready_of ops deletes completed seats restores term e ≡ kind
+    → WasPicked kind (has_stopped e.1) (is_out_of seats term e.0) (barred deletes e.0) (position (is_free ops restores e.0) e.1.shards) (is_final ops deletes completed seats term e)
+picked ops deletes completed seats restores term e kind is =
+    subst (λ (k : Option Kind). WasPicked k (has_stopped e.1) (is_out_of seats term e.0) (barred deletes e.0) (position (is_free ops restores e.0) e.1.shards) (is_final ops deletes completed seats term e)) is
+    (picked_so (has_stopped e.1) (is_out_of seats term e.0) (barred deletes e.0) (position (is_free ops restores e.0) e.1.shards) (is_final ops deletes completed seats term e))
 
 -- ---- the first shard of its id and number
 
@@ -324,32 +342,34 @@ stands_taken (x ∷ xs) (suc i) z s there (ne, inl h) = inl h.0
 stands_taken (x ∷ xs) (suc i) z s there (ne, inr h) = inr (stands_taken xs i z s there h)
 
 -- shards that are alike are free alike
-pub free_alike : (before : List (ℕ × Op)) (a b : ShardWork) → a.ref.id ≡ b.ref.id → a.number ≡ b.number → a.state ≡ b.state → is_free before a ≡ is_free before b
-free_alike before a b id number state = λ i. is_pending (state i) && not (list_any (λ (e : ℕ × Op). list_any (waits_for (id i) (number i)) e.1.shards) before)
+pub free_alike : (ops : List (ℕ × Op)) (restores : List (ℕ × RestorePlan)) (o : ℕ) (a b : ShardWork) → a.ref.id ≡ b.ref.id → a.number ≡ b.number → a.state ≡ b.state → is_free ops restores o a ≡ is_free ops restores o b
+free_alike ops restores o a b id number state = λ i. (is_pending (state i) && not (op_before ops o (id i) (number i))) && not (restore_before restores o (id i) (number i))
 
 -- an op can give the unit that is found
-pub possible : (ops : List (ℕ × Op)) (deletes : List (ℕ × Deletion)) (completed : List ℕ) (seats : List Slot) (term : ℕ) (before : List (ℕ × Op)) (e : ℕ × Op) (kind : Kind) → ready_of ops deletes completed seats term before e ≡ Some kind → IsPossible e.1 kind
-possible ops deletes completed seats term before e (ready.Shard i) is = (place_within (is_free before) e.1.shards i (picked ops deletes completed seats term before e (Some (ready.Shard i)) is).1).0
-possible ops deletes completed seats term before e ready.Finalize is = (and_true _ _ (picked ops deletes completed seats term before e (Some ready.Finalize) is).2).0
-possible ops deletes completed seats term before e ready.Drop is = tt
+pub possible : (ops : List (ℕ × Op)) (deletes : List (ℕ × Deletion)) (completed : List ℕ) (seats : List Slot) (restores : List (ℕ × RestorePlan)) (term : ℕ) (e : ℕ × Op) (kind : Kind) → ready_of ops deletes completed seats restores term e ≡ Some kind → IsPossible e.1 kind
+possible ops deletes completed seats restores term e (ready.Shard i) is = (place_within (is_free ops restores e.0) e.1.shards i (picked ops deletes completed seats restores term e (Some (ready.Shard i)) is).1).0
+possible ops deletes completed seats restores term e ready.Finalize is = (and_true _ _ (picked ops deletes completed seats restores term e (Some ready.Finalize) is).2).0
+possible ops deletes completed seats restores term e ready.Drop is = tt
 
 -- ---- the same, of equal lists
 
-module _ (ops here : List (ℕ × Op)) (same : here ≡ ops) (deletes held : List (ℕ × Deletion)) (kept : held ≡ deletes) (completed done : List ℕ) (d : done ≡ completed) (seats sat : List Slot) (s : sat ≡ seats) (term : ℕ) where
-  pub none_in : NoneBefore here held done sat term (length here) → NoneBefore ops deletes completed seats term (length ops)
+module _ (ops here : List (ℕ × Op)) (same : here ≡ ops) (deletes held : List (ℕ × Deletion)) (kept : held ≡ deletes) (completed done : List ℕ) (d : done ≡ completed) (seats sat : List Slot) (s : sat ≡ seats) (restores read : List (ℕ × RestorePlan)) (r : read ≡ restores) (term : ℕ) where
+  pub none_in : NoneBefore here held done sat read term (length here) → NoneBefore ops deletes completed seats restores term (length ops)
   none_in h =
-      subst (λ (es : List (ℕ × Op)). NoneBefore es deletes completed seats term (length es)) same
-      (subst (λ (ds : List (ℕ × Deletion)). NoneBefore here ds completed seats term (length here)) kept
-      (subst (λ (ns : List ℕ). NoneBefore here held ns seats term (length here)) d (subst (λ (cs : List Slot). NoneBefore here held done cs term (length here)) s h)))
+      subst (λ (es : List (ℕ × Op)). NoneBefore es deletes completed seats restores term (length es)) same
+      (subst (λ (ds : List (ℕ × Deletion)). NoneBefore here ds completed seats restores term (length here)) kept
+      (subst (λ (ns : List ℕ). NoneBefore here held ns seats restores term (length here)) d
+      (subst (λ (cs : List Slot). NoneBefore here held done cs restores term (length here)) s (subst (λ (rs : List (ℕ × RestorePlan)). NoneBefore here held done sat rs term (length here)) r h))))
 
-  pub ready_in : (at : ℕ) (kind : Kind) → IsReadyAt here held done sat term at kind → IsReadyAt ops deletes completed seats term at kind
+  pub ready_in : (at : ℕ) (kind : Kind) → IsReadyAt here held done sat read term at kind → IsReadyAt ops deletes completed seats restores term at kind
   ready_in at kind h =
-      subst (λ (es : List (ℕ × Op)). IsReadyAt es deletes completed seats term at kind) same
-      (subst (λ (ds : List (ℕ × Deletion)). IsReadyAt here ds completed seats term at kind) kept
-      (subst (λ (ns : List ℕ). IsReadyAt here held ns seats term at kind) d (subst (λ (cs : List Slot). IsReadyAt here held done cs term at kind) s h)))
+      subst (λ (es : List (ℕ × Op)). IsReadyAt es deletes completed seats restores term at kind) same
+      (subst (λ (ds : List (ℕ × Deletion)). IsReadyAt here ds completed seats restores term at kind) kept
+      (subst (λ (ns : List ℕ). IsReadyAt here held ns seats restores term at kind) d
+      (subst (λ (cs : List Slot). IsReadyAt here held done cs restores term at kind) s (subst (λ (rs : List (ℕ × RestorePlan)). IsReadyAt here held done sat rs term at kind) r h))))
 
 -- the op at the place, read
-module _ (ops here : List (ℕ × Op)) (same : here ≡ ops) (deletes : List (ℕ × Deletion)) (completed : List ℕ) (seats : List Slot) (term at : ℕ) (kind : Kind) (r : IsReadyAt here deletes completed seats term at kind) (e : ℕ × Op) (is : e ≡ get_or ops at e) where
+module _ (ops here : List (ℕ × Op)) (same : here ≡ ops) (deletes : List (ℕ × Deletion)) (completed : List ℕ) (seats : List Slot) (restores : List (ℕ × RestorePlan)) (term at : ℕ) (kind : Kind) (r : IsReadyAt here deletes completed seats restores term at kind) (e : ℕ × Op) (is : e ≡ get_or ops at e) where
   pub read_there : slice_get ops at ≡ Some e
   read_there =
       let there : slice_get ops at ≡ Some r.e = ap (λ es. slice_get es at) (sym same) ∙ r.there in
@@ -358,4 +378,4 @@ module _ (ops here : List (ℕ × Op)) (same : here ≡ ops) (deletes : List (�
   pub possible_there : IsPossible e.1 kind
   possible_there =
       let one : r.e ≡ e = some_same r.e e (sym r.there ∙ ap (λ es. slice_get es at) same ∙ read_there) in
-      subst (λ (x : ℕ × Op). IsPossible x.1 kind) one (possible here deletes completed seats term (take at here) r.e kind r.is)
+      subst (λ (x : ℕ × Op). IsPossible x.1 kind) one (possible here deletes completed seats restores term r.e kind r.is)

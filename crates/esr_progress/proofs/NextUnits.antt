@@ -11,8 +11,9 @@ use Rattle.esr_names.specs.declared.blob.ShardId.{ShardId}
 use Rattle.esr_model.specs.Values.{Bytes, Has, RootData, ShardResult, Formats}
 use Rattle.esr_core.specs.Entry.{GivenShard, GivenClone}
 use Rattle.esr_model.specs.Image.{Generation}
-use Rattle.esr_core.specs.World.{World, Op, Deletion, ShardState, Pending, Out, Done, GivenUp, ShardWork, Ticket, Work, Shard, Finalize, Deleting, Drop, AllDone, info_of}
+use Rattle.esr_core.specs.World.{World, Op, Deletion, ShardState, Pending, Out, Done, GivenUp, ShardWork, ReadState, Unread, BeingRead, Restored, NotRestored, RestoreShard, Restoring, Ticket, Work, Shard, Finalize, Deleting, Drop, AllDone, info_of}
 use Rattle.esr_core.specs.Ready.{Barrier, Goes, Stopped, Waits, Before, IsMaster, IsShard, SwapIsOut, UnitIsOut, ReadyShard, ReadyFinalize, ReadyDrop}
+use Rattle.esr_core.specs.Restores.{waits}
 use Rattle.esr_core.specs.Steps.{all_done, is_done, given, Largest, final_ticket, shard_ticket}
 use Rattle.esr_core.specs.Turns.{plain_ticket}
 use Rattle.esr_core.specs.Generations.{IsLive, DoneAt}
@@ -34,17 +35,17 @@ use Rattle.esr_progress.specs.declared.unit.Work.{Work as CodeWork}
 use Rattle.esr_progress.specs.declared.unit.Work.TheVariants as works
 use Rattle.esr_progress.specs.declared.unit.Copied.{Copied}
 use Rattle.esr_progress.specs.declared.unit.ReadyUnit.{ReadyUnit}
-use Rattle.esr_progress.specs.Plan.{Plan, Seat, UnitKind, OfShard, OfFinalize, OfDelete, OfDrop, kind_of, seat_of, seat_of_code, RestorePlan, IsPlanOf, IsGivenIn}
+use Rattle.esr_progress.specs.Plan.{Plan, Seat, UnitKind, OfShard, OfFinalize, OfDelete, OfDrop, kind_of, seat_of, seat_of_code, RestorePlan, read_state, read_work, restore_plan, IsPlanOf, IsGivenIn}
 use Rattle.esr_progress.specs.Seats.{seat_at, seat_in, told_in, holds, is_swap_out, is_unit_out, is_master, is_of_shard}
 use Rattle.esr_progress.specs.Ops.{has_stopped, is_free, IsDoneAt, Among, IsMost, IsShardWork, IsFinalWork}
 use Rattle.esr_progress.specs.Inside.{plan_with, seats_with, numbers_of, Rise, IsProgress}
 use Rattle.esr_progress.specs.Units.{given_by, given_of, IsCopyOf, ShardGiven, CloneGiven, GivesWork, LeavesSnap, HasSnapReady, GivesLowest, LowestUnit, IsLowest}
 use Rattle.esr_progress.specs.Choice.{barred, is_earliest, is_out_of, is_swapping, is_final, ready_of, NoneBefore, IsReadyAt, IsFirstReady, IsPossible, IsWorkFor, IsSeatOf, IsSeatFor, IsLiveIn, IsBaseFor, given_entry, AreShards}
-use Rattle.esr_progress.proofs.Lists.{Has-at, position-None, some_same, none_some}
+use Rattle.esr_progress.proofs.Lists.{Has-at, Has-map, Has-mapped, position-None, some_same, none_some}
 use Rattle.esr_progress.proofs.Entries.{FirstAt, first_at, from_set, get_from, find-member, eqb_is}
 use Rattle.esr_progress.proofs.Numbers.{found_member, entries_from, numbers-set}
 use Rattle.esr_progress.proofs.SeatMaps.{get-seats}
-use Rattle.esr_progress.proofs.Plans.{ticket_of, seats_put}
+use Rattle.esr_progress.proofs.Plans.{ticket_of, seats_put, restore_of_plan}
 use Rattle.esr_progress.proofs.Results.{most_like}
 use Rattle.esr_progress.proofs.Takes.{set_same}
 use Rattle.esr_progress.proofs.Choices.{Has-taken, or_true, or_left, or_right, both_true, and_true, not_true, is_false, is_true, clash, any_true, any_here, place_of, place_below, first_place, place_within, number_below, place_lower, goes_by, goes_on, stopped_by, has_by, NoneWaits, free_says, says_free, Earlier, not_earliest, none_earlier, all_done_by, picked, shard_found, stands_taken, free_alike}
@@ -89,6 +90,20 @@ some_results (s ∷ shards) e =
     done_by (Out k) e = absurd (true≢false (sym e))
     done_by (Done r) e = (r, refl)
     done_by GivenUp e = absurd (true≢false (sym e))
+
+-- ---- shards of restores
+
+read_waits : (state : ReadState) → Waits (read_state state) → waits state ≡ true
+read_waits Unread h = refl
+read_waits (BeingRead k) h = refl
+read_waits (Restored files bytes) h = absurd h
+read_waits (NotRestored why) h = absurd h
+
+waits_read : (state : ReadState) → waits state ≡ true → Waits (read_state state)
+waits_read Unread e = tt
+waits_read (BeingRead k) e = tt
+waits_read (Restored files bytes) e = true≢false (sym e)
+waits_read (NotRestored why) e = true≢false (sym e)
 
 -- ---- seats by their tickets
 
@@ -145,6 +160,24 @@ module _ (ops : List (ℕ × Op)) (deletes : List (ℕ × Deletion)) (completed 
 
   pub find_delete : (d : ℕ) → fin.get w.deletes d ≡ fin.find nat_cmp d deletes
   find_delete d = ap (λ m. fin.get m d) (sym is.plan.deletes) ∙ ap (λ (p : Plan). fin.get p.deletes d) (sym view) ∙ get_from deletes d
+
+  find_restore : (q : ℕ) → fin.get now.restores q ≡ fin.find nat_cmp q restores
+  find_restore q = ap (λ (p : Plan). fin.get p.restores q) (sym view) ∙ get_from restores q
+
+  -- no restore before the number has the shard unread or being read
+  abbrev IsUnread : ℕ → ShardWork → Type 0
+  IsUnread o s = (p : ℕ) (r : Restoring) (z : RestoreShard) → p < o → fin.get w.restores p ≡ Some r → Has r.shards z → z.ref.id ≡ s.ref.id → z.number ≡ s.number → waits z.state ≡ false
+
+  none_reads : (o : ℕ) (s : ShardWork) → NoneWaits (λ (x : RestorePlan). x.shards) restores o s → IsUnread o s
+  none_reads o s none p r z lt there m id number = is_false (waits z.state) (λ e.
+      none p (restore_plan r) (read_work r.place z) lt (sym (find_restore p) ∙ is.plan.restores p ∙ ap (option_map restore_plan) there) (Has-map (read_work r.place) r.shards z m) id number (waits_read z.state e))
+
+  reads_none : (o : ℕ) (s : ShardWork) → IsUnread o s → NoneWaits (λ (x : RestorePlan). x.shards) restores o s
+  reads_none o s unread p x z lt found m id number held =
+      let (r, there, same) = restore_of_plan w now is.plan p x (find_restore p ∙ found) in
+      let (v, vm, v_is) = Has-mapped (read_work r.place) r.shards z (subst (λ (y : RestorePlan). Has y.shards z) (sym same) m) in
+      clash (waits v.state) (read_waits v.state (subst (λ (y : ShardWork). Waits y.state) (sym v_is) held))
+      (unread p r v lt there vm (ap (λ (y : ShardWork). y.ref.id) v_is ∙ id) (ap (λ (y : ShardWork). y.number) v_is ∙ number))
 
   pub none_barred : (o : ℕ) → barred deletes o ≡ false → Barrier w.deletes o → ⊥
   none_barred o e b =
@@ -221,13 +254,13 @@ module _ (ops : List (ℕ × Op)) (deletes : List (ℕ × Deletion)) (completed 
     same_op : (op : Op) → fin.get w.ops e.0 ≡ Some op → op ≡ e.1
     same_op op o = some_same op e.1 (sym o ∙ got)
 
-    shard_ready : (s : ShardWork) → ReadyShard w e.0 e.1 s → is_free (take at ops) s ≡ true
-    shard_ready s r = says_free ops rise at e there s r.pending (λ p q z lt f. r.first p q z lt (find_op p ∙ f))
+    shard_ready : (s : ShardWork) → ReadyShard w e.0 e.1 s → is_free ops restores e.0 s ≡ true
+    shard_ready s r = says_free ops restores e.0 s rise h.restores_numbered.rise r.pending (λ p q z lt f. r.first p q z lt (find_op p ∙ f)) (reads_none e.0 s r.unread)
 
-    ready_shard : (s : ShardWork) → has_stopped e.1 ≡ false → barred deletes e.0 ≡ false → Has e.1.shards s → is_free (take at ops) s ≡ true → ReadyShard w e.0 e.1 s
+    ready_shard : (s : ShardWork) → has_stopped e.1 ≡ false → barred deletes e.0 ≡ false → Has e.1.shards s → is_free ops restores e.0 s ≡ true → ReadyShard w e.0 e.1 s
     ready_shard s goes unbarred m free =
-        let (pending, none) = free_says ops rise at e there s free in
-        record { op_there = got; s_there = m; pending = pending; goes = goes_by e.1 goes; no_barrier = none_barred e.0 unbarred; first = λ p q z lt f. none p q z lt (sym (find_op p) ∙ f) }
+        let (pending, none, unread) = free_says ops restores e.0 s free in
+        record { op_there = got; s_there = m; pending = pending; goes = goes_by e.1 goes; no_barrier = none_barred e.0 unbarred; first = λ p q z lt f. none p q z lt (sym (find_op p) ∙ f); unread = none_reads e.0 s unread }
 
     final_ready : (results : List ShardResult) → ReadyFinalize w e.0 e.1 results → is_final ops deletes completed seats term e ≡ true
     final_ready results r = both_true _ _ (all_done_by e.1.shards results r.done) (both_true _ _
@@ -260,19 +293,19 @@ module _ (ops : List (ℕ × Op)) (deletes : List (ℕ × Deletion)) (completed 
     ready_drop stopped out = record { stopped = inl (e.1, got, stopped_by e.1 stopped); idle = none_out e.0 out }
 
     -- where the search finds none, none is ready
-    none_ready : ready_of ops deletes completed seats term (take at ops) e ≡ None → HasSnapReady w e.0 → ⊥
+    none_ready : ready_of ops deletes completed seats restores term e ≡ None → HasSnapReady w e.0 → ⊥
     none_ready none (inl (op, s, r0)) =
         let r = subst (λ (o : Op). ReadyShard w e.0 o s) (same_op op r0.op_there) r0 in
-        elim (picked ops deletes completed seats term (take at ops) e None none) [
+        elim (picked ops deletes completed seats restores term e None none) [
           | inl x ↦ clash _ x.0 (goes_on e.1 r.goes)
           | inr x ↦ elim x.1 [
             | inl bar ↦ r.no_barrier (some_barred e.0 bar)
-            | inr y ↦ clash _ (shard_ready s r) (position-None (is_free (take at ops)) e.1.shards y.0 s r.s_there)
+            | inr y ↦ clash _ (shard_ready s r) (position-None (is_free ops restores e.0) e.1.shards y.0 s r.s_there)
           ]
         ]
     none_ready none (inr (inl (op, results, r0))) =
         let r = subst (λ (o : Op). ReadyFinalize w e.0 o results) (same_op op r0.op_there) r0 in
-        elim (picked ops deletes completed seats term (take at ops) e None none) [
+        elim (picked ops deletes completed seats restores term e None none) [
           | inl x ↦ clash _ x.0 (goes_on e.1 r.goes)
           | inr x ↦ elim x.1 [
             | inl bar ↦ r.no_barrier (some_barred e.0 bar)
@@ -281,7 +314,7 @@ module _ (ops : List (ℕ × Op)) (deletes : List (ℕ × Deletion)) (completed 
         ]
     none_ready none (inr (inr r)) =
         let (stopped, out) = drop_ready r in
-        elim (picked ops deletes completed seats term (take at ops) e None none) [
+        elim (picked ops deletes completed seats restores term e None none) [
           | inl x ↦ clash _ x.1 out
           | inr x ↦ clash _ stopped x.0
         ]
@@ -292,31 +325,31 @@ module _ (ops : List (ℕ × Op)) (deletes : List (ℕ × Deletion)) (completed 
   open_of o (inr (inl (op, results, r))) = (op, find-member o ops op (sym (find_op o) ∙ r.op_there))
   open_of o (inr (inr r)) = (r.op, find-member o ops r.op (sym (find_op o) ∙ r.there))
 
-  lowest : (at : ℕ) (e : ℕ × Op) → slice_get ops at ≡ Some e → NoneBefore ops deletes completed seats term at → (p : ℕ) → p < e.0 → HasSnapReady w p → ⊥
+  lowest : (at : ℕ) (e : ℕ × Op) → slice_get ops at ≡ Some e → NoneBefore ops deletes completed seats restores term at → (p : ℕ) → p < e.0 → HasSnapReady w p → ⊥
   lowest at e there before p lt r =
       let (op, m) = open_of p r in
       let (k, below, here) = place_below ops at (p, op) (place_lower ops rise at e there (p, op) m lt) in
       none_ready k (p, op) here (before k (p, op) below here) r
 
-  is_ready_op : (at : ℕ) (e : ℕ × Op) → slice_get ops at ≡ Some e → (kind : Kind) → ready_of ops deletes completed seats term (take at ops) e ≡ Some kind → HasSnapReady w e.0
-  is_ready_op at e there ready.Drop chosen = let (stopped, out) = picked ops deletes completed seats term (take at ops) e (Some ready.Drop) chosen in inr (inr (leaves at e there stopped out))
+  is_ready_op : (at : ℕ) (e : ℕ × Op) → slice_get ops at ≡ Some e → (kind : Kind) → ready_of ops deletes completed seats restores term e ≡ Some kind → HasSnapReady w e.0
+  is_ready_op at e there ready.Drop chosen = let (stopped, out) = picked ops deletes completed seats restores term e (Some ready.Drop) chosen in inr (inr (leaves at e there stopped out))
   is_ready_op at e there ready.Finalize chosen =
-      let (goes, free, final, unbarred) = picked ops deletes completed seats term (take at ops) e (Some ready.Finalize) chosen in
+      let (goes, free, final, unbarred) = picked ops deletes completed seats restores term e (Some ready.Finalize) chosen in
       let (results, done) = some_results e.1.shards (and_true _ _ final).0 in
       inr (inl (e.1, results, ready_final at e there results goes unbarred done final))
   is_ready_op at e there (ready.Shard i) chosen =
-      let (goes, free, unbarred) = picked ops deletes completed seats term (take at ops) e (Some (ready.Shard i)) chosen in
-      let (within, here) = place_within (is_free (take at ops)) e.1.shards i free in
-      inl (e.1, here.0, ready_shard at e there here.0 goes unbarred (Has-at e.1.shards i here.0 here.1) (first_place (is_free (take at ops)) e.1.shards i here.0 free here.1).0)
+      let (goes, free, unbarred) = picked ops deletes completed seats restores term e (Some (ready.Shard i)) chosen in
+      let (within, here) = place_within (is_free ops restores e.0) e.1.shards i free in
+      inl (e.1, here.0, ready_shard at e there here.0 goes unbarred (Has-at e.1.shards i here.0 here.1) (first_place (is_free ops restores e.0) e.1.shards i here.0 free here.1).0)
 
   -- the lowest op of which a unit is ready
-  pub lowest_op : (at : ℕ) (kind : Kind) (r : IsReadyAt ops deletes completed seats term at kind) (e : ℕ × Op) → slice_get ops at ≡ Some e → (o : ℕ) → o ≡ e.0 → IsLowest (HasSnapReady w) (Some o)
+  pub lowest_op : (at : ℕ) (kind : Kind) (r : IsReadyAt ops deletes completed seats restores term at kind) (e : ℕ × Op) → slice_get ops at ≡ Some e → (o : ℕ) → o ≡ e.0 → IsLowest (HasSnapReady w) (Some o)
   lowest_op at kind r e there o is_number =
       let entry : r.e ≡ e = some_same r.e e (sym r.there ∙ there) in
-      let found : ready_of ops deletes completed seats term (take at ops) e ≡ Some kind = ap (ready_of ops deletes completed seats term (take at ops)) (sym entry) ∙ r.is in
+      let found : ready_of ops deletes completed seats restores term e ≡ Some kind = ap (ready_of ops deletes completed seats restores term) (sym entry) ∙ r.is in
       subst (λ (n : ℕ). IsLowest (HasSnapReady w) (Some n)) (sym is_number) (is_ready_op at e there kind found, lowest at e there r.before)
 
-  pub nothing : NoneBefore ops deletes completed seats term (length ops) → (o : ℕ) → HasSnapReady w o → ⊥
+  pub nothing : NoneBefore ops deletes completed seats restores term (length ops) → (o : ℕ) → HasSnapReady w o → ⊥
   nothing before o r =
       let (op, m) = open_of o r in
       let (k, here) = place_of ops (o, op) m in
@@ -358,17 +391,17 @@ module _ (ops : List (ℕ × Op)) (deletes : List (ℕ × Deletion)) (completed 
     unchanged : (kind : SeatKind) → given_entry kind ticket e ≡ e → fin.from_entries {R = nat_cmp} (set ops at (given_entry kind ticket e)) ≡ w.ops
     unchanged kind same = ap (λ (x : ℕ × Op). fin.from_entries {R = nat_cmp} (set ops at x)) same ∙ ap (λ (es : List (ℕ × Op)). fin.from_entries {R = nat_cmp} es) (set_same ops at e there) ∙ ops_is
 
-    gives_drop : ready_of ops deletes completed seats term (take at ops) e ≡ Some ready.Drop → IsGivenBy e at ticket works.Drop kinds.Drop copy
+    gives_drop : ready_of ops deletes completed seats restores term e ≡ Some ready.Drop → IsGivenBy e at ticket works.Drop kinds.Drop copy
     gives_drop chosen =
-        let (stopped, out) = picked ops deletes completed seats term (take at ops) e (Some ready.Drop) chosen in (
+        let (stopped, out) = picked ops deletes completed seats restores term e (Some ready.Drop) chosen in (
           ready_drop at e there stopped out,
           λ f. ticketed (plain_ticket w e.0 Drop) (seat_of_code (seat_for kinds.Drop e.0)) _ w.ops (unchanged kinds.Drop refl)
               (λ i. record { kind = OfDrop; op = e.0; term = is.term_is i; raised = None; settled = false; out = true }),
         )
 
-    gives_final : (work : CodeWork) → ready_of ops deletes completed seats term (take at ops) e ≡ Some ready.Finalize → IsFinalWork e.1 work → IsGivenBy e at ticket work kinds.Finalize copy
+    gives_final : (work : CodeWork) → ready_of ops deletes completed seats restores term e ≡ Some ready.Finalize → IsFinalWork e.1 work → IsGivenBy e at ticket work kinds.Finalize copy
     gives_final (works.Finalize info shards) chosen h =
-        let (goes, free, final, unbarred) = picked ops deletes completed seats term (take at ops) e (Some ready.Finalize) chosen in (
+        let (goes, free, final, unbarred) = picked ops deletes completed seats restores term e (Some ready.Finalize) chosen in (
           (e.1, ready_final at e there (map result_of shards) goes unbarred h.0 final, h.1),
           λ f.
               subst (λ (o : Option Op). IsPlanOf (taken_by f w e.0 (given_by (works.Finalize info shards) copy) o) (seated kinds.Finalize e at ticket)) (sym (got at e there))
@@ -407,22 +440,22 @@ module _ (ops : List (ℕ × Op)) (deletes : List (ℕ × Deletion)) (completed 
         back g (inl x) = inl (subst (λ (r : RootData). Generation r index number g) is.root_is x)
         back g (inr (uuid, d)) = inr ((d.number, d.op), find-member d.number ops d.op (sym (find_op d.number) ∙ d.there), (d.s, d.s_there, record { r = d.r; state = d.state; index_is = d.index_is; number_is = d.shard_is; generation_is = d.generation_is }))
 
-    module _ (i : ℕ) (found : ready_of ops deletes completed seats term (take at ops) e ≡ Some (ready.Shard i)) (s : ShardWork) (here : slice_get e.1.shards i ≡ Some s) where
-      free_at : position (is_free (take at ops)) e.1.shards ≡ Some i
-      free_at = (picked ops deletes completed seats term (take at ops) e (Some (ready.Shard i)) found).1
+    module _ (i : ℕ) (found : ready_of ops deletes completed seats restores term e ≡ Some (ready.Shard i)) (s : ShardWork) (here : slice_get e.1.shards i ≡ Some s) where
+      free_at : position (is_free ops restores e.0) e.1.shards ≡ Some i
+      free_at = (picked ops deletes completed seats restores term e (Some (ready.Shard i)) found).1
 
-      before_it : (z : ShardWork) → Has (take i e.1.shards) z → is_free (take at ops) z ≡ false
-      before_it = (first_place (is_free (take at ops)) e.1.shards i s free_at here).1
+      before_it : (z : ShardWork) → Has (take i e.1.shards) z → is_free ops restores e.0 z ≡ false
+      before_it = (first_place (is_free ops restores e.0) e.1.shards i s free_at here).1
 
       is_ready : ReadyShard w e.0 e.1 s
-      is_ready = ready_shard at e there s (picked ops deletes completed seats term (take at ops) e (Some (ready.Shard i)) found).0 (picked ops deletes completed seats term (take at ops) e (Some (ready.Shard i)) found).2 (Has-at e.1.shards i s here) (first_place (is_free (take at ops)) e.1.shards i s free_at here).0
+      is_ready = ready_shard at e there s (picked ops deletes completed seats restores term e (Some (ready.Shard i)) found).0 (picked ops deletes completed seats restores term e (Some (ready.Shard i)) found).2 (Has-at e.1.shards i s here) (first_place (is_free ops restores e.0) e.1.shards i s free_at here).0
 
       is_found : (index number : ℕ) → s.ref.id ≡ index → s.number ≡ number → shard_of e.1.shards index number ≡ Some s
       is_found index number id n = shard_found index number e.1.shards i s here id n
           (λ z m zid zn.
           let hz = Has-taken e.1.shards i z m in
-          let same : is_free (take at ops) s ≡ is_free (take at ops) z = free_alike (take at ops) s z (id ∙ sym zid) (n ∙ sym zn) (rule.alike s z (Has-at e.1.shards i s here) hz (id ∙ sym zid) (n ∙ sym zn)) in
-          clash _ (sym same ∙ (first_place (is_free (take at ops)) e.1.shards i s free_at here).0) (before_it z m))
+          let same : is_free ops restores e.0 s ≡ is_free ops restores e.0 z = free_alike ops restores e.0 s z (id ∙ sym zid) (n ∙ sym zn) (rule.alike s z (Has-at e.1.shards i s here) hz (id ∙ sym zid) (n ∙ sym zn)) in
+          clash _ (sym same ∙ (first_place (is_free ops restores e.0) e.1.shards i s free_at here).0) (before_it z m))
 
       -- the op gives it, whatever it copies
       gives_at : (index number : ℕ) (source base : Option ℕ) → e.1.source ≡ source → s.ref.id ≡ index → s.number ≡ number → IsMost (IsLiveIn root ops s.ref.id s.number) base
@@ -506,23 +539,23 @@ module _ (ops : List (ℕ × Op)) (deletes : List (ℕ × Deletion)) (completed 
       gives_shard (works.Delete uuids) (kinds.Shard own) h seat base = absurd h
       gives_shard works.Cleanup (kinds.Shard own) h seat base = absurd h
 
-    gives_any : (kind : Kind) → ready_of ops deletes completed seats term (take at ops) e ≡ Some kind → (work : CodeWork) (seat : SeatKind) → IsWorkFor e.1 kind work → IsSeatFor e.1 kind seat → IsBaseFor root ops seat copy.base
+    gives_any : (kind : Kind) → ready_of ops deletes completed seats restores term e ≡ Some kind → (work : CodeWork) (seat : SeatKind) → IsWorkFor e.1 kind work → IsSeatFor e.1 kind seat → IsBaseFor root ops seat copy.base
         → IsGivenBy e at ticket work seat copy
     gives_any (ready.Shard i) found work seat hw hs base =
-        let (within, at_i) = place_within (is_free (take at ops)) e.1.shards i (picked ops deletes completed seats term (take at ops) e (Some (ready.Shard i)) found).1 in
+        let (within, at_i) = place_within (is_free ops restores e.0) e.1.shards i (picked ops deletes completed seats restores term e (Some (ready.Shard i)) found).1 in
         gives_shard i found at_i.0 at_i.1 work seat (if_some _ (λ s. IsShardWork e.1 s work) at_i.0 at_i.1 hw) (if_some _ (λ s. IsSeatOf s seat) at_i.0 at_i.1 hs) base
     gives_any ready.Finalize found work seat hw hs base = subst (λ (k : SeatKind). IsGivenBy e at ticket work k copy) (sym hs) (gives_final work found hw)
     gives_any ready.Drop found work seat hw hs base =
         subst (λ (k : SeatKind). IsGivenBy e at ticket work k copy) (sym hs) (subst (λ (k : CodeWork). IsGivenBy e at ticket k kinds.Drop copy) (sym hw) (gives_drop found))
 
-  pub next_is : (at : ℕ) (kind : Kind) (r : IsReadyAt ops deletes completed seats term at kind) (e : ℕ × Op) → slice_get ops at ≡ Some e → AreShards e.1.shards → (ticket : ℕ) → ticket ≡ suc (length seats)
+  pub next_is : (at : ℕ) (kind : Kind) (r : IsReadyAt ops deletes completed seats restores term at kind) (e : ℕ × Op) → slice_get ops at ≡ Some e → AreShards e.1.shards → (ticket : ℕ) → ticket ≡ suc (length seats)
       → (o : ℕ) → o ≡ e.0 → (work : CodeWork) (seat : SeatKind) (copy : Copied) → IsWorkFor e.1 kind work → IsSeatFor e.1 kind seat → IsBaseFor root ops seat copy.base → count_of copy.safe ≡ safe → root_of copy.root ≡ root
       → (given_list : List (ℕ × Op)) → IfSome (slice_get ops at) (λ (x : ℕ × Op). given_list ≡ set ops at (given_entry seat ticket x))
       → (new : Plan) → new ≡ record now { ops = fin.from_entries given_list; seats = fin.insert now.seats now.next_ticket (seat_of_code (seat_for seat o)); next_ticket = suc now.next_ticket }
       → LowestUnit (HasSnapReady w) w (Some (new, record { ticket = ticket; op = o; work = work; copy = copy }))
   next_is at kind r e there rule ticket ticket_is o o_is work seat copy hw hs base safe_is root_is given_list given_is new new_is =
       let entry : r.e ≡ e = some_same r.e e (sym r.there ∙ there) in
-      let found : ready_of ops deletes completed seats term (take at ops) e ≡ Some kind = ap (ready_of ops deletes completed seats term (take at ops)) (sym entry) ∙ r.is in
+      let found : ready_of ops deletes completed seats restores term e ≡ Some kind = ap (ready_of ops deletes completed seats restores term) (sym entry) ∙ r.is in
       let both : IsGivenBy e at ticket work seat copy = gives_any at e there rule ticket ticket_is copy kind found work seat hw hs base in
       let list_is : given_list ≡ set ops at (given_entry seat ticket e) = if_some _ (λ (x : ℕ × Op). given_list ≡ set ops at (given_entry seat ticket x)) e there given_is in
       let plan_is : seated seat e at ticket ≡ new =

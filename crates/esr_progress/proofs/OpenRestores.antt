@@ -10,7 +10,7 @@ use Rattle.esr_core.specs.Steps.{given}
 use Rattle.esr_progress.specs.declared.shard.ShardState.{ShardState as CodeState}
 use Rattle.esr_progress.specs.declared.shard.ShardState.TheVariants as states
 use Rattle.esr_progress.specs.declared.shard.OpenShard.{OpenShard}
-use Rattle.esr_progress.specs.Shards.{state_of, waits, given_open, marked_open, marked_state}
+use Rattle.esr_progress.specs.Shards.{state_of, waits, waits_on, is_open_waiting, given_open, marked_open, marked_state}
 use Rattle.esr_progress.specs.Restores.{work_of_read, LiesIn, IsOpenRestore, is_waiting}
 use Rattle.esr_progress.specs.Choice.{AreShards}
 use Rattle.esr_progress.proofs.Lists.{Has-mapped, all_mapped, all_member}
@@ -19,6 +19,10 @@ module _ (refs : List CodeRef) (place : Bytes) where
   pub any_waits-reads : (xs : List OpenShard) → list_any is_waiting (map (work_of_read refs place) xs) ≡ list_any (λ s. waits (state_of s.state)) xs
   any_waits-reads [] = refl
   any_waits-reads (x ∷ xs) = ap (λ b. waits (state_of x.state) || b) (any_waits-reads xs)
+
+  pub waits_on-reads : (shard : ShardId) (xs : List OpenShard) → list_any (waits_on shard) (map (work_of_read refs place) xs) ≡ list_any (is_open_waiting shard) xs
+  waits_on-reads shard [] = refl
+  waits_on-reads shard (x ∷ xs) = λ i. is_open_waiting shard x || waits_on-reads shard xs i
 
   given_read : (k : ℕ) (x : OpenShard) (b : Bool)
       → ◌≡◌ {A = ShardWork} (record (work_of_read refs place x) { state = state_of (cond b (states.Out k) x.state) }) (cond b (record (work_of_read refs place x) { state = Out k }) (work_of_read refs place x))

@@ -57,24 +57,24 @@ abbrev pub is_final : List (ℕ × Op) → List (ℕ × Deletion) → List ℕ �
 is_final ops deletes completed seats term e = all_done e.1.shards && (not (is_swapping seats term) && is_earliest ops deletes completed e.0)
 
 -- the unit of an op that is ready
-abbrev pub ready_of : List (ℕ × Op) → List (ℕ × Deletion) → List ℕ → List Slot → ℕ → List (ℕ × Op) → ℕ × Op → Option Kind
-ready_of ops deletes completed seats term before e =
+abbrev pub ready_of : List (ℕ × Op) → List (ℕ × Deletion) → List ℕ → List Slot → List (ℕ × RestorePlan) → ℕ → ℕ × Op → Option Kind
+ready_of ops deletes completed seats restores term e =
     if has_stopped e.1 then (if is_out_of seats term e.0 then None else Some ready.Drop)
-    else (if barred deletes e.0 then None else ready_by (position (is_free before) e.1.shards) (is_final ops deletes completed seats term e))
+    else (if barred deletes e.0 then None else ready_by (position (is_free ops restores e.0) e.1.shards) (is_final ops deletes completed seats term e))
 
 -- the op at the place, and no unit of those before it is ready
-abbrev pub NoneBefore : List (ℕ × Op) → List (ℕ × Deletion) → List ℕ → List Slot → ℕ → ℕ → Type 0
-NoneBefore ops deletes completed seats term at = (k : ℕ) (e : ℕ × Op) → k < at → slice_get ops k ≡ Some e → ready_of ops deletes completed seats term (take k ops) e ≡ None
+abbrev pub NoneBefore : List (ℕ × Op) → List (ℕ × Deletion) → List ℕ → List Slot → List (ℕ × RestorePlan) → ℕ → ℕ → Type 0
+NoneBefore ops deletes completed seats restores term at = (k : ℕ) (e : ℕ × Op) → k < at → slice_get ops k ≡ Some e → ready_of ops deletes completed seats restores term e ≡ None
 
-pub record IsReadyAt (ops : List (ℕ × Op)) (deletes : List (ℕ × Deletion)) (completed : List ℕ) (seats : List Slot) (term at : ℕ) (kind : Kind) : Type 0 where
+pub record IsReadyAt (ops : List (ℕ × Op)) (deletes : List (ℕ × Deletion)) (completed : List ℕ) (seats : List Slot) (restores : List (ℕ × RestorePlan)) (term at : ℕ) (kind : Kind) : Type 0 where
   pub e : ℕ × Op
   pub there : slice_get ops at ≡ Some e
-  pub is : ready_of ops deletes completed seats term (take at ops) e ≡ Some kind
-  pub before : NoneBefore ops deletes completed seats term at
+  pub is : ready_of ops deletes completed seats restores term e ≡ Some kind
+  pub before : NoneBefore ops deletes completed seats restores term at
 
-abbrev pub IsFirstReady : List (ℕ × Op) → List (ℕ × Deletion) → List ℕ → List Slot → ℕ → Option (ℕ × Kind) → Type 0
-IsFirstReady ops deletes completed seats term None = NoneBefore ops deletes completed seats term (length ops)
-IsFirstReady ops deletes completed seats term (Some (at, kind)) = IsReadyAt ops deletes completed seats term at kind
+abbrev pub IsFirstReady : List (ℕ × Op) → List (ℕ × Deletion) → List ℕ → List Slot → List (ℕ × RestorePlan) → ℕ → Option (ℕ × Kind) → Type 0
+IsFirstReady ops deletes completed seats restores term None = NoneBefore ops deletes completed seats restores term (length ops)
+IsFirstReady ops deletes completed seats restores term (Some (at, kind)) = IsReadyAt ops deletes completed seats restores term at kind
 
 -- a unit of the delete is ready: it failed and none of its units is out, or nothing stands before it and no swap is out
 abbrev pub delete_ready : List (ℕ × Op) → List (ℕ × Deletion) → List Slot → ℕ → ℕ × Deletion → Bool

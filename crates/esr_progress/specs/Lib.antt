@@ -5,6 +5,7 @@ pub mod Deletes
 pub mod Plan
 pub mod Restores
 pub mod Seats
+pub mod Aborts
 pub mod Codes
 pub mod Inside
 pub mod Accepting

@@ -1,6 +1,6 @@
 -- An open op, as the definitions see it.
 use Rattle.std.specs.Prelude.{◌≡◌, ◌<◌, ◌≤◌, ◌||◌, ◌&&◌, not, ℕ, Bool, List, Option, Some, None, is_some, option_map, map, length, max}
-use Rattle.std.specs.List.{AllByRecursion, list_any}
+use Rattle.std.specs.List.{AllByRecursion}
 use Rattle.esr_names.specs.declared.ids.Id.{Id}
 use Rattle.esr_names.specs.declared.blob.ShardId.{ShardId}
 use Rattle.esr_record.specs.declared.op.Making.{Making}
@@ -14,7 +14,8 @@ use Rattle.esr_progress.specs.declared.shard.OpenShard.{OpenShard}
 use Rattle.esr_progress.specs.declared.unit.Work.{Work}
 use Rattle.esr_progress.specs.declared.unit.Work.TheVariants as works
 use Rattle.esr_results.specs.Results.{result_of}
-use Rattle.esr_progress.specs.Shards.{work_of_shard, is_pending, waits_for, AreAlike}
+use Rattle.esr_progress.specs.Plan.{RestorePlan}
+use Rattle.esr_progress.specs.Shards.{work_of_shard, is_pending, op_before, restore_before, AreAlike}
 
 -- what an open op makes, how far it is, and the snapshot that it copies where it is a clone
 abbrev pub op_with : Making → List Bytes → List OpenShard → Bool → Option Id → Option ℕ → Op
@@ -57,9 +58,9 @@ pub record IsMakingOf (m : Making) (op : Op) : Type 0 where
 abbrev pub has_stopped : Op → Bool
 has_stopped op = op.failed || is_some op.aborted
 
--- the shard is pending, and none of the ops waits on one of its id and number
-abbrev pub is_free : List (ℕ × Op) → ShardWork → Bool
-is_free before s = is_pending s.state && not (list_any (λ (e : ℕ × Op). list_any (waits_for s.ref.id s.number) e.1.shards) before)
+-- the shard of the op of this number is pending, and no op and no restore before it waits on one of its id and number
+abbrev pub is_free : List (ℕ × Op) → List (ℕ × RestorePlan) → ℕ → ShardWork → Bool
+is_free ops restores o s = (is_pending s.state && not (op_before ops o s.ref.id s.number)) && not (restore_before restores o s.ref.id s.number)
 
 -- these are the shard, the name of its index and the place of its files
 abbrev pub AreParts : ShardWork → ShardId → Bytes → Bytes → Type 0

@@ -42,6 +42,16 @@ is_of_shard OfFinalize = false
 is_of_shard OfDelete = false
 is_of_shard OfDrop = false
 
+abbrev pub is_drop : UnitKind → Bool
+is_drop (OfShard index number) = false
+is_drop OfFinalize = false
+is_drop OfDelete = false
+is_drop OfDrop = true
+
+-- the ticket is out, and is no drop
+abbrev pub can_abort : Seat → Bool
+can_abort s = s.out && not (is_drop s.kind)
+
 -- a swap of the term is out
 abbrev pub is_swap_out : ℕ → Seat → Bool
 is_swap_out term s = ((s.out && not s.settled) && (s.term == term)) && is_master s.kind

@@ -1,5 +1,5 @@
 -- The shards of an open op, as the definitions see them, and tests on them.
-use Rattle.std.specs.Prelude.{◌≡◌, ℕ, Bool, true, false, ◌&&◌, not, ◌==◌, if◌then◌else◌, List, [], Option, Some, None, slice_get}
+use Rattle.std.specs.Prelude.{◌≡◌, ℕ, Bool, true, false, ◌&&◌, not, ◌==◌, nat_lt, if◌then◌else◌, List, [], Option, Some, None, slice_get}
 use Rattle.std.specs.List.{list_any}
 use Rattle.esr_names.specs.declared.ids.Id.{Id}
 use Rattle.esr_names.specs.declared.blob.ShardId.{ShardId}
@@ -12,6 +12,7 @@ use Rattle.esr_progress.specs.declared.shard.ShardState.TheVariants as states
 use Rattle.esr_progress.specs.declared.shard.OpenShard.{OpenShard}
 use Rattle.esr_results.specs.declared.result.ShardResult.{ShardResult}
 use Rattle.esr_results.specs.Results.{result_of}
+use Rattle.esr_progress.specs.Plan.{RestorePlan}
 
 -- how far the work on a shard is
 abbrev pub state_of : CodeState → ShardState
@@ -95,9 +96,17 @@ generation_open shard s = generation_by ((s.shard.index.number == shard.index.nu
 abbrev pub is_open_waiting : ShardId → OpenShard → Bool
 is_open_waiting shard s = ((s.shard.index.number == shard.index.number) && (s.shard.number == shard.number)) && waits (state_of s.state)
 
--- the shard is pending, and none of the ops waits on one of its id and number
-abbrev pub is_open_free : List (ℕ × Op) → OpenShard → Bool
-is_open_free ops s = is_pending (state_of s.state) && not (list_any (λ (e : ℕ × Op). list_any (waits_on s.shard) e.1.shards) ops)
+-- an op before this number waits on the shard of this id and number
+abbrev pub op_before : List (ℕ × Op) → ℕ → ℕ → ℕ → Bool
+op_before ops o index number = list_any (λ (e : ℕ × Op). nat_lt e.0 o && list_any (waits_for index number) e.1.shards) ops
+
+-- a restore before this number has the shard unread or being read
+abbrev pub restore_before : List (ℕ × RestorePlan) → ℕ → ℕ → ℕ → Bool
+restore_before restores o index number = list_any (λ (e : ℕ × RestorePlan). nat_lt e.0 o && list_any (waits_for index number) e.1.shards) restores
+
+-- the shard is pending, and no op and no restore before the number of its op waits on one of its id and number
+abbrev pub is_open_free : List (ℕ × Op) → List (ℕ × RestorePlan) → ℕ → OpenShard → Bool
+is_open_free ops restores o s = (is_pending (state_of s.state) && not (op_before ops o s.shard.index.number s.shard.number)) && not (restore_before restores o s.shard.index.number s.shard.number)
 
 -- shards of one id and number are equally far
 abbrev pub AreAlike : List OpenShard → Type 0

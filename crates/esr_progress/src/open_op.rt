@@ -9,12 +9,12 @@ ghost use Rattle.esr_formats.specs.Ids.{number_of};
 ghost use Rattle.esr_formats.specs.Clusters.{op_of, work_of_code};
 ghost use Rattle.esr_record.specs.Op.{IsMaking, IsWork};
 ghost use Rattle.esr_model.specs.Values.{ShardResult as Outcome};
-ghost use Rattle.esr_progress.specs.Shards.{state_of, waits_on};
+ghost use Rattle.esr_progress.specs.Shards.{state_of, waits_on, op_before};
 ghost use Rattle.esr_progress.specs.Ops.{op_with, IsOpenOp, IsMakingOf, has_stopped, is_free, IsDoneAt, Among, IsMost, later_of, AreParts, work_by_source, IsShardWork, IsFinalWork, making_told};
 ghost use Rattle.esr_progress.specs.Choice.{AreShards};
 
-use crate::Work;
 use crate::shard::{self, OpenShard, ShardState};
+use crate::{OpenRestore, Work};
 use esr_meta::{SnapInfo, indices_copy};
 use esr_names::{Id, IndexName, ShardId};
 use esr_record::{Making, OpWork, RecordOp};
@@ -117,6 +117,13 @@ impl OpenOp {
         self.failed || self.aborted.is_some()
     }
 
+    /// The delete that has aborted it.
+    pub(crate) fn aborter(&self) -> Option<u64>
+        ensures { result ≡ self.now.1.aborted }
+    {
+        self.aborted
+    }
+
     /// Whether a delete has aborted it.
     pub(crate) fn is_aborted(&self) -> bool
         ensures { result ≡ is_some self.now.1.aborted }
@@ -145,11 +152,11 @@ impl OpenOp {
         shard::wait(&self.shards, shard)
     }
 
-    /// The place of the first of its pending shards on which none of the ops before it waits.
-    pub(crate) fn first_free(&self, before: &[OpenOp]) -> Option<usize>
-        ensures { result ≡ position (is_free before.now) self.now.1.shards }
+    /// The place of the first of its pending shards on which no op and no restore before it waits.
+    pub(crate) fn first_free(&self, ops: &[OpenOp], restores: &[OpenRestore]) -> Option<usize>
+        ensures { result ≡ position (is_free ops.now restores.now self.now.0) self.now.1.shards }
     {
-        shard::first_free(&self.shards, before)
+        shard::first_free(&self.shards, ops, restores, self.number)
     }
 
     /// The id and number of the shard at a place.
@@ -323,11 +330,12 @@ fn making_work(info: Making, source: Option<Id>) -> OpWork
     }
 }
 
-/// Whether some op waits on the shard of this id and number.
-pub(crate) fn wait_on(ops: &[OpenOp], shard: ShardId) -> bool
-    ensures { result ≡ list_any (λ e. list_any (waits_on shard) e.1.shards) ops.now }
+/// Whether an op before the number waits on the shard.
+pub(crate) fn op_waits(ops: &[OpenOp], number: u64, shard: ShardId) -> bool
+    ensures { result ≡ op_before ops.now number shard.index.number shard.number }
 {
-    ops.iter().any(|op| op.waits_on(shard))
+    ops.iter()
+        .any(|op| op.number() < number && op.waits_on(shard))
 }
 
 /// How many files some shards have, and of how many bytes: each sum stops at 2^63 - 1.

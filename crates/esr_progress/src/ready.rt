@@ -66,6 +66,7 @@ impl Progress {
             &self.deletes,
             &self.completed,
             &self.seats,
+            &self.restores,
             term,
         ) else {
             return None;
@@ -157,6 +158,7 @@ impl Progress {
             &self.deletes,
             &self.completed,
             &self.seats,
+            &self.restores,
             term,
         ) else {
             return Ok(None);
@@ -266,29 +268,30 @@ fn find_ready(
     deletes: &[OpenDelete],
     completed: &[u64],
     seats: &[Slot],
+    restores: &[OpenRestore],
     term: u64,
 ) -> Option<(usize, Kind)>
-    ensures { IsFirstReady ops.now deletes.now completed.now seats.now term result }
+    ensures { IsFirstReady ops.now deletes.now completed.now seats.now restores.now term result }
 {
     for (at, op) in ops.iter().enumerate() {
-        if let Some(kind) = ready_of(ops, deletes, completed, seats, term, &ops[..at], op) {
+        if let Some(kind) = ready_of(ops, deletes, completed, seats, restores, term, op) {
             return Some((at, kind));
         }
     }
     None
 }
 
-/// The ready unit of an op, before which these ops stand.
+/// The ready unit of an op.
 fn ready_of(
     ops: &[OpenOp],
     deletes: &[OpenDelete],
     completed: &[u64],
     seats: &[Slot],
+    restores: &[OpenRestore],
     term: u64,
-    before: &[OpenOp],
     op: &OpenOp,
 ) -> Option<Kind>
-    ensures { result ≡ ready_of ops.now deletes.now completed.now seats.now term before.now op.now }
+    ensures { result ≡ ready_of ops.now deletes.now completed.now seats.now restores.now term op.now }
 {
     if op.has_stopped() {
         return (!unit_is_out(seats, term, op.number())).then_some(Kind::Drop);
@@ -296,7 +299,7 @@ fn ready_of(
     if barred(deletes, op.number()) {
         return None;
     }
-    if let Some(at) = op.first_free(before) {
+    if let Some(at) = op.first_free(ops, restores) {
         return Some(Kind::Shard(at));
     }
     let is_final = op.is_done()

@@ -8,8 +8,10 @@ ghost use Rattle.esr_core.specs.Restores.{waits};
 ghost use Rattle.esr_formats.specs.Clusters.{op_of};
 ghost use Rattle.esr_results.specs.Results.{result_of};
 ghost use Rattle.esr_progress.specs.Plan.{seat_of_code, reader_of_code, IsPlanOf};
+ghost use Rattle.esr_progress.specs.Aborts.{op_aborter, seat_aborter, aborter};
 
 use crate::delete::push_between;
+use crate::progress::place;
 use crate::{Progress, ReaderSeat, Seat};
 use esr_record::RecordOps;
 use esr_results::ShardResult;
@@ -34,6 +36,31 @@ impl Progress {
             Some(slot) => slot.reader(),
             None => None,
         }
+    }
+
+    /// The delete that has aborted the op of a ticket that is out, unless that is to take the op away.
+    pub fn aborter(&self, ticket: u64) -> Option<u64>
+        ensures { result ≡ aborter self.now.ops (fin.get self.now.seats ticket) }
+    {
+        self.seat_aborter(self.seat(ticket)?)
+    }
+
+    /// The delete that has aborted the op of a seat, where the ticket is out and is no drop.
+    fn seat_aborter(&self, seat: Seat) -> Option<u64>
+        ensures { result ≡ seat_aborter self.now.ops (seat_of_code seat) }
+    {
+        if !seat.can_abort() {
+            return None;
+        }
+        self.op_aborter(seat.op)
+    }
+
+    /// The delete that has aborted the op of this number.
+    fn op_aborter(&self, number: u64) -> Option<u64>
+        ensures { result ≡ op_aborter (fin.get self.now.ops number) }
+    {
+        let at = place(&self.ops, number)?;
+        self.ops[at].aborter()
     }
 
     /// The ops as the cluster record tells them: snapshots and deletes, by number.

@@ -3,7 +3,7 @@ ghost use Rattle.std.specs.Prelude.{◌≡◌, ◌<◌, map, length, IfOk, IfSom
 ghost use Rattle.std.specs.List.{list_any};
 ghost use Rattle.esr_core.specs.World.{marked, GivenUp};
 ghost use Rattle.esr_core.specs.Steps.{given};
-ghost use Rattle.esr_progress.specs.Shards.{is_pending, waits, state_of};
+ghost use Rattle.esr_progress.specs.Shards.{is_pending, waits, state_of, waits_on, restore_before};
 ghost use Rattle.esr_progress.specs.Choice.{AreShards};
 ghost use Rattle.esr_progress.specs.Restores.{restore_with, IsOpenRestore, is_unread, is_waiting, IsRestoreWork};
 
@@ -78,6 +78,13 @@ impl OpenRestore {
         shard::first_unread(&self.shards)
     }
 
+    /// Whether the shard of this id and number is unread or being read.
+    pub(crate) fn waits_on(&self, shard: ShardId) -> bool
+        ensures { result ≡ list_any (waits_on shard) self.now.1.shards }
+    {
+        shard::wait(&self.shards, shard)
+    }
+
     /// Whether some shard is unread or being read.
     pub(crate) fn waits(&self) -> bool
         ensures { result ≡ list_any is_waiting self.now.1.shards }
@@ -139,4 +146,11 @@ impl OpenRestore {
             shards: Vec::from_slice(alloc, self.shards.as_slice())?,
         })
     }
+}
+
+/// Whether a restore before the number has the shard unread or being read.
+pub(crate) fn restore_waits(restores: &[OpenRestore], number: u64, shard: ShardId) -> bool
+    ensures { result ≡ restore_before restores.now number shard.index.number shard.number }
+{
+    restores.iter().any(|restore| restore.number() < number && restore.waits_on(shard))
 }

@@ -2,12 +2,19 @@
 ghost use Rattle.std.specs.Prelude.{◌≡◌, option_map};
 ghost use Rattle.std.specs.List.{list_any};
 ghost use Rattle.esr_progress.specs.Plan.{seat_of_code, reader_of_code};
-ghost use Rattle.esr_progress.specs.Seats.{seat_at, seat_in, reader_in, holds, is_swap_out, is_unit_out, has_op, swaps_op};
+ghost use Rattle.esr_progress.specs.Seats.{can_abort, seat_at, seat_in, reader_in, holds, is_swap_out, is_unit_out, has_op, swaps_op};
 
 use crate::unit::Slot;
 use crate::{ReaderSeat, Seat};
 
 impl Seat {
+    /// Whether its ticket is out, and is no drop.
+    pub(crate) fn can_abort(&self) -> bool
+        ensures { result ≡ can_abort (seat_of_code self.now) }
+    {
+        self.out && !self.kind.is_drop()
+    }
+
     /// Whether its ticket is out, of the term, and has the op.
     fn has_op(&self, term: u64, op: u64) -> bool
         ensures { result ≡ has_op term op (seat_of_code self.now) }

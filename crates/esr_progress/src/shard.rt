@@ -4,8 +4,9 @@ ghost use Rattle.std.specs.List.{list_any, list_all, filter_map};
 ghost use Rattle.esr_core.specs.Steps.{is_done};
 ghost use Rattle.esr_progress.specs.Shards.{given_open, marked_open, failed_open, is_pending, waits, is_done_with, is_open_waiting, is_open_free, generation_open, result_in, state_of};
 
-use crate::OpenOp;
-use crate::open_op::wait_on;
+use crate::open_op::op_waits;
+use crate::restore::restore_waits;
+use crate::{OpenOp, OpenRestore};
 use esr_names::{Id, ShardId};
 use esr_results::{ShardResult, ShardResults};
 use std::alloc::{AllocError, Global};
@@ -86,6 +87,15 @@ impl OpenShard {
         }
     }
 
+    /// Whether it is pending, and no op and no restore before the number waits on it.
+    fn is_free(&self, ops: &[OpenOp], restores: &[OpenRestore], number: u64) -> bool
+        ensures { result ≡ is_open_free ops.now restores.now number self.now }
+    {
+        self.state.is_pending()
+            && !op_waits(ops, number, self.shard)
+            && !restore_waits(restores, number, self.shard)
+    }
+
     /// The generation at which it is done, where it is of this id and number.
     pub(crate) fn generation(&self, shard: ShardId) -> Option<Id>
         ensures { result ≡ generation_open shard self.now }
@@ -157,11 +167,18 @@ pub(crate) fn results(alloc: Global, shards: &[OpenShard]) -> Result<ShardResult
     Ok(results)
 }
 
-/// The place of the first that is pending and on which none of the ops waits.
-pub(crate) fn first_free(shards: &[OpenShard], ops: &[OpenOp]) -> Option<usize>
-    ensures { result ≡ position (is_open_free ops.now) shards.now }
+/// The place of the first that is pending and on which no op and no restore before the number waits.
+pub(crate) fn first_free(
+    shards: &[OpenShard],
+    ops: &[OpenOp],
+    restores: &[OpenRestore],
+    number: u64,
+) -> Option<usize>
+    ensures { result ≡ position (is_open_free ops.now restores.now number) shards.now }
 {
-    shards.iter().position(|open| open.state.is_pending() && !wait_on(ops, open.shard))
+    shards
+        .iter()
+        .position(|open| open.is_free(ops, restores, number))
 }
 
 /// The place of the first that is pending.

@@ -1,7 +1,7 @@
 //! Units of work, and what they report.
 ghost use Rattle.std.specs.Prelude.{◌≡◌};
 ghost use Rattle.esr_progress.specs.Plan.{kind_of_code};
-ghost use Rattle.esr_progress.specs.Seats.{is_master, is_of_shard};
+ghost use Rattle.esr_progress.specs.Seats.{is_master, is_of_shard, is_drop};
 
 use esr_meta::SnapInfo;
 use esr_names::{Id, Ids, IndexName, ShardId};
@@ -107,6 +107,12 @@ impl SeatKind {
         ensures { result ≡ is_of_shard (kind_of_code self.now) }
     {
         matches!(self, SeatKind::Shard { .. })
+    }
+
+    pub(crate) fn is_drop(&self) -> bool
+        ensures { result ≡ is_drop (kind_of_code self.now) }
+    {
+        matches!(self, SeatKind::Drop)
     }
 
     /// Whether the unit swaps the root.

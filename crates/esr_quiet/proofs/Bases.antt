@@ -1,5 +1,5 @@
 -- Nothing of a lawful and free world is at fault in the base of a shard's ticket.
-use Rattle.std.proofs.Common.{◌≡◌, ℕ, ◌<◌, ◌≤◌, List, Some, None, sym, ap, ◌∙◌, subst, inl, inr, arith}
+use Rattle.std.proofs.Common.{◌≡◌, ◌⊎◌, ℕ, ◌<◌, ◌≤◌, List, Some, None, sym, ap, ◌∙◌, subst, inl, inr, arith}
 use Rattle.std.specs.FinMap as fin
 use Rattle.esr_model.specs.Names.{BlobName, ShardIndex}
 use Rattle.esr_model.specs.Values.{Bytes, Has, FileEntry, SnapList, ShardFiles, Formats}
@@ -11,7 +11,7 @@ use Rattle.esr_core.specs.Ready.{IsShard, Waits}
 use Rattle.esr_core.specs.Steps.{IsOut}
 use Rattle.esr_core.specs.Written.{WroteLaw}
 use Rattle.esr_core.specs.Ids.{Law}
-use Rattle.esr_desk.specs.Damage.{IsAhead}
+use Rattle.esr_desk.specs.Unit.Shown.{HasSnapshot, HasDrawn}
 use Rattle.esr_quiet.specs.Free.{Free}
 use Rattle.esr_quiet.proofs.Maps.{some_same, some_none}
 
@@ -60,7 +60,10 @@ module _ (f : Formats) (w : World) (shelf : List Shelved) (l : Law f w shelf) (k
       omega (arith, below, above)
 
   -- and isn't ahead of the ticket
-  pub not_ahead : Free f w → (bytes : Bytes) → Has t.read (ShardIndex index number base, bytes) → (v : ShardFiles) → f.shard_index.read bytes ≡ Some v → IsAhead t v → ⊥
-  not_ahead free bytes read v reads ahead =
+  pub not_ahead : Free f w → (bytes : Bytes) → Has t.read (ShardIndex index number base, bytes) → (v : ShardFiles) → f.shard_index.read bytes ≡ Some v → (id : ℕ) → HasSnapshot t v id ⊎ HasDrawn t v id → ⊥
+  not_ahead free bytes read v reads id ahead =
       let same : v ≡ stands.held = some_same v stands.held (sym reads ∙ reads_as bytes read) in
-      elim (subst (IsAhead t) same ahead) [ inl x ↦ unlisted free x.0 x.1 x.2 | inr x ↦ drawn_above x.0 x.1 x.2 x.3 ]
+      elim (subst (λ (u : ShardFiles). HasSnapshot t u id ⊎ HasDrawn t u id) same ahead) [
+        | inl x ↦ unlisted free x.0 x.1 (x.2 ∙ x.3)
+        | inr x ↦ drawn_above x.0 x.1 x.3 (subst (λ (n : ℕ). t.first ≤ n) (sym x.2) x.4)
+      ]

@@ -1,5 +1,5 @@
 -- No check fails for damage where each world of the history is lawful: the safe root stands, so it agrees; nor at all where no call fails.
-use Rattle.std.proofs.Common.{◌≡◌, ◌⊎◌, ℕ, suc, ◌≤◌, Bool, true, false, true≢false, List, [], ◌∷◌, ◌++◌, append-nil, append_assoc, Option, Some, None, refl, sym, ap, ◌∙◌, subst, inl, inr, arith}
+use Rattle.std.proofs.Common.{◌≡◌, ◌⊎◌, ℕ, suc, ◌≤◌, Bool, true, false, List, [], ◌∷◌, ◌++◌, append-nil, append_assoc, Option, Some, None, refl, sym, ap, ◌∙◌, subst, inl, inr, arith}
 use Rattle.std.specs.Prelude.{length, if◌then◌else◌}
 use Rattle.std.specs.List.{concat}
 use Rattle.std.specs.FinMap as fin
@@ -10,7 +10,7 @@ use Rattle.esr_model.specs.Agreement.{RootAgrees}
 use Rattle.esr_model.specs.Reach.{Reached}
 use Rattle.esr_core.specs.World.{World, Reader, Caller, no_caller, HeldIn}
 use Rattle.esr_core.specs.Restores.{WasRead}
-use Rattle.esr_core.specs.Entry.{Reason, Why, OfDepot, OfSource, OfChange, OfAbsence, OfUnreadable, OfAhead, OfTaken, OfIdsSpent, OfGenerationsSpent, OfTarget, OfPrint, OfDisagreement, Read, ReadBlob, Step, LookStep, ReadStep, Reply, WasFetched, WasAbsent, DepotFault, Refused, Moment}
+use Rattle.esr_core.specs.Entry.{Reason, Why, OfDepot, OfSource, OfChange, OfAbsence, OfUnreadable, OfAhead, OfTaken, OfAbort, OfIdsSpent, OfGenerationsSpent, OfTarget, OfPrint, OfDisagreement, Read, ReadBlob, Step, LookStep, ReadStep, Reply, WasFetched, WasAbsent, DepotFault, Refused, Moment}
 use Rattle.esr_core.specs.After.{is_heard, told_blob, blobs_in, caller_told, caller_read, caller_after, answered, after}
 use Rattle.esr_core.specs.Allowed as allowed
 use Rattle.esr_core.specs.Allowed.{Fetcher, ByReader, ByCheck, ByVerify, SameBlobs, ReadAllows, ReadFound, ReadMissing, ReadFault, VerifyAllows, DrawingTest, Allows, Allowed}
@@ -18,16 +18,16 @@ use Rattle.esr_core.proofs.Reading.{reads_one}
 use Rattle.esr_core.proofs.Frames.{AllPairs-map, stands_kept}
 use Rattle.esr_core.proofs.Agreeing.{stands_agrees}
 use Rattle.esr_formats.specs.Reasons.{unreadable_reads_not}
-use Rattle.esr_desk.specs.declared.fault.FailedObject.TheVariants as objects
+use Rattle.esr_desk.specs.declared.hand.Hand.TheVariants as hands
 use Rattle.esr_desk.specs.declared.fault.Fault.{Fault}
 use Rattle.esr_desk.specs.declared.fault.By.{By}
-use Rattle.esr_desk.specs.declared.fault.By.TheVariants as by
 use Rattle.esr_desk.specs.Start.{Start, formats_of, world_of}
-use Rattle.esr_reading.specs.Parts.{sized_parts, IsFront, AreFronts, AreExact}
-use Rattle.esr_checking.specs.Caller.{caller_of}
-use Rattle.esr_checking.specs.Shown.{Counts, IsShown}
-use Rattle.esr_checking.specs.CheckShown.{AllFetches, SinceLook, HadAnswer, ReadAs, WasUnreadable, HasReadFile, IsMisprinted, Disagree, InfoBeside, GlobalBeside, IndexMetaBeside, IndexBeside, SnapBeside, FileBeside, DepotShown, IsShownBy}
-use Rattle.esr_quiet.specs.Caused.{AreEndsCaused}
+use Rattle.esr_desk.specs.Restore.Parts.{sized_parts, IsFront, AreFronts, AreExact}
+use Rattle.esr_desk.specs.Own.{caller_of}
+use Rattle.esr_desk.specs.Evidence.{Evidence}
+use Rattle.esr_desk.specs.Verify.Shown.{IsVerifyShownBy}
+use Rattle.esr_desk.specs.Check.Shown.{AllFetches, SinceLook, HadFetchIn, ReadAs, DoesNotRead, HasReadFile, IsMisprinted, Disagree, InfoBeside, GlobalBeside, IndexMetaBeside, IndexBeside, SnapBeside, FileBeside, IsShownBy}
+use Rattle.esr_quiet.specs.Caused.{AreCaused}
 use Rattle.esr_quiet.specs.Smooth.{IsSmooth, NoneUnverified}
 use Rattle.esr_quiet.specs.Prefixes.{Prefixes}
 use Rattle.esr_quiet.specs.OverKept.{IsLawful}
@@ -35,8 +35,10 @@ use Rattle.esr_quiet.specs.Undamaged.{IsDamage, NoCheckFindsDamage}
 use Rattle.esr_quiet.proofs.Maps.{some_same, some_none}
 use Rattle.esr_quiet.proofs.Prefixes.{world_both, told_at, place_of, has_at}
 use Rattle.esr_quiet.proofs.OverKept.{IsAlive, lawful_front, step_at, smooth_lawful, smooth_alive, alive_before}
+use Rattle.esr_quiet.proofs.Numbers.{Numbered, numbered_from, client_unblocked}
+use Rattle.esr_quiet.proofs.Untaken.{opened_numbered}
 use Rattle.esr_quiet.proofs.Callers.{caller_one}
-use Rattle.esr_quiet.proofs.Failures.{read_shown}
+use Rattle.esr_quiet.proofs.Failures.{read_shown, no_fetch_fault}
 use Rattle.esr_quiet.proofs.Restores.{IsServing, ReadCoreLaws, missed_at, serves}
 use Rattle.esr_quiet.proofs.Verifications as verifications
 use Rattle.esr_quiet.proofs.Rooted.{AreListed, root_listed}
@@ -70,8 +72,12 @@ tells f size w who step reply image (allowed.Verifying read rep im a) = verify_t
 tells f size w who step reply image (allowed.Looking im same) = refl
 tells f size w who step reply image a = tt
 
-told_by : (f : Formats) (size : ℕ) (w : World) (m : Moment) → w.deposed ≡ false → Allowed f size w m → Tells f w m.entry.who m.entry.step m.entry.reply m.image
-told_by f size w m present a = elim a.answered [ inl alive ↦ tells f size w m.entry.who m.entry.step m.entry.reply m.image alive.1 | inr dead ↦ absurd (true≢false (sym dead.deposed ∙ present)) ]
+-- of who 0, which no delete aborts
+told_by : (f : Formats) (size : ℕ) (w : World) (m : Moment) → Numbered w → m.entry.who ≡ 0 → w.deposed ≡ false → Allowed f size w m → Tells f w m.entry.who m.entry.step m.entry.reply m.image
+told_by f size w m numbered who present a = elim a.answered [
+  | inl alive ↦ tells f size w m.entry.who m.entry.step m.entry.reply m.image alive.1
+  | inr dead ↦ absurd (client_unblocked w m.entry.who m.entry.step dead.refusal numbered who present dead.blocks)
+]
 
 -- ---- what a fetch leaves
 
@@ -130,6 +136,10 @@ module _ (f : Formats) (w : World) (numbered : (k : ℕ) (q : Reader) → fin.ge
 at_one : (f : Formats) (blobs : Blobs) → IsOne (At f blobs)
 at_one f blobs name a b p q = some_same a b (sym p.0 ∙ q.0)
 
+first_fetches : (a b : List Moment) → AllFetches (a ++ b) → AllFetches a
+first_fetches [] b all = tt
+first_fetches (m ∷ a) b all = (all.0, all.1, first_fetches a b all.2)
+
 suc_same : {a b : ℕ} → suc a ≡ suc b → a ≡ b
 suc_same e = cc
 
@@ -141,16 +151,19 @@ module _ (s : Start) (log : List Moment) (lawful : IsLawful s log) (alive : IsAl
   abbrev KnownAt : List Moment → Type 0
   KnownAt front = Known f (world_of s front).blobs (world_of s front).safe (caller_of s front)
 
-  tells_at : (front back : List Moment) (m : Moment) → log ≡ front ++ m ∷ back → Tells f (world_of s front) m.entry.who m.entry.step m.entry.reply m.image
-  tells_at front back m is = told_by f s.part_size (world_of s front) m (alive front (m ∷ back) is) (step_at s log lawful.over front back m is)
+  numbered_at : (front : List Moment) → Numbered (world_of s front)
+  numbered_at front = numbered_from f front s.world (opened_numbered f lawful.over.image s.world lawful.over.opened)
+
+  tells_at : (front back : List Moment) (m : Moment) → log ≡ front ++ m ∷ back → m.entry.who ≡ 0 → Tells f (world_of s front) m.entry.who m.entry.step m.entry.reply m.image
+  tells_at front back m is who = told_by f s.part_size (world_of s front) m (numbered_at front) who (alive front (m ∷ back) is) (step_at s log lawful.over front back m is)
 
   told : (front back : List Moment) (m : Moment) → log ≡ front ++ m ∷ back → (image : Image) × (m.image ≡ Some image)
   told front back m is = told_at log m lawful.over.told (subst (λ (l : List Moment). Has l m) (sym is) (has_at front back m))
 
   -- the look
-  known_look : (front back : List Moment) (m : Moment) → log ≡ front ++ m ∷ back → m.entry.step ≡ LookStep → KnownAt (front ++ m ∷ [])
-  known_look front back m is step =
-      let heard : is_heard m.entry.reply ≡ true = subst (λ st. Tells f (world_of s front) m.entry.who st m.entry.reply m.image) step (tells_at front back m is) in
+  known_look : (front back : List Moment) (m : Moment) → log ≡ front ++ m ∷ back → m.entry.who ≡ 0 → m.entry.step ≡ LookStep → KnownAt (front ++ m ∷ [])
+  known_look front back m is who step =
+      let heard : is_heard m.entry.reply ≡ true = subst (λ st. Tells f (world_of s front) m.entry.who st m.entry.reply m.image) step (tells_at front back m is who) in
       let begun : Caller = record no_caller { looked = true } in
       let caller : caller_of s (front ++ m ∷ []) ≡ begun =
       caller_one s front m ∙ ap (λ st. caller_after f (caller_of s front) m.entry.who st m.entry.reply m.image) step ∙ ap (λ (b : Bool). if b then begun else caller_of s front) heard in
@@ -162,7 +175,7 @@ module _ (s : Start) (log : List Moment) (lawful : IsLawful s log) (alive : IsAl
       let w : World = world_of s front in
       let image = told front back m is in
       let tells_it : Tells f w 0 (ReadStep (ReadBlob name)) m.entry.reply m.image =
-      subst (λ st. Tells f w 0 st m.entry.reply m.image) step (subst (λ k. Tells f w k m.entry.step m.entry.reply m.image) who (tells_at front back m is)) in
+      subst (λ st. Tells f w 0 st m.entry.reply m.image) step (subst (λ k. Tells f w k m.entry.step m.entry.reply m.image) who (tells_at front back m is who)) in
       let known : Known f w.blobs w.safe (caller_read f w.caller (ReadBlob name) m.entry.reply m.image) =
       known_fetch f w (λ k q there. ((all_serve front (m ∷ back) is).law.tracked.tickets k q there).0) h name m.entry.reply m.image image.0 image.1 tells_it.0 tells_it.1 in
       let caller : caller_of s (front ++ m ∷ []) ≡ caller_read f w.caller (ReadBlob name) m.entry.reply m.image =
@@ -185,7 +198,7 @@ module _ (s : Start) (log : List Moment) (lawful : IsLawful s log) (alive : IsAl
   known_at front back is h =
       let from : log ≡ h.before ++ h.look ∷ (h.fetches ++ back) = is ∙ ap (λ (l : List Moment). l ++ back) h.is ∙ append_assoc h.before (h.look ∷ h.fetches) back in
       subst (λ (l : List Moment). KnownAt l) (append_assoc h.before (h.look ∷ []) h.fetches ∙ sym h.is)
-      (known_on (h.before ++ h.look ∷ []) h.fetches back (from ∙ sym (append_assoc h.before (h.look ∷ []) (h.fetches ++ back))) h.all (known_look h.before (h.fetches ++ back) h.look from h.looks))
+      (known_on (h.before ++ h.look ∷ []) h.fetches back (from ∙ sym (append_assoc h.before (h.look ∷ []) (h.fetches ++ back))) h.all (known_look h.before (h.fetches ++ back) h.look from h.looker h.looks))
 
   -- ---- the safe root agrees
 
@@ -230,18 +243,22 @@ module _ (s : Start) (log : List Moment) (lawful : IsLawful s log) (alive : IsAl
     of : moment.entry.who ≡ 0
     reply_is : moment.entry.reply ≡ reply
 
-  answered_at : (front back : List Moment) → log ≡ front ++ back → (name : BlobName) (reply : Reply) → HadAnswer front name reply → Answered name reply
-  answered_at front back is name reply h =
-      let before : List Moment = h.before ++ h.look ∷ h.between in
+  answered_at : (front back : List Moment) → log ≡ front ++ back → (since : SinceLook front) (name : BlobName) (reply : Reply) → HadFetchIn since.fetches name reply → Answered name reply
+  answered_at front back is since name reply h =
+      let m : Moment = record { entry = record { who = 0; step = ReadStep (ReadBlob name); reply = reply }; image = h.image } in
+      let p = place_of since.fetches m h.there in
+      let before : List Moment = since.before ++ since.look ∷ p.front in
+      let front_is : front ≡ before ++ m ∷ p.back =
+      since.is ∙ ap (λ (l : List Moment). since.before ++ since.look ∷ l) p.is ∙ sym (append_assoc since.before (since.look ∷ p.front) (m ∷ p.back)) in
       record {
         before = before;
-        moment = h.moment;
-        rest = h.back ++ back;
-        is = is ∙ ap (λ (l : List Moment). l ++ back) h.is ∙ append_assoc before (h.moment ∷ h.back) back;
-        since = record { before = h.before; look = h.look; fetches = h.between; is = refl; looker = h.looker; looks = h.looks; all = h.earlier };
-        step_is = h.step;
-        of = h.of;
-        reply_is = h.reply_is;
+        moment = m;
+        rest = p.back ++ back;
+        is = is ∙ ap (λ (l : List Moment). l ++ back) front_is ∙ append_assoc before (m ∷ p.back) back;
+        since = record { before = since.before; look = since.look; fetches = p.front; is = refl; looker = since.looker; looks = since.looks; all = first_fetches p.front (m ∷ p.back) (subst AllFetches p.is since.all) };
+        step_is = refl;
+        of = refl;
+        reply_is = refl;
       }
 
   -- no reached blob is absent
@@ -255,9 +272,9 @@ module _ (s : Start) (log : List Moment) (lawful : IsLawful s log) (alive : IsAl
             some_none it.0 (sym it.1.0 ∙ none)
       ]
 
-  absent : (front back : List Moment) → log ≡ front ++ back → (name : BlobName) → HadAnswer front name WasAbsent → ⊥
-  absent front back is name h =
-      let r = answered_at front back is name WasAbsent h in
+  absent : (front back : List Moment) → log ≡ front ++ back → (since : SinceLook front) (name : BlobName) → HadFetchIn since.fetches name WasAbsent → ⊥
+  absent front back is since name h =
+      let r = answered_at front back is since name WasAbsent h in
       let w : World = world_of s r.before in
       let image = told r.before r.rest r.moment r.is in
       let missed = missed_at f s.part_size w r.moment name (alive r.before (r.moment ∷ r.rest) r.is) (step_at s log lawful.over r.before r.rest r.moment r.is) r.step_is r.reply_is image.0 image.1 in
@@ -284,7 +301,7 @@ module _ (s : Start) (log : List Moment) (lawful : IsLawful s log) (alive : IsAl
     reached_as name kind v r = let (there, reached) = known.read name r.bytes (r.fetched.read lawful.over.tells) in reached
 
     -- each reached blob reads
-    unread : (name : BlobName) (reason : Reason) → WasUnreadable s (caller_of s front) name reason → ⊥
+    unread : (name : BlobName) (reason : Reason) → DoesNotRead s (caller_of s front) name reason → ⊥
     unread name reason (bytes, fetched, first) =
         let (there, reached) = known.read name bytes (fetched.read lawful.over.tells) in
         let (n, e, how) = reached in
@@ -333,83 +350,77 @@ module _ (s : Start) (log : List Moment) (lawful : IsLawful s log) (alive : IsAl
     agreed name other (FileBeside file fronts h len digest differ) = let x = file_at file fronts h in differ x.2
 
     -- no damage is shown
-    undamaged : {S F H T : Type 0} (c : Counts S F) (why : Why) (b : By S F H T) → IsDamage why → IsShownBy c s front why b → ⊥
-    undamaged c (OfAbsence name) b damage h = absent front back is name (read_shown b _ h)
-    undamaged c (OfUnreadable name reason) b damage h = unread name reason (read_shown b _ h)
-    undamaged c (OfPrint name stated_len stated_digest found_len found_digest) b damage h = printed name stated_len stated_digest found_len found_digest (read_shown b _ h)
-    undamaged c (OfDisagreement name other) b damage h = agreed name other (read_shown b _ h)
-    undamaged c OfDepot b damage h = damage
-    undamaged c OfSource b damage h = damage
-    undamaged c (OfChange first_len first_digest second_len second_digest) b damage h = damage
-    undamaged c (OfAhead name) b damage h = damage
-    undamaged c (OfTaken name) b damage h = damage
-    undamaged c (OfIdsSpent next) b damage h = damage
-    undamaged c (OfGenerationsSpent pending) b damage h = damage
-    undamaged c OfTarget b damage h = damage
+    undamaged : {S F H T : Type 0} (e : Evidence S F H T) (why : Why) (b : By S F H T) → IsDamage why → IsShownBy e s since.fetches (caller_of s front) why b → ⊥
+    undamaged e (OfAbsence name) b damage h = absent front back is since name (read_shown b _ h)
+    undamaged e (OfUnreadable name reason) b damage h = unread name reason (read_shown b _ h)
+    undamaged e (OfPrint name stated_len stated_digest found_len found_digest) b damage h = printed name stated_len stated_digest found_len found_digest (read_shown b _ h)
+    undamaged e (OfDisagreement name other) b damage h = agreed name other (read_shown b _ h)
+    undamaged e OfDepot b damage h = damage
+    undamaged e OfSource b damage h = damage
+    undamaged e (OfChange first_len first_digest second_len second_digest) b damage h = damage
+    undamaged e (OfAhead name id) b damage h = damage
+    undamaged e (OfTaken name) b damage h = damage
+    undamaged e (OfAbort op) b damage h = damage
+    undamaged e (OfIdsSpent next) b damage h = damage
+    undamaged e (OfGenerationsSpent pending) b damage h = damage
+    undamaged e OfTarget b damage h = damage
 
     -- nor by a verification: none is open since the look
-    unverified : {S F H T : Type 0} (c : Counts S F) (why : Why) (b : By S F H T) → IsDamage why → IsShown c s front (caller_of s front) why b → ⊥
-    unverified c (OfAbsence name) b damage h = uncommitted name (read_shown b _ h).committed
-    unverified c (OfUnreadable name reason) b damage h = uncommitted name (read_shown b _ h).0.committed
-    unverified c (OfPrint name stated_len stated_digest found_len found_digest) b damage h = uncommitted name (read_shown b _ h).committed
-    unverified c (OfDisagreement name other) b damage h = h
-    unverified c OfDepot b damage h = damage
-    unverified c OfSource b damage h = damage
-    unverified c (OfChange first_len first_digest second_len second_digest) b damage h = damage
-    unverified c (OfAhead name) b damage h = damage
-    unverified c (OfTaken name) b damage h = damage
-    unverified c (OfIdsSpent next) b damage h = damage
-    unverified c (OfGenerationsSpent pending) b damage h = damage
-    unverified c OfTarget b damage h = damage
+    unverified : {S F H T : Type 0} (e : Evidence S F H T) (why : Why) (b : By S F H T) → IsDamage why → IsVerifyShownBy e s front (caller_of s front) why b → ⊥
+    unverified e (OfAbsence name) b damage h = uncommitted name (read_shown b _ h).committed
+    unverified e (OfUnreadable name reason) b damage h = uncommitted name (read_shown b _ h).0.committed
+    unverified e (OfPrint name stated_len stated_digest found_len found_digest) b damage h = uncommitted name (read_shown b _ h).committed
+    unverified e (OfDisagreement name other) b damage h = h
+    unverified e OfDepot b damage h = damage
+    unverified e OfSource b damage h = damage
+    unverified e (OfChange first_len first_digest second_len second_digest) b damage h = damage
+    unverified e (OfAhead name id) b damage h = damage
+    unverified e (OfTaken name) b damage h = damage
+    unverified e (OfAbort op) b damage h = damage
+    unverified e (OfIdsSpent next) b damage h = damage
+    unverified e (OfGenerationsSpent pending) b damage h = damage
+    unverified e OfTarget b damage h = damage
 
 -- so none is reported
-pub none_damaged : {S F H T : Type 0} (laws : ReadCoreLaws) (s : Start) (log : List Moment) → IsLawful s log → (c : Counts S F) (faults : List (Fault S F H T)) → AreEndsCaused c s log faults → NoCheckFindsDamage log
-none_damaged laws s log lawful c faults shown front back m why is since who step reply damage =
+pub none_damaged : {S F H T : Type 0} (laws : ReadCoreLaws) (s : Start) (log : List Moment) → IsLawful s log → (e : Evidence S F H T) (faults : List (Fault S F H T)) → AreCaused hands.Check e s log faults → NoCheckFindsDamage log
+none_damaged laws s log lawful e faults shown front back m why is since who step reply damage =
     let up = lawful_front s log lawful front (m ∷ back) is in
     let alive = alive_before s log lawful.over front back m is reply in
     let end = sym (append-nil front) in
-    let x = shown (length front) why (record { front = front; moment = m; back = back; is = is; place_is = refl; of = who; step = step; reply = reply }) in
-    elim x.1 [
-      | inl verification ↦ unverified s front up alive (serves laws s front up) front [] end since c why x.0 damage verification
-      | inr check ↦ undamaged s front up alive (serves laws s front up) front [] end since c why x.0 damage check.shown
+    let x = shown (length front) m.entry.who why (record { front = front; moment = m; back = back; is = is; place_is = refl; teller = who; of = refl; step = step; reply = reply }) in
+    elim x.shown [
+      | inl check ↦ undamaged s front up alive (serves laws s front up) front [] end check.since e why x.by damage check.shown
+      | inr verification ↦ unverified s front up alive (serves laws s front up) front [] end since e why x.by damage verification.shown
     ]
 
 -- ---- where no call fails
 
 module _ (s : Start) (log : List Moment) (smooth : IsSmooth s log) (prefixes : Prefixes s log) (all_serve : (front back : List Moment) → log ≡ front ++ back → IsServing (formats_of s) (world_of s front)) where
-  -- no object of the container fails
-  depot : {S F H T : Type 0} (c : Counts S F) (front back : List Moment) → log ≡ front ++ back → (b : By S F H T) → DepotShown c s front b → ⊥
-  depot c front back is (by.Object (objects.Stage stage)) h = h
-  depot c front back is (by.Object (objects.Fetch fetch)) h = true≢false (sym smooth.quiet ∙ h.1)
-  depot c front back is (by.Object (objects.Shard shard)) h = h
-  depot c front back is (by.Object (objects.Target target)) h = h
-  depot c front back is by.Entry h = true≢false (sym smooth.quiet ∙ h.1)
-  depot c front back is by.Nothing h = h
-
-  whole : {S F H T : Type 0} (front back : List Moment) → log ≡ front ++ back → SinceLook front → (c : Counts S F) (why : Why) (b : By S F H T) → IsDamage why → IsShownBy c s front why b → ⊥
-  whole front back is since c why b damage h = undamaged s log (smooth_lawful s log smooth prefixes) (smooth_alive s log smooth) all_serve front back is since c why b damage h
+  whole : {S F H T : Type 0} (front back : List Moment) → log ≡ front ++ back → (since : SinceLook front) (e : Evidence S F H T) (why : Why) (b : By S F H T) → IsDamage why → IsShownBy e s since.fetches (caller_of s front) why b → ⊥
+  whole front back is since e why b damage h = undamaged s log (smooth_lawful s log smooth prefixes) (smooth_alive s log smooth) all_serve front back is since e why b damage h
 
   -- no cause is shown
-  shows : {S F H T : Type 0} (front back : List Moment) → log ≡ front ++ back → SinceLook front → (c : Counts S F) (why : Why) (b : By S F H T) → IsShownBy c s front why b → ⊥
-  shows front back is since c OfDepot b h = depot c front back is b h
-  shows front back is since c (OfAbsence name) b h = whole front back is since c (OfAbsence name) b tt h
-  shows front back is since c (OfUnreadable name reason) b h = whole front back is since c (OfUnreadable name reason) b tt h
-  shows front back is since c (OfPrint name stated_len stated_digest found_len found_digest) b h = whole front back is since c (OfPrint name stated_len stated_digest found_len found_digest) b tt h
-  shows front back is since c (OfDisagreement name other) b h = whole front back is since c (OfDisagreement name other) b tt h
-  shows front back is since c OfSource b h = h
-  shows front back is since c (OfChange first_len first_digest second_len second_digest) b h = h
-  shows front back is since c (OfAhead name) b h = h
-  shows front back is since c (OfTaken name) b h = h
-  shows front back is since c (OfIdsSpent next) b h = h
-  shows front back is since c (OfGenerationsSpent pending) b h = h
-  shows front back is since c OfTarget b h = h
+  shows : {S F H T : Type 0} (front back : List Moment) → log ≡ front ++ back → (since : SinceLook front) (e : Evidence S F H T) (why : Why) (b : By S F H T) → IsShownBy e s since.fetches (caller_of s front) why b → ⊥
+  shows front back is since e OfDepot b h = no_fetch_fault e s smooth.quiet ((name : BlobName) × HadFetchIn since.fetches name (Refused DepotFault)) b h
+  shows front back is since e (OfAbsence name) b h = whole front back is since e (OfAbsence name) b tt h
+  shows front back is since e (OfUnreadable name reason) b h = whole front back is since e (OfUnreadable name reason) b tt h
+  shows front back is since e (OfPrint name stated_len stated_digest found_len found_digest) b h = whole front back is since e (OfPrint name stated_len stated_digest found_len found_digest) b tt h
+  shows front back is since e (OfDisagreement name other) b h = whole front back is since e (OfDisagreement name other) b tt h
+  shows front back is since e OfSource b h = h
+  shows front back is since e (OfChange first_len first_digest second_len second_digest) b h = h
+  shows front back is since e (OfAhead name id) b h = h
+  shows front back is since e (OfTaken name) b h = h
+  shows front back is since e (OfAbort op) b h = h
+  shows front back is since e (OfIdsSpent next) b h = h
+  shows front back is since e (OfGenerationsSpent pending) b h = h
+  shows front back is since e OfTarget b h = h
 
   -- so no verification fails, and no check
-  pub none_ended : {S F H T : Type 0} (c : Counts S F) (faults : List (Fault S F H T)) → AreEndsCaused c s log faults → NoneUnverified log
-  none_ended {S} {F} {H} {T} c faults shown m why has_it who step reply =
+  pub none_ended : {S F H T : Type 0} (e : Evidence S F H T) (faults : List (Fault S F H T)) → AreCaused hands.Check e s log faults → NoneUnverified log
+  none_ended e faults shown m why has_it who step reply =
       let p = place_of log m has_it in
-      let x = shown (length p.front) why (record { front = p.front; moment = m; back = p.back; is = p.is; place_is = refl; of = who; step = step; reply = reply }) in
-      elim x.1 [
-        | inl verification ↦ verifications.shows s log smooth prefixes c p.front (m ∷ p.back) p.is why x.0 verification
-        | inr check ↦ shows p.front (m ∷ p.back) p.is check.since c why x.0 check.shown
+      let x = shown (length p.front) m.entry.who why (record { front = p.front; moment = m; back = p.back; is = p.is; place_is = refl; teller = who; of = refl; step = step; reply = reply }) in
+      elim x.shown [
+        | inl check ↦ shows p.front (m ∷ p.back) p.is check.since e why x.by check.shown
+        | inr verification ↦ verifications.shows s log smooth prefixes e p.front (m ∷ p.back) p.is why x.by verification.shown
       ]

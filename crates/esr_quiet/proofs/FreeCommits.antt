@@ -31,8 +31,8 @@ own_metadata f Drop root s e name bytes h = absurd (no_swap s e)
 
 module _ (f : Formats) (w : World) (free : Free f w) where
   -- a name that may be committed is free
-  pub taken : (k : ℕ) (name : BlobName) (c : Commits f w k name) → (IsMetadata name → ⊥) → Present f w.blobs name → (Has c.t.noted name → ⊥) → ⊥
-  taken k name c aside present new = elim c.may [
+  pub taken : (size k : ℕ) (name : BlobName) (c : Commits f size w k name) → (IsMetadata name → ⊥) → Present f w.blobs name → (Has c.t.noted name → ⊥) → ⊥
+  taken size k name c aside present new = elim c.may [
     | inl h ↦ elim h.2 [
       | inl own ↦ elim (own_metadata f c.t.work c.t.root h.0 h.1 name c.bytes own) [
         | inl metadata_name ↦ aside metadata_name

@@ -20,7 +20,7 @@ use Rattle.esr_core.specs.Deletes.{named_uuids, waiting_delete, running_delete, 
 use Rattle.esr_core.specs.Ids.{Law}
 use Rattle.esr_core.specs.Turns.{Aborts}
 use Rattle.esr_core.specs.Entry.{DeleteSnapshots, Prune, RemoveDoomed, AskStep, PruneStep, DepotFault, Reply, WasRemoved, Refused}
-use Rattle.esr_core.specs.After.{with_given, change, told_blob, is_stale, delete_settled, delete_failed_by, delete_failed, blobs_in, after}
+use Rattle.esr_core.specs.After.{with_given, change, told_blob, is_stale, delete_settled, delete_failed_by, delete_failed, blobs_in}
 use Rattle.esr_core.specs.Allowed.{Told, SameBlobs, MayPlan, SettlesDeletion, RemovesDoomed, DeleteAllows, GoingInto, NotNamed, CloneStands, RestoreStands, FullOfOps, DeleteFault, PruneAllows, FetchingShard, ShardMissing, FetchShardFails, Planning, PlanSpent, SettlingDelete, SettleDeleteStale, SettleDeleteFails, RemovingDoomed, RemoveDoomedFails, EndingDelete, FailingDelete}
 use Rattle.esr_core.proofs.AskedDeletes.{aborts}
 use Rattle.esr_core.proofs.DeletedRoots.{uuid_was}
@@ -35,7 +35,7 @@ use Rattle.esr_core.proofs.PrunedShards.{of_indices}
 use Rattle.esr_core.proofs.Queues.{left_in}
 use Rattle.esr_core.proofs.Reading.{none_some, some_same, Has-mapped}
 use Rattle.esr_core.proofs.Results.{choose_true, choose_false}
-use Rattle.esr_quiet.proofs.FreeFrame.{IsFree, own_all, Tests, Follows, Waited, IsNewShard, ListsDone, IsNewPlan, framed}
+use Rattle.esr_quiet.proofs.FreeFrame.{IsFree, own_all, Tests, Follows, Waited, IsNewShard, ListsDone, IsNewPlan, framed, heard_after}
 use Rattle.esr_quiet.proofs.FreeNames.{one_place}
 use Rattle.esr_quiet.proofs.FreeParts.{Were, Back, at_same, told_same, was_shards, own_were, tests_was, tests_none, follows_same, came_all, came_put, own_put, own_drawn, waited_left, live_left}
 use Rattle.esr_quiet.proofs.FreeTickets.{waited, kept, called, changed, ended, fetches, ends}
@@ -139,7 +139,7 @@ module _ (f : Formats) (w : World) (shelf : List Shelved) (law : Law f w shelf) 
   goes_into names None None blobs back =
       aborted (aborted_ops w (named_uuids w names) w.next_op) w.next_op (aborts w (named_uuids w names) w.next_op) (fin.insert w.deletes w.next_op (record { uuids = named_uuids w names; clean = false; failed = false })) (suc w.next_op) blobs back
 
-  pub asks_delete : (names : List Bytes) (reply : Reply) (image : Option Image) → reply ≢ Refused DepotFault → DeleteAllows w names reply → SameBlobs w image → IsFree f (after f w (moment 0 (AskStep (DeleteSnapshots names)) reply image))
+  pub asks_delete : (names : List Bytes) (reply : Reply) (image : Option Image) → reply ≢ Refused DepotFault → DeleteAllows w names reply → SameBlobs w image → IsFree f (heard_after f w (moment 0 (AskStep (DeleteSnapshots names)) reply image))
   asks_delete names reply image calm (GoingInto acc) same = goes_into names (waiting_delete w) (running_delete w (named_uuids w names)) (blobs_in image w.blobs) (at_same f w image same)
   asks_delete names reply image calm (NotNamed place clear first) same = anew (blobs_in image w.blobs) (at_same f w image same)
   asks_delete names reply image calm (CloneStands o clear named lowest) same = anew (blobs_in image w.blobs) (at_same f w image same)
@@ -250,9 +250,9 @@ module _ (f : Formats) (w : World) (shelf : List Shelved) (law : Law f w shelf) 
 
   -- ---- it removes, and ends
 
-  removes : (k : ℕ) (names : List BlobName) (x : Image) → RemovesDoomed f w k names (Some x) → Removes f w.blobs x.blobs names → IsFree f (record w { removed = names ++ w.removed; blobs = x.blobs })
+  removes : (k : ℕ) (names : List BlobName) (x : Image) → RemovesDoomed f w k names (Some x) → Removes f w.blobs x.blobs names → IsFree f (record w { blobs = x.blobs })
   removes k names x r away =
-      framed f w (record w { removed = names ++ w.removed; blobs = x.blobs }) l (came_all f w) (own_all f w l) (waited f w shelf law l) (λ i n g h. inl h) were tests
+      framed f w (record w { blobs = x.blobs }) l (came_all f w) (own_all f w l) (waited f w shelf law l) (λ i n g h. inl h) were tests
     where
       were : Were f x.blobs w.blobs
       were name b h = (away.left (f.names.text name) b h.0, h.1)
@@ -280,14 +280,14 @@ module _ (f : Formats) (w : World) (shelf : List Shelved) (law : Law f w shelf) 
   -- ---- each answer, where the image is told
 
   removes_told : (k : ℕ) (names : List BlobName) (image : Option Image) (i : Image) → image ≡ Some i → RemovesDoomed f w k names image → Told image (λ blobs. Removes f w.blobs blobs names × ((name : BlobName) → Has names name → fin.get blobs (f.names.text name) ≡ None))
-      → IsFree f (after f w (moment k (PruneStep (RemoveDoomed names)) WasRemoved image))
+      → IsFree f (heard_after f w (moment k (PruneStep (RemoveDoomed names)) WasRemoved image))
   removes_told k names None i told r away = absurd (none_some i told)
   removes_told k names (Some x) i told r away = removes k names x r away.0
 
   still : (image : Option Image) → SameBlobs w image → IsFree f (record w { blobs = blobs_in image w.blobs })
   still image same = kept f w shelf law l (blobs_in image w.blobs) (at_same f w image same)
 
-  pub prunes : (k : ℕ) (prune : Prune) (reply : Reply) (image : Option Image) → reply ≢ Refused DepotFault → (i : Image) → image ≡ Some i → PruneAllows f w k prune reply image → IsFree f (after f w (moment k (PruneStep prune) reply image))
+  pub prunes : (k : ℕ) (prune : Prune) (reply : Reply) (image : Option Image) → reply ≢ Refused DepotFault → (i : Image) → image ≡ Some i → PruneAllows f w k prune reply image → IsFree f (heard_after f w (moment k (PruneStep prune) reply image))
   prunes k prune reply image calm i told (FetchingShard j name im g found) =
       fetches f w shelf law l j g.t g.deleting.out.there name (told_blob f im name) (blobs_in im w.blobs)
       (at_same f w im (told_same w im (λ blobs. (bytes : Bytes) × (fin.get w.blobs (f.names.text name) ≡ Some bytes) × (blobs ≡ w.blobs)) (λ blobs h. h.2) found))

@@ -11,6 +11,8 @@ use Rattle.esr_core.specs.Generations.{IsLive}
 use Rattle.esr_core.specs.Ready.{Waits}
 use Rattle.esr_core.specs.Restores.{IsTestOf}
 use Rattle.esr_core.specs.Steps.{Drew, ShardCommits}
+use Rattle.esr_core.specs.Entry.{Entry, Moment}
+use Rattle.esr_core.specs.After.{stepped, heard}
 use Rattle.esr_core.proofs.Reading.{none_some}
 use Rattle.esr_quiet.specs.Free.{IsInUse, AreOwnTests, Free}
 use Rattle.esr_quiet.proofs.FreeNames.{IsDrawnIndex, drawn_like, index_no_test, commits_no_test}
@@ -198,3 +200,31 @@ module _ (f : Formats) (w v : World) (l : IsFree f w)
     (blobs : (name : BlobName) (b : Bytes) → At f v.blobs name b → At f w.blobs name b) (tests : Tests f v.blobs v.caller) where
   pub framed : IsFree f v
   framed = framed_aside f w v l tickets own ops live (λ name b no_test h. blobs name b h) tests
+
+-- ---- what was done so far aside
+
+-- the world after a moment, but for its entry
+abbrev pub heard_after : Formats → World → Moment → World
+heard_after f w m = heard f (stepped f w m) m
+
+used_in : (w : World) (entries : List Entry) (i n g : ℕ) → IsInUse (record w { entries = entries }) i n g → IsInUse w i n g
+used_in w entries i n g (inl live) = inl live
+used_in w entries i n g (inr b) = inr (record { ticket = b.ticket; t = b.t; there = b.there; out = b.out; work = b.work; base_is = b.base_is })
+
+pub with_entries : (f : Formats) (w : World) (entries : List Entry) → IsFree f w → IsFree f (record w { entries = entries })
+with_entries f w entries l =
+    record {
+      free = record {
+        shards = l.free.shards;
+        plans = l.free.plans;
+        pending = l.free.pending;
+        roots = l.free.roots;
+        own_root = l.free.own_root;
+        unlisted = λ o op s g held list there m waits used. l.free.unlisted o op s g held list there m waits (used_in w entries s.ref.id s.number g used);
+        tests = l.free.tests;
+        wrote = l.free.wrote;
+      };
+      own_ids = l.own_ids;
+      drawn = l.drawn;
+      wrote_tests = l.wrote_tests;
+    }

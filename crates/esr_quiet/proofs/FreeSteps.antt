@@ -14,6 +14,7 @@ use Rattle.esr_core.specs.Generations.{IsLive}
 use Rattle.esr_core.specs.Ready.{Waits}
 use Rattle.esr_core.specs.Steps.{Largest, Removes, with_ticket, settled, given, completing, shard_ticket, final_ticket}
 use Rattle.esr_core.specs.Turns.{plain_ticket, fails}
+use Rattle.esr_core.specs.Past.{with_entry}
 use Rattle.esr_core.specs.Ids.{Law}
 use Rattle.esr_core.specs.Entry.{AskedIndex, CloneOf, Snapshot, Clone, Restore, Given, GivenShard, GivenFinalize, GivenDrop, GivenRestore, GivenClone, GivenDelete, GivenCleanup, Why, Read, ReadBlob, RestoredShard, CommitTest, RemoveTests, ReadFails, Step, AskStep, CommitStep, LatestStep, ReadStep, DepotFault, Reply, WasDone, WasReplaced, WasFetched, WasAbsent, WasRemoved, HasEnded, Refused, Moment}
 use Rattle.esr_core.specs.After.{new_names, asked, asked_op, cloned_op, taken_by, taken_shard, taken_restore, taken_restore_shard, read_told, shard_over, read_over, caller_told, caller_wrote, with_given, committing, told_blob, done_of, done_by, failed_of, failed_by, is_stale, settled_of, dropped_of, blobs_in, after}
@@ -24,7 +25,7 @@ use Rattle.esr_core.proofs.AskedClones.{copied_pending}
 use Rattle.std.specs.Cmp.Lexicographic.{nat_list_cmp_total}
 use Rattle.esr_core.proofs.Adds.{text_one, at_kept, at_new, at_was}
 use Rattle.esr_core.proofs.Evolving.{out_pending, pending_done, failed_is, failed_goes}
-use Rattle.esr_core.proofs.Histories.{deposed_stays}
+use Rattle.esr_core.proofs.Blocked.{blocked_stays}
 use Rattle.esr_core.proofs.LatestPut.{at_back}
 use Rattle.esr_core.proofs.Maps.{get_other, texts_same}
 use Rattle.esr_core.proofs.Moments.{moment, settled_plain}
@@ -33,7 +34,7 @@ use Rattle.esr_core.proofs.Queues.{was_in}
 use Rattle.esr_core.proofs.Reading.{none_some, some_same, Has-left, Has-right}
 use Rattle.esr_core.proofs.TakeShard.{given_is, goes_on}
 use Rattle.esr_quiet.specs.Free.{AreOwnTests}
-use Rattle.esr_quiet.proofs.FreeFrame.{IsFree, own_all, Tests, IsNewTicket, Waited, IsNewShard, ListsDone, framed, framed_aside}
+use Rattle.esr_quiet.proofs.FreeFrame.{IsFree, own_all, Tests, IsNewTicket, Waited, IsNewShard, ListsDone, framed, framed_aside, heard_after, with_entries}
 use Rattle.esr_quiet.proofs.FreeNames.{one_place, snap_alone, test_id_below}
 use Rattle.esr_quiet.proofs.FreeParts.{Were, Back, at_same, told_same, own_were, tests_was, tests_none, follows_same, came_all, came_put, came_new, own_put, own_new, WaitedBy, waited_as, waited_map, waited_left, live_left}
 use Rattle.esr_quiet.proofs.FreeBlobs.{used_below, free_committed}
@@ -266,7 +267,7 @@ module _ (f : Formats) (w : World) (shelf : List Shelved) (law : Law f w shelf) 
 -- ---- each answer, where the image is told
 
 module _ (f : Formats) (size : ℕ) (w : World) (shelf : List Shelved) (law : Law f w shelf) (l : IsFree f w) where
-  commits : (k : ℕ) (name : BlobName) (image : Option Image) (c : Commits f w k name) → Told image (Adds f w name c.bytes) → (i : Image) → image ≡ Some i → IsFree f (after f w (moment k (CommitStep name) WasDone image))
+  commits : (k : ℕ) (name : BlobName) (image : Option Image) (c : Commits f size w k name) → Told image (Adds f w name c.bytes) → (i : Image) → image ≡ Some i → IsFree f (heard_after f w (moment k (CommitStep name) WasDone image))
   commits k name None c adds i told = absurd (none_some i told)
   commits k name (Some x) c adds i told =
       let o : Option Bytes = fin.get x.blobs (f.names.text name) in
@@ -276,7 +277,7 @@ module _ (f : Formats) (size : ℕ) (w : World) (shelf : List Shelved) (law : La
       (free_committed f w shelf law l k c.t c.out name c.bytes c.may c.named adds.0 (committing name (fin.get x.blobs (f.names.text name)) c.t) n.0 n.1 n.2 n.3 n.4))
 
   replaces : (k : ℕ) (image : Option Image) (t : Ticket) → fin.get w.tickets k ≡ Some t → (n : ℕ) → ReadsBack f.names Latest → Told image (λ blobs. blobs ≡ fin.insert w.blobs (f.names.text Latest) (latest_text n)) → (i : Image) → image ≡ Some i
-      → IsFree f (after f w (moment k LatestStep WasReplaced image))
+      → IsFree f (heard_after f w (moment k LatestStep WasReplaced image))
   replaces k None t there n named puts i told = absurd (none_some i told)
   replaces k (Some x) t there n named puts i told = tries f w shelf law l k t there x.blobs (latest_back f w.blobs x.blobs (latest_text n) puts named)
 
@@ -294,7 +295,7 @@ module _ (f : Formats) (size : ℕ) (w : World) (shelf : List Shelved) (law : La
   anew : (image : Option Image) → SameBlobs w image → (caller : Caller) → caller.drawn ≡ None → caller.wrote ≡ [] → IsFree f (record w { blobs = blobs_in image w.blobs; caller = caller })
   anew image same caller none empty = called f w shelf law l (blobs_in image w.blobs) (at_same f w image same).were caller (tests_none f (blobs_in image w.blobs) caller none empty)
 
-  asks_restore : (name place : Bytes) (reply : Reply) (image : Option Image) → RestoreAllows f w name reply image → SameBlobs w image → IsFree f (after f w (moment 0 (AskStep (Restore name place)) reply image))
+  asks_restore : (name place : Bytes) (reply : Reply) (image : Option Image) → RestoreAllows f w name reply image → SameBlobs w image → IsFree f (heard_after f w (moment 0 (AskStep (Restore name place)) reply image))
   asks_restore name place reply image (OpeningRestore o uuid indices im acc) same =
       beside f w shelf law l (put_restore w.restores w.next_op (restore_of uuid place indices)) w.readers (suc w.next_op) w.next_ticket (blobs_in im w.blobs) (at_same f w im same).were no_caller (tests_none f (blobs_in im w.blobs) no_caller refl refl)
   asks_restore name place reply image (NotListed im none) same = anew im same no_caller refl refl
@@ -302,7 +303,7 @@ module _ (f : Formats) (size : ℕ) (w : World) (shelf : List Shelved) (law : La
   asks_restore name place reply image (FullOfRestores uuid im listed spared full) same = anew im same no_caller refl refl
 
   asks_clone : (source name : Bytes) (names : List Bytes) (time : ℕ) (taken : Option CloneOf) (reply : Reply) (image : Option Image) → reply ≢ Refused DepotFault → CloneAllows f w source name names time taken reply image → SameBlobs w image
-      → IsFree f (after f w (moment 0 (AskStep (Clone source name names time taken)) reply image))
+      → IsFree f (heard_after f w (moment 0 (AskStep (Clone source name names time taken)) reply image))
   asks_clone source name names time taken reply image calm (OpeningClone t o im acc) same = clones f w shelf law l source name names time t (blobs_in im w.blobs) (at_same f w im same)
   asks_clone source name names time taken reply image calm (CloneUsed uuid im clear is) same = anew im same no_caller refl refl
   asks_clone source name names time taken reply image calm (SourceNotListed im may none) same = anew im same no_caller refl refl
@@ -320,23 +321,23 @@ module _ (f : Formats) (size : ℕ) (w : World) (shelf : List Shelved) (law : La
   told_own blobs name None own = own
   told_own blobs name (Some b) own = own
 
-  read_found : (k : ℕ) (name : BlobName) (image : Option Image) → SameBlobs w image → IsFree f (after f w (moment k (ReadStep (ReadBlob name)) WasFetched image))
+  read_found : (k : ℕ) (name : BlobName) (image : Option Image) → SameBlobs w image → IsFree f (heard_after f w (moment k (ReadStep (ReadBlob name)) WasFetched image))
   read_found zero name image same = goes image same (caller_told w.caller name (told_blob f image name)) (told_own (blobs_in image w.blobs) name (told_blob f image name) (tests_was f w l (blobs_in image w.blobs) (at_same f w image same)))
   read_found (suc k) name image same = tells f w shelf law l (suc k) name (told_blob f image name) (fin.get w.readers (suc k)) (blobs_in image w.blobs) (at_same f w image same)
 
-  read_missing : (k : ℕ) (name : BlobName) (image : Option Image) → SameBlobs w image → IsFree f (after f w (moment k (ReadStep (ReadBlob name)) WasAbsent image))
+  read_missing : (k : ℕ) (name : BlobName) (image : Option Image) → SameBlobs w image → IsFree f (heard_after f w (moment k (ReadStep (ReadBlob name)) WasAbsent image))
   read_missing zero name image same = goes image same (record w.caller { fetched = name ∷ w.caller.fetched }) (tests_was f w l (blobs_in image w.blobs) (at_same f w image same))
   read_missing (suc k) name image same = still image same
 
-  read_done : (k files bytes : ℕ) (image : Option Image) → SameBlobs w image → IsFree f (after f w (moment k (ReadStep (RestoredShard files bytes)) HasEnded image))
+  read_done : (k files bytes : ℕ) (image : Option Image) → SameBlobs w image → IsFree f (heard_after f w (moment k (ReadStep (RestoredShard files bytes)) HasEnded image))
   read_done zero files bytes image same = still image same
   read_done (suc k) files bytes image same = ends_read f w shelf law l (suc k) (Restored files bytes) (fin.get w.readers (suc k)) (blobs_in image w.blobs) (at_same f w image same)
 
-  read_failed : (k : ℕ) (why : Why) (image : Option Image) → SameBlobs w image → IsFree f (after f w (moment k (ReadStep (ReadFails why)) HasEnded image))
+  read_failed : (k : ℕ) (why : Why) (image : Option Image) → SameBlobs w image → IsFree f (heard_after f w (moment k (ReadStep (ReadFails why)) HasEnded image))
   read_failed zero why image same = anew image same no_caller refl refl
   read_failed (suc k) why image same = ends_read f w shelf law l (suc k) (NotRestored why) (fin.get w.readers (suc k)) (blobs_in image w.blobs) (at_same f w image same)
 
-  reads : (k : ℕ) (read : Read) (reply : Reply) (image : Option Image) → reply ≢ Refused DepotFault → ReadAllows f w k read reply image → SameBlobs w image → IsFree f (after f w (moment k (ReadStep read) reply image))
+  reads : (k : ℕ) (read : Read) (reply : Reply) (image : Option Image) → reply ≢ Refused DepotFault → ReadAllows f w k read reply image → SameBlobs w image → IsFree f (heard_after f w (moment k (ReadStep read) reply image))
   reads k read reply image calm (ReadFound j name im stored by found) same = read_found j name im same
   reads k read reply image calm (ReadMissing j name im stored by none) same = read_missing j name im same
   reads k read reply image calm (ReadFault j name im stored by) same = absurd (calm refl)
@@ -345,14 +346,14 @@ module _ (f : Formats) (size : ℕ) (w : World) (shelf : List Shelved) (law : La
   reads k read reply image calm (CheckingAll snapshots blobs im checks) same = anew im same no_caller refl refl
   reads k read reply image calm (CheckFailing why im looked) same = anew im same no_caller refl refl
 
-  adds_test : (name : BlobName) (bytes : Bytes) (image : Option Image) (i : Image) → image ≡ Some i → IsOwnTest f w name → Told image (Adds f w name bytes) → IsFree f (after f w (moment 0 (ReadStep (CommitTest name)) WasDone image))
+  adds_test : (name : BlobName) (bytes : Bytes) (image : Option Image) (i : Image) → image ≡ Some i → IsOwnTest f w name → Told image (Adds f w name bytes) → IsFree f (heard_after f w (moment 0 (ReadStep (CommitTest name)) WasDone image))
   adds_test name bytes None i told own adds = absurd (none_some i told)
   adds_test name bytes (Some x) i told own adds =
       let there : fin.get x.blobs (f.names.text name) ≡ Some bytes = ap (λ (blobs : Blobs). fin.get blobs (f.names.text name)) adds.1 ∙ (at_new f w.blobs name bytes own.stored adds.0 []).0 in
       subst (λ (o : Option Bytes). IsFree f (record w { doomed = name ∷ w.doomed; blobs = x.blobs; caller = caller_wrote w.caller name o })) (sym there) (commits_test f w shelf law l name bytes own x.blobs adds)
 
   removes_tests : (names : List BlobName) (image : Option Image) (i : Image) → image ≡ Some i → Told image (λ blobs. Removes f w.blobs blobs names × ((name : BlobName) → Has names name → fin.get blobs (f.names.text name) ≡ None))
-      → IsFree f (after f w (moment 0 (ReadStep (RemoveTests names)) WasRemoved image))
+      → IsFree f (heard_after f w (moment 0 (ReadStep (RemoveTests names)) WasRemoved image))
   removes_tests names None i told left = absurd (none_some i told)
   removes_tests names (Some x) i told left =
       let were : Were f x.blobs w.blobs = λ name b h. (left.0.left (f.names.text name) b h.0, h.1) in
@@ -362,7 +363,7 @@ module _ (f : Formats) (size : ℕ) (w : World) (shelf : List Shelved) (law : La
         l.wrote_tests,
       )
 
-  verifies : (read : Read) (reply : Reply) (image : Option Image) → reply ≢ Refused DepotFault → (i : Image) → image ≡ Some i → VerifyAllows f w read reply image → IsFree f (after f w (moment 0 (ReadStep read) reply image))
+  verifies : (read : Read) (reply : Reply) (image : Option Image) → reply ≢ Refused DepotFault → (i : Image) → image ≡ Some i → VerifyAllows f w read reply image → IsFree f (heard_after f w (moment 0 (ReadStep read) reply image))
   verifies read reply image calm i told (DrawingTest im idle fits same) = draws_test f w shelf law l (blobs_in im w.blobs) (at_same f w im same)
   verifies read reply image calm i told (TestSpent im idle spent same) = goes im same (record w.caller { spent = true }) (tests_was f w l (blobs_in im w.blobs) (at_same f w im same))
   verifies read reply image calm i told (BeginningTest name im own same) = still im same
@@ -375,7 +376,7 @@ module _ (f : Formats) (size : ℕ) (w : World) (shelf : List Shelved) (law : La
   verifies read reply image calm i told (VerifyingAll im done same) = anew im same no_caller refl refl
   verifies read reply image calm i told (VerifyFailing why im begun same) = anew im same no_caller refl refl
 
-  free_by : (who : ℕ) (step : Step) (reply : Reply) (image : Option Image) → reply ≢ Refused DepotFault → (i : Image) → image ≡ Some i → Allows f size w who step reply image → IsFree f (after f w (moment who step reply image))
+  free_by : (who : ℕ) (step : Step) (reply : Reply) (image : Option Image) → reply ≢ Refused DepotFault → (i : Image) → image ≡ Some i → Allows f size w who step reply image → IsFree f (heard_after f w (moment who step reply image))
   free_by who step reply image calm i told (allowed.Accepting name indices time o im acc same) = asks f w shelf law l name indices time (blobs_in im w.blobs) (at_same f w im same)
   free_by who step reply image calm i told (allowed.GivingNothing im none same) = still im same
   free_by who step reply image calm i told (allowed.Giving k o unit im is lowest g same) = gives f w shelf law l o unit g (blobs_in im w.blobs) (at_same f w im same)
@@ -431,6 +432,6 @@ module _ (f : Formats) (size : ℕ) (w : World) (shelf : List Shelved) (law : La
 
 pub step_free : (f : Formats) (size : ℕ) (w : World) (shelf : List Shelved) → Law f w shelf → IsFree f w → (m : Moment) → m.entry.reply ≢ Refused DepotFault → (i : Image) → m.image ≡ Some i → Allowed f size w m → IsFree f (after f w m)
 step_free f size w shelf law l m calm i told a = elim a.answered [
-  | inl alive ↦ free_by f size w shelf law l m.entry.who m.entry.step m.entry.reply m.image calm i told alive.1
-  | inr dead ↦ subst (IsFree f) (sym (deposed_stays f w m dead)) l
+  | inl alive ↦ with_entries f (heard_after f w m) (after f w m).entries (free_by f size w shelf law l m.entry.who m.entry.step m.entry.reply m.image calm i told alive.1)
+  | inr dead ↦ subst (IsFree f) (sym (blocked_stays f w m dead)) (with_entries f w (with_entry w.entries m.entry) l)
 ]

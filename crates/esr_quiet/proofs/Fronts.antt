@@ -8,7 +8,7 @@ use Rattle.esr_model.specs.Values.{Bytes, FileEntry, Formats}
 use Rattle.esr_model.specs.Parts.{part_names, AreFull}
 use Rattle.esr_model.specs.Image as image
 use Rattle.esr_model.specs.Image.{AllPairs, IsOne, FileStands}
-use Rattle.esr_reading.specs.Parts.{sized, front_of, IsFront, AreFronts, AreExact}
+use Rattle.esr_desk.specs.Restore.Parts.{sized, front_of, IsFront, AreFronts, AreExact}
 
 same_concat : (xs : List Bytes) → image.concat xs ≡ concat xs
 same_concat [] = refl

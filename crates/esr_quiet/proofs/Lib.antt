@@ -2,11 +2,13 @@ pub mod Maps
 pub mod Prefixes
 pub mod Others
 pub mod Callers
+pub mod Askers
 pub mod Numbers
 pub mod Terms
 pub mod Quiet
 pub mod Sources
 pub mod Passing
+pub mod Unaborted
 pub mod OverKept
 pub mod Bases
 pub mod Failures

@@ -2,11 +2,11 @@
 use Rattle.std.proofs.Common.{◌≡◌, ℕ, Bool, true, false, true≢false, List, [], ◌∷◌, ◌++◌, append_assoc, refl, sym, ap, ◌∙◌, subst, inl, inr}
 use Rattle.esr_model.specs.Values.{Formats}
 use Rattle.esr_core.specs.World.{World}
-use Rattle.esr_core.specs.Entry.{DeposedAt, HasEnded, Refused, Moment}
+use Rattle.esr_core.specs.Entry.{Refusal, HasEnded, Refused, Moment}
 use Rattle.esr_core.specs.After.{after}
 use Rattle.esr_core.specs.Allowed.{Allowed}
 use Rattle.esr_core.specs.History.{world_from, IsLegal, TellsHandedOut, all_handed_out, AreTold, AreHonest}
-use Rattle.esr_core.proofs.Histories.{deposed_stays}
+use Rattle.esr_core.proofs.Blocked.{blocked_stays}
 use Rattle.esr_desk.specs.Start.{Start, formats_of, world_of}
 use Rattle.esr_quiet.specs.Smooth.{IsSmooth}
 use Rattle.esr_quiet.specs.Prefixes.{Prefixes}
@@ -80,11 +80,11 @@ still_deposed : (f : Formats) (size : ℕ) (log : List Moment) (w : World) → w
 still_deposed f size [] w deposed legal = deposed
 still_deposed f size (m ∷ log) w deposed legal = elim legal.0.answered [
   | inl alive ↦ absurd (true≢false (sym deposed ∙ alive.0))
-  | inr dead ↦ still_deposed f size log (after f w m) (ap (λ (x : World). x.deposed) (deposed_stays f w m dead) ∙ deposed) legal.1
+  | inr dead ↦ still_deposed f size log (after f w m) (ap (λ (x : World). x.deposed) (blocked_stays f w m dead) ∙ deposed) legal.1
 ]
 
-ended_refused : (place : ℕ) → HasEnded ≡ Refused (DeposedAt place) → ⊥
-ended_refused place e = cc
+ended_refused : (refusal : Refusal) → HasEnded ≡ Refused refusal → ⊥
+ended_refused refusal e = cc
 
 -- up to a unit that ended
 pub alive_before : (s : Start) (log : List Moment) → OverKept s log → (front back : List Moment) (m : Moment) → log ≡ front ++ m ∷ back → m.entry.reply ≡ HasEnded → IsAlive s front
@@ -93,7 +93,7 @@ alive_before s log h front back m is ended a b e = go (world_of s a).deposed ref
     last : (world_of s front).deposed ≡ true → ⊥
     last deposed = elim (step_at s log h front back m is).answered [
       | inl alive ↦ true≢false (sym deposed ∙ alive.0)
-      | inr dead ↦ ended_refused dead.place (sym ended ∙ dead.refused)
+      | inr dead ↦ ended_refused dead.refusal (sym ended ∙ dead.refused)
     ]
 
     legal : IsLegal (formats_of s) s.part_size (world_of s a) b

@@ -41,4 +41,5 @@ module _ (s : Start) (log : List Moment) (smooth : IsSmooth s log) where
         calm = λ m h. smooth.calm m (within m h);
         unspent = λ m h. smooth.unspent m (within m h);
         unelected = λ m h. smooth.unelected m (within m h);
+        apart = λ a b m command e. smooth.apart a (b ++ back) m command (is ∙ ap (λ (l : List Moment). l ++ back) e ∙ append_assoc a (m ∷ b) back);
       }

@@ -18,10 +18,14 @@ use Rattle.esr_core.specs.Turns.{Aborts, plain_ticket, fails, fails_by}
 use Rattle.esr_core.specs.Entry.{AskedIndex, Snapshot, Clone, CloneOf, DeleteSnapshots, Restore, Given, GivenShard, GivenClone, GivenFinalize, GivenDrop, GivenRestore, Read, ReadBlob, RestoredShard, CheckedAll, DrawTest, CommitTest, ReadFails, Step, AskStep, TakeStep, DrawStep, CommitStep, LatestStep, FetchStep, RaiseStep, SettleStep, DoneStep, FailedStep, FinishStep, DroppedStep, ElectStep, ReadStep, DepotFault, Reply, Gave, DrawnFrom, WasDone, WasThere, WasFetched, Refused, AcceptedRestore, Moment, GivenDelete, Prune, FetchShard, PlanShards, SettlePruned, RemoveDoomed, EndDelete, DeleteFails, PruneStep}
 use Rattle.esr_core.specs.After.{asked, asked_op, cloned_op, known_id, ref_by, next_by, refs_from, pending_shards, all_pending, taken_shard, taken_restore_shard, taken_restore, taken_by, read_told, shard_over, read_over, read_step, read_by, shard_of, with_given, committing, told_blob, fetching, settled_by, settled_of, done_by, done_of, is_stale, failed_by, failed_of, dropped_of, delete_settled_by, delete_settled, delete_failed_by, delete_failed, prune_step, done_step, answered, after}
 use Rattle.esr_core.specs.History.{world_from, IsLegal}
+use Rattle.esr_core.specs.Allowed.{Allowed}
 use Rattle.esr_core.proofs.AskedDeletes.{aborts}
+use Rattle.esr_core.proofs.Blocked.{blocked_stays}
+use Rattle.esr_core.proofs.Makers.{maker}
 use Rattle.esr_desk.specs.Start.{Start}
 use Rattle.esr_quiet.specs.Asked.{IsSteady, AreSteady}
 use Rattle.esr_quiet.specs.Smooth.{AreCalm, AreUnelected}
+use Rattle.esr_quiet.proofs.Askers.{AsksOrElects, made_zero}
 use Rattle.esr_quiet.proofs.FreeParts.{was_shards}
 use Rattle.esr_quiet.proofs.Maps.{some_same, some_none, get_was, get_left, nothing}
 
@@ -477,13 +481,22 @@ module _ (s : Start) where
   quiet_after : (f : Formats) (w : World) → IsQuiet s w → (m : Moment) → Suits m.entry.step → m.entry.reply ≢ Refused DepotFault → IsQuiet s (after f w m)
   quiet_after f w q m h calm = let x = quiet_answered f w q m.entry.who m.entry.step m.entry.reply m.image h calm in record { present = x.present; no_cleanup = x.no_cleanup; ops = x.ops; tickets = x.tickets }
 
+  -- what who 0 asks is steady, and it elects nobody
+  quiet_one : (f : Formats) (size : ℕ) (w : World) → IsQuiet s w → (m : Moment) → Allowed f size w m
+      → ((name : Bytes) (indices : List AskedIndex) (moment : ℕ) → m.entry.who ≡ 0 → m.entry.step ≡ AskStep (Snapshot name indices moment) → IsSteady s indices) → (m.entry.who ≡ 0 → m.entry.step ≢ ElectStep) → m.entry.reply ≢ Refused DepotFault → IsQuiet s (after f w m)
+  quiet_one f size w q m a steady unelected calm = elim (maker f size w m a) [
+    | inl made ↦ quiet_after f w q m
+        (record { steady = λ name indices moment e. steady name indices moment (made_zero w m.entry.who m.entry.step made (subst AsksOrElects (sym e) tt)) e; unelected = λ e. unelected (made_zero w m.entry.who m.entry.step made (subst AsksOrElects (sym e) tt)) e }) calm
+    | inr blocked ↦ subst (IsQuiet s) (sym (blocked_stays f w m blocked)) (record { present = q.present; no_cleanup = q.no_cleanup; ops = q.ops; tickets = q.tickets })
+  ]
+
   -- ---- histories
 
   pub quiet_history : (f : Formats) (size : ℕ) (log : List Moment) (w : World) → IsQuiet s w → IsLegal f size w log → AreSteady s log → AreCalm log → AreUnelected log → IsQuiet s (world_from f w log)
   quiet_history f size [] w q legal steady calm unelected = q
   quiet_history f size (m ∷ log) w q legal steady calm unelected =
       quiet_history f size log (after f w m)
-      (quiet_after f w q m (record { steady = λ name indices moment e. steady m name indices moment (inl refl) e; unelected = unelected m (inl refl) }) (calm m (inl refl))) legal.1
+      (quiet_one f size w q m legal.0 (λ name indices moment who e. steady m name indices moment (inl refl) who e) (unelected m (inl refl)) (calm m (inl refl))) legal.1
       (λ n name indices moment h. steady n name indices moment (inr h)) (λ n h. calm n (inr h)) (λ n h. unelected n (inr h))
 
   none_open : AreSteadyOps s fin.empty

@@ -11,7 +11,7 @@ use Rattle.esr_model.specs.Parts.{part_names}
 use Rattle.esr_model.specs.Image.{Blobs, Image, Reads, FileStands}
 use Rattle.esr_core.specs.World.{World, Reader, HeldIn, Opened, OpenedEmpty, OpenedRecord, opened, no_record, no_root}
 use Rattle.esr_core.specs.Restores.{IsReading, WasRead}
-use Rattle.esr_core.specs.Entry.{Reason, Why, OfDepot, OfSource, OfChange, OfAbsence, OfUnreadable, OfAhead, OfTaken, OfIdsSpent, OfGenerationsSpent, OfTarget, OfPrint, OfDisagreement, Read, ReadBlob, ReadFails, Step, ReadStep, Reply, WasAbsent, HasEnded, Moment}
+use Rattle.esr_core.specs.Entry.{Reason, Why, OfDepot, OfSource, OfChange, OfAbsence, OfUnreadable, OfAhead, OfTaken, OfAbort, OfIdsSpent, OfGenerationsSpent, OfTarget, OfPrint, OfDisagreement, Read, ReadBlob, ReadFails, Step, ReadStep, Reply, WasAbsent, HasEnded, Moment, Refusal, Refused}
 use Rattle.esr_core.specs.Allowed as allowed
 use Rattle.esr_core.specs.Allowed.{Told, MayRead, Fetcher, ByReader, ByCheck, ByVerify, ReadAllows, ReadMissing, ReaderFailing, CheckFailing, VerifyAllows, VerifyFailing, Allows, Allowed}
 use Rattle.esr_core.specs.History.{world_from, IsLegal, TellsHandedOut, AreTold, AreHonest}
@@ -23,22 +23,25 @@ use Rattle.esr_core.proofs.TurningIds.{pairs_has}
 use Rattle.esr_core.proofs.Frames.{AllPairs-map}
 use Rattle.esr_formats.specs.Reasons.{unreadable, unreadable_reads_not}
 use Rattle.esr_desk.specs.declared.fault.FailedObject.TheVariants as objects
+use Rattle.esr_desk.specs.declared.hand.Hand.TheVariants as hands
 use Rattle.esr_desk.specs.declared.fault.Fault.{Fault}
 use Rattle.esr_desk.specs.declared.fault.By.{By}
 use Rattle.esr_desk.specs.declared.fault.By.TheVariants as by
 use Rattle.esr_desk.specs.Start.{Start, formats_of, world_of}
-use Rattle.esr_desk.specs.Readers.{or_no_reader, reader_of}
-use Rattle.esr_reading.specs.Parts.{sized_parts, IsFront, AreFronts, AreExact}
-use Rattle.esr_reading.specs.Shown.{Counts, HadFault, HadFetch, DepotShown, TargetShown, ReadShown, WasUnreadable, HasReadFile, IsMisprinted, IsMiscut, IsShown}
-use Rattle.esr_quiet.specs.Caused.{AreReadCaused}
+use Rattle.esr_desk.specs.Own.{or_no_reader, reader_of}
+use Rattle.esr_desk.specs.Restore.Parts.{sized_parts, IsFront, AreFronts, AreExact}
+use Rattle.esr_desk.specs.Evidence.{Evidence, HadFetch, HadFetchFault, WasUnreadable}
+use Rattle.esr_desk.specs.Restore.Shown.{TargetShown, HasReadFile, IsMisprinted, IsMiscut, IsSnap, IsRestoreShown}
+use Rattle.esr_quiet.specs.Caused.{AreCaused}
 use Rattle.esr_quiet.specs.Smooth.{IsSmooth, NoneUnrestored}
 use Rattle.esr_quiet.specs.OverKept.{OverKept, IsLawful}
 use Rattle.esr_quiet.specs.Undamaged.{IsDamage, NoRestoreFindsDamage}
 use Rattle.esr_quiet.proofs.Maps.{some_none}
-use Rattle.esr_quiet.proofs.Prefixes.{told_at, place_of, has_front, has_at}
+use Rattle.esr_quiet.proofs.Prefixes.{told_at, place_of, has_at}
 use Rattle.esr_quiet.proofs.Passing.{quiet_at, legal_at}
 use Rattle.esr_quiet.proofs.OverKept.{IsAlive, kept_front, lawful_front, step_at, smooth_alive, alive_before}
 use Rattle.esr_quiet.proofs.Fronts.{file_whole}
+use Rattle.esr_quiet.proofs.Failures.{read_shown, no_fetch_fault}
 
 -- ---- what a step tells
 
@@ -63,9 +66,17 @@ tells f size w who step reply image (allowed.Reading k read rep im a same) = rea
 tells f size w who step reply image (allowed.Verifying read rep im a) = verify_tells f w read rep im a
 tells f size w who step reply image a = tt
 
--- the answer is that of a world in which no record swap has failed
+-- a refusal tells nothing
+refused_tells : (f : Formats) (w : World) (who : ℕ) (step : Step) (refusal : Refusal) (image : Option Image) → Tells f w who step (Refused refusal) image
+refused_tells f w who (ReadStep (ReadBlob name)) refusal image = tt
+refused_tells f w who (ReadStep (ReadFails why)) refusal image = tt
+refused_tells f w who step refusal image = tt
+
 told_by : (f : Formats) (size : ℕ) (w : World) (m : Moment) → w.deposed ≡ false → Allowed f size w m → Tells f w m.entry.who m.entry.step m.entry.reply m.image
-told_by f size w m present a = elim a.answered [ inl alive ↦ tells f size w m.entry.who m.entry.step m.entry.reply m.image alive.1 | inr dead ↦ absurd (true≢false (sym dead.deposed ∙ present)) ]
+told_by f size w m present a = elim a.answered [
+  | inl alive ↦ tells f size w m.entry.who m.entry.step m.entry.reply m.image alive.1
+  | inr dead ↦ subst (λ (r : Reply). Tells f w m.entry.who m.entry.step r m.image) (sym dead.refused) (refused_tells f w m.entry.who m.entry.step dead.refusal m.image)
+]
 
 -- a report is that of a ticket that is out
 pub reading_at : (f : Formats) (size : ℕ) (w : World) (m : Moment) (why : Why) → w.deposed ≡ false → Allowed f size w m → m.entry.step ≡ ReadStep (ReadFails why) → m.entry.reply ≡ HasEnded → 1 ≤ m.entry.who → (q : Reader) × IsReading w m.entry.who q
@@ -169,11 +180,6 @@ module _ (laws : ReadCoreLaws) where
 
 -- ---- each cause
 
-read_shown : {S F H T : Type 0} (b : By S F H T) (shown : Type 0) → ReadShown b shown → shown
-read_shown (by.Object object) shown h = absurd h
-read_shown by.Entry shown h = absurd h
-read_shown by.Nothing shown h = h
-
 -- what a ticket may read stands in each world up to the last, in none of which a record swap has failed
 module _ (s : Start) (log : List Moment) (lawful : IsLawful s log) (alive : IsAlive s log) (all_serve : (front back : List Moment) → log ≡ front ++ back → IsServing (formats_of s) (world_of s front)) where
   -- each blob is there
@@ -183,17 +189,19 @@ module _ (s : Start) (log : List Moment) (lawful : IsLawful s log) (alive : IsAl
       let at = misses_at (formats_of s) s.part_size (world_of s front) m name (alive front (m ∷ rest) is) (step_at s log lawful.over front rest m is) step reply told.0 told.1 some in
       is_there (formats_of s) (world_of s front) (all_serve front (m ∷ rest) is) m.entry.who at.q at.reading name told.0 at.may at.none
 
-  missing : (front back : List Moment) → log ≡ front ++ back → (who : ℕ) → 1 ≤ who → (name : BlobName) → HadFetch front who name WasAbsent → ⊥
+  missing : (front back : List Moment) → log ≡ front ++ back → (who : ℕ) → 1 ≤ who → (name : BlobName) → HadFetch hands.Restore front who name WasAbsent → ⊥
   missing front back is who some name h =
-      found h.front (h.back ++ back) h.moment (is ∙ ap (λ (l : List Moment). l ++ back) h.is ∙ append_assoc h.front (h.moment ∷ h.back) back) name h.step h.reply (subst (λ (k : ℕ). 1 ≤ k) (sym h.of) some)
+      let m : Moment = record { entry = record { who = who; step = ReadStep (ReadBlob name); reply = WasAbsent }; image = h.image } in
+      let p = place_of front m h.there in
+      found p.front (p.back ++ back) m (is ∙ ap (λ (l : List Moment). l ++ back) p.is ∙ append_assoc p.front (m ∷ p.back) back) name refl refl some
 
   -- and reads
-  unread : (front back : List Moment) → log ≡ front ++ back → (who : ℕ) → IsReading (world_of s front) who (reader_of s front who) → (name : BlobName) (reason : Reason) → WasUnreadable s front who name reason → ⊥
-  unread front back is who reading name reason (had, (name_is, bytes, read, refuses)) =
+  unread : (front back : List Moment) → log ≡ front ++ back → (who : ℕ) → IsReading (world_of s front) who (reader_of s front who) → (name : BlobName) (reason : Reason) → IsSnap (reader_of s front who) name → WasUnreadable hands.Restore s front who name reason → ⊥
+  unread front back is who reading name reason name_is (bytes, read, refuses) =
       let q : Reader = reader_of s front who in
       let snap : BlobName = ShardSnap q.index q.number q.uuid in
       does_read (formats_of s) (world_of s front) (all_serve front back is) who q reading bytes
-      (subst (λ (n : BlobName). WasRead q.read n bytes) name_is (read lawful.over.tells))
+      (subst (λ (n : BlobName). WasRead q.read n bytes) name_is (read.read lawful.over.tells))
       (unreadable_reads_not s.known s.told snap bytes reason (subst (λ (n : BlobName). unreadable n bytes ≡ Some reason) name_is refuses))
 
   -- of each file all was read
@@ -214,19 +222,20 @@ module _ (s : Start) (log : List Moment) (lawful : IsLawful s log) (alive : IsAl
   uncut front back is who reading name other h = let x = file_of front back is who reading name h.fronts h.file in h.cut x.2
 
   -- no damage is shown
-  undamaged : {S F H T : Type 0} (c : Counts F T) (front back : List Moment) → log ≡ front ++ back → (who : ℕ) → 1 ≤ who → IsReading (world_of s front) who (reader_of s front who) → (why : Why) (b : By S F H T) → IsDamage why → IsShown c s front who why b → ⊥
-  undamaged c front back is who some reading (OfAbsence name) b damage h = missing front back is who some name (read_shown b _ h)
-  undamaged c front back is who some reading (OfUnreadable name reason) b damage h = unread front back is who reading name reason (read_shown b _ h)
-  undamaged c front back is who some reading (OfPrint name stated_len stated_digest found_len found_digest) b damage h = printed front back is who reading name stated_len stated_digest found_len found_digest (read_shown b _ h)
-  undamaged c front back is who some reading (OfDisagreement name other) b damage h = uncut front back is who reading name other (read_shown b _ h)
-  undamaged c front back is who some reading OfDepot b damage h = damage
-  undamaged c front back is who some reading OfTarget b damage h = damage
-  undamaged c front back is who some reading (OfAhead name) b damage h = damage
-  undamaged c front back is who some reading OfSource b damage h = damage
-  undamaged c front back is who some reading (OfChange first_len first_digest second_len second_digest) b damage h = damage
-  undamaged c front back is who some reading (OfTaken name) b damage h = damage
-  undamaged c front back is who some reading (OfIdsSpent next) b damage h = damage
-  undamaged c front back is who some reading (OfGenerationsSpent pending) b damage h = damage
+  undamaged : {S F H T : Type 0} (e : Evidence S F H T) (front back : List Moment) → log ≡ front ++ back → (who : ℕ) → 1 ≤ who → IsReading (world_of s front) who (reader_of s front who) → (why : Why) (b : By S F H T) → IsDamage why → IsRestoreShown e s front who why b → ⊥
+  undamaged e front back is who some reading (OfAbsence name) b damage h = missing front back is who some name (read_shown b _ h)
+  undamaged e front back is who some reading (OfUnreadable name reason) b damage h = let x = read_shown b _ h in unread front back is who reading name reason x.0 x.1
+  undamaged e front back is who some reading (OfPrint name stated_len stated_digest found_len found_digest) b damage h = printed front back is who reading name stated_len stated_digest found_len found_digest (read_shown b _ h)
+  undamaged e front back is who some reading (OfDisagreement name other) b damage h = uncut front back is who reading name other (read_shown b _ h)
+  undamaged e front back is who some reading OfDepot b damage h = damage
+  undamaged e front back is who some reading OfTarget b damage h = damage
+  undamaged e front back is who some reading (OfAhead name id) b damage h = damage
+  undamaged e front back is who some reading OfSource b damage h = damage
+  undamaged e front back is who some reading (OfChange first_len first_digest second_len second_digest) b damage h = damage
+  undamaged e front back is who some reading (OfTaken name) b damage h = damage
+  undamaged e front back is who some reading (OfAbort op) b damage h = damage
+  undamaged e front back is who some reading (OfIdsSpent next) b damage h = damage
+  undamaged e front back is who some reading (OfGenerationsSpent pending) b damage h = damage
 
 -- a report, and what its ticket is
 record ReportOf (s : Start) (log : List Moment) (m : Moment) (why : Why) : Type 0 where
@@ -243,58 +252,46 @@ report_of s log over m why has some step reply =
     record { front = p.front; back = p.back; is = p.is; reading = subst (IsReading (world_of s p.front) m.entry.who) (sym (ap or_no_reader at.1.there)) at.1 }
 
 -- so none is reported
-pub none_damaged : {S F H T : Type 0} (laws : ReadCoreLaws) (s : Start) (log : List Moment) → IsLawful s log → (c : Counts F T) (faults : List (Fault S F H T)) → AreReadCaused c s log faults → NoRestoreFindsDamage log
-none_damaged laws s log lawful c faults shown m why has some step reply damage =
+pub none_damaged : {S F H T : Type 0} (laws : ReadCoreLaws) (s : Start) (log : List Moment) → IsLawful s log → (e : Evidence S F H T) (faults : List (Fault S F H T)) → AreCaused hands.Restore e s log faults → NoRestoreFindsDamage log
+none_damaged laws s log lawful e faults shown m why has some step reply damage =
     let r = report_of s log lawful.over m why has some step reply in
     let up = lawful_front s log lawful r.front (m ∷ r.back) r.is in
-    let x = shown (length r.front) m.entry.who why (record { front = r.front; moment = m; back = r.back; is = r.is; place_is = refl; ticket = some; of = refl; step = step; reply = reply }) in
-    undamaged s r.front up (alive_before s log lawful.over r.front r.back m r.is reply) (serves laws s r.front up) c r.front [] (sym (append-nil r.front)) m.entry.who some r.reading why x.0 damage x.1
+    let x = shown (length r.front) m.entry.who why (record { front = r.front; moment = m; back = r.back; is = r.is; place_is = refl; teller = some; of = refl; step = step; reply = reply }) in
+    undamaged s r.front up (alive_before s log lawful.over r.front r.back m r.is reply) (serves laws s r.front up) e r.front [] (sym (append-nil r.front)) m.entry.who some r.reading why x.by damage x.shown
 
 -- ---- where no call fails
 
 module _ (s : Start) (log : List Moment) (smooth : IsSmooth s log) (lawful : IsLawful s log) (all_serve : (front back : List Moment) → log ≡ front ++ back → IsServing (formats_of s) (world_of s front)) (sure : s.sure_targets ≡ true) where
-  -- no object of the container fails
-  no_fault : (front back : List Moment) (who : ℕ) → log ≡ front ++ back → HadFault front who → ⊥
-  no_fault front back who is h =
-      smooth.calm h.moment (subst (λ (l : List Moment). Has l h.moment) (sym is) (has_front front back h.moment (subst (λ (l : List Moment). Has l h.moment) (sym h.is) (has_at h.front h.back h.moment)))) h.reply
-
-  depot : {S F H T : Type 0} (c : Counts F T) (front back : List Moment) (who : ℕ) → log ≡ front ++ back → (b : By S F H T) → DepotShown c s front who b → ⊥
-  depot c front back who is (by.Object (objects.Stage stage)) h = h
-  depot c front back who is (by.Object (objects.Fetch fetch)) h = true≢false (sym smooth.quiet ∙ h.1)
-  depot c front back who is (by.Object (objects.Shard shard)) h = h
-  depot c front back who is (by.Object (objects.Target target)) h = h
-  depot c front back who is by.Entry h = no_fault front back who is h.0
-  depot c front back who is by.Nothing h = h
-
-  -- nor a target
-  target_of : {S F H T : Type 0} (c : Counts F T) (q : Reader) (b : By S F H T) → TargetShown c s q b → ⊥
-  target_of c q (by.Object (objects.Stage stage)) h = h
-  target_of c q (by.Object (objects.Fetch fetch)) h = h
-  target_of c q (by.Object (objects.Shard shard)) h = h
-  target_of c q (by.Object (objects.Target target)) h = true≢false (sym sure ∙ h.1)
-  target_of c q by.Entry h = h
-  target_of c q by.Nothing h = h
+  -- no target fails
+  target_of : {S F H T : Type 0} (e : Evidence S F H T) (q : Reader) (b : By S F H T) → TargetShown e s q b → ⊥
+  target_of e q (by.Object (objects.Stage stage)) h = h
+  target_of e q (by.Object (objects.Fetch fetch)) h = h
+  target_of e q (by.Object (objects.Shard shard)) h = h
+  target_of e q (by.Object (objects.Target target)) h = true≢false (sym sure ∙ h.unsure)
+  target_of e q by.Entry h = h
+  target_of e q by.Nothing h = h
 
   -- no cause is shown
-  shows : {S F H T : Type 0} (c : Counts F T) (front back : List Moment) → log ≡ front ++ back → (who : ℕ) → 1 ≤ who → IsReading (world_of s front) who (reader_of s front who) → (why : Why) (b : By S F H T) → IsShown c s front who why b → ⊥
-  shows c front back is who some reading OfDepot b h = depot c front back who is b h
-  shows c front back is who some reading OfTarget b h = target_of c (reader_of s front who) b h
-  shows c front back is who some reading (OfAbsence name) b h = undamaged s log lawful (smooth_alive s log smooth) all_serve c front back is who some reading (OfAbsence name) b tt h
-  shows c front back is who some reading (OfUnreadable name reason) b h = undamaged s log lawful (smooth_alive s log smooth) all_serve c front back is who some reading (OfUnreadable name reason) b tt h
-  shows c front back is who some reading (OfAhead name) b h = h
-  shows c front back is who some reading (OfPrint name stated_len stated_digest found_len found_digest) b h = undamaged s log lawful (smooth_alive s log smooth) all_serve c front back is who some reading (OfPrint name stated_len stated_digest found_len found_digest) b tt h
-  shows c front back is who some reading (OfDisagreement name other) b h = undamaged s log lawful (smooth_alive s log smooth) all_serve c front back is who some reading (OfDisagreement name other) b tt h
-  shows c front back is who some reading OfSource b h = h
-  shows c front back is who some reading (OfChange first_len first_digest second_len second_digest) b h = h
-  shows c front back is who some reading (OfTaken name) b h = h
-  shows c front back is who some reading (OfIdsSpent next) b h = h
-  shows c front back is who some reading (OfGenerationsSpent pending) b h = h
+  shows : {S F H T : Type 0} (e : Evidence S F H T) (front back : List Moment) → log ≡ front ++ back → (who : ℕ) → 1 ≤ who → IsReading (world_of s front) who (reader_of s front who) → (why : Why) (b : By S F H T) → IsRestoreShown e s front who why b → ⊥
+  shows e front back is who some reading OfDepot b h = no_fetch_fault e s smooth.quiet (HadFetchFault hands.Restore front who) b h
+  shows e front back is who some reading OfTarget b h = target_of e (reader_of s front who) b h
+  shows e front back is who some reading (OfAbsence name) b h = undamaged s log lawful (smooth_alive s log smooth) all_serve e front back is who some reading (OfAbsence name) b tt h
+  shows e front back is who some reading (OfUnreadable name reason) b h = undamaged s log lawful (smooth_alive s log smooth) all_serve e front back is who some reading (OfUnreadable name reason) b tt h
+  shows e front back is who some reading (OfAhead name id) b h = h
+  shows e front back is who some reading (OfPrint name stated_len stated_digest found_len found_digest) b h = undamaged s log lawful (smooth_alive s log smooth) all_serve e front back is who some reading (OfPrint name stated_len stated_digest found_len found_digest) b tt h
+  shows e front back is who some reading (OfDisagreement name other) b h = undamaged s log lawful (smooth_alive s log smooth) all_serve e front back is who some reading (OfDisagreement name other) b tt h
+  shows e front back is who some reading OfSource b h = h
+  shows e front back is who some reading (OfChange first_len first_digest second_len second_digest) b h = h
+  shows e front back is who some reading (OfTaken name) b h = h
+  shows e front back is who some reading (OfAbort op) b h = h
+  shows e front back is who some reading (OfIdsSpent next) b h = h
+  shows e front back is who some reading (OfGenerationsSpent pending) b h = h
 
-  pub none_unrestored : {S F H T : Type 0} (c : Counts F T) (faults : List (Fault S F H T)) → AreReadCaused c s log faults → NoneUnrestored log
-  none_unrestored c faults shown m why has some step reply =
+  pub none_unrestored : {S F H T : Type 0} (e : Evidence S F H T) (faults : List (Fault S F H T)) → AreCaused hands.Restore e s log faults → NoneUnrestored log
+  none_unrestored e faults shown m why has some step reply =
       let p = place_of log m has in
       let w : World = world_of s p.front in
       let at = reading_at (formats_of s) s.part_size w m why (quiet_at s log smooth p.front (m ∷ p.back) p.is).present (legal_at s log smooth p.front p.back m p.is) step reply some in
       let same : at.0 ≡ reader_of s p.front m.entry.who = sym (ap or_no_reader at.1.there) in
-      let x = shown (length p.front) m.entry.who why (record { front = p.front; moment = m; back = p.back; is = p.is; place_is = refl; ticket = some; of = refl; step = step; reply = reply }) in
-      shows c p.front (m ∷ p.back) p.is m.entry.who some (subst (IsReading w m.entry.who) same at.1) why x.0 x.1
+      let x = shown (length p.front) m.entry.who why (record { front = p.front; moment = m; back = p.back; is = p.is; place_is = refl; teller = some; of = refl; step = step; reply = reply }) in
+      shows e p.front (m ∷ p.back) p.is m.entry.who some (subst (IsReading w m.entry.who) same at.1) why x.by x.shown

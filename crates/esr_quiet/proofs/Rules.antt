@@ -1,14 +1,14 @@
 -- Only a rule of accepting refuses a step where each world of the history is free.
-use Rattle.std.proofs.Common.{◌≡◌, ◌≢◌, ℕ, true≢false, List, ◌∷◌, Option, Some, None, refl, sym, ap, ◌∙◌, subst, inl, inr}
+use Rattle.std.proofs.Common.{◌≡◌, ◌≢◌, ℕ, false, true≢false, List, ◌∷◌, Option, Some, None, refl, sym, ap, ◌∙◌, subst, inl, inr}
 use Rattle.std.specs.FinMap as fin
 use Rattle.esr_model.specs.Names.{BlobName}
 use Rattle.esr_model.specs.Values.{Bytes, Has, Formats}
 use Rattle.esr_model.specs.Image.{Image, Present}
 use Rattle.esr_core.specs.World.{World, Ticket}
 use Rattle.esr_core.specs.Steps.{IsOut}
-use Rattle.esr_core.specs.Entry.{Asked, Snapshot, Clone, CloneOf, DeleteSnapshots, Restore, Read, CommitTest, Prune, Step, AskStep, CommitStep, ReadStep, PruneStep, NameTaken, Reply, Refused, DepotFault, Moment}
+use Rattle.esr_core.specs.Entry.{Asked, Snapshot, Clone, CloneOf, DeleteSnapshots, Restore, Read, CommitTest, Prune, Step, AskStep, CommitStep, ReadStep, PruneStep, NameTaken, AbortedBy, Refusal, Reply, Refused, DepotFault, Moment}
 use Rattle.esr_core.specs.Allowed as allowed
-use Rattle.esr_core.specs.Allowed.{Told, Commits, IsMetadata, CloneAllows, OpeningClone, CloneUsed, SourceNotListed, SourceDeleted, IndexMissing, FullOfClones, CloneSpent, CloneFault, DeleteAllows, GoingInto, NotNamed, CloneStands, RestoreStands, FullOfOps, DeleteFault, RestoreAllows, OpeningRestore, NotListed, NamedByDelete, FullOfRestores, ReadAllows, ReadFound, ReadMissing, ReadFault, RestoringShard, ReaderFailing, CheckingAll, CheckFailing, VerifyAllows, DrawingTest, TestSpent, BeginningTest, BeginTestFails, CommittingTest, TestTaken, CommitTestFails, RemovingTests, RemoveTestsFails, VerifyingAll, VerifyFailing, PruneAllows, FetchingShard, ShardMissing, FetchShardFails, Planning, PlanSpent, SettlingDelete, SettleDeleteStale, SettleDeleteFails, RemovingDoomed, RemoveDoomedFails, EndingDelete, FailingDelete, Allows}
+use Rattle.esr_core.specs.Allowed.{Blocks, ByFailedSwap, ByDelete, Told, IsMetadata, CloneAllows, OpeningClone, CloneUsed, SourceNotListed, SourceDeleted, IndexMissing, FullOfClones, CloneSpent, CloneFault, DeleteAllows, GoingInto, NotNamed, CloneStands, RestoreStands, FullOfOps, DeleteFault, RestoreAllows, OpeningRestore, NotListed, NamedByDelete, FullOfRestores, ReadAllows, ReadFound, ReadMissing, ReadFault, RestoringShard, ReaderFailing, CheckingAll, CheckFailing, VerifyAllows, DrawingTest, TestSpent, BeginningTest, BeginTestFails, CommittingTest, TestTaken, CommitTestFails, RemovingTests, RemoveTestsFails, VerifyingAll, VerifyFailing, PruneAllows, FetchingShard, ShardMissing, FetchShardFails, Planning, PlanSpent, SettlingDelete, SettleDeleteStale, SettleDeleteFails, RemovingDoomed, RemoveDoomedFails, EndingDelete, FailingDelete, Allows}
 use Rattle.esr_desk.specs.Start.{Start, formats_of, world_of, or_no_ticket}
 use Rattle.esr_quiet.specs.Free.{Free}
 use Rattle.esr_quiet.specs.Smooth.{IsSpent, IsSmooth}
@@ -18,6 +18,7 @@ use Rattle.esr_quiet.proofs.Prefixes.{told_at, place_of}
 use Rattle.esr_quiet.proofs.Quiet.{IsQuiet}
 use Rattle.esr_quiet.proofs.FreeCommits.{taken}
 use Rattle.esr_quiet.proofs.Passing.{quiet_at, legal_at}
+use Rattle.esr_quiet.proofs.Unaborted.{none_blocked}
 
 -- ---- each refusal
 
@@ -119,7 +120,7 @@ module _ (s : Start) (f : Formats) (size : ℕ) (w : World) (q : IsQuiet s w) (f
   ruled who step reply image i told calm unspent new new_test (allowed.DropStale k im may apart same) = absurd (present k may.t may.out apart)
   ruled who step reply image i told calm unspent new new_test (allowed.RaiseSpent k im may now spent same) = absurd (unspent tt)
   ruled who step reply image i told calm unspent new new_test (allowed.ElectSpent im spent same) = absurd (unspent tt)
-  ruled who step reply image i told calm unspent new new_test (allowed.Taken k name im c aside there) = absurd (taken f w free k name c aside (found name im i told there) (new name c.t refl c.out.there aside))
+  ruled who step reply image i told calm unspent new new_test (allowed.Taken k name im c aside there) = absurd (taken f w free size k name c aside (found name im i told there) (new name c.t refl c.out.there aside))
   ruled who step reply image i told calm unspent new new_test (allowed.BeginFails k name im c same) = absurd (calm refl)
   ruled who step reply image i told calm unspent new new_test (allowed.BeginLatestFails k im c same) = absurd (calm refl)
   ruled who step reply image i told calm unspent new new_test (allowed.CommitFails k name im c leaves) = absurd (calm refl)
@@ -149,7 +150,7 @@ by_rule s log smooth prefixes m refusal has reply =
       | inl alive ↦
           subst (IsRuled m.entry.step) reply
           (ruled s f s.part_size w q (prefixes.free p.front (m ∷ p.back) p.is) m.entry.who m.entry.step m.entry.reply m.image told.0 told.1 (smooth.calm m has) (smooth.unspent m has) new new_test alive.1)
-      | inr dead ↦ absurd (true≢false (sym dead.deposed ∙ q.present))
+      | inr dead ↦ absurd (none_blocked s log smooth prefixes p.front (m ∷ p.back) p.is m.entry.who m.entry.step dead.refusal dead.blocks)
     ]
 
 -- so no name is taken
@@ -159,3 +160,16 @@ no_rule (Restore of place) name h = h
 no_rule (Clone source of names time taken) name h = h
 no_rule (DeleteSnapshots names) name h = h
 no_rule command name h = h
+
+-- and no delete aborts a step
+pub no_abort_rule : (command : Asked) (op : ℕ) → IsByRule command (AbortedBy op) → ⊥
+no_abort_rule (Snapshot of indices time) op h = h
+no_abort_rule (Restore of place) op h = h
+no_abort_rule (Clone source of names time taken) op h = h
+no_abort_rule (DeleteSnapshots names) op h = h
+no_abort_rule command op h = h
+
+-- what a rule refuses nothing blocks
+pub rule_unblocked : (w : World) (who : ℕ) (step : Step) (refusal : Refusal) (command : Asked) → w.deposed ≡ false → IsByRule command refusal → Blocks w who step refusal → ⊥
+rule_unblocked w who step _ command alive rule (ByFailedSwap place deposed) = true≢false (sym deposed ∙ alive)
+rule_unblocked w who step _ command alive rule (ByDelete op undeposed aborted) = no_abort_rule command op rule

@@ -19,11 +19,11 @@ use Rattle.esr_core.specs.Ids.{Law}
 use Rattle.esr_core.specs.Entry.{CloneOf, Clone, DeleteSnapshots, Restore, Given, GivenShard, GivenFinalize, GivenDrop, GivenRestore, GivenClone, GivenDelete, GivenCleanup, Why, Read, ReadBlob, RestoredShard, ReadFails, Prune, Step, AskStep, CommitStep, LatestStep, ReadStep, PruneStep, DepotFault, Reply, WasDone, WasFetched, WasAbsent, WasReplaced, HasEnded, Refused, Moment}
 use Rattle.esr_core.specs.After.{asked_op, cloned_op, taken_by, taken_shard, taken_restore, taken_restore_shard, with_given, change, committing, fetching, told_blob, settled_of, delete_settled, delete_failed_by, delete_failed, done_of, done_by, is_stale, failed_by, failed_of, dropped_of, read_told, shard_over, read_over, is_latest, test_left, blobs_in, after}
 use Rattle.esr_core.specs.Allowed as allowed
-use Rattle.esr_core.specs.Allowed.{latest_text, Told, SameBlobs, Adds, GivesShard, Gives, Commits, Raises, Settles, Fails, Dones, Drops, IsOwnTest, MayPlan, SettlesDeletion, RestoreAllows, OpeningRestore, NotListed, NamedByDelete, FullOfRestores, CloneAllows, OpeningClone, CloneUsed, SourceNotListed, SourceDeleted, IndexMissing, FullOfClones, CloneSpent, CloneFault, DeleteAllows, GoingInto, NotNamed, CloneStands, RestoreStands, FullOfOps, DeleteFault, ReadAllows, ReadFound, ReadMissing, ReadFault, RestoringShard, ReaderFailing, CheckingAll, CheckFailing, VerifyAllows, DrawingTest, TestSpent, BeginningTest, BeginTestFails, CommittingTest, TestTaken, CommitTestFails, RemovingTests, RemoveTestsFails, VerifyingAll, VerifyFailing, PruneAllows, FetchingShard, ShardMissing, FetchShardFails, Planning, PlanSpent, SettlingDelete, SettleDeleteStale, SettleDeleteFails, RemovingDoomed, RemoveDoomedFails, EndingDelete, FailingDelete, Allows, Allowed}
+use Rattle.esr_core.specs.Allowed.{latest_text, Told, SameBlobs, Adds, Gives, Commits, Raises, Settles, IsOwnTest, MayPlan, SettlesDeletion, RestoreAllows, OpeningRestore, NotListed, NamedByDelete, FullOfRestores, CloneAllows, OpeningClone, CloneUsed, SourceNotListed, SourceDeleted, IndexMissing, FullOfClones, CloneSpent, CloneFault, DeleteAllows, GoingInto, NotNamed, CloneStands, RestoreStands, FullOfOps, DeleteFault, ReadAllows, ReadFound, ReadMissing, ReadFault, RestoringShard, ReaderFailing, CheckingAll, CheckFailing, VerifyAllows, DrawingTest, TestSpent, BeginningTest, BeginTestFails, CommittingTest, TestTaken, CommitTestFails, RemovingTests, RemoveTestsFails, VerifyingAll, VerifyFailing, PruneAllows, FetchingShard, ShardMissing, FetchShardFails, Planning, PlanSpent, SettlingDelete, SettleDeleteStale, SettleDeleteFails, RemovingDoomed, RemoveDoomedFails, EndingDelete, FailingDelete, Allows, Allowed}
 use Rattle.esr_core.proofs.Adds.{at_was}
 use Rattle.esr_core.proofs.AskedDeletes.{aborts}
 use Rattle.esr_core.proofs.Evolving.{out_pending, pending_done, failed_is}
-use Rattle.esr_core.proofs.Histories.{deposed_stays}
+use Rattle.esr_core.proofs.Blocked.{blocked_stays}
 use Rattle.esr_core.proofs.LatestPut.{at_back}
 use Rattle.esr_core.proofs.Marked.{marked_is}
 use Rattle.esr_core.proofs.Moments.{moment, settled_plain, delete_settled_plain}
@@ -374,7 +374,7 @@ module _ (f : Formats) (size : ℕ) (tried : ℕ → BlobName → Type 0) (w : W
   committed t name None = (goes_same f w t (committing name None t) refl (λ e. e) refl refl refl refl, refl, refl, refl)
   committed t name (Some bytes) = (goes_same f w t (committing name (Some bytes) t) refl (λ e. e) refl refl refl refl, refl, refl, refl)
 
-  commits : (k : ℕ) (name : BlobName) (image : Option Image) (c : Commits f w k name) → Told image (Adds f w name c.bytes) → (i : Image) → image ≡ Some i → tried k name → Next k (CommitStep name) WasDone image
+  commits : (k : ℕ) (name : BlobName) (image : Option Image) (c : Commits f size w k name) → Told image (Adds f w name c.bytes) → (i : Image) → image ≡ Some i → tried k name → Next k (CommitStep name) WasDone image
   commits k name None c adds i told mine = absurd (none_some i told)
   commits k name (Some x) c adds i told mine =
       let o : Option Bytes = fin.get x.blobs (f.names.text name) in
@@ -384,7 +384,7 @@ module _ (f : Formats) (size : ℕ) (tried : ℕ → BlobName → Type 0) (w : W
       (added_spare f tried w shelf law l k c.t c.out name c.bytes c.may c.named adds.0 mine (fin.insert w.tickets k (committing name (fin.get x.blobs (f.names.text name)) c.t))
       (beside_put f w k c.t (committing name (fin.get x.blobs (f.names.text name)) c.t) n.0) (own_put w.tickets l.own k c.t (committing name (fin.get x.blobs (f.names.text name)) c.t) c.out.there n.1 n.2 n.3))))
 
-  leaves : (k : ℕ) (name : BlobName) (image : Option Image) (c : Commits f w k name) → Told image (λ blobs. (blobs ≡ w.blobs) ⊎ Adds f w name c.bytes blobs) → (i : Image) → image ≡ Some i → tried k name → Next k (CommitStep name) (Refused DepotFault) image
+  leaves : (k : ℕ) (name : BlobName) (image : Option Image) (c : Commits f size w k name) → Told image (λ blobs. (blobs ≡ w.blobs) ⊎ Adds f w name c.bytes blobs) → (i : Image) → image ≡ Some i → tried k name → Next k (CommitStep name) (Refused DepotFault) image
   leaves k name None c left i told mine = absurd (none_some i told)
   leaves k name (Some x) c left i told mine = elim left [
     | inl same ↦ inr (kept f tried w shelf law l x.blobs (λ m b no_test h. subst (λ (y : Blobs). At f y m b) same h))
@@ -547,5 +547,5 @@ module _ (f : Formats) (size : ℕ) (tried : ℕ → BlobName → Type 0) (w : W
   pub step_spare : (m : Moment) → ((name : BlobName) → m.entry.step ≡ CommitStep name → MayLeave m.entry.reply → tried m.entry.who name) → (i : Image) → m.image ≡ Some i → Allowed f size w m → ((after f w m).deposed ≡ true) ⊎ Spare f tried (after f w m)
   step_spare m mine i told a = elim a.answered [
     | inl alive ↦ spare_by m.entry.who m.entry.step m.entry.reply m.image mine i told alive.1
-    | inr dead ↦ inl (ap (λ (x : World). x.deposed) (deposed_stays f w m dead) ∙ dead.deposed)
+    | inr dead ↦ subst (λ (x : World). (x.deposed ≡ true) ⊎ Spare f tried x) (sym (blocked_stays f w m dead)) (inr l)
   ]

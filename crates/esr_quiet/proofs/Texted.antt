@@ -1,5 +1,5 @@
 -- What who 0 wrote as a test blob is the text of the id that it drew, and what it read of one is what it wrote.
-use Rattle.std.proofs.Common.{◌≡◌, ℕ, zero, suc, Bool, true, false, true≢false, List, [], ◌∷◌, ◌++◌, append-nil, append_assoc, Option, Some, None, refl, sym, ap, ◌∙◌, subst, inl, inr}
+use Rattle.std.proofs.Common.{◌≡◌, ℕ, zero, suc, Bool, true, false, List, [], ◌∷◌, ◌++◌, append-nil, append_assoc, Option, Some, None, refl, sym, ap, ◌∙◌, subst, inl, inr}
 use Rattle.std.specs.Prelude.{if◌then◌else◌}
 use Rattle.std.specs.FinMap as fin
 use Rattle.esr_model.specs.Names.{BlobName, Root, Latest, Snap, Meta, IndexMeta, ShardSnap, ShardIndex, File, Part, TestMaster, TestNode}
@@ -13,16 +13,17 @@ use Rattle.esr_core.specs.Entry.{Why, Read, ReadBlob, RestoredShard, CommitTest,
 use Rattle.esr_core.specs.After.{is_heard, caller_told, caller_wrote, caller_read, caller_by, caller_after}
 use Rattle.esr_core.specs.Allowed as allowed
 use Rattle.esr_core.specs.Allowed.{MayRead, MayVerify, InReach, Fetcher, ByReader, ByCheck, ByVerify, SameBlobs, IsOwnTest, ReadAllows, ReadFound, ReadMissing, ReadFault, RestoringShard, ReaderFailing, CheckingAll, CheckFailing, VerifyAllows, DrawingTest, TestSpent, BeginningTest, BeginTestFails, CommittingTest, TestTaken, CommitTestFails, RemovingTests, RemoveTestsFails, VerifyingAll, VerifyFailing, Allows}
+use Rattle.esr_core.proofs.Blocked.{blocked_stays}
 use Rattle.esr_core.proofs.Pieces.{in_parts}
 use Rattle.esr_names.specs.IdText.{id_text}
 use Rattle.esr_desk.specs.Start.{Start, formats_of, world_of, told_bytes}
-use Rattle.esr_checking.specs.Caller.{caller_of}
+use Rattle.esr_desk.specs.Own.{caller_of}
 use Rattle.esr_quiet.specs.Free.{Free}
 use Rattle.esr_quiet.specs.Smooth.{IsSmooth}
 use Rattle.esr_quiet.specs.Prefixes.{Prefixes}
 use Rattle.esr_quiet.proofs.Maps.{some_same, some_none}
-use Rattle.esr_quiet.proofs.Prefixes.{told_at, has_at}
-use Rattle.esr_quiet.proofs.Passing.{quiet_at, legal_at}
+use Rattle.esr_quiet.proofs.Prefixes.{world_both, told_at, has_at}
+use Rattle.esr_quiet.proofs.Passing.{legal_at}
 use Rattle.esr_quiet.proofs.Callers.{caller_one}
 
 -- ---- who fetches a test blob
@@ -208,10 +209,15 @@ module _ (s : Start) (log : List Moment) (smooth : IsSmooth s log) (prefixes : P
       let told = told_at log m smooth.told (subst (λ (l : List Moment). Has l m) (sym is) (has_at front back m)) in
       let adds : AddsText (world_of s front) m.entry.step m.entry.reply (caller_after (formats_of s) (caller_of s front) m.entry.who m.entry.step m.entry.reply m.image) =
       λ name step reply. let t = smooth.tested front back m name is step in (t.id, t.drawn, sym (caller_one s front m) ∙ t.wrote reply ∙ ap (caller_wrote (caller_of s front) name) (all_told (id_text t.id))) in
-      subst IsTexted (sym (caller_one s front m)) (elim (legal_at s log smooth front back m is).answered [
-        | inl alive ↦ step_texted (formats_of s) s.part_size (world_of s front) (prefixes.free front (m ∷ back) is) h m.entry.who m.entry.step m.entry.reply m.image told.0 told.1 adds alive.1
-        | inr dead ↦ absurd (true≢false (sym dead.deposed ∙ (quiet_at s log smooth front (m ∷ back) is).present))
-      ])
+      elim (legal_at s log smooth front back m is).answered [
+        | inl alive ↦
+            subst IsTexted (sym (caller_one s front m))
+            (step_texted (formats_of s) s.part_size (world_of s front) (prefixes.free front (m ∷ back) is) h m.entry.who m.entry.step m.entry.reply m.image told.0 told.1 adds alive.1)
+        | inr dead ↦
+            subst IsTexted
+            (sym (ap (λ (w : World). w.caller) (world_both (formats_of s) front (m ∷ []) s.world) ∙ ap (λ (w : World). w.caller) (blocked_stays (formats_of s) (world_of s front) m dead)))
+            h
+      ]
 
   texted_on : (done rest back : List Moment) → log ≡ done ++ (rest ++ back) → IsTexted (caller_of s done) → IsTexted (caller_of s (done ++ rest))
   texted_on done [] back is h = subst (λ (l : List Moment). IsTexted (caller_of s l)) (sym (append-nil done)) h

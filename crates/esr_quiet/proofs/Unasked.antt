@@ -8,14 +8,18 @@ use Rattle.esr_model.specs.Image.{Image}
 use Rattle.esr_core.specs.World.{World, ReadState, Restored, NotRestored, Restoring, Reader, Opened, OpenedEmpty, OpenedRecord}
 use Rattle.esr_core.specs.Entry.{Restore, GivenRestore, Read, ReadBlob, RestoredShard, CheckedAll, DrawTest, CommitTest, ReadFails, Step, AskStep, TakeStep, ReadStep, DepotFault, Reply, Gave, DrawnFrom, WasDone, WasFetched, Refused, Moment}
 use Rattle.esr_core.specs.After.{taken_restore, told_blob, read_told, read_over, read_step, read_by, test_left, faulted, answered, after}
-use Rattle.esr_core.specs.History.{world_from}
+use Rattle.esr_core.specs.Allowed.{Allowed}
+use Rattle.esr_core.specs.History.{world_from, IsLegal}
+use Rattle.esr_core.proofs.Blocked.{blocked_stays}
 use Rattle.esr_core.specs.Ids.{InTerm}
 use Rattle.esr_core.proofs.Going.{goes_answered}
+use Rattle.esr_core.proofs.Makers.{maker}
 use Rattle.esr_desk.specs.Start.{Start, formats_of, world_of}
 use Rattle.esr_quiet.specs.Smooth.{IsSmooth, NoneAsked, NoneUnrestored}
 use Rattle.esr_quiet.specs.Prefixes.{Prefixes}
+use Rattle.esr_quiet.proofs.Askers.{AsksOrElects, made_zero}
 use Rattle.esr_quiet.proofs.Maps.{nothing}
-use Rattle.esr_quiet.proofs.Prefixes.{place_of, has_front}
+use Rattle.esr_quiet.proofs.Prefixes.{legal_front, place_of, has_front}
 use Rattle.esr_quiet.proofs.Passing.{quiet_at, legal_at}
 use Rattle.esr_quiet.proofs.Restores.{reading_at}
 
@@ -81,10 +85,16 @@ none_answered f w room n who step reply image asks = let g = goes_answered f w r
 none_after : (f : Formats) (w : World) → HasRoom w → HasNone w → (m : Moment) → AsksNone m.entry.step → HasNone (after f w m)
 none_after f w room n m asks = let h = none_answered f w room n m.entry.who m.entry.step m.entry.reply m.image asks in record { restores = h.restores; readers = h.readers }
 
-none_history : (f : Formats) (log : List Moment) (w : World) → HasNone w → ((front back : List Moment) → log ≡ front ++ back → HasRoom (world_from f w front)) → NoneAsked log → HasNone (world_from f w log)
-none_history f [] w n rooms asks = n
-none_history f (m ∷ log) w n rooms asks =
-    none_history f log (after f w m) (none_after f w (rooms [] (m ∷ log) refl) n m (λ name place. asks m name place (inl refl)))
+none_one : (f : Formats) (size : ℕ) (w : World) → HasRoom w → HasNone w → (m : Moment) → Allowed f size w m → ((name place : Bytes) → m.entry.who ≡ 0 → m.entry.step ≢ AskStep (Restore name place)) → HasNone (after f w m)
+none_one f size w room n m a asks = elim (maker f size w m a) [
+  | inl made ↦ none_after f w room n m (λ name place e. asks name place (made_zero w m.entry.who m.entry.step made (subst AsksOrElects (sym e) tt)) e)
+  | inr blocked ↦ subst HasNone (sym (blocked_stays f w m blocked)) (record { restores = n.restores; readers = n.readers })
+]
+
+none_history : (f : Formats) (size : ℕ) (log : List Moment) (w : World) → HasNone w → IsLegal f size w log → ((front back : List Moment) → log ≡ front ++ back → HasRoom (world_from f w front)) → NoneAsked log → HasNone (world_from f w log)
+none_history f size [] w n legal rooms asks = n
+none_history f size (m ∷ log) w n legal rooms asks =
+    none_history f size log (after f w m) (none_one f size w (rooms [] (m ∷ log) refl) n m legal.0 (λ name place. asks m name place (inl refl))) legal.1
     (λ front back is. rooms (m ∷ front) back (ap (λ (l : List Moment). m ∷ l) is)) (λ x name place h. asks x name place (inr h))
 
 none_opened : (f : Formats) (image : Image) (w : World) → Opened f image w → HasNone w
@@ -97,7 +107,7 @@ room_of w h = let below : w.next_id < first_id (suc w.term) = h.below in omega (
 module _ (s : Start) (log : List Moment) (smooth : IsSmooth s log) (prefixes : Prefixes s log) (asks : NoneAsked log) where
   none_at : (front back : List Moment) → log ≡ front ++ back → HasNone (world_of s front)
   none_at front back is =
-      none_history (formats_of s) front s.world (none_opened (formats_of s) smooth.image s.world smooth.opened)
+      none_history (formats_of s) s.part_size front s.world (none_opened (formats_of s) smooth.image s.world smooth.opened) (legal_front (formats_of s) s.part_size front back s.world (subst (IsLegal (formats_of s) s.part_size s.world) is smooth.legal))
       (λ a b e. room_of (world_of s a) (prefixes.lawful a (b ++ back) (is ∙ ap (λ (l : List Moment). l ++ back) e ∙ append_assoc a b back)).1.in_term)
       (λ m name place h. asks m name place (subst (λ (l : List Moment). Has l m) (sym is) (has_front front back m h)))
 

@@ -1,31 +1,33 @@
 -- No delete fails for damage where each world of the history is lawful and no master was elected; nor at all where no call fails.
-use Rattle.std.proofs.Common.{◌≡◌, ℕ, false, true≢false, List, [], ◌∷◌, ◌++◌, append-nil, append_assoc, Option, Some, None, refl, sym, ap, ◌∙◌, subst, inl, inr}
+use Rattle.std.proofs.Common.{◌≡◌, ℕ, false, List, [], ◌∷◌, ◌++◌, append-nil, append_assoc, Option, Some, None, refl, sym, ap, ◌∙◌, subst, inl, inr}
 use Rattle.std.specs.Prelude.{length}
 use Rattle.std.specs.FinMap as fin
 use Rattle.esr_model.specs.Names.{BlobName, ShardIndex}
 use Rattle.esr_model.specs.Values.{Has, Formats}
 use Rattle.esr_model.specs.Image.{Image}
 use Rattle.esr_core.specs.World.{World, Ticket}
-use Rattle.esr_core.specs.Entry.{Reason, Why, OfDepot, OfSource, OfChange, OfAbsence, OfUnreadable, OfAhead, OfTaken, OfIdsSpent, OfGenerationsSpent, OfTarget, OfPrint, OfDisagreement, Prune, FetchShard, DeleteFails, Step, PruneStep, IdsSpent, GenerationsSpent, Reply, WasAbsent, HasEnded, Moment}
+use Rattle.esr_core.specs.Entry.{Reason, Why, OfDepot, OfSource, OfChange, OfAbsence, OfUnreadable, OfAhead, OfTaken, OfAbort, OfIdsSpent, OfGenerationsSpent, OfTarget, OfPrint, OfDisagreement, Prune, FetchShard, DeleteFails, Step, PruneStep, IdsSpent, GenerationsSpent, Reply, WasAbsent, HasEnded, Moment, Refusal, Refused}
 use Rattle.esr_core.specs.Allowed as allowed
 use Rattle.esr_core.specs.Allowed.{Told, FetchesShard, FailsDeletion, PruneAllows, ShardMissing, FailingDelete, Allows, Allowed}
 use Rattle.esr_formats.specs.Reasons.{unreadable, unreadable_reads_not}
+use Rattle.esr_desk.specs.declared.hand.Hand.TheVariants as hands
 use Rattle.esr_desk.specs.declared.fault.Fault.{Fault}
 use Rattle.esr_desk.specs.declared.fault.By.{By}
 use Rattle.esr_desk.specs.Start.{Start, formats_of, world_of, or_no_ticket, ticket_of}
-use Rattle.esr_desk.specs.Shown.{Counts}
-use Rattle.esr_deleting.specs.Shown.{IsOfDelete, HadShard, WasUnreadable, IsDeleteShown}
-use Rattle.esr_quiet.specs.Caused.{AreDeleteCaused}
+use Rattle.esr_desk.specs.Evidence.{Evidence, HadFetch, WasUnreadable}
+use Rattle.esr_desk.specs.Unit.Shown.{HadFault}
+use Rattle.esr_desk.specs.Delete.Shown.{IsOfDelete, IsDeleteShown}
+use Rattle.esr_quiet.specs.Caused.{AreCaused}
 use Rattle.esr_quiet.specs.Smooth.{IsSmooth, NoneUndeleted}
 use Rattle.esr_quiet.specs.Prefixes.{Prefixes}
 use Rattle.esr_quiet.specs.OverKept.{IsLawful}
 use Rattle.esr_quiet.specs.Undamaged.{IsDamage, NoDeleteFindsDamage}
-use Rattle.esr_quiet.proofs.Prefixes.{told_at, place_of, has_front, has_at}
+use Rattle.esr_quiet.proofs.Prefixes.{told_at, place_of, has_at}
 use Rattle.esr_quiet.proofs.Passing.{quiet_at, legal_at}
 use Rattle.esr_quiet.proofs.Terms.{ArePresentIn, unelected_present}
 use Rattle.esr_quiet.proofs.OverKept.{IsAlive, lawful_front, step_at, smooth_lawful, smooth_alive, alive_before}
 use Rattle.esr_quiet.proofs.Pruned.{is_there, does_read}
-use Rattle.esr_quiet.proofs.Failures.{read_shown, step_shown, depot, untaken, unspent}
+use Rattle.esr_quiet.proofs.Failures.{read_shown, step_shown, no_depot_fault, untaken, unspent}
 
 -- ---- what a step tells
 
@@ -44,9 +46,17 @@ tells : (f : Formats) (size : ℕ) (w : World) (who : ℕ) (step : Step) (reply 
 tells f size w who step reply image (allowed.Pruning k prune rep im a) = prune_tells f w k prune rep im a
 tells f size w who step reply image a = tt
 
--- the answer is that of a world in which no record swap has failed
+-- a refusal tells nothing
+refused_tells : (f : Formats) (w : World) (who : ℕ) (step : Step) (refusal : Refusal) (image : Option Image) → Tells f w who step (Refused refusal) image
+refused_tells f w who (PruneStep (FetchShard name)) refusal image = tt
+refused_tells f w who (PruneStep (DeleteFails why)) refusal image = tt
+refused_tells f w who step refusal image = tt
+
 told_by : (f : Formats) (size : ℕ) (w : World) (m : Moment) → w.deposed ≡ false → Allowed f size w m → Tells f w m.entry.who m.entry.step m.entry.reply m.image
-told_by f size w m present a = elim a.answered [ inl alive ↦ tells f size w m.entry.who m.entry.step m.entry.reply m.image alive.1 | inr dead ↦ absurd (true≢false (sym dead.deposed ∙ present)) ]
+told_by f size w m present a = elim a.answered [
+  | inl alive ↦ tells f size w m.entry.who m.entry.step m.entry.reply m.image alive.1
+  | inr dead ↦ subst (λ (r : Reply). Tells f w m.entry.who m.entry.step r m.image) (sym dead.refused) (refused_tells f w m.entry.who m.entry.step dead.refusal m.image)
+]
 
 fails_at : (f : Formats) (size : ℕ) (w : World) (m : Moment) (why : Why) → w.deposed ≡ false → Allowed f size w m → m.entry.step ≡ PruneStep (DeleteFails why) → m.entry.reply ≡ HasEnded → FailsDeletion w m.entry.who
 fails_at f size w m why present a step reply =
@@ -72,75 +82,80 @@ module _ (s : Start) (log : List Moment) (lawful : IsLawful s log) (alive : IsAl
       is_there (formats_of s) (world_of s front) law.0 law.1 m.entry.who g.t g.uuids None g.deleting.out.there g.deleting.out.out g.unsettled (present front (m ∷ rest) is m.entry.who g.t g.deleting.out.there) g.deleting.work g.index g.number g.generation g.to_read
       (ap (λ (n : BlobName). fin.get (world_of s front).blobs ((formats_of s).names.text n)) (sym g.name_is) ∙ at.1)
 
-  missing : (front back : List Moment) → log ≡ front ++ back → (who : ℕ) (name : BlobName) → HadShard front who name WasAbsent → ⊥
-  missing front back is who name h = found h.front (h.back ++ back) h.moment (is ∙ ap (λ (l : List Moment). l ++ back) h.is ∙ append_assoc h.front (h.moment ∷ h.back) back) name h.step h.reply
+  missing : (front back : List Moment) → log ≡ front ++ back → (who : ℕ) (name : BlobName) → HadFetch hands.Delete front who name WasAbsent → ⊥
+  missing front back is who name h =
+      let m : Moment = record { entry = record { who = who; step = PruneStep (FetchShard name); reply = WasAbsent }; image = h.image } in
+      let p = place_of front m h.there in
+      found p.front (p.back ++ back) m (is ∙ ap (λ (l : List Moment). l ++ back) p.is ∙ append_assoc p.front (m ∷ p.back) back) name refl refl
 
   module _ (front back : List Moment) (is : log ≡ front ++ back) (who : ℕ) (c : FailsDeletion (world_of s front) who) where
     same : c.t ≡ ticket_of s front who
     same = sym (ap or_no_ticket c.deleting.out.there)
 
     -- and reads
-    unread : (name : BlobName) → IsOfDelete (ticket_of s front who) name → (reason : Reason) → WasUnreadable s front who name reason → ⊥
-    unread name of reason (had, bytes, read, refuses) =
+    unread : (name : BlobName) → IsOfDelete (ticket_of s front who) name → (reason : Reason) → WasUnreadable hands.Delete s front who name reason → ⊥
+    unread name of reason (bytes, read, refuses) =
         let law = lawful.lawful front back is in
         let t : Ticket = ticket_of s front who in
-        let there : Has t.read (ShardIndex of.index of.number of.base, bytes) = subst (λ (n : BlobName). Has t.read (n, bytes)) of.name_is (read lawful.over.tells) in
+        let there : Has t.read (ShardIndex of.index of.number of.base, bytes) = subst (λ (n : BlobName). Has t.read (n, bytes)) of.name_is (read.read lawful.over.tells) in
         let at : fin.get (world_of s front).tickets who ≡ Some t = c.deleting.out.there ∙ ap (λ (x : Ticket). Some x) same in
         does_read (formats_of s) (world_of s front) law.0 law.1 who t of.uuids of.plan at (ap (λ (x : Ticket). x.out) (sym same) ∙ c.deleting.out.out) (ap (λ (x : Ticket). x.settled) (sym same) ∙ c.unsettled)
         (present front back is who t at) of.work of.index of.number of.base of.to_read bytes there
         (unreadable_reads_not s.known s.told (ShardIndex of.index of.number of.base) bytes reason (subst (λ (n : BlobName). unreadable n bytes ≡ Some reason) of.name_is refuses))
 
     -- no damage is shown
-    undamaged : {S F H T : Type 0} (counts : Counts S F H T) (why : Why) (b : By S F H T) → IsDamage why → IsDeleteShown counts s front who why b → ⊥
-    undamaged counts (OfAbsence name) b damage h = let x = read_shown b _ h in missing front back is who name x.1
-    undamaged counts (OfUnreadable name reason) b damage h = let x = read_shown b _ h in unread name x.0 reason x.1
-    undamaged counts (OfPrint name stated_len stated_digest found_len found_digest) b damage h = h
-    undamaged counts (OfDisagreement name other) b damage h = h
-    undamaged counts OfDepot b damage h = damage
-    undamaged counts OfSource b damage h = damage
-    undamaged counts (OfChange first_len first_digest second_len second_digest) b damage h = damage
-    undamaged counts (OfAhead name) b damage h = damage
-    undamaged counts (OfTaken name) b damage h = damage
-    undamaged counts (OfIdsSpent next) b damage h = damage
-    undamaged counts (OfGenerationsSpent pending) b damage h = damage
-    undamaged counts OfTarget b damage h = damage
+    undamaged : {S F H T : Type 0} (e : Evidence S F H T) (why : Why) (b : By S F H T) → IsDamage why → IsDeleteShown e s front who why b → ⊥
+    undamaged e (OfAbsence name) b damage h = let x = read_shown b _ h in missing front back is who name x.1
+    undamaged e (OfUnreadable name reason) b damage h = let x = read_shown b _ h in unread name x.0 reason x.1
+    undamaged e (OfPrint name stated_len stated_digest found_len found_digest) b damage h = h
+    undamaged e (OfDisagreement name other) b damage h = h
+    undamaged e OfDepot b damage h = damage
+    undamaged e OfSource b damage h = damage
+    undamaged e (OfChange first_len first_digest second_len second_digest) b damage h = damage
+    undamaged e (OfAhead name id) b damage h = damage
+    undamaged e (OfTaken name) b damage h = damage
+    undamaged e (OfAbort by) b damage h = damage
+    undamaged e (OfIdsSpent next) b damage h = damage
+    undamaged e (OfGenerationsSpent pending) b damage h = damage
+    undamaged e OfTarget b damage h = damage
 
 -- so none is reported
-pub none_damaged : {S F H T : Type 0} (s : Start) (log : List Moment) → IsLawful s log → (c : Counts S F H T) (faults : List (Fault S F H T)) → AreDeleteCaused c s log faults → NoDeleteFindsDamage log
-none_damaged s log lawful c faults shown front back m why is unelected step reply damage =
+pub none_damaged : {S F H T : Type 0} (s : Start) (log : List Moment) → IsLawful s log → (e : Evidence S F H T) (faults : List (Fault S F H T)) → AreCaused hands.Delete e s log faults → NoDeleteFindsDamage log
+none_damaged s log lawful e faults shown front back m why is unelected step reply damage =
     let up = lawful_front s log lawful front (m ∷ back) is in
     let alive = alive_before s log lawful.over front back m is reply in
     let end = sym (append-nil front) in
     let fails = fails_at (formats_of s) s.part_size (world_of s front) m why (alive front [] end) (step_at s log lawful.over front back m is) step reply in
-    let x = shown (length front) m.entry.who why (record { front = front; moment = m; back = back; is = is; place_is = refl; of = refl; step = step; reply = reply }) in
-    undamaged s front up alive (unelected_present s front lawful.over.image lawful.over.opened unelected) front [] end m.entry.who fails c why x.0 damage x.1
+    let x = shown (length front) m.entry.who why (record { front = front; moment = m; back = back; is = is; place_is = refl; teller = tt; of = refl; step = step; reply = reply }) in
+    undamaged s front up alive (unelected_present s front lawful.over.image lawful.over.opened up.over.legal unelected) front [] end m.entry.who fails e why x.by damage x.shown
 
 -- ---- where no call fails
 
 module _ (s : Start) (log : List Moment) (smooth : IsSmooth s log) (prefixes : Prefixes s log) where
   module _ (front back : List Moment) (is : log ≡ front ++ back) (who : ℕ) (c : FailsDeletion (world_of s front) who) where
-    whole : {S F H T : Type 0} (counts : Counts S F H T) (why : Why) (b : By S F H T) → IsDamage why → IsDeleteShown counts s front who why b → ⊥
-    whole counts why b damage h =
-        undamaged s log (smooth_lawful s log smooth prefixes) (smooth_alive s log smooth) (λ a rest e k t there. ((quiet_at s log smooth a rest e).tickets k t there).present) front back is who c counts why b damage h
+    whole : {S F H T : Type 0} (e : Evidence S F H T) (why : Why) (b : By S F H T) → IsDamage why → IsDeleteShown e s front who why b → ⊥
+    whole e why b damage h =
+        undamaged s log (smooth_lawful s log smooth prefixes) (smooth_alive s log smooth) (λ a rest split k t there. ((quiet_at s log smooth a rest split).tickets k t there).present) front back is who c e why b damage h
 
     -- no cause is shown
-    shows : {S F H T : Type 0} (counts : Counts S F H T) (why : Why) (b : By S F H T) → IsDeleteShown counts s front who why b → ⊥
-    shows counts OfDepot b h = depot s log smooth prefixes counts front who (λ m has. subst (λ (l : List Moment). Has l m) (sym is) (has_front front back m has)) b h
-    shows counts (OfAbsence name) b h = whole counts (OfAbsence name) b tt h
-    shows counts (OfUnreadable name reason) b h = whole counts (OfUnreadable name reason) b tt h
-    shows counts (OfTaken name) b h = untaken s log smooth prefixes front back is who name (step_shown b _ h)
-    shows counts (OfIdsSpent next) b h = unspent s log smooth prefixes front back is who (IdsSpent next) tt (step_shown b _ h)
-    shows counts (OfGenerationsSpent pending) b h = unspent s log smooth prefixes front back is who (GenerationsSpent pending) tt (step_shown b _ h)
-    shows counts OfSource b h = h
-    shows counts (OfChange first_len first_digest second_len second_digest) b h = h
-    shows counts (OfAhead name) b h = h
-    shows counts OfTarget b h = h
-    shows counts (OfPrint name stated_len stated_digest found_len found_digest) b h = h
-    shows counts (OfDisagreement name other) b h = h
+    shows : {S F H T : Type 0} (e : Evidence S F H T) (why : Why) (b : By S F H T) → IsDeleteShown e s front who why b → ⊥
+    shows e OfDepot b h = no_depot_fault e s smooth.quiet (HadFault s front who) b h
+    shows e (OfAbsence name) b h = whole e (OfAbsence name) b tt h
+    shows e (OfUnreadable name reason) b h = whole e (OfUnreadable name reason) b tt h
+    shows e (OfTaken name) b h = untaken s log smooth prefixes front back is who name (step_shown b _ h)
+    shows e (OfIdsSpent next) b h = unspent s log smooth prefixes front back is who (IdsSpent next) tt (step_shown b _ h)
+    shows e (OfGenerationsSpent pending) b h = unspent s log smooth prefixes front back is who (GenerationsSpent pending) tt (step_shown b _ h)
+    shows e (OfAbort by) b h = h
+    shows e OfSource b h = h
+    shows e (OfChange first_len first_digest second_len second_digest) b h = h
+    shows e (OfAhead name id) b h = h
+    shows e OfTarget b h = h
+    shows e (OfPrint name stated_len stated_digest found_len found_digest) b h = h
+    shows e (OfDisagreement name other) b h = h
 
-  pub none_undeleted : {S F H T : Type 0} (c : Counts S F H T) (faults : List (Fault S F H T)) → AreDeleteCaused c s log faults → NoneUndeleted log
-  none_undeleted c faults shown m why has step reply =
+  pub none_undeleted : {S F H T : Type 0} (e : Evidence S F H T) (faults : List (Fault S F H T)) → AreCaused hands.Delete e s log faults → NoneUndeleted log
+  none_undeleted e faults shown m why has step reply =
       let p = place_of log m has in
       let fails = fails_at (formats_of s) s.part_size (world_of s p.front) m why (quiet_at s log smooth p.front (m ∷ p.back) p.is).present (legal_at s log smooth p.front p.back m p.is) step reply in
-      let x = shown (length p.front) m.entry.who why (record { front = p.front; moment = m; back = p.back; is = p.is; place_is = refl; of = refl; step = step; reply = reply }) in
-      shows p.front (m ∷ p.back) p.is m.entry.who fails c why x.0 x.1
+      let x = shown (length p.front) m.entry.who why (record { front = p.front; moment = m; back = p.back; is = p.is; place_is = refl; teller = tt; of = refl; step = step; reply = reply }) in
+      shows p.front (m ∷ p.back) p.is m.entry.who fails e why x.by x.shown

@@ -10,14 +10,15 @@ use Rattle.esr_core.specs.World.{World, Shard, Ticket}
 use Rattle.esr_core.specs.Ready.{IsShard}
 use Rattle.esr_core.specs.Steps.{IsOut, IsToFetch}
 use Rattle.esr_core.specs.Ids.{Law}
-use Rattle.esr_core.specs.Entry.{Reason, Why, OfDepot, OfSource, OfChange, OfAbsence, OfUnreadable, OfAhead, OfTaken, OfIdsSpent, OfGenerationsSpent, OfTarget, OfPrint, OfDisagreement, FetchStep, WasAbsent, Moment}
+use Rattle.esr_core.specs.Entry.{Reason, Why, OfDepot, OfSource, OfChange, OfAbsence, OfUnreadable, OfAhead, OfTaken, OfAbort, OfIdsSpent, OfGenerationsSpent, OfTarget, OfPrint, OfDisagreement, FetchStep, WasAbsent, Moment}
 use Rattle.esr_core.proofs.Copying.{SourceStands, source_stands}
 use Rattle.esr_formats.specs.Reasons.{IsUnreadable, unreadable_reads_not}
+use Rattle.esr_desk.specs.declared.hand.Hand.TheVariants as hands
 use Rattle.esr_desk.specs.declared.fault.Fault.{Fault}
 use Rattle.esr_desk.specs.declared.fault.By.{By}
 use Rattle.esr_desk.specs.Start.{Start, formats_of, world_of, or_no_ticket, ticket_of}
-use Rattle.esr_desk.specs.Damage.{HadFetch, WasUnreadable}
-use Rattle.esr_desk.specs.Shown.{Counts, IsShown}
+use Rattle.esr_desk.specs.Evidence.{HadFetch, WasUnreadable, Evidence}
+use Rattle.esr_desk.specs.Unit.Shown.{IsUnitShown}
 use Rattle.esr_quiet.specs.Caused.{AreCaused}
 use Rattle.esr_quiet.specs.OverKept.{IsLawful}
 use Rattle.esr_quiet.specs.Undamaged.{IsDamage, NoUnitFindsDamage}
@@ -69,37 +70,41 @@ module _ (s : Start) (log : List Moment) (lawful : IsLawful s log) (alive : IsAl
       let law = lawful.lawful front (m ∷ rest) is in
       fetched_there (formats_of s) (world_of s front) law.0 law.1 m.entry.who at.0.t at.0.out name at.0.to_fetch at.1
 
-  missing : (front back : List Moment) → log ≡ front ++ back → (who : ℕ) (name : BlobName) → HadFetch front who name WasAbsent → ⊥
-  missing front back is who name h = found h.front (h.back ++ back) h.moment (is ∙ ap (λ (l : List Moment). l ++ back) h.is ∙ append_assoc h.front (h.moment ∷ h.back) back) name h.step h.reply
+  missing : (front back : List Moment) → log ≡ front ++ back → (who : ℕ) (name : BlobName) → HadFetch hands.Unit front who name WasAbsent → ⊥
+  missing front back is who name h =
+      let m : Moment = record { entry = record { who = who; step = FetchStep name; reply = WasAbsent }; image = h.image } in
+      let p = place_of front m h.there in
+      found p.front (p.back ++ back) m (is ∙ ap (λ (l : List Moment). l ++ back) p.is ∙ append_assoc p.front (m ∷ p.back) back) name refl refl
 
-  unread : (front back : List Moment) → log ≡ front ++ back → (who : ℕ) → IsOut (world_of s front) who (ticket_of s front who) → (name : BlobName) → IsToFetch (ticket_of s front who) name → (reason : Reason) → WasUnreadable s front who name reason → ⊥
-  unread front back is who out name to_fetch reason (had, bytes, read, refuses) =
+  unread : (front back : List Moment) → log ≡ front ++ back → (who : ℕ) → IsOut (world_of s front) who (ticket_of s front who) → (name : BlobName) → IsToFetch (ticket_of s front who) name → (reason : Reason) → WasUnreadable hands.Unit s front who name reason → ⊥
+  unread front back is who out name to_fetch reason (bytes, read, refuses) =
       let law = lawful.lawful front back is in
-      fetched_reads (formats_of s) (world_of s front) law.0 law.1 who (ticket_of s front who) out name bytes to_fetch (read lawful.over.tells) (unreadable_reads_not s.known s.told name bytes reason refuses)
+      fetched_reads (formats_of s) (world_of s front) law.0 law.1 who (ticket_of s front who) out name bytes to_fetch (read.read lawful.over.tells) (unreadable_reads_not s.known s.told name bytes reason refuses)
 
   -- no damage is shown
-  undamaged : {S F H T : Type 0} (c : Counts S F H T) (front back : List Moment) → log ≡ front ++ back → (who : ℕ) → IsOut (world_of s front) who (ticket_of s front who) → (why : Why) (b : By S F H T) → IsDamage why → IsShown c s front who why b → ⊥
-  undamaged c front back is who out (OfAbsence name) b damage h = let x = read_shown b _ h in missing front back is who name x.1
-  undamaged c front back is who out (OfUnreadable name reason) b damage h = let x = read_shown b _ h in unread front back is who out name x.0 reason x.1
-  undamaged c front back is who out (OfPrint name stated_len stated_digest found_len found_digest) b damage h = h
-  undamaged c front back is who out (OfDisagreement name other) b damage h = h
-  undamaged c front back is who out OfDepot b damage h = damage
-  undamaged c front back is who out OfSource b damage h = damage
-  undamaged c front back is who out (OfChange first_len first_digest second_len second_digest) b damage h = damage
-  undamaged c front back is who out (OfAhead name) b damage h = damage
-  undamaged c front back is who out (OfTaken name) b damage h = damage
-  undamaged c front back is who out (OfIdsSpent next) b damage h = damage
-  undamaged c front back is who out (OfGenerationsSpent pending) b damage h = damage
-  undamaged c front back is who out OfTarget b damage h = damage
+  undamaged : {S F H T : Type 0} (e : Evidence S F H T) (front back : List Moment) → log ≡ front ++ back → (who : ℕ) → IsOut (world_of s front) who (ticket_of s front who) → (why : Why) (b : By S F H T) → IsDamage why → IsUnitShown e s front who why b → ⊥
+  undamaged e front back is who out (OfAbsence name) b damage h = let x = read_shown b _ h in missing front back is who name x.1
+  undamaged e front back is who out (OfUnreadable name reason) b damage h = let x = read_shown b _ h in unread front back is who out name x.0 reason x.1
+  undamaged e front back is who out (OfPrint name stated_len stated_digest found_len found_digest) b damage h = h
+  undamaged e front back is who out (OfDisagreement name other) b damage h = h
+  undamaged e front back is who out OfDepot b damage h = damage
+  undamaged e front back is who out OfSource b damage h = damage
+  undamaged e front back is who out (OfChange first_len first_digest second_len second_digest) b damage h = damage
+  undamaged e front back is who out (OfAhead name id) b damage h = damage
+  undamaged e front back is who out (OfTaken name) b damage h = damage
+  undamaged e front back is who out (OfAbort by) b damage h = damage
+  undamaged e front back is who out (OfIdsSpent next) b damage h = damage
+  undamaged e front back is who out (OfGenerationsSpent pending) b damage h = damage
+  undamaged e front back is who out OfTarget b damage h = damage
 
 -- so none is reported
-pub none_damaged : {S F H T : Type 0} (s : Start) (log : List Moment) → IsLawful s log → (c : Counts S F H T) (faults : List (Fault S F H T)) → AreCaused c s log faults → NoUnitFindsDamage log
-none_damaged s log lawful c faults shown m why has step reply damage =
+pub none_damaged : {S F H T : Type 0} (s : Start) (log : List Moment) → IsLawful s log → (e : Evidence S F H T) (faults : List (Fault S F H T)) → AreCaused hands.Unit e s log faults → NoUnitFindsDamage log
+none_damaged s log lawful e faults shown m why has step reply damage =
     let p = place_of log m has in
     let up = lawful_front s log lawful p.front (m ∷ p.back) p.is in
     let alive = alive_before s log lawful.over p.front p.back m p.is reply in
     let end = sym (append-nil p.front) in
     let fails = fails_at (formats_of s) s.part_size (world_of s p.front) m why (alive p.front [] end) (step_at s log lawful.over p.front p.back m p.is) step reply in
     let same : fails.t ≡ ticket_of s p.front m.entry.who = sym (ap or_no_ticket fails.out.there) in
-    let x = shown (length p.front) m.entry.who why (record { front = p.front; moment = m; back = p.back; is = p.is; place_is = refl; of = refl; step = step; reply = reply }) in
-    undamaged s p.front up alive c p.front [] end m.entry.who (subst (IsOut (world_of s p.front) m.entry.who) same fails.out) why x.0 damage x.1
+    let x = shown (length p.front) m.entry.who why (record { front = p.front; moment = m; back = p.back; is = p.is; place_is = refl; teller = tt; of = refl; step = step; reply = reply }) in
+    undamaged s p.front up alive e p.front [] end m.entry.who (subst (IsOut (world_of s p.front) m.entry.who) same fails.out) why x.by damage x.shown

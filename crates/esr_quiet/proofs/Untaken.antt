@@ -5,11 +5,11 @@ use Rattle.esr_model.specs.Names.{BlobName}
 use Rattle.esr_model.specs.Values.{Formats, Has}
 use Rattle.esr_model.specs.Image.{Image, Present}
 use Rattle.esr_core.specs.World.{World, Opened, OpenedEmpty, OpenedRecord}
-use Rattle.esr_core.specs.Entry.{Step, CommitStep, NameTaken, DepotFault, Reply, WasDone, Refused, Moment}
+use Rattle.esr_core.specs.Entry.{Step, CommitStep, NameTaken, Refusal, DepotFault, Reply, WasDone, Refused, Moment}
 use Rattle.esr_core.specs.After.{after}
 use Rattle.esr_core.specs.Allowed as allowed
-use Rattle.esr_core.specs.Allowed.{Told, Commits, IsMetadata, Allows, Allowed}
-use Rattle.esr_core.proofs.Histories.{deposed_stays}
+use Rattle.esr_core.specs.Allowed.{Told, Commits, IsMetadata, Allows, Blocks, ByFailedSwap, ByDelete, Allowed}
+use Rattle.esr_core.proofs.Blocked.{blocked_stays}
 use Rattle.esr_core.proofs.Opening.{nothing}
 use Rattle.esr_desk.specs.Once.{IsSingle, uncounted, WasMade, NoneTwice}
 use Rattle.esr_desk.specs.Start.{Start, formats_of, world_of}
@@ -25,17 +25,17 @@ use Rattle.esr_quiet.proofs.SpareSteps.{step_spare}
 
 -- ---- a commit that was refused so
 
-abbrev Tells : Formats → World → ℕ → Step → Reply → Option Image → Type 0
-Tells f w who (CommitStep name) (Refused (NameTaken other)) image = Commits f w who name × (IsMetadata name → ⊥) × Told image (λ blobs. Present f w.blobs name × (blobs ≡ w.blobs))
-Tells f w who step reply image = Unit {0}
+abbrev Tells : Formats → ℕ → World → ℕ → Step → Reply → Option Image → Type 0
+Tells f size w who (CommitStep name) (Refused (NameTaken other)) image = Commits f size w who name × (IsMetadata name → ⊥) × Told image (λ blobs. Present f w.blobs name × (blobs ≡ w.blobs))
+Tells f size w who step reply image = Unit {0}
 
-tells : (f : Formats) (size : ℕ) (w : World) (who : ℕ) (step : Step) (reply : Reply) (image : Option Image) → Allows f size w who step reply image → Tells f w who step reply image
+tells : (f : Formats) (size : ℕ) (w : World) (who : ℕ) (step : Step) (reply : Reply) (image : Option Image) → Allows f size w who step reply image → Tells f size w who step reply image
 tells f size w who step reply image (allowed.Taken k name im c aside there) = (c, aside, there)
 tells f size w who step reply image a = tt
 
 -- its ticket tried to commit the name, where all else is spare
-tried_name : (f : Formats) (tried : ℕ → BlobName → Type 0) (w : World) → Spare f tried w → (k : ℕ) (name : BlobName) (c : Commits f w k name) → (IsMetadata name → ⊥) → Present f w.blobs name → tried k name
-tried_name f tried w l k name c aside present = elim c.may [
+tried_name : (f : Formats) (tried : ℕ → BlobName → Type 0) (w : World) → Spare f tried w → (size k : ℕ) (name : BlobName) (c : Commits f size w k name) → (IsMetadata name → ⊥) → Present f w.blobs name → tried k name
+tried_name f tried w l size k name c aside present = elim c.may [
   | inl h ↦ elim h.2 [
     | inl own ↦ elim (own_metadata f c.t.work c.t.root h.0 h.1 name c.bytes own) [
       | inl metadata_name ↦ absurd (aside metadata_name)
@@ -54,7 +54,7 @@ opened_spare f tried image w (OpenedEmpty e) =
 opened_spare f tried image w (OpenedRecord cluster text root is reads of_root) =
     record { shards = λ k t name there. absurd (nothing k t there); plans = λ k t uuids s name bytes there. absurd (nothing k t there); pending = λ o op s there. absurd (nothing o op there); roots = λ k n t there. absurd (nothing k t there); own = (λ j k n t u there. absurd (nothing j t there), λ j k id t u there. absurd (nothing j t there)); drawn = λ k t uuids s name bytes there. absurd (nothing k t there) }
 
-opened_numbered : (f : Formats) (image : Image) (w : World) → Opened f image w → Numbered w
+pub opened_numbered : (f : Formats) (image : Image) (w : World) → Opened f image w → Numbered w
 opened_numbered f image w (OpenedEmpty e) = record { next = one; none = fin.get-empty nat_cmp 0 }
   where
     one : 1 ≤ 1
@@ -101,7 +101,7 @@ module _ (s : Start) (log : List Moment) (lawful : IsLawful s log) where
       let next : ((after f w m).deposed ≡ true) ⊎ Spare f (WasTried log) (after f w m) = elim h [
         | inl deposed ↦ inl (elim here.answered [
           | inl alive ↦ absurd (true≢false (sym deposed ∙ alive.0))
-          | inr dead ↦ ap (λ (x : World). x.deposed) (deposed_stays f w m dead) ∙ deposed
+          | inr dead ↦ ap (λ (x : World). x.deposed) (blocked_stays f w m dead) ∙ deposed
         ])
         | inr spare ↦ step_spare f s.part_size (WasTried log) w law.0 law.1 spare m (λ name step left. record { moment = m; there = has; of = refl; step = step; left = left }) told.0 told.1 here
       ] in
@@ -123,18 +123,22 @@ module _ (s : Start) (log : List Moment) (lawful : IsLawful s log) where
     has : Has log m
     has = subst (λ (l : List Moment). Has l m) (sym is) (has_at front back m)
 
+    never : (refusal : Refusal) → Blocks w m.entry.who m.entry.step refusal → Refused (NameTaken name) ≡ Refused refusal → ⊥
+    never _ (ByFailedSwap place d) e = cc
+    never _ (ByDelete by d aborted) e = cc
+
     alive : w.deposed ≡ true → ⊥
     alive deposed = elim (step_at s log lawful.over front back m is).answered [
       | inl living ↦ true≢false (sym deposed ∙ living.0)
-      | inr dead ↦ taken_made name dead.place (sym reply ∙ dead.refused)
+      | inr dead ↦ never dead.refusal dead.blocks (sym reply ∙ dead.refused)
     ]
 
-    refused : Tells f w m.entry.who (CommitStep name) (Refused (NameTaken name)) m.image
+    refused : Tells f s.part_size w m.entry.who (CommitStep name) (Refused (NameTaken name)) m.image
     refused = elim (step_at s log lawful.over front back m is).answered [
       | inl living ↦
-          subst (λ st. Tells f w m.entry.who st (Refused (NameTaken name)) m.image) step
-          (subst (λ r. Tells f w m.entry.who m.entry.step r m.image) reply (tells f s.part_size w m.entry.who m.entry.step m.entry.reply m.image living.1))
-      | inr dead ↦ absurd (taken_made name dead.place (sym reply ∙ dead.refused))
+          subst (λ st. Tells f s.part_size w m.entry.who st (Refused (NameTaken name)) m.image) step
+          (subst (λ r. Tells f s.part_size w m.entry.who m.entry.step r m.image) reply (tells f s.part_size w m.entry.who m.entry.step m.entry.reply m.image living.1))
+      | inr dead ↦ absurd (never dead.refusal dead.blocks (sym reply ∙ dead.refused))
     ]
 
     present : Present f w.blobs name
@@ -144,7 +148,7 @@ module _ (s : Start) (log : List Moment) (lawful : IsLawful s log) where
     was_tried : WasTried log m.entry.who name
     was_tried = elim (state_at front (m ∷ back) is) [
       | inl deposed ↦ absurd (alive deposed)
-      | inr spare ↦ tried_name f (WasTried log) w spare m.entry.who name refused.0 refused.1 present
+      | inr spare ↦ tried_name f (WasTried log) w spare s.part_size m.entry.who name refused.0 refused.1 present
     ]
 
     -- it is that of a ticket

@@ -1,27 +1,26 @@
 -- No verification fails where each world of the history is lawful and free.
-use Rattle.std.proofs.Common.{◌≡◌, ℕ, true≢false, List, ◌∷◌, ◌++◌, append_assoc, Some, refl, sym, ap, ◌∙◌, subst}
+use Rattle.std.proofs.Common.{◌≡◌, ℕ, List, [], ◌∷◌, ◌++◌, Some, refl, sym, ap, ◌∙◌, subst, inr}
 use Rattle.std.specs.Prelude.{length}
 use Rattle.esr_model.specs.Names.{BlobName}
 use Rattle.esr_model.specs.Values.{Bytes, Has, Formats}
 use Rattle.esr_core.specs.World.{World, Caller}
 use Rattle.esr_core.specs.Restores.{IsTestOf, WasRead}
-use Rattle.esr_core.specs.Entry.{Why, OfDepot, OfSource, OfChange, OfAbsence, OfUnreadable, OfAhead, OfTaken, OfIdsSpent, OfGenerationsSpent, OfTarget, OfPrint, OfDisagreement, ReadBlob, Step, ReadStep, NameTaken, Reply, WasAbsent, DepotFault, Refused, Moment}
+use Rattle.esr_core.specs.Entry.{Why, OfDepot, OfSource, OfChange, OfAbsence, OfUnreadable, OfAhead, OfTaken, OfAbort, OfIdsSpent, OfGenerationsSpent, OfTarget, OfPrint, OfDisagreement, ReadBlob, DrawTest, Step, ReadStep, IdsSpent, NameTaken, Reply, DrawnFrom, WasAbsent, DepotFault, Refused, Moment}
 use Rattle.esr_core.specs.Allowed.{MayVerify}
 use Rattle.esr_names.specs.IdText.{id_text}
-use Rattle.esr_desk.specs.declared.fault.FailedObject.TheVariants as objects
 use Rattle.esr_desk.specs.declared.fault.Fault.{Fault}
 use Rattle.esr_desk.specs.declared.fault.By.{By}
-use Rattle.esr_desk.specs.declared.fault.By.TheVariants as by
 use Rattle.esr_desk.specs.Start.{Start, formats_of, world_of}
-use Rattle.esr_checking.specs.Caller.{caller_of}
-use Rattle.esr_checking.specs.Shown.{Counts, HadReply, HadNoId, HadFault, DepotShown, IsAbsent, IsOther, IsMisprinted, IsShown}
+use Rattle.esr_desk.specs.Own.{caller_of}
+use Rattle.esr_desk.specs.Evidence.{Evidence}
+use Rattle.esr_desk.specs.Verify.Shown.{HadAfterDraw, HadRefusalIn, HadNoId, IsAbsent, IsOther, IsMisprinted, IsVerifyShownBy}
 use Rattle.esr_quiet.specs.Caused.{AreVerifyCaused}
-use Rattle.esr_quiet.specs.Smooth.{IsSpent, IsSmooth, NoneUnverified}
+use Rattle.esr_quiet.specs.Smooth.{IsSmooth, NoneUnverified}
 use Rattle.esr_quiet.specs.Prefixes.{Prefixes}
 use Rattle.esr_quiet.proofs.Maps.{some_same, some_none}
-use Rattle.esr_quiet.proofs.Prefixes.{told_at, place_of, has_front, has_at}
+use Rattle.esr_quiet.proofs.Prefixes.{told_at, place_of, has_front}
 use Rattle.esr_quiet.proofs.Passing.{quiet_at, legal_at}
-use Rattle.esr_quiet.proofs.Failures.{read_shown, step_shown}
+use Rattle.esr_quiet.proofs.Failures.{read_shown, step_shown, no_depot_fault}
 use Rattle.esr_quiet.proofs.Restores.{missed_at}
 use Rattle.esr_quiet.proofs.Rules.{by_rule, no_rule}
 use Rattle.esr_quiet.proofs.Texted.{by_verify, IsTexted, texted_at}
@@ -36,36 +35,22 @@ record Replied (log : List Moment) (step : Step) (reply : Reply) : Type 0 where
   step_is : moment.entry.step ≡ step
   reply_is : moment.entry.reply ≡ reply
 
-replied : (log front back : List Moment) → log ≡ front ++ back → (c : Caller) (step : Step) (reply : Reply) → HadReply front c step reply → Replied log step reply
+behind : (front : List Moment) (n : Moment) (more : List Moment) (m : Moment) → Has more m → Has (front ++ n ∷ more) m
+behind [] n more m h = inr h
+behind (x ∷ front) n more m h = inr (behind front n more m h)
+
+replied : (log front back : List Moment) → log ≡ front ++ back → (c : Caller) (step : Step) (reply : Reply) → HadAfterDraw front c step reply → Replied log step reply
 replied log front back is c step reply h =
-    let before : List Moment = h.before ++ h.draw ∷ h.between in
-    let split : log ≡ before ++ h.moment ∷ (h.back ++ back) =
-    is ∙ ap (λ (l : List Moment). l ++ back) h.is ∙ append_assoc before (h.moment ∷ h.back) back in
-    record {
-      front = before;
-      back = h.back ++ back;
-      moment = h.moment;
-      is = split;
-      there = subst (λ (l : List Moment). Has l h.moment) (sym split) (has_at before (h.back ++ back) h.moment);
-      step_is = h.step_is;
-      reply_is = h.reply_is;
-    }
+    let draw : Moment = record { entry = record { who = 0; step = ReadStep DrawTest; reply = DrawnFrom h.id }; image = h.had.image } in
+    let m : Moment = record { entry = record { who = 0; step = step; reply = reply }; image = h.had.had.image } in
+    let within : Has front m = subst (λ (l : List Moment). Has l m) (sym h.had.is) (behind h.had.before draw h.had.more m h.had.had.there) in
+    let there : Has log m = subst (λ (l : List Moment). Has l m) (sym is) (has_front front back m within) in
+    let p = place_of log m there in
+    record { front = p.front; back = p.back; moment = m; is = p.is; there = there; step_is = refl; reply_is = refl }
 
 module _ (s : Start) (log : List Moment) (smooth : IsSmooth s log) (prefixes : Prefixes s log) where
   texted : (front back : List Moment) → log ≡ front ++ back → IsTexted (caller_of s front)
   texted = texted_at s log smooth prefixes
-
-  -- no object of the container fails
-  no_fault : (front back : List Moment) (c : Caller) → log ≡ front ++ back → HadFault front c → ⊥
-  no_fault front back c is h = let r = replied log front back is c h.0 (Refused DepotFault) h.1 in smooth.calm r.moment r.there r.reply_is
-
-  depot : {S F H T : Type 0} (c : Counts S F) (front back : List Moment) (caller : Caller) → log ≡ front ++ back → (b : By S F H T) → DepotShown c s front caller b → ⊥
-  depot c front back caller is (by.Object (objects.Stage stage)) h = true≢false (sym smooth.quiet ∙ h.1)
-  depot c front back caller is (by.Object (objects.Fetch fetch)) h = true≢false (sym smooth.quiet ∙ h.1)
-  depot c front back caller is (by.Object (objects.Shard shard)) h = h
-  depot c front back caller is (by.Object (objects.Target target)) h = h
-  depot c front back caller is by.Entry h = no_fault front back caller is h.0
-  depot c front back caller is by.Nothing h = h
 
   -- each test blob that was committed and not removed is there
   found : (front back : List Moment) (m : Moment) → log ≡ front ++ m ∷ back → Has log m → (id : ℕ) (name : BlobName) → IsTestOf id name → m.entry.step ≡ ReadStep (ReadBlob name) → m.entry.reply ≡ WasAbsent → ⊥
@@ -104,7 +89,7 @@ module _ (s : Start) (log : List Moment) (smooth : IsSmooth s log) (prefixes : P
       h.differ (h.stated_len_is ∙ ap (λ (b : Bytes). length b) (sym text) ∙ sym h.found_len_is) (h.stated_digest_is ∙ ap (formats_of s).digest (sym text) ∙ sym h.found_digest_is)
 
   -- no name is taken
-  untaken : (front back : List Moment) → log ≡ front ++ back → (c : Caller) (step : Step) (name : BlobName) → HadReply front c step (Refused (NameTaken name)) → ⊥
+  untaken : (front back : List Moment) → log ≡ front ++ back → (c : Caller) (step : Step) (name : BlobName) → HadAfterDraw front c step (Refused (NameTaken name)) → ⊥
   untaken front back is c step name h =
       let r = replied log front back is c step (Refused (NameTaken name)) h in
       let x = by_rule s log smooth prefixes r.moment (NameTaken name) r.there r.reply_is in
@@ -113,25 +98,27 @@ module _ (s : Start) (log : List Moment) (smooth : IsSmooth s log) (prefixes : P
   -- and no id is spent
   unspent : (front back : List Moment) → log ≡ front ++ back → (c : Caller) (next : ℕ) → HadNoId front c next → ⊥
   unspent front back is c next h =
-      smooth.unspent h.draw (subst (λ (l : List Moment). Has l h.draw) (sym is) (has_front front back h.draw (subst (λ (l : List Moment). Has l h.draw) (sym h.is) (has_at h.front h.back h.draw)))) (subst IsSpent (sym h.refused) tt)
+      let m : Moment = record { entry = record { who = 0; step = ReadStep DrawTest; reply = Refused (IdsSpent next) }; image = h.had.image } in
+      smooth.unspent m (subst (λ (l : List Moment). Has l m) (sym is) (has_front front back m h.had.there)) tt
 
   -- no cause is shown
-  pub shows : {S F H T : Type 0} (c : Counts S F) (front back : List Moment) → log ≡ front ++ back → (why : Why) (b : By S F H T) → IsShown c s front (caller_of s front) why b → ⊥
-  shows c front back is OfDepot b h = depot c front back (caller_of s front) is b h
-  shows c front back is (OfAbsence name) b h = absent front back is name (read_shown b _ h)
-  shows c front back is (OfUnreadable name reason) b h = other front back is name (read_shown b _ h).0
-  shows c front back is (OfAhead name) b h = h
-  shows c front back is (OfPrint name stated_len stated_digest found_len found_digest) b h = printed front back is name stated_len stated_digest found_len found_digest (read_shown b _ h)
-  shows c front back is (OfTaken name) b h = let x = step_shown b _ h in untaken front back is (caller_of s front) x.0 name x.1
-  shows c front back is (OfIdsSpent next) b h = unspent front back is (caller_of s front) next (step_shown b _ h)
-  shows c front back is OfSource b h = h
-  shows c front back is (OfChange first_len first_digest second_len second_digest) b h = h
-  shows c front back is (OfGenerationsSpent pending) b h = h
-  shows c front back is OfTarget b h = h
-  shows c front back is (OfDisagreement name other) b h = h
+  pub shows : {S F H T : Type 0} (e : Evidence S F H T) (front back : List Moment) → log ≡ front ++ back → (why : Why) (b : By S F H T) → IsVerifyShownBy e s front (caller_of s front) why b → ⊥
+  shows e front back is OfDepot b h = no_depot_fault e s smooth.quiet (HadRefusalIn front (caller_of s front) DepotFault) b h
+  shows e front back is (OfAbsence name) b h = absent front back is name (read_shown b _ h)
+  shows e front back is (OfUnreadable name reason) b h = other front back is name (read_shown b _ h).0
+  shows e front back is (OfAhead name id) b h = h
+  shows e front back is (OfPrint name stated_len stated_digest found_len found_digest) b h = printed front back is name stated_len stated_digest found_len found_digest (read_shown b _ h)
+  shows e front back is (OfTaken name) b h = let x = step_shown b _ h in untaken front back is (caller_of s front) x.0 name x.1
+  shows e front back is (OfIdsSpent next) b h = unspent front back is (caller_of s front) next (step_shown b _ h)
+  shows e front back is (OfAbort op) b h = h
+  shows e front back is OfSource b h = h
+  shows e front back is (OfChange first_len first_digest second_len second_digest) b h = h
+  shows e front back is (OfGenerationsSpent pending) b h = h
+  shows e front back is OfTarget b h = h
+  shows e front back is (OfDisagreement name other) b h = h
 
-  pub none_unverified : {S F H T : Type 0} (c : Counts S F) (faults : List (Fault S F H T)) → AreVerifyCaused c s log faults → NoneUnverified log
-  none_unverified c faults shown m why has who step reply =
+  pub none_unverified : {S F H T : Type 0} (e : Evidence S F H T) (faults : List (Fault S F H T)) → AreVerifyCaused e s log faults → NoneUnverified log
+  none_unverified e faults shown m why has who step reply =
       let p = place_of log m has in
-      let x = shown (length p.front) why (record { front = p.front; moment = m; back = p.back; is = p.is; place_is = refl; of = who; step = step; reply = reply }) in
-      shows c p.front (m ∷ p.back) p.is why x.0 x.1
+      let x = shown (length p.front) m.entry.who why (record { front = p.front; moment = m; back = p.back; is = p.is; place_is = refl; teller = who; of = refl; step = step; reply = reply }) in
+      shows e p.front (m ∷ p.back) p.is why x.0 x.1.shown

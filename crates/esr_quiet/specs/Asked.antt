@@ -37,6 +37,6 @@ pub record GrewAsking (s : Start) (steps : List Step) (old new : List Moment) : 
 abbrev pub IsSteady : Start → List AskedIndex → Type 0
 IsSteady s indices = (a : AskedIndex) (number : ℕ) → Has indices a → number < a.shards → s.steady a.place a.name number ≡ true
 
--- and so is each shard of which a snapshot was asked
+-- and so is each shard of which who 0 asked a snapshot
 abbrev pub AreSteady : Start → List Moment → Type 0
-AreSteady s log = (m : Moment) (name : Bytes) (indices : List AskedIndex) (moment : ℕ) → Has log m → m.entry.step ≡ AskStep (Snapshot name indices moment) → IsSteady s indices
+AreSteady s log = (m : Moment) (name : Bytes) (indices : List AskedIndex) (moment : ℕ) → Has log m → m.entry.who ≡ 0 → m.entry.step ≡ AskStep (Snapshot name indices moment) → IsSteady s indices

@@ -1,15 +1,16 @@
 -- A history over quiet objects that tell, in which no number was spent.
-use Rattle.std.specs.Prelude.{◌≡◌, ◌≢◌, ◌≤◌, ℕ, true, List}
+use Rattle.std.specs.Prelude.{◌≡◌, ◌≢◌, ◌≤◌, ℕ, true, List, ◌∷◌, ◌++◌}
 use Rattle.esr_model.specs.Values.{Bytes, Has}
 use Rattle.esr_model.specs.Shelf.{Shelved}
 use Rattle.esr_model.specs.Image.{Image}
 use Rattle.esr_model.specs.Kept.{Kept}
 use Rattle.esr_core.specs.World.{Opened}
-use Rattle.esr_core.specs.Entry.{Restore, AskStep, FailedStep, Why, ElectStep, ReadStep, PruneStep, DeleteFails, CheckedAll, DrawTest, ReadFails, Reply, HasEnded, Refused, DepotFault, IdsSpent, GenerationsSpent, TermsSpent, Moment}
+use Rattle.esr_core.specs.Entry.{Asked, Restore, AskStep, FailedStep, Why, ElectStep, ReadStep, PruneStep, DeleteFails, CheckedAll, DrawTest, ReadFails, Reply, HasEnded, Refused, DepotFault, IdsSpent, GenerationsSpent, TermsSpent, Moment}
 use Rattle.esr_core.specs.History.{AllKnown, AreTold, AreHonest}
 use Rattle.esr_desk.specs.Start.{Start, formats_of, Legal}
 use Rattle.esr_desk.specs.Once.{AreOnce}
-use Rattle.esr_checking.specs.Tested.{AreTested}
+use Rattle.esr_desk.specs.Grew.{NoneOut}
+use Rattle.esr_desk.specs.Verify.Tested.{AreTested}
 use Rattle.esr_quiet.specs.Asked.{AreSteady}
 
 -- no step was refused since the container failed
@@ -26,12 +27,16 @@ IsSpent reply = ⊥
 abbrev pub AreUnspent : List Moment → Type 0
 AreUnspent log = (m : Moment) → Has log m → IsSpent m.entry.reply → ⊥
 
--- no master was elected
+-- who 0 elected no master
 abbrev pub AreUnelected : List Moment → Type 0
-AreUnelected log = (m : Moment) → Has log m → m.entry.step ≢ ElectStep
+AreUnelected log = (m : Moment) → Has log m → m.entry.who ≡ 0 → m.entry.step ≢ ElectStep
+
+-- who 0 asks for nothing while a ticket is out
+abbrev pub AreApart : Start → List Moment → Type 0
+AreApart s log = (front back : List Moment) (m : Moment) (command : Asked) → log ≡ front ++ m ∷ back → m.entry.who ≡ 0 → m.entry.step ≡ AskStep command → NoneOut s front
 
 -- The container told its image, which was kept, at the start and at each moment, and no call of it failed; the sources tell
--- all files, and no shard that was asked for fails.
+-- all files, no shard that was asked for fails, and nobody asks while a ticket is out, so that no delete aborts its op.
 pub record IsSmooth (s : Start) (log : List Moment) : Type 0 where
   pub tells : s.tells ≡ true
   pub quiet : s.quiet ≡ true
@@ -49,6 +54,7 @@ pub record IsSmooth (s : Start) (log : List Moment) : Type 0 where
   pub calm : AreCalm log
   pub unspent : AreUnspent log
   pub unelected : AreUnelected log
+  pub apart : AreApart s log
 
 -- no unit failed
 abbrev pub NoneFailed : List Moment → Type 0
@@ -70,9 +76,9 @@ NoneUnverified log = (m : Moment) (why : Why) → Has log m → m.entry.who ≡ 
 abbrev pub NoneChecked : List Moment → Type 0
 NoneChecked log = (m : Moment) (snapshots blobs : ℕ) → Has log m → m.entry.who ≡ 0 → m.entry.step ≢ ReadStep (CheckedAll snapshots blobs)
 
--- no restore was asked
+-- who 0 asked no restore
 abbrev pub NoneAsked : List Moment → Type 0
-NoneAsked log = (m : Moment) (name place : Bytes) → Has log m → m.entry.step ≢ AskStep (Restore name place)
+NoneAsked log = (m : Moment) (name place : Bytes) → Has log m → m.entry.who ≡ 0 → m.entry.step ≢ AskStep (Restore name place)
 
 -- who 0 was to draw an id, with which a verification begins
 abbrev pub HasDrawn : List Moment → Type 0

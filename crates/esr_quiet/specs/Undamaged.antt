@@ -2,7 +2,7 @@
 use Rattle.std.specs.Prelude.{◌≡◌, ◌≤◌, List, ◌∷◌, ◌++◌}
 use Rattle.esr_model.specs.Values.{Has}
 use Rattle.esr_core.specs.Entry.{Why, OfAbsence, OfUnreadable, OfPrint, OfDisagreement, FailedStep, ReadStep, ReadFails, PruneStep, DeleteFails, HasEnded, Moment}
-use Rattle.esr_checking.specs.CheckShown.{SinceLook}
+use Rattle.esr_desk.specs.Check.Shown.{SinceLook}
 use Rattle.esr_quiet.specs.Smooth.{AreUnelected}
 
 -- a blob is damaged: it is absent, or doesn't read, or a file has another print than is stated, or two blobs disagree

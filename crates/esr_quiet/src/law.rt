@@ -6,19 +6,18 @@ ghost use Rattle.esr_core.specs.Entry.{Read, TakeStep, ReadStep, Given, Gave, Mo
 ghost use Rattle.esr_core.specs.After.{after};
 ghost use Rattle.esr_core.specs.Allowed.{Allowed};
 ghost use Rattle.esr_desk.specs.declared.fault.Fault.{Fault};
+ghost use Rattle.esr_desk.specs.declared.hand.Hand.TheVariants as hands;
 ghost use Rattle.esr_desk.specs.Start.{Start, Legal, ticket_of};
-ghost use Rattle.esr_desk.specs.Shown.{Counts};
+ghost use Rattle.esr_desk.specs.Evidence.{Evidence};
 ghost use Rattle.esr_desk.specs.Grew.{AllOf};
-ghost use Rattle.esr_reading.specs.Shown as reading;
-ghost use Rattle.esr_checking.specs.Shown as checking;
-ghost use Rattle.esr_quiet.specs.Caused.{AreCaused, AreReadCaused, AreDeleteCaused, AreVerifyCaused, AreEndsCaused};
+ghost use Rattle.esr_quiet.specs.Caused.{AreCaused, AreVerifyCaused};
 ghost use Rattle.esr_quiet.specs.Smooth.{IsSmooth, NoneFailed, NoneUndeleted, NoneUnrestored, NoneUnverified, NoneAsked};
 ghost use Rattle.esr_quiet.specs.Refusals.{AreByRule};
 ghost use Rattle.esr_quiet.specs.Prefixes.{Prefixes};
 
 /// Over quiet objects that tell no unit fails: what could show a failure doesn't come.
 pub fn no_unit_fails<S, F, H, T>()
-    ensures { (c : Counts S F H T) (s : Start) (log : List Moment) (faults : List (Fault S F H T)) → IsSmooth s log → AreCaused c s log faults → NoneFailed log }
+    ensures { (e : Evidence S F H T) (s : Start) (log : List Moment) (faults : List (Fault S F H T)) → IsSmooth s log → AreCaused hands.Unit e s log faults → NoneFailed log }
 {
     each_world_is_free();
     none_fail_where_free::<S, F, H, T>();
@@ -26,7 +25,7 @@ pub fn no_unit_fails<S, F, H, T>()
 
 /// No shard of a restore fails either, where targets are sure: what its ticket may read is there, and reads.
 pub fn no_restore_fails<S, F, H, T>()
-    ensures { (c : reading.Counts F T) (s : Start) (log : List Moment) (faults : List (Fault S F H T)) → IsSmooth s log → s.sure_targets ≡ true → AreReadCaused c s log faults → NoneUnrestored log }
+    ensures { (e : Evidence S F H T) (s : Start) (log : List Moment) (faults : List (Fault S F H T)) → IsSmooth s log → s.sure_targets ≡ true → AreCaused hands.Restore e s log faults → NoneUnrestored log }
 {
     each_world_is_free();
     esr_core::opened_restores_are_lawful();
@@ -43,21 +42,21 @@ pub fn no_unasked_restore_fails()
 
 /// No delete fails: each index that it reads is there, and reads.
 pub fn no_delete_fails<S, F, H, T>()
-    ensures { (c : Counts S F H T) (s : Start) (log : List Moment) (faults : List (Fault S F H T)) → IsSmooth s log → AreDeleteCaused c s log faults → NoneUndeleted log }
+    ensures { (e : Evidence S F H T) (s : Start) (log : List Moment) (faults : List (Fault S F H T)) → IsSmooth s log → AreCaused hands.Delete e s log faults → NoneUndeleted log }
 {
     each_world_is_free();
 }
 
 /// No verification fails: what it wrote is the text of its id, and stays as it is until it is removed.
 pub fn no_verification_fails<S, F, H, T>()
-    ensures { (c : checking.Counts S F) (s : Start) (log : List Moment) (faults : List (Fault S F H T)) → IsSmooth s log → AreVerifyCaused c s log faults → NoneUnverified log }
+    ensures { (e : Evidence S F H T) (s : Start) (log : List Moment) (faults : List (Fault S F H T)) → IsSmooth s log → AreVerifyCaused e s log faults → NoneUnverified log }
 {
     each_world_is_free();
 }
 
 /// Nor does a check: the safe root stands, so each blob that it reaches is there and reads, and no two disagree.
 pub fn no_check_fails<S, F, H, T>()
-    ensures { (c : checking.Counts S F) (s : Start) (log : List Moment) (faults : List (Fault S F H T)) → IsSmooth s log → AreEndsCaused c s log faults → NoneUnverified log }
+    ensures { (e : Evidence S F H T) (s : Start) (log : List Moment) (faults : List (Fault S F H T)) → IsSmooth s log → AreCaused hands.Check e s log faults → NoneUnverified log }
 {
     each_world_is_free();
     esr_core::opened_restores_are_lawful();
@@ -89,7 +88,7 @@ pub fn work_leaves_the_caller()
 
 /// Where each world of the history is lawful and free, no unit fails.
 pub(crate) fn none_fail_where_free<S, F, H, T>()
-    ensures { (c : Counts S F H T) (s : Start) (log : List Moment) (faults : List (Fault S F H T)) → IsSmooth s log → Prefixes s log → AreCaused c s log faults → NoneFailed log }
+    ensures { (e : Evidence S F H T) (s : Start) (log : List Moment) (faults : List (Fault S F H T)) → IsSmooth s log → Prefixes s log → AreCaused hands.Unit e s log faults → NoneFailed log }
 {}
 
 /// And only rules refuse.

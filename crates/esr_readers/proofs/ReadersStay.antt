@@ -11,7 +11,7 @@ use Rattle.esr_model.specs.Places.{places}
 use Rattle.esr_model.specs.Image.{Image, Blobs}
 use Rattle.esr_core.specs.World.{World, ReadState, Unread, BeingRead, Restored, NotRestored, RestoreShard, Restoring, Reader, Caller}
 use Rattle.esr_core.specs.Restores.{IsReading, restore_of, waits, put_restore, restore_shard, handed, ended, reader_of, read_more, restore_opened, shard_ended}
-use Rattle.esr_core.specs.Entry.{Asked, Snapshot, Restore, Clone, DeleteSnapshots, Cleanup, LookStep, GivenRestore, Given, Why, Read, ReadBlob, RestoredShard, DrawTest, CommitTest, ReadFails, Step, AskStep, TakeStep, ReadStep, DepotFault, DeposedAt, Reply, Gave, DrawnFrom, WasDone, WasFetched, WasAbsent, HasEnded, Refused, AcceptedRestore, Entry, Moment}
+use Rattle.esr_core.specs.Entry.{Asked, Snapshot, Restore, Clone, DeleteSnapshots, Cleanup, LookStep, GivenRestore, Given, Why, Read, ReadBlob, RestoredShard, DrawTest, CommitTest, ReadFails, Step, AskStep, TakeStep, ReadStep, DepotFault, Refusal, Reply, Gave, DrawnFrom, WasDone, WasFetched, WasAbsent, HasEnded, Refused, AcceptedRestore, Entry, Moment}
 use Rattle.esr_core.specs.After.{told_blob, taken_restore, taken_restore_shard, read_told, shard_over, read_over, read_by, faulted, answered, blobs_in, after, test_left}
 use Rattle.esr_core.specs.Allowed as allowed
 use Rattle.esr_core.specs.Allowed.{GivesRestore, RestoreAllows, AcceptsRestore, OpeningRestore, NotListed, NamedByDelete, FullOfRestores, ReadAllows, ReadFound, ReadMissing, ReadFault, RestoringShard, ReaderFailing, CheckingAll, CheckFailing, Allows, Allowed, VerifyAllows, DrawingTest, TestSpent, BeginningTest, BeginTestFails, CommittingTest, TestTaken, CommitTestFails, RemovingTests, RemoveTestsFails, VerifyingAll, VerifyFailing}
@@ -21,7 +21,8 @@ use Rattle.esr_core.specs.ReadTracked.{ReaderTracked, RestoresTracked, ReadTrack
 use Rattle.esr_readers.specs.Readers.{RestoresIn, IsSameReader, IsThereAs, IsGiven, IsReaderOf, IsRestoreOf, ReadsAs}
 use Rattle.esr_core.proofs.Reading.{some_same, Has-map, Has-mapped}
 use Rattle.esr_core.proofs.Results.{choose_true, choose_false}
-use Rattle.esr_core.proofs.Histories.{deposed_stays, legal_parts}
+use Rattle.esr_core.proofs.Histories.{legal_parts}
+use Rattle.esr_core.proofs.Blocked.{blocked_stays}
 use Rattle.esr_core.proofs.Queues.{was_in, same_in, other_in, split_at}
 use Rattle.esr_core.proofs.Restoring.{LeavesPlace, handed_is, ended_is, handed_place, ended_place, apart_one, put_was}
 use Rattle.esr_core.proofs.Going.{goes_answered}
@@ -49,13 +50,13 @@ pub data Makes (w new : World) : Type 0 where
 makes_same : (w : World) → Makes w w
 makes_same w = MakesNothing refl refl (omega arith)
 
--- other blobs, and what who 0 has done
-makes_aside : (w new : World) (blobs : Blobs) (caller : Caller) → Makes w new → Makes w (record new { blobs = blobs; caller = caller })
-makes_aside w new blobs caller (MakesNothing a b c) = MakesNothing a b c
-makes_aside w new blobs caller (MakesRestore uuid place indices a b c) = MakesRestore uuid place indices a b c
-makes_aside w new blobs caller (MakesReader o r s there s_there unread a b c) = MakesReader o r s there s_there unread a b c
-makes_aside w new blobs caller (MakesMore k q name bytes there a b c) = MakesMore k q name bytes there a b c
-makes_aside w new blobs caller (MakesEnd k q r state q_there there over a b c) = MakesEnd k q r state q_there there over a b c
+-- other blobs, and what was done so far
+makes_aside : (w new : World) (blobs : Blobs) (caller : Caller) (entries : List Entry) → Makes w new → Makes w (record new { blobs = blobs; caller = caller; entries = entries })
+makes_aside w new blobs caller entries (MakesNothing a b c) = MakesNothing a b c
+makes_aside w new blobs caller entries (MakesRestore uuid place indices a b c) = MakesRestore uuid place indices a b c
+makes_aside w new blobs caller entries (MakesReader o r s there s_there unread a b c) = MakesReader o r s there s_there unread a b c
+makes_aside w new blobs caller entries (MakesMore k q name bytes there a b c) = MakesMore k q name bytes there a b c
+makes_aside w new blobs caller entries (MakesEnd k q r state q_there there over a b c) = MakesEnd k q r state q_there there over a b c
 
 module _ (f : Formats) (size : ℕ) (w : World) (t : Tracked w) where
   asks : (name place : Bytes) (reply : Reply) (image : Option Image) → RestoreAllows f w name reply image → Makes w (answered f w 0 (AskStep (Restore name place)) reply image)
@@ -147,8 +148,8 @@ module _ (f : Formats) (size : ℕ) (w : World) (t : Tracked w) where
 
 makes_step : (f : Formats) (size : ℕ) (w : World) (m : Moment) → Tracked w → Allowed f size w m → Makes w (after f w m)
 makes_step f size w m t a = elim a.answered [
-  | inl alive ↦ makes_aside w (answered f w m.entry.who m.entry.step m.entry.reply m.image) (blobs_in m.image w.blobs) (after f w m).caller (makes_answered f size w t m.entry.who m.entry.step m.entry.reply m.image alive.1)
-  | inr dead ↦ subst (Makes w) (sym (deposed_stays f w m dead)) (makes_same w)
+  | inl alive ↦ makes_aside w (answered f w m.entry.who m.entry.step m.entry.reply m.image) (blobs_in m.image w.blobs) (after f w m).caller (after f w m).entries (makes_answered f size w t m.entry.who m.entry.step m.entry.reply m.image alive.1)
+  | inr dead ↦ subst (Makes w) (sym (blocked_stays f w m dead)) (MakesNothing refl refl (omega arith))
 ]
 
 -- ---- a ticket stays the same
@@ -190,10 +191,10 @@ stays_there f size w (m ∷ log) k q t l legal e =
 
 -- ---- a ticket is given
 
-alive_allows : (f : Formats) (size : ℕ) (w : World) (m : Moment) (reply : Reply) → ((place : ℕ) → reply ≡ Refused (DeposedAt place) → ⊥) → Allowed f size w m → m.entry.reply ≡ reply → Allows f size w m.entry.who m.entry.step reply m.image
+alive_allows : (f : Formats) (size : ℕ) (w : World) (m : Moment) (reply : Reply) → ((refusal : Refusal) → reply ≡ Refused refusal → ⊥) → Allowed f size w m → m.entry.reply ≡ reply → Allows f size w m.entry.who m.entry.step reply m.image
 alive_allows f size w m reply not a is = elim a.answered [
   | inl alive ↦ subst (λ x. Allows f size w m.entry.who m.entry.step x m.image) is alive.1
-  | inr dead ↦ absurd (not dead.place (sym is ∙ dead.refused))
+  | inr dead ↦ absurd (not dead.refusal (sym is ∙ dead.refused))
 ]
 
 -- the first shard of this index and number has them
@@ -233,8 +234,8 @@ gives_it f size w who step k o index number uuid image (allowed.Verifying read r
 gives_it f size w who step k o index number uuid image (allowed.Pruning j prune rep im h) = elim h [ ]
 gives_it f size w who step k o index number uuid image (allowed.Reading j read rep im h same) = elim h [ ]
 
-no_refusal : {k o : ℕ} {unit : Given} (place : ℕ) → Gave k o unit ≡ Refused (DeposedAt place) → ⊥
-no_refusal place e = cc
+no_refusal : {k o : ℕ} {unit : Given} (refusal : Refusal) → Gave k o unit ≡ Refused refusal → ⊥
+no_refusal refusal e = cc
 
 pub is_given : (f : Formats) (size : ℕ) (w : World) (m : Moment) (k o index number uuid : ℕ) → Allowed f size w m → m.entry.reply ≡ Gave k o (GivenRestore index number uuid) → IsGiven (after f w m) k o index number uuid
 is_given f size w m k o index number uuid a e =
@@ -275,8 +276,8 @@ accepts_it f size w who step o uuid indices image (allowed.Verifying read rep im
 accepts_it f size w who step o uuid indices image (allowed.Pruning j prune rep im h) = elim h [ ]
 accepts_it f size w who step o uuid indices image (allowed.Reading j read rep im h same) = elim h [ ]
 
-unrefused : {o uuid : ℕ} {indices : List IndexRef} (place : ℕ) → AcceptedRestore o uuid indices ≡ Refused (DeposedAt place) → ⊥
-unrefused place e = cc
+unrefused : {o uuid : ℕ} {indices : List IndexRef} (refusal : Refusal) → AcceptedRestore o uuid indices ≡ Refused refusal → ⊥
+unrefused refusal e = cc
 
 module _ (f : Formats) (size : ℕ) (w : World) (m : Moment) (o uuid : ℕ) (indices : List IndexRef) (a : Allowed f size w m) (e : m.entry.reply ≡ AcceptedRestore o uuid indices) where
   abbrev it : AcceptsIt f w m.entry.step o uuid indices m.image
@@ -481,8 +482,8 @@ restores_by : (f : Formats) (size : ℕ) (w : World) (k files bytes : ℕ) (imag
 restores_by f size w k files bytes image (allowed.Reading j read rep im h same) = reader_restores h
 restores_by f size w k files bytes image (allowed.Verifying read rep im h) = elim h [ ]
 
-not_ended : (place : ℕ) → HasEnded ≡ Refused (DeposedAt place) → ⊥
-not_ended place e = cc
+not_ended : (refusal : Refusal) → HasEnded ≡ Refused refusal → ⊥
+not_ended refusal e = cc
 
 -- its ticket is out
 restores_out : (f : Formats) (size : ℕ) (w : World) (m : Moment) (k files bytes : ℕ) (q : Reader) → Allowed f size w m → RestoresIn m k files bytes → fin.get w.readers k ≡ Some q → IsReading w k q
@@ -581,7 +582,7 @@ ask_leaves f size w m command t a e = elim a.answered [
   | inl alive ↦
       ap (λ x. (answered f w m.entry.who x m.entry.reply m.image).readers) e
       ∙ asked_leaves f size w t m.entry.who command m.entry.reply m.image (subst (λ x. Allows f size w m.entry.who x m.entry.reply m.image) e alive.1)
-  | inr dead ↦ ap (λ (x : World). x.readers) (deposed_stays f w m dead)
+  | inr dead ↦ ap (λ (x : World). x.readers) (blocked_stays f w m dead)
 ]
 
 pub look_leaves : (f : Formats) (size : ℕ) (w : World) (m : Moment) → Tracked w → Allowed f size w m → m.entry.step ≡ LookStep → (after f w m).readers ≡ w.readers

@@ -1,9 +1,11 @@
 -- A container that was opened is one with an empty history.
-use Rattle.std.proofs.Common.{◌≡◌, ℕ, ◌-◌, ◌^◌, ◌≤◌, [], Some, None, sym, ap, ◌∙◌, subst, arith, nat_cmp}
+use Rattle.std.proofs.Common.{◌≡◌, ℕ, ◌-◌, ◌^◌, ◌≤◌, List, [], Some, None, sym, ap, ◌∙◌, subst, arith, nat_cmp}
 use Rattle.std.specs.FinMap.{FinMap}
 use Rattle.std.specs.FinMap as fin
 use Rattle.esr_model.specs.Values.{Has}
 use Rattle.esr_core.specs.World.{World, Ticket, Caller, no_caller}
+use Rattle.esr_core.specs.Entry.{Entry}
+use Rattle.esr_core.specs.Past.{entries_by}
 use Rattle.esr_depot.specs.Image.{Image as Held}
 use Rattle.esr_depot.specs.Look.{Look}
 use Rattle.esr_desk.specs.Start.{Start}
@@ -41,6 +43,10 @@ begun_repo l s clock past k b =
             gone = λ uuid a. absurd (no_ticket s.world b.no_tickets a.k a.t a.there);
             read_tracked = b.read_tracked;
             tests = no_tests s.world b.uncalled;
+            no_entries = b.no_entries;
+            client = record { made = λ e has. absurd (subst (λ (made : List Entry). Has (entries_by made 0) e) b.no_entries has); committed = λ name has. absurd (subst (λ (c : Caller). Has c.committed name) b.uncalled has) };
+            stale = λ k was. absurd (subst (λ (made : List Entry). Has (entries_by made k) was.entry) b.no_entries was.there);
+            of_ops = record { some = λ k t there. absurd (no_ticket s.world b.no_tickets k t there); apart = λ k t uuids plan op there work is. absurd (no_ticket s.world b.no_tickets k t there); over = λ k t op there settled is. absurd (no_ticket s.world b.no_tickets k t there) };
             few_ops = omega arith;
             few_tickets = omega arith;
           };

@@ -31,10 +31,12 @@ use Rattle.esr_names.specs.declared.blob.BlobName.{BlobName as CodeName}
 use Rattle.esr_names.specs.declared.blob.BlobName.TheVariants as code
 use Rattle.esr_progress.specs.Plan.{Plan, seat_of, reader_seat, IsPlanOf}
 use Rattle.esr_desk.specs.Start.{Start, formats_of, world_of, Legal}
+use Rattle.esr_desk.specs.Own.{caller_of}
 use Rattle.esr_desk.specs.Conditions.{Holds}
 use Rattle.esr_repo.specs.Log.{image_of, asks_container, calls, log_of}
 use Rattle.esr_repo.specs.Repo.{Kept, TellsSo, IsSteady, IsRepo}
-use Rattle.esr_repo.specs.Next.{Added, IsLive}
+use Rattle.esr_repo.specs.Client.{ReadsOwn}
+use Rattle.esr_repo.specs.Next.{Added, IsLive, GoesOn}
 use Rattle.esr_repo.specs.May.{CanTell, IsBegin, IsCommit, IsFetch, Same, IsNamed, MayBegin, IsThere, IsAdded, MayCommit, IsPut, MayReplace, IsFound, MayFetch}
 use Rattle.esr_repo.specs.Laws.{Laws}
 use Rattle.esr_repo.specs.Grown.{legal_step}
@@ -76,6 +78,7 @@ pub record IsCall (old new : Look) (s : Start) (seen : List Moment) (e : Entry) 
   pub goes : Goes old new e
   pub tells : TellsSo new s.tells
   pub allowed : Allowed (formats_of s) s.part_size (world_of s seen) (record { entry = e; image = image_now new })
+  pub own : ReadsOwn (caller_of s seen) e.who e.step
   -- a crash might have left what it might have left before, or what this entry leaves
   pub left : (t : ℕ) (i : Held) → t ≤ old.clock → new.since t i → old.since t i ⊎ Leaves (formats_of s) s.part_size (world_of s seen) (record { entry = e; image = image_now new } ∷ []) (image_of i)
 
@@ -397,10 +400,12 @@ module _ {old : Look} {s : Start} {clock : ℕ} {es : List Entry} {k : Kept} {d 
           ∙ text_same s seen old steady (image_of y.0) (ap (option_map image_of) y.1)
           ∙ ap (λ r. Some ((formats_of s).cluster.text r)) (sym same_record)
 
-      pub allowed_is : TextStays (now old) o → Allows (formats_of s) s.part_size (world_of s seen) e.who e.step e.reply (option_map image_of o) → Allowed (formats_of s) s.part_size (world_of s seen) left_then
-      allowed_is text allows =
+      pub allowed_is : GoesOn s seen e.who e.step → TextStays (now old) o → Allows (formats_of s) s.part_size (world_of s seen) e.who e.step e.reply (option_map image_of o) → Allowed (formats_of s) s.part_size (world_of s seen) left_then
+      allowed_is goes text allows =
           record {
             answered = inl (b.live, allows);
+            aborted = λ by live x. absurd (goes.unaborted by x);
+            once = λ live. goes.fresh;
             record_back = subst (λ kind. ReadsBack kind (record_of (after (formats_of s) (world_of s seen) left_then))) (sym (cluster_is s)) (subst (λ r. ReadsBack cluster_kind r) (sym same_record) steady.record_back);
             text = text_then text;
           }
@@ -447,14 +452,15 @@ module _ {old : Look} {s : Start} {clock : ℕ} {es : List Entry} {k : Kept} {d 
       abbrev here : Moment
       here = record { entry = e; image = image_now new }
 
-      pub call_is : (may : Change) → Passed old new may → calls e.step e.reply ≡ true → TextStays (now old) (now new)
+      pub call_is : (may : Change) → GoesOn s seen e.who e.step → Passed old new may → calls e.step e.reply ≡ true → TextStays (now old) (now new)
           → Allows (formats_of s) s.part_size (world_of s seen) e.who e.step e.reply (image_now new)
           → ((i : Held) → may (now old) (Some i) → Leaves (formats_of s) s.part_size (world_of s seen) (here ∷ []) (image_of i)) → IsCall old new s seen e
-      call_is may passed called text allows cut =
+      call_is may goes passed called text allows cut =
           record {
             goes = goes_passed old new may e called passed;
             tells = tells_stay old new s.tells b.repo.tells text;
-            allowed = allowed_is (now new) e noswap text allows;
+            allowed = allowed_is (now new) e noswap goes text allows;
+            own = goes.own;
             left = λ t i le h. elim (passed.since t i le h) [ inl was ↦ inl was | inr m ↦ inr (cut i m) ];
           }
 
@@ -466,13 +472,13 @@ module _ {old : Look} {s : Start} {clock : ℕ} {es : List Entry} {k : Kept} {d 
           let w : World = answered (formats_of s) (world_of s seen) e.who e.step e.reply (image_now new) in
           let rests = rests_answered (formats_of s) (world_of s seen) e.who e.step e.reply (image_now new) noswap in
           made old new s clock es es' k k d d seen e b more c
-          (added_repo old new s clock es es' k k d d seen e b.laws b.repo b.view c.goes c.tells more c.allowed
+          (added_repo old new s clock es es' k k d d seen e b.laws b.repo b.view c.goes c.tells more c.allowed c.own
           (λ none. (
             rests.deposed ∙ b.live,
             record {
               cluster = kept.1.cluster ∙ sym (same_record (now new) e noswap);
               root = kept.1.root ∙ sym rests.root;
-              plan = plan_aside w (blobs_in (image_now new) (world_of s seen).blobs) w.deposed (after (formats_of s) (world_of s seen) here).caller k.plan (idles.plan k.plan kept.1.plan);
+              plan = plan_aside w (blobs_in (image_now new) (world_of s seen).blobs) w.deposed (after (formats_of s) (world_of s seen) here).caller (after (formats_of s) (world_of s seen) here).entries k.plan (idles.plan k.plan kept.1.plan);
               next = kept.1.next ∙ sym idles.next;
             },
             infos_over s (world_of s seen) here k.infos steady.tracked steady.tests steady.gone c.allowed leaves kept.2,
@@ -481,7 +487,7 @@ module _ {old : Look} {s : Start} {clock : ℕ} {es : List Entry} {k : Kept} {d 
 
     -- ---- a new stage
 
-    module _ (who : ℕ) (step : Step) (nm : BlobName) (m : MayBegin s seen who step nm) (back : ReadsBack name_kind nm) where
+    module _ (who : ℕ) (step : Step) (nm : BlobName) (m : MayBegin s seen who step nm) (goes : GoesOn s seen who step) (back : ReadsBack name_kind nm) where
       no_begin_swap : swaps_record step ≡ false
       no_begin_swap = begin_no_swap step nm m.is
 
@@ -490,7 +496,7 @@ module _ {old : Look} {s : Start} {clock : ℕ} {es : List Entry} {k : Kept} {d 
       begin_ok x c mid es' p =
           let e : Entry = record { who = who; step = step; reply = WasBegun } in
           let same : now new ≡ now old = c.done in
-          call_made e no_begin_swap (begin_leaves step nm e.reply m.is) mid es' p (call_is e no_begin_swap SameImage (c.passed refl) (begin_asks step nm m.is) (text_same_image (now old) (now new) same) (m.begins (named_of s nm back) (image_now new) (tell_of (now new) (text_same_image (now old) (now new) same)) (told_same (now new) same)) (same_cut (here e no_begin_swap)))
+          call_made e no_begin_swap (begin_leaves step nm e.reply m.is) mid es' p (call_is e no_begin_swap SameImage goes (c.passed refl) (begin_asks step nm m.is) (text_same_image (now old) (now new) same) (m.begins (named_of s nm back) (image_now new) (tell_of (now new) (text_same_image (now old) (now new) same)) (told_same (now new) same)) (same_cut (here e no_begin_swap)))
           (idles_begun (formats_of s) (world_of s seen) who step nm (image_now new) m.is)
 
       pub begin_fault : {T : Type 0} (error : CallError) → error ≡ Failed → Called {T = T} old new (λ _. SameImage) SameImage (Err error) → (mid es' : List Entry) → Pushed es mid es' (record { who = who; step = step; reply = Refused DepotFault })
@@ -499,12 +505,12 @@ module _ {old : Look} {s : Start} {clock : ℕ} {es : List Entry} {k : Kept} {d 
           let e : Entry = record { who = who; step = step; reply = Refused DepotFault } in
           let g = failed_is {T = T} old new (λ _. SameImage) SameImage error is c in
           let same : now new ≡ now old = g.1 in
-          call_made e no_begin_swap (begin_leaves step nm e.reply m.is) mid es' p (call_is e no_begin_swap SameImage g.0 refl (text_same_image (now old) (now new) same) (m.fails (named_of s nm back) (image_now new) (tell_of (now new) (text_same_image (now old) (now new) same)) (told_same (now new) same)) (same_cut (here e no_begin_swap)))
+          call_made e no_begin_swap (begin_leaves step nm e.reply m.is) mid es' p (call_is e no_begin_swap SameImage goes g.0 refl (text_same_image (now old) (now new) same) (m.fails (named_of s nm back) (image_now new) (tell_of (now new) (text_same_image (now old) (now new) same)) (told_same (now new) same)) (same_cut (here e no_begin_swap)))
           (idles_unbegun (formats_of s) (world_of s seen) who step nm (image_now new) m.is)
 
     -- ---- a blob that is committed
 
-    module _ (who : ℕ) (step : Step) (nm : BlobName) (contents : Option Bytes) (bytes : Bytes) (h : Holds s contents bytes) (m : MayCommit s seen who step nm bytes) (back : ReadsBack name_kind nm) (text : Bytes) (named : text ≡ name_kind.text nm) where
+    module _ (who : ℕ) (step : Step) (nm : BlobName) (contents : Option Bytes) (bytes : Bytes) (h : Holds s contents bytes) (m : MayCommit s seen who step nm bytes) (goes : GoesOn s seen who step) (back : ReadsBack name_kind nm) (text : Bytes) (named : text ≡ name_kind.text nm) where
       no_commit_swap : swaps_record step ≡ false
       no_commit_swap = commit_no_swap step nm m.is
 
@@ -532,7 +538,7 @@ module _ {old : Look} {s : Start} {clock : ℕ} {es : List Entry} {k : Kept} {d 
           → Leaves (formats_of s) s.part_size (world_of s seen) (record { entry = record { who = who; step = step; reply = reply }; image = image } ∷ []) (image_of i)
       commit_cut reply image i may =
           let left = commit_left (Some i) may in
-          inr (inl (allowed_is (Some i) (record { who = who; step = step; reply = Refused DepotFault }) no_commit_swap left.0 (m.fails (named_of s nm back) (Some (image_of i)) (tell_of (Some i) left.0) left.1)))
+          inr (inl (allowed_is (Some i) (record { who = who; step = step; reply = Refused DepotFault }) no_commit_swap goes left.0 (m.fails (named_of s nm back) (Some (image_of i)) (tell_of (Some i) left.0) left.1)))
 
       pub commit_done : (found : Commit) → found ≡ commits.Done → Called old new (Committed text contents) (CommitMay text contents) (Ok found) → (mid es' : List Entry) → Pushed es mid es' (record { who = who; step = step; reply = WasDone })
           → Made old new s clock es es' k d seen (record { who = who; step = step; reply = WasDone }) × (told_blob (formats_of s) (image_now new) nm ≡ contents)
@@ -541,7 +547,7 @@ module _ {old : Look} {s : Start} {clock : ℕ} {es : List Entry} {k : Kept} {d 
           let c' = of_name (Ok commits.Done) (subst (λ x. Called old new (Committed text contents) (CommitMay text contents) (Ok x)) what c) in
           let is : now new ≡ put_known (now old) name_text contents = c'.done.0 in (
             call_made e no_commit_swap (commit_leaves step nm e.reply m.is) mid es' p
-                (call_is e no_commit_swap (CommitMay name_text contents) (c'.passed refl) (commit_asks step nm m.is) (text_put (now new) name_text contents bytes h is) (m.commits (named_of s nm back) (image_now new) (tell_of (now new) (text_put (now new) name_text contents bytes h is)) (told_of (now new) (IsAdded s seen nm bytes) (told_added (now new) is c'.done.1))) (commit_cut WasDone (image_now new)))
+                (call_is e no_commit_swap (CommitMay name_text contents) goes (c'.passed refl) (commit_asks step nm m.is) (text_put (now new) name_text contents bytes h is) (m.commits (named_of s nm back) (image_now new) (tell_of (now new) (text_put (now new) name_text contents bytes h is)) (told_of (now new) (IsAdded s seen nm bytes) (told_added (now new) is c'.done.1))) (commit_cut WasDone (image_now new)))
                 (idles_committed (formats_of s) (world_of s seen) who step nm (image_now new) m.is),
             blob_put (now new) nm contents bytes h is,
           )
@@ -561,7 +567,7 @@ module _ {old : Look} {s : Start} {clock : ℕ} {es : List Entry} {k : Kept} {d 
           let c' = of_name (Ok commits.Exists) (subst (λ x. Called old new (Committed text contents) (CommitMay text contents) (Ok x)) what c) in
           let same : now new ≡ now old = c'.done.0 in
           call_made e no_commit_swap (commit_leaves step nm e.reply m.is) mid es' p
-          (call_is e no_commit_swap (CommitMay name_text contents) (c'.passed refl) (commit_asks step nm m.is) (text_same_image (now old) (now new) same) (m.finds (named_of s nm back) metadata (image_now new) (tell_of (now new) (text_same_image (now old) (now new) same)) (told_of (now new) (IsThere s seen nm) (told_there same c'.done.1))) (commit_cut WasThere (image_now new)))
+          (call_is e no_commit_swap (CommitMay name_text contents) goes (c'.passed refl) (commit_asks step nm m.is) (text_same_image (now old) (now new) same) (m.finds (named_of s nm back) metadata (image_now new) (tell_of (now new) (text_same_image (now old) (now new) same)) (told_of (now new) (IsThere s seen nm) (told_there same c'.done.1))) (commit_cut WasThere (image_now new)))
           (idles_there (formats_of s) (world_of s seen) who step nm (image_now new) m.is)
 
       pub commit_taken : (found : Commit) → found ≡ commits.Exists → Called old new (Committed text contents) (CommitMay text contents) (Ok found) → (IsMetadata nm → ⊥) → (mid es' : List Entry) → Pushed es mid es' (record { who = who; step = step; reply = Refused (NameTaken nm) })
@@ -571,7 +577,7 @@ module _ {old : Look} {s : Start} {clock : ℕ} {es : List Entry} {k : Kept} {d 
           let c' = of_name (Ok commits.Exists) (subst (λ x. Called old new (Committed text contents) (CommitMay text contents) (Ok x)) what c) in
           let same : now new ≡ now old = c'.done.0 in
           call_made e no_commit_swap (commit_leaves step nm e.reply m.is) mid es' p
-          (call_is e no_commit_swap (CommitMay name_text contents) (c'.passed refl) refl (text_same_image (now old) (now new) same) (m.taken (named_of s nm back) other (image_now new) (tell_of (now new) (text_same_image (now old) (now new) same)) (told_of (now new) (IsThere s seen nm) (told_there same c'.done.1))) (commit_cut (Refused (NameTaken nm)) (image_now new)))
+          (call_is e no_commit_swap (CommitMay name_text contents) goes (c'.passed refl) refl (text_same_image (now old) (now new) same) (m.taken (named_of s nm back) other (image_now new) (tell_of (now new) (text_same_image (now old) (now new) same)) (told_of (now new) (IsThere s seen nm) (told_there same c'.done.1))) (commit_cut (Refused (NameTaken nm)) (image_now new)))
           (idles_same (world_of s seen))
 
       pub commit_fault : (error : CallError) → error ≡ Failed → Called old new (Committed text contents) (CommitMay text contents) (Err error) → (mid es' : List Entry) → Pushed es mid es' (record { who = who; step = step; reply = Refused DepotFault })
@@ -580,11 +586,11 @@ module _ {old : Look} {s : Start} {clock : ℕ} {es : List Entry} {k : Kept} {d 
           let e : Entry = record { who = who; step = step; reply = Refused DepotFault } in
           let g = failed_is old new (Committed name_text contents) (CommitMay name_text contents) error is (of_name (Err error) c) in
           let left = commit_left (now new) g.1 in
-          call_made e no_commit_swap (commit_leaves step nm e.reply m.is) mid es' p (call_is e no_commit_swap (CommitMay name_text contents) g.0 refl left.0 (m.fails (named_of s nm back) (image_now new) (tell_of (now new) left.0) left.1) (commit_cut (Refused DepotFault) (image_now new))) (idles_uncommitted (formats_of s) (world_of s seen) who step nm (image_now new) m.is)
+          call_made e no_commit_swap (commit_leaves step nm e.reply m.is) mid es' p (call_is e no_commit_swap (CommitMay name_text contents) goes g.0 refl left.0 (m.fails (named_of s nm back) (image_now new) (tell_of (now new) left.0) left.1) (commit_cut (Refused DepotFault) (image_now new))) (idles_uncommitted (formats_of s) (world_of s seen) who step nm (image_now new) m.is)
 
     -- ---- `index.latest` is replaced
 
-    module _ (who : ℕ) (contents : Option Bytes) (bytes : Bytes) (h : Holds s contents bytes) (m : MayReplace s seen who bytes) (back : ReadsBack name_kind Latest) (text : Bytes) (named : text ≡ name_kind.text Latest) where
+    module _ (who : ℕ) (contents : Option Bytes) (bytes : Bytes) (h : Holds s contents bytes) (m : MayReplace s seen who bytes) (goes : GoesOn s seen who LatestStep) (back : ReadsBack name_kind Latest) (text : Bytes) (named : text ≡ name_kind.text Latest) where
       abbrev latest_text : Bytes
       latest_text = (formats_of s).names.text Latest
 
@@ -606,7 +612,7 @@ module _ {old : Look} {s : Start} {clock : ℕ} {es : List Entry} {k : Kept} {d 
           → Leaves (formats_of s) s.part_size (world_of s seen) (record { entry = record { who = who; step = LatestStep; reply = reply }; image = image } ∷ []) (image_of i)
       replace_cut reply image i may =
           let left = replace_left (Some i) may in
-          inr (inl (allowed_is (Some i) (record { who = who; step = LatestStep; reply = Refused DepotFault }) refl left.0 (m.fails (named_of s Latest back) (Some (image_of i)) (tell_of (Some i) left.0) left.1)))
+          inr (inl (allowed_is (Some i) (record { who = who; step = LatestStep; reply = Refused DepotFault }) refl goes left.0 (m.fails (named_of s Latest back) (Some (image_of i)) (tell_of (Some i) left.0) left.1)))
 
       pub replace_ok : (x : Unit {0}) → Called old new (λ _. Replaced text contents) (ReplaceMay text contents) (Ok x) → (mid es' : List Entry) → Pushed es mid es' (record { who = who; step = LatestStep; reply = WasReplaced })
           → Made old new s clock es es' k d seen (record { who = who; step = LatestStep; reply = WasReplaced })
@@ -615,7 +621,7 @@ module _ {old : Look} {s : Start} {clock : ℕ} {es : List Entry} {k : Kept} {d 
           let c' = of_latest (Ok x) c in
           let is : now new ≡ put_known (now old) latest_text contents = c'.done in
           call_made e refl tt mid es' p
-          (call_is e refl (ReplaceMay latest_text contents) (c'.passed refl) refl (text_put (now new) latest_text contents bytes h is) (m.puts (named_of s Latest back) (image_now new) (tell_of (now new) (text_put (now new) latest_text contents bytes h is)) (told_of (now new) (IsPut s seen Latest bytes) (blobs_put (now new) latest_text contents bytes h is))) (replace_cut WasReplaced (image_now new)))
+          (call_is e refl (ReplaceMay latest_text contents) goes (c'.passed refl) refl (text_put (now new) latest_text contents bytes h is) (m.puts (named_of s Latest back) (image_now new) (tell_of (now new) (text_put (now new) latest_text contents bytes h is)) (told_of (now new) (IsPut s seen Latest bytes) (blobs_put (now new) latest_text contents bytes h is))) (replace_cut WasReplaced (image_now new)))
           idles_latest
 
       pub replace_fault : (error : CallError) → error ≡ Failed → Called {T = Unit {0}} old new (λ _. Replaced text contents) (ReplaceMay text contents) (Err error) → (mid es' : List Entry) → Pushed es mid es' (record { who = who; step = LatestStep; reply = Refused DepotFault })
@@ -624,11 +630,11 @@ module _ {old : Look} {s : Start} {clock : ℕ} {es : List Entry} {k : Kept} {d 
           let e : Entry = record { who = who; step = LatestStep; reply = Refused DepotFault } in
           let g = failed_is {T = Unit {0}} old new (λ _. Replaced latest_text contents) (ReplaceMay latest_text contents) error is (of_latest (Err error) c) in
           let left = replace_left (now new) g.1 in
-          call_made e refl tt mid es' p (call_is e refl (ReplaceMay latest_text contents) g.0 refl left.0 (m.fails (named_of s Latest back) (image_now new) (tell_of (now new) left.0) left.1) (replace_cut (Refused DepotFault) (image_now new))) idles_latest
+          call_made e refl tt mid es' p (call_is e refl (ReplaceMay latest_text contents) goes g.0 refl left.0 (m.fails (named_of s Latest back) (image_now new) (tell_of (now new) left.0) left.1) (replace_cut (Refused DepotFault) (image_now new))) idles_latest
 
     -- ---- a blob that is fetched
 
-    module _ (who : ℕ) (step : Step) (nm : BlobName) (m : MayFetch s seen who step nm) (back : ReadsBack name_kind nm) (text : Bytes) (named : text ≡ name_kind.text nm) where
+    module _ (who : ℕ) (step : Step) (nm : BlobName) (m : MayFetch s seen who step nm) (goes : GoesOn s seen who step) (back : ReadsBack name_kind nm) (text : Bytes) (named : text ≡ name_kind.text nm) where
       abbrev fetched_text : Bytes
       fetched_text = (formats_of s).names.text nm
 
@@ -648,7 +654,7 @@ module _ {old : Look} {s : Start} {clock : ℕ} {es : List Entry} {k : Kept} {d 
           let same : now new ≡ now old = c'.done in
           let there : IsTaken (now old) fetched_text = subst (λ t. IsTaken (now old) t) (named ∙ names_text s nm) (subst (λ o. IfSome o (λ _. IsTaken (now old) text)) is taken) in
           call_made e noswap (fetch_leaves step nm e.reply m.is) mid es' p
-          (call_is e noswap SameImage (c'.passed refl) (fetch_asks step nm m.is) (text_same_image (now old) (now new) same)
+          (call_is e noswap SameImage goes (c'.passed refl) (fetch_asks step nm m.is) (text_same_image (now old) (now new) same)
           (m.fetches (named_of s nm back) (image_now new) (tell_of (now new) (text_same_image (now old) (now new) same))
           (told_of (now new) (λ blobs. (bytes : Bytes) × IsFound s seen nm (Some bytes) blobs) (λ i q.
           let was : now old ≡ Some i = sym same ∙ q in
@@ -687,7 +693,7 @@ module _ {old : Look} {s : Start} {clock : ℕ} {es : List Entry} {k : Kept} {d 
           let same : now new ≡ now old = c'.done in
           let free' : IsFree (now old) fetched_text = subst (λ t. IsFree (now old) t) (named ∙ names_text s nm) free in
           call_made e noswap (fetch_leaves step nm e.reply m.is) mid es' p
-          (call_is e noswap SameImage (c'.passed refl) (fetch_asks step nm m.is) (text_same_image (now old) (now new) same) (m.misses (named_of s nm back) (image_now new) (tell_of (now new) (text_same_image (now old) (now new) same)) (told_of (now new) (IsFound s seen nm None) (told_found None same free'))) (same_cut (here e noswap)))
+          (call_is e noswap SameImage goes (c'.passed refl) (fetch_asks step nm m.is) (text_same_image (now old) (now new) same) (m.misses (named_of s nm back) (image_now new) (tell_of (now new) (text_same_image (now old) (now new) same)) (told_of (now new) (IsFound s seen nm None) (told_found None same free'))) (same_cut (here e noswap)))
           (idles_absent (formats_of s) (world_of s seen) who step nm (image_now new) m.is)
 
       pub fetch_fault : {T : Type 0} (error : CallError) → error ≡ Failed → Called {T = T} old new (λ _. SameImage) SameImage (Err error) → (mid es' : List Entry) → Pushed es mid es' (record { who = who; step = step; reply = Refused DepotFault })
@@ -696,4 +702,4 @@ module _ {old : Look} {s : Start} {clock : ℕ} {es : List Entry} {k : Kept} {d 
           let e : Entry = record { who = who; step = step; reply = Refused DepotFault } in
           let g = failed_is {T = T} old new (λ _. SameImage) SameImage error is c in
           let same : now new ≡ now old = g.1 in
-          call_made e noswap (fetch_leaves step nm e.reply m.is) mid es' p (call_is e noswap SameImage g.0 refl (text_same_image (now old) (now new) same) (m.fails (named_of s nm back) (image_now new) (tell_of (now new) (text_same_image (now old) (now new) same)) (told_same (now new) same)) (same_cut (here e noswap))) (idles_unfetched (formats_of s) (world_of s seen) who step nm (image_now new) m.is)
+          call_made e noswap (fetch_leaves step nm e.reply m.is) mid es' p (call_is e noswap SameImage goes g.0 refl (text_same_image (now old) (now new) same) (m.fails (named_of s nm back) (image_now new) (tell_of (now new) (text_same_image (now old) (now new) same)) (told_same (now new) same)) (same_cut (here e noswap))) (idles_unfetched (formats_of s) (world_of s seen) who step nm (image_now new) m.is)

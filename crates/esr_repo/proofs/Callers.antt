@@ -5,7 +5,7 @@ use Rattle.esr_model.specs.Names.{BlobName}
 use Rattle.esr_model.specs.Values.{Bytes, Formats}
 use Rattle.esr_model.specs.Image.{Image}
 use Rattle.esr_core.specs.World.{World, Caller, no_caller}
-use Rattle.esr_core.specs.Entry.{Read, ReadBlob, RestoredShard, CheckedAll, DrawTest, CommitTest, RemoveTests, VerifiedAll, ReadFails, Step, AskStep, LookStep, ReadStep, Reply, DrawnFrom, WasDone, WasRemoved, WasFetched, HasEnded, Refusal, Refused, IdsSpent, DeposedAt, Moment}
+use Rattle.esr_core.specs.Entry.{Read, ReadBlob, RestoredShard, CheckedAll, DrawTest, CommitTest, RemoveTests, VerifiedAll, ReadFails, Step, AskStep, LookStep, ReadStep, Reply, DrawnFrom, WasDone, WasRemoved, WasFetched, HasEnded, Refusal, Refused, IdsSpent, AbortedBy, DeposedAt, Moment}
 use Rattle.esr_core.specs.After.{told_blob, is_heard, caller_told, caller_wrote, caller_ended, caller_read, caller_by, caller_after, after}
 use Rattle.esr_core.specs.Allowed.{ReadAllows, VerifyAllows, Allows, Allowed}
 use Rattle.esr_core.specs.Allowed as allowed
@@ -15,10 +15,13 @@ use Rattle.esr_desk.specs.declared.refusal.EntryRefusal.TheVariants as refusals
 use Rattle.esr_desk.specs.declared.refusal.StepRefusal.{StepRefusal}
 use Rattle.esr_desk.specs.declared.refusal.StepRefusal.TheVariants as steps
 use Rattle.esr_desk.specs.Start.{Start, formats_of, world_of}
-use Rattle.esr_checking.specs.Caller.{caller_of, drawn_by}
+use Rattle.esr_desk.specs.Own.{caller_of}
+use Rattle.esr_desk.specs.Caller.{drawn_by}
 use Rattle.esr_repo.specs.Repo.{IsTest, AreTests}
 use Rattle.esr_repo.specs.Next.{Added, AddedOr, Did}
 use Rattle.esr_repo.specs.Grown.{added_world}
+use Rattle.esr_progress.specs.Plan.{Plan}
+use Rattle.esr_repo.proofs.Blocked.{Tells, OfSwap, OfDelete}
 use Rattle.esr_repo.proofs.Frames.{caller_stays}
 
 -- ---- the world's caller
@@ -49,28 +52,43 @@ unread f c zero (ReadFails why) refusal image other = refl
 unread f c zero read refusal image other = refl
 unread f c (suc k) read refusal image other = refl
 
--- nothing was heard
-unread_deposed : (f : Formats) (c : Caller) (who : ℕ) (read : Read) (place : ℕ) (image : Option Image) → caller_by f c who read (Refused (DeposedAt place)) image ≡ c
-unread_deposed f c zero (ReadBlob name) place image = refl
-unread_deposed f c zero (RestoredShard files bytes) place image = refl
-unread_deposed f c zero (CheckedAll snapshots blobs) place image = refl
-unread_deposed f c zero DrawTest place image = refl
-unread_deposed f c zero (CommitTest name) place image = refl
-unread_deposed f c zero (RemoveTests names) place image = refl
-unread_deposed f c zero VerifiedAll place image = refl
-unread_deposed f c zero (ReadFails why) place image = refl
-unread_deposed f c zero read place image = refl
-unread_deposed f c (suc k) read place image = refl
+-- refused before it was looked at
+abbrev pub IsUnheard : Refusal → Type 0
+IsUnheard (DeposedAt place) = Unit {0}
+IsUnheard (AbortedBy op) = Unit {0}
+IsUnheard refusal = ⊥
 
-unheard : (f : Formats) (c : Caller) (who : ℕ) (step : Step) (place : ℕ) (image : Option Image) → caller_after f c who step (Refused (DeposedAt place)) image ≡ c
-unheard f c who (AskStep command) place image = refl
-unheard f c who LookStep place image = refl
-unheard f c who (ReadStep read) place image = unread_deposed f c who read place image
-unheard f c who step place image = refl
+unread_block : (f : Formats) (c : Caller) (who : ℕ) (read : Read) (refusal : Refusal) (image : Option Image) → IsUnheard refusal → caller_by f c who read (Refused refusal) image ≡ c
+unread_block f c zero (ReadBlob name) refusal image h = refl
+unread_block f c zero (RestoredShard files bytes) refusal image h = refl
+unread_block f c zero (CheckedAll snapshots blobs) refusal image h = refl
+unread_block f c zero DrawTest (DeposedAt place) image h = refl
+unread_block f c zero DrawTest (AbortedBy op) image h = refl
+unread_block f c zero DrawTest refusal image h = absurd h
+unread_block f c zero (CommitTest name) refusal image h = refl
+unread_block f c zero (RemoveTests names) refusal image h = refl
+unread_block f c zero VerifiedAll refusal image h = refl
+unread_block f c zero (ReadFails why) refusal image h = refl
+unread_block f c zero read refusal image h = refl
+unread_block f c (suc k) read refusal image h = refl
 
--- after a record swap that failed
-pub deposed_caller : (s : Start) (old new : List Moment) (who : ℕ) (step : Step) (place : ℕ) → Added s old new who step (Refused (DeposedAt place)) → caller_of s new ≡ caller_of s old
-deposed_caller s old new who step place a = added_caller s old new who step (Refused (DeposedAt place)) a ∙ unheard (formats_of s) (caller_of s old) who step place a.image
+unheard : (f : Formats) (c : Caller) (who : ℕ) (step : Step) (refusal : Refusal) (image : Option Image) → IsUnheard refusal → caller_after f c who step (Refused refusal) image ≡ c
+unheard f c who (AskStep command) (DeposedAt place) image h = refl
+unheard f c who (AskStep command) (AbortedBy op) image h = refl
+unheard f c who (AskStep command) refusal image h = absurd h
+unheard f c who LookStep (DeposedAt place) image h = refl
+unheard f c who LookStep (AbortedBy op) image h = refl
+unheard f c who LookStep refusal image h = absurd h
+unheard f c who (ReadStep read) refusal image h = unread_block f c who read refusal image h
+unheard f c who step refusal image h = refl
+
+-- it changes nothing of what who 0 has done
+block_caller : (s : Start) (old new : List Moment) (who : ℕ) (step : Step) (refusal : Refusal) → IsUnheard refusal → Added s old new who step (Refused refusal) → caller_of s new ≡ caller_of s old
+block_caller s old new who step refusal h a = added_caller s old new who step (Refused refusal) a ∙ unheard (formats_of s) (caller_of s old) who step refusal a.image h
+
+pub blocked_caller : (d : Option ℕ) (plan : Plan) (s : Start) (old new : List Moment) (who : ℕ) (step : Step) (refusal : EntryRefusal) → Tells d plan who step refusal → Added s old new who step (Refused (refusal_of refusal)) → caller_of s new ≡ caller_of s old
+blocked_caller d plan s old new who step refusal (OfSwap place fell) a = block_caller s old new who step (DeposedAt place) tt a
+blocked_caller d plan s old new who step refusal (OfDelete op none aborted) a = block_caller s old new who step (AbortedBy op) tt a
 
 -- whatever the refusal of a step that reads
 pub refused_caller : (s : Start) (old new : List Moment) (who : ℕ) (read : Read) (e : StepRefusal) → (read ≡ DrawTest → ⊥) → AddedOr s old new who (ReadStep read) e → caller_of s new ≡ caller_of s old
@@ -152,11 +170,11 @@ allowed_own f size w who name image (allowed.Reading k read reply im h same) = u
 pub tests_step : (f : Formats) (size : ℕ) (w : World) (m : Moment) → Allowed f size w m → AreTests w.caller → AreTests (after f w m).caller
 tests_step f size w m a h = subst AreTests (sym (caller_goes f w m)) (tests_after f w.caller m.entry.who m.entry.step m.entry.reply m.image own h)
   where
-    refused : (place : ℕ) → WasDone ≡ Refused (DeposedAt place) → ⊥
-    refused place e = cc
+    refused : (refusal : Refusal) → WasDone ≡ Refused refusal → ⊥
+    refused refusal e = cc
 
     own : (name : BlobName) → m.entry.step ≡ ReadStep (CommitTest name) → m.entry.reply ≡ WasDone → IsTest name
     own name step reply = elim a.answered [
       | inl alive ↦ allowed_own f size w m.entry.who name m.image (subst (λ (r : Reply). Allows f size w m.entry.who (ReadStep (CommitTest name)) r m.image) reply (subst (λ (s : Step). Allows f size w m.entry.who s m.entry.reply m.image) step alive.1))
-      | inr dead ↦ absurd (refused dead.place (sym reply ∙ dead.refused))
+      | inr dead ↦ absurd (refused dead.refusal (sym reply ∙ dead.refused))
     ]

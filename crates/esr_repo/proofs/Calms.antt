@@ -8,7 +8,7 @@ use Rattle.esr_depot.specs.declared.error.CallError.{CallError}
 use Rattle.esr_depot.specs.declared.error.CallError.TheVariants.{Memory}
 use Rattle.esr_depot.specs.Look.{Look}
 use Rattle.esr_depot.specs.Calls.{Change, Serves, Called}
-use Rattle.esr_desk.specs.Shown.{NeverFailed}
+use Rattle.esr_desk.specs.Evidence.{NeverFailed}
 use Rattle.esr_repo.specs.Log.{image_at, tick, log_from, log_of}
 use Rattle.esr_repo.specs.Counted.{is_fault, fault_entries}
 use Rattle.esr_repo.specs.Calm.{IsCalm}

@@ -6,8 +6,8 @@ use Rattle.esr_core.specs.World.{no_caller}
 use Rattle.esr_core.specs.Entry.{Why, ReadBlob, CheckedAll, ReadFails, ReadStep, WasFetched, WasAbsent, HasEnded, Refused, DepotFault, Moment}
 use Rattle.esr_core.specs.Allowed.{IsChecking, MayCheck, Checks, ByCheck, ReadFound, ReadMissing, ReadFault, CheckingAll, CheckFailing, Reading}
 use Rattle.esr_desk.specs.Start.{Start, formats_of, world_of}
-use Rattle.esr_checking.specs.Caller.{caller_of}
-use Rattle.esr_checking.specs.Checks.{CanCheck, CanEndCheck}
+use Rattle.esr_desk.specs.Own.{caller_of}
+use Rattle.esr_desk.specs.Check.Conditions.{CanCheck, CanEndCheck}
 use Rattle.esr_repo.specs.Next.{Added}
 use Rattle.esr_repo.specs.May.{CanTell, MayNote, MayFetch}
 use Rattle.esr_repo.proofs.Callers.{added_caller}

@@ -23,7 +23,7 @@ use Rattle.esr_formats.specs.Roots.{root_of, root_kind}
 use Rattle.esr_formats.specs.Clusters.{cluster_of, op_of}
 use Rattle.esr_progress.specs.Plan.{Plan, Seat, UnitKind, kind_of, seat_of, IsPlanOf}
 use Rattle.esr_desk.specs.Start.{Start, formats_of, world_of, ticket_of}
-use Rattle.esr_deleting.specs.Conditions.{CanFetchShard, CanPlan, CanSettleDelete, CanRemove, CanEndDelete, CanFailDelete}
+use Rattle.esr_desk.specs.Delete.Conditions.{CanFetchShard, CanPlan, CanSettleDelete, CanRemove, CanEndDelete, CanFailDelete}
 use Rattle.esr_repo.specs.Repo.{OwnIndices, HasInfos}
 use Rattle.esr_repo.specs.May.{CanTell, IsNamed, MayNote, MayRefuse, MaySwap, MayFetch, MayRemove}
 use Rattle.esr_repo.specs.Grown.{out_is}
@@ -194,7 +194,7 @@ may_swap_delete s log k root infos left cluster plan p next clean pruning tracke
 
 -- ---- remove
 
-removes_it : (s : Start) (log : List Moment) (k : ℕ) (names : List BlobName) (image : Option Image) → NoCleanup (world_of s log) → CanRemove s log k names → CanTell s image → RemovesDoomed (formats_of s) (world_of s log) k names image
+removes_it : (s : Start) (log : List Moment) (k : ℕ) (names : List BlobName) (image : Option Image) → NoCleanup (world_of s log) → CanRemove s (ticket_of s log k) names → CanTell s image → RemovesDoomed (formats_of s) (world_of s log) k names image
 removes_it s log k names image clean can tells =
     record {
       t = ticket_of s log k;
@@ -206,9 +206,9 @@ removes_it s log k names image clean can tells =
       doomed = told_if s image _ tells can.doomed;
     }
 
-pub may_remove_doomed : (s : Start) (old log : List Moment) (k : ℕ) (names : List BlobName) → log ≡ old → NoCleanup (world_of s log) → CanRemove s old k names → MayRemove s log k (PruneStep (RemoveDoomed names)) names
+pub may_remove_doomed : (s : Start) (old log : List Moment) (k : ℕ) (names : List BlobName) → log ≡ old → NoCleanup (world_of s log) → CanRemove s (ticket_of s old k) names → MayRemove s log k (PruneStep (RemoveDoomed names)) names
 may_remove_doomed s old log k names e clean before =
-    let can : CanRemove s log k names = subst (λ (l : List Moment). CanRemove s l k names) (sym e) before in
+    let can : CanRemove s (ticket_of s log k) names = subst (λ (l : List Moment). CanRemove s (ticket_of s l k) names) (sym e) before in
     record {
       is = refl;
       removes = λ image tells gone. Pruning k (RemoveDoomed names) WasRemoved image (RemovingDoomed k names image (removes_it s log k names image clean can tells) gone);
@@ -259,14 +259,14 @@ next_failed w k (Some t) = go (is_stale w t t.work)
 fails_it : (s : Start) (log : List Moment) (k : ℕ) → NoCleanup (world_of s log) → CanFailDelete (ticket_of s log k) → FailsDeletion (world_of s log) k
 fails_it s log k clean can = record { t = ticket_of s log k; uuids = can.uuids; plan = can.plan; deleting = is_deleting s log k can.uuids can.plan clean can.out can.work; unsettled = can.unsettled }
 
-pub may_fail_delete : (s : Start) (old log : List Moment) (k : ℕ) (why : Why) (plan p : Plan) (term next : ℕ) → log ≡ old → NoCleanup (world_of s log) → CanFailDelete (ticket_of s old k) → IsPlanOf (world_of s log) plan
-    → term ≡ (world_of s log).term → ((w : World) → IsPlanOf w plan → w.term ≡ term → IsPlanOf (delete_failed w k (fin.get w.tickets k)) p) → next ≡ (world_of s log).next_id
+pub may_fail_delete : (s : Start) (old log : List Moment) (k : ℕ) (why : Why) (p : Plan) (next : ℕ) → log ≡ old → NoCleanup (world_of s log) → CanFailDelete (ticket_of s old k)
+    → IsPlanOf (delete_failed (world_of s log) k (fin.get (world_of s log).tickets k)) p → next ≡ (world_of s log).next_id
     → MayNote s log k (PruneStep (DeleteFails why)) HasEnded (Some p) next
-may_fail_delete s old log k why plan p term next e clean before plan_is term_is goes next_is =
+may_fail_delete s old log k why p next e clean before goes next_is =
     let can : CanFailDelete (ticket_of s log k) = subst (λ (l : List Moment). CanFailDelete (ticket_of s l k)) (sym e) before in
     record {
       plain = refl;
       allows = λ image tells same. Pruning k (DeleteFails why) HasEnded image (FailingDelete k why image (fails_it s log k clean can) same);
-      plan_is = λ image q h. goes (world_of s log) plan_is (sym term_is);
+      plan_is = λ image q h. goes;
       next_is = λ image. next_is ∙ sym (next_failed (world_of s log) k (fin.get (world_of s log).tickets k));
     }

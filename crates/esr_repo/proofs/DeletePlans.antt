@@ -19,7 +19,7 @@ use Rattle.esr_formats.specs.Roots.{root_of, root_index_of, root_kind}
 use Rattle.esr_results.specs.declared.pruned_root.PrunedShard.{PrunedShard as CodePruned}
 use Rattle.esr_results.specs.Pruned.{pruned_of, ArePlaced}
 use Rattle.esr_desk.specs.Start.{Start, ticket_of}
-use Rattle.esr_deleting.specs.Conditions.{CanPlan}
+use Rattle.esr_desk.specs.Delete.Conditions.{CanPlan}
 
 -- ---- how many ids are drawn
 

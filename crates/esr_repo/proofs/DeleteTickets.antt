@@ -22,10 +22,10 @@ use Rattle.esr_desk.specs.declared.refusal.StepRefusal.{StepRefusal}
 use Rattle.esr_desk.specs.declared.refusal.StepRefusal.TheVariants as steps
 use Rattle.esr_desk.specs.declared.refusal.EntryRefusal.TheVariants as code
 use Rattle.esr_desk.specs.Start.{Start, formats_of, world_of, or_no_ticket, ticket_of}
-use Rattle.esr_deleting.specs.Conditions.{CanSettleDelete, CanFailDelete, removed_by}
+use Rattle.esr_desk.specs.Delete.Conditions.{CanSettleDelete, CanFailDelete}
 use Rattle.esr_repo.specs.Next.{Added, Did}
 use Rattle.esr_repo.specs.Calls.{FetchDid}
-use Rattle.esr_repo.specs.Grown.{out_is, put_there, added_world, added_ticket, changed_ticket}
+use Rattle.esr_repo.specs.Grown.{out_is, put_there, added_ticket, changed_ticket}
 use Rattle.esr_repo.proofs.Stepping.{kept_by, did_from, added_from}
 use Rattle.esr_repo.proofs.Written.{fetch_from}
 
@@ -110,15 +110,6 @@ remove_kept s old new k names (Err steps.Memory) did = ap (λ (l : List Moment).
 remove_kept s old new k names (Err steps.TurnsSpent) never = absurd never
 remove_kept s old new k names (Err (steps.Refused code.DepotFault)) did = added_ticket s old new k (PruneStep (RemoveDoomed names)) (Refused DepotFault) did k
 remove_kept s old new k names (Err (steps.Refused x)) did = added_ticket s old new k (PruneStep (RemoveDoomed names)) (Refused (refusal_of x)) did k
-
--- and the names are named
-pub removed_named : {X : Type 0} (s : Start) (old new : List Moment) (k : ℕ) (names : List BlobName) (r : Result X StepRefusal) → Did s old new k (PruneStep (RemoveDoomed names)) (λ x. WasRemoved) r
-    → (world_of s new).removed ≡ removed_by r names (world_of s old).removed
-removed_named s old new k names (Ok x) did = ap (λ (w : World). w.removed) (added_world s old new k (PruneStep (RemoveDoomed names)) WasRemoved did)
-removed_named s old new k names (Err steps.Memory) did = ap (λ (l : List Moment). (world_of s l).removed) did
-removed_named s old new k names (Err steps.TurnsSpent) never = absurd never
-removed_named s old new k names (Err (steps.Refused code.DepotFault)) did = ap (λ (w : World). w.removed) (added_world s old new k (PruneStep (RemoveDoomed names)) (Refused DepotFault) did)
-removed_named s old new k names (Err (steps.Refused x)) did = ap (λ (w : World). w.removed) (added_world s old new k (PruneStep (RemoveDoomed names)) (Refused (refusal_of x)) did)
 
 -- a removal of these names, after a check that added nothing
 pub removes_from : {X : Type 0} (s : Start) (old mid new : List Moment) (k : ℕ) (step : Step) (names : List CodeName) (r : Result X StepRefusal) → mid ≡ old → step ≡ PruneStep (RemoveDoomed (map name_of names)) → Did s mid new k step (λ x. WasRemoved) r

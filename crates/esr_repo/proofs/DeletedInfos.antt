@@ -26,7 +26,7 @@ use Rattle.esr_meta.specs.Info.{Info}
 use Rattle.esr_formats.specs.Refs.{ref_of_code}
 use Rattle.esr_formats.specs.Roots.{root_of, root_snap_of}
 use Rattle.esr_desk.specs.Start.{Start, formats_of, world_of, ticket_of}
-use Rattle.esr_deleting.specs.Conditions.{CanSettleDelete}
+use Rattle.esr_desk.specs.Delete.Conditions.{CanSettleDelete}
 use Rattle.esr_repo.specs.Repo.{PlannedBy, OwnIndices, HasInfos}
 use Rattle.esr_repo.specs.May.{swapped_world}
 use Rattle.esr_repo.specs.Grown.{out_is}

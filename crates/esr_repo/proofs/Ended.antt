@@ -1,5 +1,5 @@
 -- The steps that end a ticket without a call of the container.
-use Rattle.std.proofs.Common.{◌≡◌, ◌⊎◌, ℕ, Bool, true, false, List, [], Option, Some, None, refl, sym, ap, ◌∙◌, subst, inl, inr}
+use Rattle.std.proofs.Common.{◌≡◌, ◌≢◌, ◌⊎◌, ◌<◌, ℕ, Bool, true, false, List, [], Option, Some, None, refl, sym, ap, ◌∙◌, subst, inl, inr, arith}
 use Rattle.std.proofs.lemmas.Bool.{eqb-true, eq-eqb}
 use Rattle.std.specs.FinMap as fin
 use Rattle.std.specs.Prelude.{◌==◌, if◌then◌else◌}
@@ -16,6 +16,7 @@ use Rattle.esr_progress.specs.Plan.{Plan, IsPlanOf}
 use Rattle.esr_desk.specs.Conditions.{CanFail, CanFinish}
 use Rattle.esr_desk.specs.Start.{Start, world_of, or_no_ticket, ticket_of}
 use Rattle.esr_repo.specs.Next.{Added}
+use Rattle.esr_repo.specs.Tickets.{AreStale}
 use Rattle.esr_repo.specs.May.{MayNote}
 use Rattle.esr_repo.specs.Grown.{out_is, put_there, added_ticket, changed_ticket}
 use Rattle.esr_repo.proofs.Stepping.{next_given}
@@ -25,10 +26,10 @@ ended t = record t { out = false }
 
 -- ---- a settled unit ends
 
-pub may_finish : (s : Start) (old log : List Moment) (k : ℕ) (plan p : Plan) (next : ℕ) → log ≡ old → CanFinish (ticket_of s old k) → IsPlanOf (world_of s log) plan → ((w : World) → IsPlanOf w plan → IsPlanOf (change w k ended) p) → next ≡ (world_of s log).next_id
+pub may_finish : (s : Start) (old log : List Moment) (k : ℕ) (plan p : Plan) (next : ℕ) → log ≡ old → CanFinish s old k → AreStale (world_of s log) → IsPlanOf (world_of s log) plan → ((w : World) → IsPlanOf w plan → IsPlanOf (change w k ended) p) → next ≡ (world_of s log).next_id
     → MayNote s log k FinishStep HasEnded (Some p) next
-may_finish s old log k plan p next e before plan_is goes next_is =
-    let can : CanFinish (ticket_of s log k) = subst (λ (l : List Moment). CanFinish (ticket_of s l k)) (sym e) before in
+may_finish s old log k plan p next e before stale plan_is goes next_is =
+    let can : CanFinish s log k = subst (λ (l : List Moment). CanFinish s l k) (sym e) before in
     record {
       plain = refl;
       allows = λ image tells same. Finishing k image (finishes can) same;
@@ -36,12 +37,29 @@ may_finish s old log k plan p next e before plan_is goes next_is =
       next_is = λ image. next_is ∙ sym (next_given (world_of s log) k ended);
     }
   where
-    finishes : CanFinish (ticket_of s log k) → Finishes (world_of s log) k
+    less : (a b : ℕ) → a < b → a ≢ b
+    less a b lt same = omega (arith, lt, same)
+
+    same : (a b : Ticket) → Some a ≡ Some b → a ≡ b
+    same a b q = cc
+
+    over : (t : Ticket) → fin.get (world_of s log).tickets k ≡ Some t → (v : Ticket) × (fin.get (world_of s log).tickets k ≡ Some v) × (v.term < (world_of s log).term) → t.term ≢ (world_of s log).term
+    over t there (v, is, lt) = less t.term (world_of s log).term (subst (λ (x : Ticket). x.term < (world_of s log).term) (same v t (sym is ∙ there)) lt)
+
+    finishes : CanFinish s log k → Finishes (world_of s log) k
     finishes can =
         let out = out_is s log k can.out in
-        record { t = ticket_of s log k; out = out; no_shard = can.no_shard; done = inl can.settled; unpruned = λ uuids made work. absurd (can.unpruned uuids made work) }
+        record {
+          t = ticket_of s log k;
+          out = out;
+          no_shard = can.no_shard;
+          done = elim can.done [
+            | inl over ↦ inl (over.settled, over.unpruned)
+            | inr was ↦ inr (over (ticket_of s log k) out.there (stale k was), was)
+          ];
+        }
 
-pub finished_ticket : (s : Start) (old mid new : List Moment) (k : ℕ) → mid ≡ old → CanFinish (ticket_of s old k) → Added s mid new k FinishStep HasEnded → ticket_of s new k ≡ record (ticket_of s old k) { out = false }
+pub finished_ticket : (s : Start) (old mid new : List Moment) (k : ℕ) → mid ≡ old → CanFinish s old k → Added s mid new k FinishStep HasEnded → ticket_of s new k ≡ record (ticket_of s old k) { out = false }
 finished_ticket s old mid new k e can a =
     let here : (ticket_of s mid k).out ≡ true = subst (λ (log : List Moment). (ticket_of s log k).out ≡ true) (sym e) can.out in
     added_ticket s mid new k FinishStep HasEnded a k ∙ changed_ticket s mid k ended here ∙ ap (λ (log : List Moment). ended (ticket_of s log k)) e
@@ -93,17 +111,17 @@ next_failed w k (Some t) = go (is_stale w t t.work)
     go true = refl
     go false = by_op (fin.get w.ops t.op)
 
-pub may_fail : (s : Start) (old log : List Moment) (k : ℕ) (why : Why) (plan p : Plan) (term next : ℕ) → log ≡ old → CanFail (ticket_of s old k) → Tracked (world_of s log) → IsPlanOf (world_of s log) plan
-    → term ≡ (world_of s log).term → ((w : World) → IsPlanOf w plan → w.term ≡ term → IsPlanOf (failed_of w k (fin.get w.tickets k)) p) → next ≡ (world_of s log).next_id
+pub may_fail : (s : Start) (old log : List Moment) (k : ℕ) (why : Why) (p : Plan) (next : ℕ) → log ≡ old → CanFail (ticket_of s old k) → Tracked (world_of s log)
+    → IsPlanOf (failed_of (world_of s log) k (fin.get (world_of s log).tickets k)) p → next ≡ (world_of s log).next_id
     → MayNote s log k (FailedStep why) HasEnded (Some p) next
-may_fail s old log k why plan p term next e before tracked plan_is term_is goes next_is =
+may_fail s old log k why p next e before tracked goes next_is =
     let can : CanFail (ticket_of s log k) = subst (λ (l : List Moment). CanFail (ticket_of s l k)) (sym e) before in
     let out = out_is s log k can.out in
     let op = op_of (world_of s log) k (ticket_of s log k) tracked out.there can in
     record {
       plain = refl;
       allows = λ image tells same. Failing k why image (record { t = ticket_of s log k; out = out; unsettled = can.unsettled; unit = can.unit; op = op.0; op_there = op.1 }) same;
-      plan_is = λ image q h. goes (world_of s log) plan_is (sym term_is);
+      plan_is = λ image q h. goes;
       next_is = λ image. next_is ∙ sym (next_failed (world_of s log) k (fin.get (world_of s log).tickets k));
     }
 

@@ -21,6 +21,9 @@ use Rattle.esr_repo.specs.Deposed.{FailedSwap, AreDeposedSo}
 use Rattle.esr_repo.specs.KeptFaults.{IsKeptOfFaults}
 use Rattle.esr_repo.proofs.BlobCalls.{Pushed, more_is}
 use Rattle.esr_repo.proofs.Pasts.{IsCut, cut_is}
+use Rattle.esr_desk.specs.declared.refusal.EntryRefusal.{EntryRefusal}
+use Rattle.esr_desk.specs.Refusals.{refusal_of}
+use Rattle.esr_repo.proofs.Blocked.{Tells, OfSwap, OfDelete}
 
 -- ---- the count
 
@@ -185,6 +188,11 @@ module _ {start before : ℕ} {es mid es' : List Entry} {d : Option ℕ} {e : En
     where
       same_place : (a b : ℕ) → Refused (DeposedAt a) ≡ Refused (DeposedAt b) → a ≡ b
       same_place a b q = cc
+
+  -- an entry of a step that was refused before it was looked at
+  pub blocked_faults : (plan : Plan) (refusal : EntryRefusal) → Tells d plan e.who e.step refusal → e.reply ≡ Refused (refusal_of refusal) → before ≤ after → IsKeptOfFaults start after es' d
+  blocked_faults plan refusal (OfSwap place fell) is later = deposed_faults place fell is later
+  blocked_faults plan refusal (OfDelete op none aborted) is later = unfailed_faults (ap tells_none is) later
 
   -- a call that failed: the container counted it
   failed_named : e.reply ≡ Refused DepotFault → AreDeposedSo (es ++ e ∷ [])

@@ -1,5 +1,5 @@
 -- What each step leaves of the deletes and their tickets, of the uuids of open ops and of the numbers, and what a step without a record swap leaves.
-use Rattle.std.proofs.Common.{◌≡◌, ℕ, suc, ◌+◌, ◌<◌, ◌≤◌, Bool, true, false, zero, List, ◌∷◌, ◌++◌, map, Option, Some, None, refl, arith}
+use Rattle.std.proofs.Common.{◌≡◌, ℕ, suc, ◌+◌, ◌<◌, ◌≤◌, Bool, true, false, zero, List, ◌∷◌, map, Option, Some, None, refl, arith}
 use Rattle.std.specs.Prelude.{if◌then◌else◌}
 use Rattle.std.specs.FinMap as fin
 use Rattle.esr_model.specs.Names.{BlobName}
@@ -314,16 +314,13 @@ frame_unpruned : (w : World) (k : ℕ) (o : Option Ticket) → fin.get w.tickets
 frame_unpruned w k None there = frame_same None w
 frame_unpruned w k (Some t) there = frame_either None w (with_ticket w k (record t { out = false })) (delete_failed_by w k t (fin.get w.deletes t.op)) (is_stale w t t.work) (frame_ended w k t there) (frame_unpruned_by w k t there (fin.get w.deletes t.op) refl)
 
-frame_removed : (w : World) (removed : List BlobName) → Frame None w (record w { removed = removed })
-frame_removed w removed = record { deletes = λ h. h; come = come_same None w.tickets; uuids = ops_same w.ops w.next_id; next = λ t. le_same w.next_id; ops = le_next w.next_op; tickets = le_next w.next_ticket; caller = refl }
-
 frame_prune : (f : Formats) (w : World) (k : ℕ) (prune : Prune) (reply : Reply) (image : Option Image) → Frame (settler (PruneStep prune) k) w (prune_step f w k prune reply image)
 frame_prune f w k (FetchShard name) WasFetched image = frame_change w k (fetching name (told_blob f image name)) (fin.get w.tickets k) refl (fetching_stays name (told_blob f image name))
 frame_prune f w k (FetchShard name) reply image = frame_same None w
 frame_prune f w k (PlanShards shards) reply image =
     frame_drawn_by w (with_given w k (planned f shards w.next_id) (fin.get w.tickets k)) (kept_count shards) (frame_planned f w k shards (fin.get w.tickets k) refl)
 frame_prune f w k SettlePruned reply image = frame_pruned f w k (fin.get w.tickets k) refl
-frame_prune f w k (RemoveDoomed names) reply image = frame_removed w (names ++ w.removed)
+frame_prune f w k (RemoveDoomed names) reply image = frame_same None w
 frame_prune f w k EndDelete reply image = frame_change w k (λ t. record t { out = false }) (fin.get w.tickets k) refl (λ t. (refl, refl, refl))
 frame_prune f w k (DeleteFails why) reply image = frame_unpruned w k (fin.get w.tickets k) refl
 
@@ -407,7 +404,7 @@ frame_prune_fault : (f : Formats) (w : World) (k : ℕ) (prune : Prune) (image :
 frame_prune_fault f w k (FetchShard name) image = frame_same None w
 frame_prune_fault f w k (PlanShards shards) image = frame_same None w
 frame_prune_fault f w k SettlePruned image = frame_fallen (Some k) f w (delete_settled f w k (fin.get w.tickets k)) image (frame_pruned f w k (fin.get w.tickets k) refl)
-frame_prune_fault f w k (RemoveDoomed names) image = frame_removed w (names ++ w.removed)
+frame_prune_fault f w k (RemoveDoomed names) image = frame_same None w
 frame_prune_fault f w k EndDelete image = frame_same None w
 frame_prune_fault f w k (DeleteFails why) image = frame_same None w
 
@@ -516,7 +513,7 @@ rests_prune f w k (FetchShard name) WasFetched image e = rests_change w k (fetch
 rests_prune f w k (FetchShard name) reply image e = rests_same w
 rests_prune f w k (PlanShards shards) reply image e = rests_drawn w k (kept_count shards) (planned f shards w.next_id) (fin.get w.tickets k)
 rests_prune f w k SettlePruned reply image e = absurd (swaps e)
-rests_prune f w k (RemoveDoomed names) reply image e = record { root = refl; deposed = refl }
+rests_prune f w k (RemoveDoomed names) reply image e = rests_same w
 rests_prune f w k EndDelete reply image e = rests_change w k (λ t. record t { out = false }) (fin.get w.tickets k)
 rests_prune f w k (DeleteFails why) reply image e = rests_delete_failed w k (fin.get w.tickets k)
 
@@ -587,7 +584,6 @@ rests_fault f w k SettleStep image e = absurd (swaps e)
 rests_fault f w k DroppedStep image e = absurd (swaps e)
 rests_fault f w k ElectStep image e = absurd (swaps e)
 rests_fault f w k (PruneStep SettlePruned) image e = absurd (swaps e)
-rests_fault f w k (PruneStep (RemoveDoomed names)) image e = record { root = refl; deposed = refl }
 rests_fault f w k step image e = rests_same w
 
 pub rests_answered : (f : Formats) (w : World) (k : ℕ) (step : Step) (reply : Reply) (image : Option Image) → swaps_record step ≡ false → Rests w (answered f w k step reply image)

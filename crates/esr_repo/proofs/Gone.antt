@@ -26,6 +26,7 @@ use Rattle.esr_repo.specs.Repo.{PlannedBy, OwnIndices, TookAway, IsPast, Gone}
 use Rattle.esr_repo.proofs.Coming.{Came, WasGiven, Stayed, HasPlanned, HasSettled, DeletesCome}
 use Rattle.esr_repo.proofs.Frames.{Frame, frame_settled, frame_pruned, frame_answered}
 use Rattle.esr_repo.proofs.InfosStay.{finalized, settled_root, root_step}
+use Rattle.esr_repo.proofs.Blocked.{block_stays}
 
 -- ---- the plans
 
@@ -238,7 +239,8 @@ module _ (f : Formats) (size : ℕ) (w : World) (tracked : Tracked w) (own : Own
   pub gone_step : (m : Moment) → Allowed f size w m → Gone (after f w m)
   gone_step m a = elim a.answered [
     | inl alive ↦ gone_answered m.entry.who m.entry.step m.entry.reply m.image alive.1
-    | inr dead ↦ subst (λ (r : Reply). Gone (answered f w m.entry.who m.entry.step r m.image)) (sym dead.refused) gone
+    | inr dead ↦ subst (λ (r : Reply). Gone (answered f w m.entry.who m.entry.step r m.image)) (sym dead.refused)
+        (subst Gone (sym (block_stays f w m.entry.who m.entry.step dead.refusal m.image dead.blocks)) gone)
   ]
 
 -- ---- the infos among what a delete dooms

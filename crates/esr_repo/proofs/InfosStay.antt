@@ -43,7 +43,7 @@ use Rattle.esr_core.specs.Pruning.{delete_swap, planned_work, planned, dooms}
 use Rattle.esr_core.specs.Restores.{AreApart, restore_shard}
 use Rattle.esr_core.specs.Deletes.{asked_delete}
 use Rattle.esr_core.specs.Tracked.{Named, FinalTracked, Tracked}
-use Rattle.esr_core.specs.Entry.{CloneOf, Snapshot, Restore, Clone, DeleteSnapshots, Cleanup, Given, GivenShard, GivenFinalize, GivenDrop, GivenRestore, GivenClone, GivenDelete, Read, ReadBlob, RestoredShard, CheckedAll, DrawTest, CommitTest, ReadFails, Prune, FetchShard, PlanShards, SettlePruned, RemoveDoomed, EndDelete, DeleteFails, Step, AskStep, TakeStep, DrawStep, BeginStep, CommitStep, LatestStep, FetchStep, RaiseStep, SettleStep, DoneStep, FailedStep, FinishStep, DroppedStep, ElectStep, ReadStep, PruneStep, DepotFault, DeposedAt, Reply, Gave, DrawnFrom, WasDone, WasThere, WasFetched, WasSettled, HasEnded, Refused, AcceptedRestore, Moment}
+use Rattle.esr_core.specs.Entry.{CloneOf, Snapshot, Restore, Clone, DeleteSnapshots, Cleanup, Given, GivenShard, GivenFinalize, GivenDrop, GivenRestore, GivenClone, GivenDelete, Read, ReadBlob, RestoredShard, CheckedAll, DrawTest, CommitTest, ReadFails, Prune, FetchShard, PlanShards, SettlePruned, RemoveDoomed, EndDelete, DeleteFails, Step, AskStep, TakeStep, DrawStep, BeginStep, CommitStep, LatestStep, FetchStep, RaiseStep, SettleStep, DoneStep, FailedStep, FinishStep, DroppedStep, ElectStep, ReadStep, PruneStep, DepotFault, Reply, Gave, DrawnFrom, WasDone, WasThere, WasFetched, WasSettled, HasEnded, Refused, AcceptedRestore, Moment, Refusal}
 use Rattle.esr_core.specs.After.{asked, taken_shard, taken_by, taken_restore, taken_restore_shard, shard_of, with_given, committing, told_blob, fetching, settled_by, settled_of, done_by, done_of, is_stale, failed_by, failed_of, dropped_of, delete_failed_by, delete_failed, read_told, read_over, shard_over, read_step, read_by, prune_step, done_step, swaps_record, has_text, fallen, is_latest, tried, test_left, faulted, answered, blobs_in, after}
 use Rattle.esr_core.specs.Allowed as allowed
 use Rattle.esr_core.specs.Allowed.{FetchingShard, ShardMissing, FetchShardFails, Planning, PlanSpent, SettlingDelete, SettleDeleteStale, SettleDeleteFails, RemovingDoomed, RemoveDoomedFails, EndingDelete, FailingDelete, PruneAllows, NoDeleting, HaveGenerations, RemovesDoomed, MayRemoveTests, Told, SameBlobs, Adds, WasMade, IsInInfo, AreIndicesIn, Settles, VerifyAllows, Allows, Allowed}
@@ -870,11 +870,11 @@ pub of_step : (f : Formats) (size : ℕ) (w : World) (m : Moment) (i : Info) (t 
     → HasSettled f w (after f w m) m.entry.who i × InfosThere f w (after f w m)
 of_step f size w m i t info results made a step_is reply_is there work code apart back = elim a.answered [
   | inl alive ↦ from (settling f size w m.entry.who m.image (subst (λ (r : Reply). Allows f size w m.entry.who SettleStep r m.image) reply_is (subst (λ (s : Step). Allows f size w m.entry.who s m.entry.reply m.image) step_is alive.1)))
-  | inr dead ↦ absurd (refused dead.place (sym reply_is ∙ dead.refused))
+  | inr dead ↦ absurd (refused dead.refusal (sym reply_is ∙ dead.refused))
 ]
   where
-    refused : (place : ℕ) → WasSettled ≡ Refused (DeposedAt place) → ⊥
-    refused place e = cc
+    refused : (refusal : Refusal) → WasSettled ≡ Refused refusal → ⊥
+    refused refusal e = cc
 
     from : Settles f w m.entry.who × SameBlobs w m.image → HasSettled f w (after f w m) m.entry.who i × InfosThere f w (after f w m)
     from (s, same) =

@@ -1,6 +1,13 @@
 pub mod Coming
 pub mod Frames
 pub mod Callers
+pub mod Blocked
+pub mod Clients
+pub mod Tickets
+pub mod Fresh
+pub mod HandSteps
+pub mod Elections
+pub mod Grounds
 pub mod Logs
 pub mod Repos
 pub mod Plain

@@ -11,13 +11,14 @@ use Rattle.esr_core.specs.After.{told_blob, read_told, shard_over, read_over, fa
 use Rattle.esr_core.specs.Allowed.{Told, SameBlobs, MayRead, Fetcher, ByReader, ReadFound, ReadMissing, ReadFault, RestoringShard, ReaderFailing, Reading}
 use Rattle.esr_core.specs.ReadTracked.{ReadTracked}
 use Rattle.esr_progress.specs.Plan.{Plan, IsPlanOf}
-use Rattle.esr_desk.specs.Readers.{or_no_reader, reader_of, with_read, read_by}
+use Rattle.esr_desk.specs.Own.{or_no_reader, reader_of}
+use Rattle.esr_desk.specs.Readers.{with_read, read_by}
 use Rattle.esr_desk.specs.Refusals.{refusal_of}
 use Rattle.esr_desk.specs.declared.refusal.StepRefusal.{StepRefusal}
 use Rattle.esr_desk.specs.declared.refusal.StepRefusal.TheVariants as steps
 use Rattle.esr_desk.specs.declared.refusal.EntryRefusal.TheVariants as code
 use Rattle.esr_desk.specs.Start.{Start, formats_of, world_of}
-use Rattle.esr_reading.specs.Conditions.{CanRead, CanEnd}
+use Rattle.esr_desk.specs.Restore.Conditions.{CanRead, CanEndRestore}
 use Rattle.esr_repo.specs.Log.{calls}
 use Rattle.esr_repo.specs.Next.{Added, AddedOr}
 use Rattle.esr_repo.specs.May.{IsFound, MayNote, MayFetch}
@@ -30,7 +31,7 @@ use Rattle.esr_repo.proofs.Written.{fetch_from}
 -- ---- what leaves it
 
 -- a refusal, where a failed call of the container leaves the world
-reader_kept_by : (s : Start) (old new : List Moment) (who : ℕ) (step : Step) (e : StepRefusal) → ((image : Option Image) → faulted (formats_of s) (world_of s old) who step image ≡ world_of s old) → AddedOr s old new who step e → (k : ℕ) → reader_of s new k ≡ reader_of s old k
+pub reader_kept_by : (s : Start) (old new : List Moment) (who : ℕ) (step : Step) (e : StepRefusal) → ((image : Option Image) → faulted (formats_of s) (world_of s old) who step image ≡ world_of s old) → AddedOr s old new who step e → (k : ℕ) → reader_of s new k ≡ reader_of s old k
 reader_kept_by s old new who step steps.Memory still same k = ap (λ (log : List Moment). reader_of s log k) same
 reader_kept_by s old new who step steps.TurnsSpent still never k = absurd never
 reader_kept_by s old new who step (steps.Refused code.DepotFault) still a k =
@@ -43,7 +44,7 @@ refused_readers s old new who step refusal plain a j =
     added_reader s old new who step (Refused refusal) a j ∙ ap (λ (w : World). or_no_reader (fin.get w.readers j)) (refused_answer s (world_of s old) who step refusal a.image plain)
 
 -- who 0 has none
-no_zero : (w : World) (q : Reader) → ReadTracked w → IsReading w 0 q → ⊥
+pub no_zero : (w : World) (q : Reader) → ReadTracked w → IsReading w 0 q → ⊥
 no_zero w q r is = never (r.tracked.tickets 0 q is.there).0
   where
     never : 1 ≤ 0 → ⊥
@@ -149,10 +150,10 @@ unrestored_is f w (suc k) why image q tracked is = refl
 abbrev Ends : ℕ → Plan → Plan → Type 0
 Ends k plan p = (w : World) (state : ReadState) → waits state ≡ false → IsPlanOf w plan → IsPlanOf (read_over w k state (fin.get w.readers k)) p
 
-pub may_note_restored : (s : Start) (old log : List Moment) (k files bytes : ℕ) (plan p : Plan) (next : ℕ) → log ≡ old → ReadTracked (world_of s log) → CanEnd s (reader_of s old k) files bytes → IsPlanOf (world_of s log) plan
+pub may_note_restored : (s : Start) (old log : List Moment) (k files bytes : ℕ) (plan p : Plan) (next : ℕ) → log ≡ old → ReadTracked (world_of s log) → CanEndRestore s (reader_of s old k) files bytes → IsPlanOf (world_of s log) plan
     → Ends k plan p → next ≡ (world_of s log).next_id → MayNote s log k (ReadStep (RestoredShard files bytes)) HasEnded (Some p) next
 may_note_restored s old log k files bytes plan p next e tracked before plan_is goes next_is =
-    let can : CanEnd s (reader_of s log k) files bytes = subst (λ (l : List Moment). CanEnd s (reader_of s l k) files bytes) (sym e) before in
+    let can : CanEndRestore s (reader_of s log k) files bytes = subst (λ (l : List Moment). CanEndRestore s (reader_of s l k) files bytes) (sym e) before in
     let reading = reading_is s log k can.out in
     record {
       plain = refl;
@@ -162,15 +163,15 @@ may_note_restored s old log k files bytes plan p next e tracked before plan_is g
           ∙ ap (λ (w : World). w.next_id) (sym (restored_is (formats_of s) (world_of s log) k files bytes image (reader_of s log k) tracked reading));
     }
 
-pub may_note_unrestored : (s : Start) (old log : List Moment) (k : ℕ) (why : Why) (plan p : Plan) (next : ℕ) → log ≡ old → ReadTracked (world_of s log) → (reader_of s old k).out ≡ true → IsPlanOf (world_of s log) plan
-    → Ends k plan p → next ≡ (world_of s log).next_id → MayNote s log k (ReadStep (ReadFails why)) HasEnded (Some p) next
-may_note_unrestored s old log k why plan p next e tracked before plan_is goes next_is =
+pub may_note_unrestored : (s : Start) (old log : List Moment) (k : ℕ) (why : Why) (p : Plan) (next : ℕ) → log ≡ old → ReadTracked (world_of s log) → (reader_of s old k).out ≡ true
+    → ((state : ReadState) → waits state ≡ false → IsPlanOf (read_over (world_of s log) k state (fin.get (world_of s log).readers k)) p) → next ≡ (world_of s log).next_id → MayNote s log k (ReadStep (ReadFails why)) HasEnded (Some p) next
+may_note_unrestored s old log k why p next e tracked before goes next_is =
     let out : (reader_of s log k).out ≡ true = subst (λ (l : List Moment). (reader_of s l k).out ≡ true) (sym e) before in
     let reading = reading_is s log k out in
     record {
       plain = refl;
       allows = λ image tells same. Reading k (ReadFails why) HasEnded image (ReaderFailing k why image (reader_of s log k) reading) same;
-      plan_is = λ image q h. subst (λ (w : World). IsPlanOf w p) (sym (unrestored_is (formats_of s) (world_of s log) k why image (reader_of s log k) tracked reading)) (goes (world_of s log) (NotRestored why) refl plan_is);
+      plan_is = λ image q h. subst (λ (w : World). IsPlanOf w p) (sym (unrestored_is (formats_of s) (world_of s log) k why image (reader_of s log k) tracked reading)) (goes (NotRestored why) refl);
       next_is = λ image. next_is ∙ sym (next_over (world_of s log) k (NotRestored why) (fin.get (world_of s log).readers k))
           ∙ ap (λ (w : World). w.next_id) (sym (unrestored_is (formats_of s) (world_of s log) k why image (reader_of s log k) tracked reading));
     }
@@ -181,7 +182,7 @@ over_reader w k state q tracked is =
     ∙ ap (λ (o : Option Restoring). or_no_reader (fin.get (shard_over w k state q o).readers k)) (tracked.tracked.readers k q is.there is.out).there
     ∙ ap or_no_reader (reader_there w.readers k (record q { out = false }))
 
-pub restored_reader : (s : Start) (old mid new : List Moment) (k files bytes : ℕ) → mid ≡ old → ReadTracked (world_of s mid) → CanEnd s (reader_of s old k) files bytes → Added s mid new k (ReadStep (RestoredShard files bytes)) HasEnded → reader_of s new k ≡ record (reader_of s old k) { out = false }
+pub restored_reader : (s : Start) (old mid new : List Moment) (k files bytes : ℕ) → mid ≡ old → ReadTracked (world_of s mid) → CanEndRestore s (reader_of s old k) files bytes → Added s mid new k (ReadStep (RestoredShard files bytes)) HasEnded → reader_of s new k ≡ record (reader_of s old k) { out = false }
 restored_reader s old mid new k files bytes e before can added =
     let tracked : ReadTracked (world_of s old) = subst (λ (l : List Moment). ReadTracked (world_of s l)) e before in
     let a = added_from s old mid new k (ReadStep (RestoredShard files bytes)) HasEnded e added in

@@ -29,6 +29,7 @@ use Rattle.esr_repo.specs.May.{IsLess, AreGone, IsRemoval, MayRemove}
 use Rattle.esr_repo.proofs.Logs.{image_now}
 use Rattle.esr_repo.proofs.InfosStay.{IsPlain as LeavesInfos}
 use Rattle.esr_repo.proofs.BlobCalls.{Before, Pushed, Made, Idles, TextStays, told_of, names_text, named_of, idles_same, blobs_are, tell_of, allowed_is, call_is, call_made}
+use Rattle.esr_repo.specs.Next.{GoesOn}
 
 -- ---- lists
 
@@ -122,27 +123,19 @@ removal_leaves (ReadStep (RemoveTests it)) names reply h = tt
 removal_leaves (PruneStep (RemoveDoomed it)) names reply h = tt
 removal_leaves step names reply h = absurd h
 
--- the names that removals have named are in no plan
-idles_removed : (w : World) (removed : List BlobName) → Idles w (record w { removed = removed })
-idles_removed w removed =
-    record {
-      plan = λ p h. record { ops = h.ops; deletes = h.deletes; completed = h.completed; seats = h.seats; next_op = h.next_op; next_ticket = h.next_ticket; restores = h.restores; restore_count = h.restore_count; readers = h.readers };
-      next = refl;
-    }
-
 idles_gone : (f : Formats) (w : World) (k : ℕ) (step : Step) (names : List BlobName) (image : Option Image) → IsRemoval step names → Idles w (answered f w k step WasRemoved image)
 idles_gone f w zero (ReadStep (RemoveTests it)) names image h = idles_same w
 idles_gone f w (suc k) (ReadStep (RemoveTests it)) names image h = idles_same w
-idles_gone f w k (PruneStep (RemoveDoomed it)) names image h = idles_removed w (it ++ w.removed)
+idles_gone f w k (PruneStep (RemoveDoomed it)) names image h = idles_same w
 idles_gone f w k step names image h = absurd h
 
 idles_ungone : (f : Formats) (w : World) (k : ℕ) (step : Step) (names : List BlobName) (image : Option Image) → IsRemoval step names → Idles w (faulted f w k step image)
 idles_ungone f w k (ReadStep (RemoveTests it)) names image h = idles_same w
-idles_ungone f w k (PruneStep (RemoveDoomed it)) names image h = idles_removed w (it ++ w.removed)
+idles_ungone f w k (PruneStep (RemoveDoomed it)) names image h = idles_same w
 idles_ungone f w k step names image h = absurd h
 
 module _ {old : Look} {s : Start} {clock : ℕ} {es : List Entry} {k : Kept} {d : Option ℕ} {seen : List Moment} (b : Before old s clock es k d seen) (new : Look)
-    (who : ℕ) (step : Step) (names : List BlobName) (m : MayRemove s seen who step names) (backs : (name : BlobName) → Has names name → ReadsBack name_kind name) (texts : List Bytes) (named : texts ≡ map name_kind.text names) where
+    (who : ℕ) (step : Step) (names : List BlobName) (m : MayRemove s seen who step names) (goes : GoesOn s seen who step) (backs : (name : BlobName) → Has names name → ReadsBack name_kind name) (texts : List Bytes) (named : texts ≡ map name_kind.text names) where
   has_name : (name : BlobName) → Has names name → Has texts ((formats_of s).names.text name)
   has_name name has = subst (Has texts) (names_text s name) (subst (λ (xs : List Bytes). Has xs (name_kind.text name)) (sym named) (has_text names name has))
 
@@ -199,19 +192,19 @@ module _ {old : Look} {s : Start} {clock : ℕ} {es : List Entry} {k : Kept} {d 
       → Leaves (formats_of s) s.part_size (world_of s seen) (record { entry = By reply; image = image } ∷ []) (image_of i)
   remove_cut reply image i may =
       let left = some_gone (Some i) may in
-      inr (inl (allowed_is b (Some i) (By (Refused DepotFault)) no_swap left.0 (m.fails (Some (image_of i)) (tell_of b (Some i) left.0) left.1)))
+      inr (inl (allowed_is b (Some i) (By (Refused DepotFault)) no_swap goes left.0 (m.fails (Some (image_of i)) (tell_of b (Some i) left.0) left.1)))
 
   pub removed_ok : (x : Unit {0}) → Called old new (λ _. Removed texts) (RemoveMay texts) (Ok x) → (mid es' : List Entry) → Pushed es mid es' (By WasRemoved) → Made old new s clock es es' k d seen (By WasRemoved)
   removed_ok x c mid es' p =
       let is : now new ≡ drop_known (now old) texts = c.done in
       let text = text_less (now new) texts is in
       call_made b new (By WasRemoved) no_swap (removal_leaves step names WasRemoved m.is) mid es' p
-      (call_is b new (By WasRemoved) no_swap (RemoveMay texts) (c.passed refl) (removal_asks step names m.is) text (m.removes (image_now new) (tell_of b (now new) text) (told_of (now new) (AreGone s seen names) (all_gone (now new) is))) (remove_cut WasRemoved (image_now new)))
+      (call_is b new (By WasRemoved) no_swap (RemoveMay texts) goes (c.passed refl) (removal_asks step names m.is) text (m.removes (image_now new) (tell_of b (now new) text) (told_of (now new) (AreGone s seen names) (all_gone (now new) is))) (remove_cut WasRemoved (image_now new)))
       (idles_gone (formats_of s) (world_of s seen) who step names (image_now new) m.is)
 
   pub removed_fault : Called {T = Unit {0}} old new (λ _. Removed texts) (RemoveMay texts) (Err Failed) → (mid es' : List Entry) → Pushed es mid es' (By (Refused DepotFault)) → Made old new s clock es es' k d seen (By (Refused DepotFault))
   removed_fault c mid es' p =
       let left = some_gone (now new) (c.failed refl) in
       call_made b new (By (Refused DepotFault)) no_swap (removal_leaves step names (Refused DepotFault) m.is) mid es' p
-      (call_is b new (By (Refused DepotFault)) no_swap (RemoveMay texts) (c.passed refl) refl left.0 (m.fails (image_now new) (tell_of b (now new) left.0) left.1) (remove_cut (Refused DepotFault) (image_now new)))
+      (call_is b new (By (Refused DepotFault)) no_swap (RemoveMay texts) goes (c.passed refl) refl left.0 (m.fails (image_now new) (tell_of b (now new) left.0) left.1) (remove_cut (Refused DepotFault) (image_now new)))
       (idles_ungone (formats_of s) (world_of s seen) who step names (image_now new) m.is)

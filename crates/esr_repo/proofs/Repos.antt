@@ -28,12 +28,17 @@ use Rattle.esr_desk.specs.Start.{Start, formats_of, world_of, Legal}
 use Rattle.esr_repo.specs.Log.{image_of, tick, ticks, log_of}
 use Rattle.esr_repo.specs.Repo.{Kept, IsKeptOf, TellsSo, OwnIndices, Gone, AreListed, AreTests, HasInfos, IsSteady, IsRepo}
 use Rattle.esr_repo.specs.Next.{Added, IsLive}
+use Rattle.esr_desk.specs.Own.{caller_of}
 use Rattle.esr_repo.specs.May.{CanTell}
 use Rattle.esr_repo.specs.Laws.{Laws}
 use Rattle.esr_repo.proofs.InfosStay.{IsPlain as LeavesInfos, infos_stay, infos_step, root_step}
 use Rattle.esr_repo.proofs.Frames.{frame_after, settler}
 use Rattle.esr_repo.proofs.Gone.{own_step, gone_step, info_spared}
+use Rattle.esr_repo.specs.Client.{ReadsOwn, TellsClient}
+use Rattle.esr_repo.specs.Tickets.{AreStale, AreOfOps}
 use Rattle.esr_repo.proofs.Callers.{tests_step}
+use Rattle.esr_repo.proofs.Clients.{client_step}
+use Rattle.esr_repo.proofs.Tickets.{stale_step, of_ops_step}
 use Rattle.esr_repo.specs.Grown.{legal_step, world_step}
 use Rattle.esr_repo.proofs.Logs.{Goes, image_now, log_goes, log_stays, ticks-append}
 
@@ -55,9 +60,9 @@ some_none x e = cc
 both : true ≡ false → ⊥
 both e = cc
 
--- the plan of a world reads neither its blobs nor what who 0 has done
-pub plan_aside : (w : World) (blobs : Blobs) (deposed : Bool) (caller : Caller) (p : Plan) → IsPlanOf w p → IsPlanOf (record w { blobs = blobs; deposed = deposed; caller = caller }) p
-plan_aside w blobs deposed caller p h =
+-- the plan of a world reads neither its blobs nor what was done
+pub plan_aside : (w : World) (blobs : Blobs) (deposed : Bool) (caller : Caller) (entries : List Entry) (p : Plan) → IsPlanOf w p → IsPlanOf (record w { blobs = blobs; deposed = deposed; caller = caller; entries = entries }) p
+plan_aside w blobs deposed caller entries p h =
     record { ops = h.ops; deletes = h.deletes; completed = h.completed; seats = h.seats; next_op = h.next_op; next_ticket = h.next_ticket; restores = h.restores; restore_count = h.restore_count; readers = h.readers }
 
 -- the infos of a world are told by its root, its tickets and its blobs
@@ -166,8 +171,8 @@ module _ (old new : Look) (s : Start) (clock : ℕ) (es es' : List Entry) (k k' 
     longer : length (log_of new clock es') ≡ suc (length seen)
     longer = ap length new_log ∙ length-append seen (moment ∷ []) ∙ omega arith
 
-    new_steady : IsSteady s (log_of new clock es') new
-    new_steady =
+    new_steady : ReadsOwn (caller_of s seen) e.who e.step → IsSteady s (log_of new clock es') new
+    new_steady own =
         let frame = frame_after (formats_of s) (world_of s seen) moment in
         let w' : World = after (formats_of s) (world_of s seen) moment in
         record {
@@ -181,20 +186,24 @@ module _ (old new : Look) (s : Start) (clock : ℕ) (es es' : List Entry) (k k' 
           gone = subst (λ (w : World). Gone w) (sym new_world) (gone_step (formats_of s) s.part_size (world_of s seen) steady.tracked steady.pruning steady.gone moment allowed);
           read_tracked = subst ReadTracked (sym new_world) (laws.read_tracked (formats_of s) s.part_size (world_of s seen) moment steady.tracked steady.read_tracked allowed);
           tests = subst (λ (w : World). AreTests w.caller) (sym new_world) (tests_step (formats_of s) s.part_size (world_of s seen) moment allowed steady.tests);
+          no_entries = steady.no_entries;
+          client = subst TellsClient (sym new_world) (client_step (formats_of s) s.part_size (world_of s seen) moment laws steady.of_ops allowed own steady.client);
+          stale = subst AreStale (sym new_world) (stale_step (formats_of s) s.part_size (world_of s seen) moment laws steady.tracked allowed steady.stale);
+          of_ops = subst AreOfOps (sym new_world) (of_ops_step (formats_of s) s.part_size (world_of s seen) moment laws steady.tracked allowed steady.of_ops);
           few_ops = subst (λ (w : World). w.next_op ≤ s.world.next_op + length (log_of new clock es')) (sym new_world) (omega (arith, frame.ops, steady.few_ops, longer));
           few_tickets = subst (λ (w : World). w.next_ticket ≤ s.world.next_ticket + length (log_of new clock es')) (sym new_world) (omega (arith, frame.tickets, steady.few_tickets, longer));
         }
 
     -- and it is a container with its history again
-    pub added_repo : (d' ≡ None → ((after (formats_of s) (world_of s seen) moment).deposed ≡ false) × IsKeptOf (after (formats_of s) (world_of s seen) moment) k' × HasInfos s (after (formats_of s) (world_of s seen) moment) k'.infos)
+    pub added_repo : ReadsOwn (caller_of s seen) e.who e.step → (d' ≡ None → ((after (formats_of s) (world_of s seen) moment).deposed ≡ false) × IsKeptOf (after (formats_of s) (world_of s seen) moment) k' × HasInfos s (after (formats_of s) (world_of s seen) moment) k'.infos)
         → ((place : ℕ) → d' ≡ Some place → (after (formats_of s) (world_of s seen) moment).deposed ≡ true) → IsRepo new s clock es' k' d'
-    added_repo live fallen =
+    added_repo own live fallen =
         record {
           roomy = r.roomy;
           bounded = r.bounded;
           clock_is = goes.clock ∙ ap (λ t. tick t e) r.clock_is ∙ sym (ticks-append clock es e) ∙ ap (ticks clock) (sym pushed);
           tells = tells;
-          steady = new_steady;
+          steady = new_steady own;
           live = λ n. subst (λ (w : World). (w.deposed ≡ false) × IsKeptOf w k' × HasInfos s w k'.infos) (sym new_world) (live n);
           fallen = λ place n. ap (λ (w : World). w.deposed) new_world ∙ fallen place n;
         }
@@ -225,6 +234,10 @@ repo_stays old new s clock es k d r n =
             gone = h.gone;
             read_tracked = h.read_tracked;
             tests = h.tests;
+            no_entries = h.no_entries;
+            client = h.client;
+            stale = h.stale;
+            of_ops = h.of_ops;
             few_ops = h.few_ops;
             few_tickets = h.few_tickets;
           });

@@ -35,6 +35,7 @@ use Rattle.esr_repo.specs.May.{CanTell, Same, is_refused, swapped_world, infos_a
 use Rattle.esr_repo.proofs.Logs.{goes_passed, image_now}
 use Rattle.esr_repo.proofs.Repos.{cluster_is, plan_aside, infos_aside, blobs_same, kept_now, steady_now, can_tell, text_same, added_repo}
 use Rattle.esr_repo.proofs.BlobCalls.{Before, Pushed, IsCall, Made, more_is, made, failed_is, held_of, told_of}
+use Rattle.esr_repo.specs.Next.{GoesOn}
 
 some_none : {A : Type 0} (x : A) → Some x ≡ None → ⊥
 some_none x e = cc
@@ -230,7 +231,7 @@ pub record Renews (k : Kept) (cluster : Record) (root : Option Root) (left : Opt
 -- ---- the call
 
 module _ {old : Look} {s : Start} {clock : ℕ} {es : List Entry} {k : Kept} {d : Option ℕ} {seen : List Moment} (b : Before old s clock es k d seen) (new : Look)
-    (who : ℕ) (step : Step) (reply : Reply) (cluster : Record) (root : Option Root) (left : Option (List Info)) (info : Option Info) (plan : Option Plan) (next : ℕ) (m : MaySwap s seen who step reply cluster root left info plan next)
+    (who : ℕ) (step : Step) (reply : Reply) (cluster : Record) (root : Option Root) (left : Option (List Info)) (info : Option Info) (plan : Option Plan) (next : ℕ) (m : MaySwap s seen who step reply cluster root left info plan next) (goes : GoesOn s seen who step)
     (text : Bytes) (text_of : text ≡ cluster_kind.text (cluster_of cluster)) (back : ReadsBack cluster_kind (cluster_of cluster)) where
   steady : IsSteady s seen old
   steady = steady_now old s clock es k d seen b.repo b.view
@@ -294,6 +295,8 @@ module _ {old : Look} {s : Start} {clock : ℕ} {es : List Entry} {k : Kept} {d 
     bad_allowed h =
         record {
           answered = inl (b.live, may_fail (m.allows (option_map image_of o) (tell_of o h) (told_blobs o h)) m.swaps m.answers (told_blobs o h));
+          aborted = λ by live x. absurd (goes.unaborted by x);
+          once = λ live. goes.fresh;
           record_back =
               subst (λ kind. ReadsBack kind (record_of (after (formats_of s) was bad_moment))) (sym (cluster_is s))
               (subst (λ r. ReadsBack cluster_kind r) (sym bad_record) (back_either up was (has_text (option_map image_of o) ((formats_of s).cluster.text (record_of up))) back_up steady.record_back));
@@ -339,9 +342,12 @@ module _ {old : Look} {s : Start} {clock : ℕ} {es : List Entry} {k : Kept} {d 
         allowed =
             record {
               answered = inl (b.live, m.allows (image_now new) (tell_of (now new) h) (told_blobs (now new) h));
+              aborted = λ by live x. absurd (goes.unaborted by x);
+              once = λ live. goes.fresh;
               record_back = subst (λ kind. ReadsBack kind (record_of (after (formats_of s) was ok_moment))) (sym (cluster_is s)) (subst (λ r. ReadsBack cluster_kind r) (sym ok_record) back_up);
               text = ok_text is;
             };
+        own = goes.own;
         left = swap_since reply (c.passed refl);
       }
 
@@ -353,13 +359,13 @@ module _ {old : Look} {s : Start} {clock : ℕ} {es : List Entry} {k : Kept} {d 
       let w : World = answered (formats_of s) was who step reply (image_now new) in
       let plan_up : IsPlanOf up k'.plan = subst (λ q. IsPlanOf up q) (sym new_one.plan_new) (m.plan_is k.plan kept.1.plan) in
       made old new s clock es es' k k' d d seen ok_entry b more call
-      (added_repo old new s clock es es' k k' d d seen ok_entry b.laws b.repo b.view call.goes call.tells more call.allowed
+      (added_repo old new s clock es es' k k' d d seen ok_entry b.laws b.repo b.view call.goes call.tells more call.allowed call.own
       (λ none. (
         ap (λ (y : World). y.deposed) ok_world ∙ swapped_live (formats_of s) was who step m.swaps ∙ b.live,
         record {
           cluster = ap cluster_of new_one.cluster_new ∙ m.cluster_is ∙ sym ok_record;
           root = ap root_of new_one.root_new ∙ m.root_is k.root kept.1.root ∙ ap (λ (y : World). y.root) (sym ok_world);
-          plan = plan_aside w (blobs_in (image_now new) was.blobs) w.deposed (after (formats_of s) was ok_moment).caller k'.plan (subst (λ (y : World). IsPlanOf y k'.plan) (sym ok_world) plan_up);
+          plan = plan_aside w (blobs_in (image_now new) was.blobs) w.deposed (after (formats_of s) was ok_moment).caller (after (formats_of s) was ok_moment).entries k'.plan (subst (λ (y : World). IsPlanOf y k'.plan) (sym ok_world) plan_up);
           next = new_one.next_new ∙ m.next_is ∙ ap (λ (y : World). y.next_id) (sym ok_world);
         },
         subst (HasInfos s (after (formats_of s) was ok_moment)) (sym new_one.infos_new)
@@ -379,6 +385,7 @@ module _ {old : Look} {s : Start} {clock : ℕ} {es : List Entry} {k : Kept} {d 
         goes = goes_passed old new (SwapMay text) bad_entry refl g.0;
         tells = swapping_tells old new s.tells text b.repo.tells h;
         allowed = bad_allowed (now new) h;
+        own = goes.own;
         left = swap_since (Refused DepotFault) g.0;
       }
 
@@ -387,6 +394,6 @@ module _ {old : Look} {s : Start} {clock : ℕ} {es : List Entry} {k : Kept} {d 
       let more = more_is es mid es' bad_entry p in
       let call = bad_call error is c in
       made old new s clock es es' k k d (Some place) seen bad_entry b more call
-      (added_repo old new s clock es es' k k d (Some place) seen bad_entry b.laws b.repo b.view call.goes call.tells more call.allowed
+      (added_repo old new s clock es es' k k d (Some place) seen bad_entry b.laws b.repo b.view call.goes call.tells more call.allowed call.own
       (λ none. absurd (some_none place none))
       (λ other n. ap (λ (y : World). y.deposed) (bad_world (now new))))

@@ -31,8 +31,8 @@ use Rattle.esr_progress.specs.Plan.{Plan, IsPlanOf, IsGivenIn}
 use Rattle.esr_progress.specs.Units.{given_by, given_of, GivesWork, GivesUnit}
 use Rattle.esr_desk.specs.Start.{Start, formats_of, world_of, or_no_ticket, ticket_of}
 use Rattle.esr_desk.specs.Taken.{fresh, NewRoot, TookWork}
-use Rattle.esr_desk.specs.Readers.{or_no_reader, reader_of, fresh_reader, ByWork, TookUnit, IsBareIn, IsBare}
-use Rattle.esr_desk.specs.Readers.{TookWork as TookReading}
+use Rattle.esr_desk.specs.Own.{or_no_reader, reader_of}
+use Rattle.esr_desk.specs.Readers.{fresh_reader, ByWork, TookUnit, IsBareIn, IsBare, TookWork as TookReading}
 use Rattle.esr_repo.specs.Given.{base_for, based, IsBased, IsRootable, HasRoot, HasNoRoot}
 use Rattle.esr_repo.specs.Next.{Added}
 use Rattle.esr_repo.specs.May.{MayNote}

@@ -1,6 +1,6 @@
 -- The steps of a verification.
 use Rattle.std.proofs.Common.{◌≡◌, ◌≢◌, ℕ, suc, ◌+◌, ◌<◌, ◌≤◌, List, ◌++◌, map, Option, Some, None, Result, Ok, Err, IfOk, OnErr, refl, sym, ap, ◌∙◌, subst, inl, inr, arith}
-use Rattle.esr_model.specs.Names.{BlobName, Latest}
+use Rattle.esr_model.specs.Names.{BlobName, Latest, TestNode}
 use Rattle.esr_model.specs.Values.{Bytes}
 use Rattle.esr_model.specs.Kept.{first_id}
 use Rattle.esr_core.specs.World.{World, Caller, no_caller}
@@ -13,14 +13,17 @@ use Rattle.esr_core.specs.Allowed.{Allows, IsMetadata, MayVerify, MayDrawTest, I
 use Rattle.esr_depot.specs.declared.depot.Commit.{Commit}
 use Rattle.esr_depot.specs.declared.depot.Commit.TheVariants as commits
 use Rattle.esr_names.specs.declared.blob.BlobName.{BlobName as CodeName}
+use Rattle.esr_names.specs.declared.blob.BlobName.TheVariants as code
+use Rattle.esr_names.specs.Layout.{IsName}
 use Rattle.esr_names.specs.declared.ids.Id.{Id}
 use Rattle.esr_formats.specs.Names.{name_of}
 use Rattle.esr_progress.specs.Plan.{Plan, IsPlanOf}
 use Rattle.esr_desk.specs.Conditions.{Holds}
 use Rattle.esr_desk.specs.declared.refusal.StepRefusal.{StepRefusal}
 use Rattle.esr_desk.specs.Start.{Start, formats_of, world_of}
-use Rattle.esr_checking.specs.Caller.{caller_of, drawn_by, fetched_by}
-use Rattle.esr_checking.specs.Conditions.{CanDraw, IsOpen, IsOwn, CanCommit, CanFetch, CanRemove, CanEnd}
+use Rattle.esr_desk.specs.Own.{caller_of}
+use Rattle.esr_desk.specs.Caller.{drawn_by, found_by}
+use Rattle.esr_desk.specs.Verify.Conditions.{CanDrawTest, IsOpen, IsOwn, CanCommitTest, CanFetchTest, CanRemoveTests, CanEndVerification}
 use Rattle.esr_repo.specs.Repo.{AreTests}
 use Rattle.esr_repo.specs.Next.{Added, AddedOr, Did}
 use Rattle.esr_repo.specs.May.{IsNamed, MayNote, MayRefuse, MayBegin, MayCommit, MayFetch, MayRemove}
@@ -46,10 +49,10 @@ drawn_plan w next p h = record { ops = h.ops; deletes = h.deletes; completed = h
 next_one : (n next : ℕ) → next ≡ n + 1 → next ≡ suc n
 next_one n next e = omega (arith, e)
 
-may_draw_test : (s : Start) (old log : List Moment) → log ≡ old → CanDraw (caller_of s old) → MayDrawTest (world_of s log)
-may_draw_test s old log e before = let can : CanDraw (caller_of s log) = subst (λ (l : List Moment). CanDraw (caller_of s l)) (sym e) before in record { undrawn = can.undrawn; unspent = can.unspent }
+may_draw_test : (s : Start) (old log : List Moment) → log ≡ old → CanDrawTest (caller_of s old) → MayDrawTest (world_of s log)
+may_draw_test s old log e before = let can : CanDrawTest (caller_of s log) = subst (λ (l : List Moment). CanDrawTest (caller_of s l)) (sym e) before in record { undrawn = can.undrawn; unspent = can.unspent }
 
-pub may_note_draw_test : (s : Start) (old log : List Moment) (first next : ℕ) → log ≡ old → CanDraw (caller_of s old) → first ≡ (world_of s log).next_id → next ≡ (world_of s log).next_id + 1 → next < first_id (suc (world_of s log).term)
+pub may_note_draw_test : (s : Start) (old log : List Moment) (first next : ℕ) → log ≡ old → CanDrawTest (caller_of s old) → first ≡ (world_of s log).next_id → next ≡ (world_of s log).next_id + 1 → next < first_id (suc (world_of s log).term)
     → MayNote s log 0 (ReadStep DrawTest) (DrawnFrom first) None next
 may_note_draw_test s old log first next e before first_is next_is below =
     let idle = may_draw_test s old log e before in
@@ -62,7 +65,7 @@ may_note_draw_test s old log first next e before first_is next_is below =
       next_is = λ image. is;
     }
 
-pub may_refuse_draw_test : (s : Start) (old log : List Moment) (next : ℕ) → log ≡ old → CanDraw (caller_of s old) → next ≡ (world_of s log).next_id → first_id (suc (world_of s log).term) ≤ (world_of s log).next_id + 1
+pub may_refuse_draw_test : (s : Start) (old log : List Moment) (next : ℕ) → log ≡ old → CanDrawTest (caller_of s old) → next ≡ (world_of s log).next_id → first_id (suc (world_of s log).term) ≤ (world_of s log).next_id + 1
     → MayRefuse s log 0 (ReadStep DrawTest) (IdsSpent next)
 may_refuse_draw_test s old log next e before next_is spent =
     let idle = may_draw_test s old log e before in
@@ -97,18 +100,31 @@ no_metadata id name test meta = go meta.1
     go (inr (inl e)) = subst (IsTestOf id) e test
     go (inr (inr e)) = subst (IsTestOf id) e.1 test
 
-own_test : (s : Start) (log : List Moment) (name : BlobName) → ReadTracked (world_of s log) → IsOwn (caller_of s log) name → IsNamed s name → IsOwnTest (formats_of s) (world_of s log) name
-own_test s log name tracked own named = record { id = own.id; drawn = own.drawn; below = tracked.drawn own.id own.drawn; test = own.test; stored = (named, test_stored own.id name own.test) }
+-- it is of one of 64 workers, if it is of one
+abbrev AreWorkers : BlobName → Type 0
+AreWorkers name = (v n : ℕ) → name ≡ TestNode v n → n < 64
+
+-- as a name of the layout is
+pub workers_of : (name : CodeName) → IsName name → AreWorkers (name_of name)
+unfolding IsName
+workers_of (code.TestNode id worker) layout v n is = subst (λ (k : ℕ). k < 64) (same id.number worker v n is) layout
+  where
+    same : (i w v n : ℕ) → TestNode i w ≡ TestNode v n → w ≡ n
+    same i w v n e = cc
+workers_of name layout v n is = absurd cc
+
+own_test : (s : Start) (log : List Moment) (name : BlobName) → ReadTracked (world_of s log) → IsOwn (caller_of s log) name → AreWorkers name → IsNamed s name → IsOwnTest (formats_of s) (world_of s log) name
+own_test s log name tracked own workers named = record { id = own.id; drawn = own.drawn; below = tracked.drawn own.id own.drawn; test = own.test; worker = workers; stored = (named, test_stored own.id name own.test) }
 
 -- ---- begin
 
-pub may_begin_test : (s : Start) (old log : List Moment) (name : BlobName) → log ≡ old → ReadTracked (world_of s log) → IsOwn (caller_of s old) name → MayBegin s log 0 (ReadStep (BeginTest name)) name
-may_begin_test s old log name e tracked before =
+pub may_begin_test : (s : Start) (old log : List Moment) (name : BlobName) → log ≡ old → ReadTracked (world_of s log) → IsOwn (caller_of s old) name → AreWorkers name → MayBegin s log 0 (ReadStep (BeginTest name)) name
+may_begin_test s old log name e tracked before workers =
     let own : IsOwn (caller_of s log) name = subst (λ (l : List Moment). IsOwn (caller_of s l) name) (sym e) before in
     record {
       is = refl;
-      begins = λ named image tells same. Verifying (BeginTest name) WasBegun image (BeginningTest name image (own_test s log name tracked own named) same);
-      fails = λ named image tells same. Verifying (BeginTest name) (Refused DepotFault) image (BeginTestFails name image (own_test s log name tracked own named) same);
+      begins = λ named image tells same. Verifying (BeginTest name) WasBegun image (BeginningTest name image (own_test s log name tracked own workers named) same);
+      fails = λ named image tells same. Verifying (BeginTest name) (Refused DepotFault) image (BeginTestFails name image (own_test s log name tracked own workers named) same);
     }
 
 pub begun_caller : {X : Type 0} (s : Start) (old mid new : List Moment) (name : BlobName) (r : Result X StepRefusal) → mid ≡ old → Did s mid new 0 (ReadStep (BeginTest name)) (λ x. WasBegun) r → caller_of s new ≡ caller_of s old
@@ -117,29 +133,29 @@ begun_caller s old mid new name (Err x) e did = refused_caller s mid new 0 (Begi
 
 -- ---- commit
 
-pub may_commit_test : (s : Start) (old log : List Moment) (name : BlobName) (contents : Option Bytes) → log ≡ old → ReadTracked (world_of s log) → CanCommit (caller_of s old) name → (bytes : Bytes) × Holds s contents bytes
+pub may_commit_test : (s : Start) (old log : List Moment) (name : BlobName) (contents : Option Bytes) → log ≡ old → ReadTracked (world_of s log) → CanCommitTest (caller_of s old) name → AreWorkers name → (bytes : Bytes) × Holds s contents bytes
     → (bytes : Bytes) × Holds s contents bytes × MayCommit s log 0 (ReadStep (CommitTest name)) name bytes
-may_commit_test s old log name contents e tracked before holds =
-    let can : CanCommit (caller_of s log) name = subst (λ (l : List Moment). CanCommit (caller_of s l) name) (sym e) before in (
+may_commit_test s old log name contents e tracked before workers holds =
+    let can : CanCommitTest (caller_of s log) name = subst (λ (l : List Moment). CanCommitTest (caller_of s l) name) (sym e) before in (
       holds.0,
       holds.1,
       record {
         is = refl;
         stored = test_stored can.own.id name can.own.test;
-        commits = λ named image tells adds. Verifying (CommitTest name) WasDone image (CommittingTest name holds.0 image (own_test s log name tracked can.own named) can.once adds);
+        commits = λ named image tells adds. Verifying (CommitTest name) WasDone image (CommittingTest name holds.0 image (own_test s log name tracked can.own workers named) can.once adds);
         finds = λ named meta image tells there. absurd (no_metadata can.own.id name can.own.test meta);
-        taken = λ named other image tells there. Verifying (CommitTest name) (Refused (NameTaken name)) image (TestTaken name image (own_test s log name tracked can.own named) there);
-        fails = λ named image tells left. Verifying (CommitTest name) (Refused DepotFault) image (CommitTestFails name holds.0 image (own_test s log name tracked can.own named) left);
+        taken = λ named other image tells there. Verifying (CommitTest name) (Refused (NameTaken name)) image (TestTaken name image (own_test s log name tracked can.own workers named) there);
+        fails = λ named image tells left. Verifying (CommitTest name) (Refused DepotFault) image (CommitTestFails name holds.0 image (own_test s log name tracked can.own workers named) left);
       },
     )
 
 -- one that is there is refused
-pub committed_test : (s : Start) (old mid new : List Moment) (name : BlobName) (contents : Option Bytes) (c : Commit) → mid ≡ old → CanCommit (caller_of s old) name → CommitDid s mid new 0 (ReadStep (CommitTest name)) name contents (Ok c) → Added s old new 0 (ReadStep (CommitTest name)) WasDone
+pub committed_test : (s : Start) (old mid new : List Moment) (name : BlobName) (contents : Option Bytes) (c : Commit) → mid ≡ old → CanCommitTest (caller_of s old) name → CommitDid s mid new 0 (ReadStep (CommitTest name)) name contents (Ok c) → Added s old new 0 (ReadStep (CommitTest name)) WasDone
 committed_test s old mid new name contents commits.Done e can did = (commit_from s old mid new 0 (ReadStep (CommitTest name)) name contents (Ok commits.Done) e did).0
 committed_test s old mid new name contents commits.Exists e can did = absurd (no_metadata can.own.id name can.own.test did.1)
 
 -- what it held is noted, where the container tells
-pub committed_caller : (s : Start) (old mid new : List Moment) (name : BlobName) (contents : Option Bytes) (c : Commit) → mid ≡ old → CanCommit (caller_of s old) name → CommitDid s mid new 0 (ReadStep (CommitTest name)) name contents (Ok c)
+pub committed_caller : (s : Start) (old mid new : List Moment) (name : BlobName) (contents : Option Bytes) (c : Commit) → mid ≡ old → CanCommitTest (caller_of s old) name → CommitDid s mid new 0 (ReadStep (CommitTest name)) name contents (Ok c)
     → caller_of s new ≡ caller_wrote (caller_of s old) name contents
 committed_caller s old mid new name contents commits.Done e can did =
     let from = commit_from s old mid new 0 (ReadStep (CommitTest name)) name contents (Ok commits.Done) e did in
@@ -148,9 +164,9 @@ committed_caller s old mid new name contents commits.Exists e can did = absurd (
 
 -- ---- fetch
 
-pub may_fetch_test : (s : Start) (old log : List Moment) (name : BlobName) → log ≡ old → AreTests (world_of s log).caller → CanFetch (caller_of s old) name → MayFetch s log 0 (ReadStep (ReadBlob name)) name
+pub may_fetch_test : (s : Start) (old log : List Moment) (name : BlobName) → log ≡ old → AreTests (world_of s log).caller → CanFetchTest (caller_of s old) name → MayFetch s log 0 (ReadStep (ReadBlob name)) name
 may_fetch_test s old log name e tests before =
-    let can : CanFetch (caller_of s log) name = subst (λ (l : List Moment). CanFetch (caller_of s l) name) (sym e) before in
+    let can : CanFetchTest (caller_of s log) name = subst (λ (l : List Moment). CanFetchTest (caller_of s l) name) (sym e) before in
     let test = tests name can.committed in
     let stored : name ≢ Latest = test_stored test.0 name test.1 in
     let may : MayVerify (world_of s log) name = record { committed = can.committed; unremoved = can.unremoved; once = can.once } in
@@ -162,13 +178,13 @@ may_fetch_test s old log name e tests before =
     }
 
 fetched : {F : Type 0} (left : F → Option Bytes) (s : Start) (old new : List Moment) (name : BlobName) (r : Result (Option F) StepRefusal) → FetchDid left s old new 0 (ReadStep (ReadBlob name)) name r
-    → IfOk r (λ o. caller_of s new ≡ fetched_by left name o (caller_of s old))
+    → IfOk r (λ o. caller_of s new ≡ found_by left name o (caller_of s old))
 fetched left s old new name (Ok None) did = added_caller s old new 0 (ReadStep (ReadBlob name)) WasAbsent did
 fetched left s old new name (Ok (Some f)) did = added_caller s old new 0 (ReadStep (ReadBlob name)) WasFetched did.0 ∙ ap (caller_told (caller_of s old) name) did.1
 fetched left s old new name (Err e) did = tt
 
 pub fetched_caller : {F : Type 0} (left : F → Option Bytes) (s : Start) (old mid new : List Moment) (name : BlobName) (r : Result (Option F) StepRefusal) → mid ≡ old → FetchDid left s mid new 0 (ReadStep (ReadBlob name)) name r
-    → IfOk r (λ o. caller_of s new ≡ fetched_by left name o (caller_of s old))
+    → IfOk r (λ o. caller_of s new ≡ found_by left name o (caller_of s old))
 fetched_caller left s old mid new name r e did = fetched left s old new name r (fetch_from left s old mid new 0 (ReadStep (ReadBlob name)) name r e did)
 
 pub fetch_kept_caller : {F : Type 0} (left : F → Option Bytes) (s : Start) (old mid new : List Moment) (name : BlobName) (r : Result (Option F) StepRefusal) → mid ≡ old → FetchDid left s mid new 0 (ReadStep (ReadBlob name)) name r → OnErr r (caller_of s new ≡ caller_of s old)
@@ -177,9 +193,9 @@ fetch_kept_caller left s old mid new name (Err x) e did = refused_caller s mid n
 
 -- ---- remove
 
-pub may_remove_tests : (s : Start) (old log : List Moment) (names : List BlobName) → log ≡ old → ReadTracked (world_of s log) → CanRemove (caller_of s old) names → MayRemove s log 0 (ReadStep (RemoveTests names)) names
+pub may_remove_tests : (s : Start) (old log : List Moment) (names : List BlobName) → log ≡ old → ReadTracked (world_of s log) → CanRemoveTests (caller_of s old) names → MayRemove s log 0 (ReadStep (RemoveTests names)) names
 may_remove_tests s old log names e tracked before =
-    let can : CanRemove (caller_of s log) names = subst (λ (l : List Moment). CanRemove (caller_of s l) names) (sym e) before in
+    let can : CanRemoveTests (caller_of s log) names = subst (λ (l : List Moment). CanRemoveTests (caller_of s l) names) (sym e) before in
     let may : MayRemoveTests (world_of s log) names = record { few = can.few; committed = can.committed; doomed = λ name has. tracked.doomed name (can.committed name has) } in
     record {
       is = refl;
@@ -198,12 +214,12 @@ removed_caller s old new names a = added_caller s old new 0 (ReadStep (RemoveTes
 
 -- ---- it ends
 
-verifies : (w : World) → CanEnd w.caller → Verifies w
+verifies : (w : World) → CanEndVerification w.caller → Verifies w
 verifies w can = let drew = drawn_is w.caller can.drawn in record { id = drew.0; drawn = drew.1; master = can.master drew.0 drew.1; found = can.found; removed = can.removed }
 
-pub may_note_verified : (s : Start) (old log : List Moment) (next : ℕ) → log ≡ old → CanEnd (caller_of s old) → next ≡ (world_of s log).next_id → MayNote s log 0 (ReadStep VerifiedAll) HasEnded None next
+pub may_note_verified : (s : Start) (old log : List Moment) (next : ℕ) → log ≡ old → CanEndVerification (caller_of s old) → next ≡ (world_of s log).next_id → MayNote s log 0 (ReadStep VerifiedAll) HasEnded None next
 may_note_verified s old log next e before next_is =
-    let can : CanEnd (caller_of s log) = subst (λ (l : List Moment). CanEnd (caller_of s l)) (sym e) before in
+    let can : CanEndVerification (caller_of s log) = subst (λ (l : List Moment). CanEndVerification (caller_of s l)) (sym e) before in
     record {
       plain = refl;
       allows = λ image tells same. Verifying VerifiedAll HasEnded image (VerifyingAll image (verifies (world_of s log) can) same);

@@ -30,8 +30,8 @@ use Rattle.esr_repo.specs.Grown.{out_is, added_ticket, changed_ticket}
 use Rattle.esr_repo.proofs.Stepping.{kept_by}
 
 -- a blob of this name and these bytes may be committed
-abbrev committable : (s : Start) (log : List Moment) (k : ℕ) (name : BlobName) (bytes : Bytes) → CanCommit s (ticket_of s log k) name bytes → IsNamed s name → Commits (formats_of s) (world_of s log) k name
-committable s log k name bytes can named = record { t = ticket_of s log k; out = out_is s log k can.out; unsettled = can.unsettled; bytes = bytes; named = (named, can.stored); may = can.may }
+abbrev committable : (s : Start) (log : List Moment) (k : ℕ) (name : BlobName) (bytes : Bytes) → CanCommit s (ticket_of s log k) name bytes → IsNamed s name → Commits (formats_of s) s.part_size (world_of s log) k name
+committable s log k name bytes can named = record { t = ticket_of s log k; out = out_is s log k can.out; unsettled = can.unsettled; bytes = bytes; named = (named, can.stored); may = can.may; numbered = can.numbered }
 
 abbrev putting : (s : Start) (log : List Moment) (k n : ℕ) → CanPut s (ticket_of s log k) n → Puts (formats_of s) (world_of s log) k
 putting s log k n can = record { t = ticket_of s log k; out = out_is s log k can.out; s = can.change; is = can.is; unsettled = can.unsettled; n = n; raised = can.raised; written = can.written }

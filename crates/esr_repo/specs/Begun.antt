@@ -1,5 +1,5 @@
 -- A repository that has made no step.
-use Rattle.std.specs.Prelude.{◌≡◌, ℕ, ◌-◌, ◌^◌, ◌≤◌, false, Some}
+use Rattle.std.specs.Prelude.{◌≡◌, ℕ, ◌-◌, ◌^◌, ◌≤◌, false, [], Some}
 use Rattle.std.specs.FinMap as fin
 use Rattle.esr_core.specs.World as core
 use Rattle.esr_core.specs.World.{no_caller}
@@ -20,6 +20,7 @@ pub record IsBegun (s : Start) (clock : ℕ) (past : ℕ → Held → Type 0) (l
   pub no_tickets : s.world.tickets ≡ fin.empty
   pub read_tracked : ReadTracked s.world
   pub uncalled : s.world.caller ≡ no_caller
+  pub no_entries : s.world.entries ≡ []
   -- the infos that are kept are those of the listed snapshots
   pub infos : AreInfosOf (formats_of s) s.world s.tells k.infos
   pub listed : AreListed s.world.root k.infos

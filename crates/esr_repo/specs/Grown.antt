@@ -10,11 +10,12 @@ use Rattle.esr_core.specs.World.{World, Ticket, Reader}
 use Rattle.esr_core.specs.Restores.{IsReading}
 use Rattle.esr_core.specs.Steps.{IsOut}
 use Rattle.esr_core.specs.Entry.{Step, Reply, Moment}
+use Rattle.esr_core.specs.Past.{with_entry}
 use Rattle.esr_core.specs.After.{with_given, change, answered, after}
 use Rattle.esr_core.specs.Allowed.{Allowed}
 use Rattle.esr_core.specs.History.{world_from, IsLegal}
 use Rattle.esr_desk.specs.Start.{Start, formats_of, world_of, Legal, no_ticket, or_no_ticket, ticket_of}
-use Rattle.esr_desk.specs.Readers.{no_reader, or_no_reader, reader_of}
+use Rattle.esr_desk.specs.Own.{no_reader, or_no_reader, reader_of}
 use Rattle.esr_repo.specs.Next.{Added}
 
 pub world_from-append : (f : Formats) (w : World) (xs ys : List Moment) → world_from f w (xs ++ ys) ≡ world_from f (world_from f w xs) ys
@@ -36,6 +37,11 @@ world_step s log m = world_from-append (formats_of s) s.world log (m ∷ [])
 pub added_world : (s : Start) (old new : List Moment) (who : ℕ) (step : Step) (reply : Reply) (a : Added s old new who step reply)
     → world_of s new ≡ after (formats_of s) (world_of s old) (record { entry = record { who = who; step = step; reply = reply }; image = a.image })
 added_world s old new who step reply a = ap (world_of s) a.is ∙ world_step s old (record { entry = record { who = who; step = step; reply = reply }; image = a.image })
+
+-- what was made, with an added entry
+pub added_entries : (s : Start) (old new : List Moment) (who : ℕ) (step : Step) (reply : Reply) → Added s old new who step reply
+    → (world_of s new).entries ≡ with_entry (world_of s old).entries (record { who = who; step = step; reply = reply })
+added_entries s old new who step reply a = ap (λ (w : World). w.entries) (added_world s old new who step reply a)
 
 -- a ticket after an added entry
 pub added_ticket : (s : Start) (old new : List Moment) (who : ℕ) (step : Step) (reply : Reply) (a : Added s old new who step reply) (k : ℕ)

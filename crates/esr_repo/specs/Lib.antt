@@ -1,6 +1,10 @@
 pub mod Log
 pub mod Repo
 pub mod Next
+pub mod Blocks
+pub mod Hands
+pub mod Client
+pub mod Tickets
 pub mod May
 pub mod Laws
 pub mod Grown

@@ -1,5 +1,5 @@
 -- A container beside the history of its steps, and what is kept of the world that they lead to.
-use Rattle.std.specs.Prelude.{◌≡◌, ◌≢◌, ℕ, ◌+◌, ◌-◌, ◌^◌, ◌<◌, ◌≤◌, Bool, true, false, List, length, Option, Some, None}
+use Rattle.std.specs.Prelude.{◌≡◌, ◌≢◌, ℕ, ◌+◌, ◌-◌, ◌^◌, ◌<◌, ◌≤◌, Bool, true, false, List, [], length, Option, Some, None}
 use Rattle.std.specs.Ordering.{nat_cmp}
 use Rattle.std.specs.FinMap.{FinMap}
 use Rattle.std.specs.FinMap as fin
@@ -23,6 +23,8 @@ use Rattle.esr_progress.specs.Infos.{AreInfosOf}
 use Rattle.esr_desk.specs.Start.{Start, formats_of, world_of, Legal}
 pub use Rattle.esr_opening.specs.Opening.{Kept, IsKeptOf}
 use Rattle.esr_repo.specs.Log.{image_of, ticks, log_of}
+use Rattle.esr_repo.specs.Client.{TellsClient}
+use Rattle.esr_repo.specs.Tickets.{AreStale, AreOfOps}
 
 -- it was told that the container tells its image exactly where it does
 pub record TellsSo (l : Look) (tells : Bool) : Type 0 where
@@ -93,6 +95,11 @@ pub record IsSteady (s : Start) (log : List Moment) (l : Look) : Type 0 where
   pub gone : Gone (world_of s log)
   pub read_tracked : ReadTracked (world_of s log)
   pub tests : AreTests (world_of s log).caller
+  -- what was made is told by the steps of the history alone
+  pub no_entries : s.world.entries ≡ []
+  pub client : TellsClient (world_of s log)
+  pub stale : AreStale (world_of s log)
+  pub of_ops : AreOfOps (world_of s log)
   pub few_ops : (world_of s log).next_op ≤ s.world.next_op + length log
   pub few_tickets : (world_of s log).next_ticket ≤ s.world.next_ticket + length log
 

@@ -7,7 +7,7 @@ ghost use Rattle.esr_progress.specs.Accepting.{IsRefused, IsDeleteRefused, name_
 ghost use Rattle.esr_desk.specs.Entries.{step_of};
 ghost use Rattle.esr_desk.specs.Refusals.{refusal_of};
 ghost use Rattle.esr_desk.specs.Start.{Start, world_of};
-ghost use Rattle.esr_repo.specs.Next.{IsLive, AddedOr};
+ghost use Rattle.esr_repo.specs.Next.{IsLive, GoesOn, AddedOr};
 ghost use Rattle.esr_repo.specs.May.{MaySwap, MayRefuse};
 
 use crate::swap::Renewed;
@@ -138,6 +138,7 @@ impl<D: Depot, K: Told> Repo<D, K> {
     /// A command is not accepted, which changes nothing.
     pub(crate) fn refuse_command(&mut self, step: Step, refusal: Refusal) -> StepRefusal
         requires live { IsLive K.start self.old }
+        requires goes { GoesOn K.start self.old 0 (step_of step) }
         requires why { (command : Asked) × IsAskable command × (step_of step ≡ AskStep command) × IsRefused (world_of K.start self.old) (name_asked command) command refusal }
         ensures { AddedOr K.start self.old self.new 0 (step_of step) result }
     {
@@ -186,6 +187,7 @@ impl<D: Depot, K: Told> Repo<D, K> {
     /// A delete is not accepted, which changes nothing.
     pub(crate) fn refuse_delete(&mut self, step: Step, refusal: Refusal) -> StepRefusal
         requires live { IsLive K.start self.old }
+        requires goes { GoesOn K.start self.old 0 (step_of step) }
         requires why { (names : List Bytes) × (step_of step ≡ AskStep (DeleteSnapshots names)) × IsDeleteRefused (world_of K.start self.old) names refusal }
         ensures { AddedOr K.start self.old self.new 0 (step_of step) result }
     {

@@ -12,7 +12,7 @@ ghost use Rattle.esr_desk.specs.Conditions.{Holds};
 ghost use Rattle.esr_desk.specs.declared.refusal.StepRefusal.TheVariants.{Memory, Refused};
 ghost use Rattle.esr_desk.specs.declared.refusal.EntryRefusal.TheVariants.{DepotFault, NameTaken};
 ghost use Rattle.esr_depot.specs.declared.depot.Commit.TheVariants.{Exists};
-ghost use Rattle.esr_repo.specs.Next.{IsLive, Did};
+ghost use Rattle.esr_repo.specs.Next.{IsLive, GoesOn, Did};
 ghost use Rattle.esr_repo.specs.May.{MayBegin, MayCommit, MayReplace, MayFetch};
 ghost use Rattle.esr_repo.specs.Calls.{CommitDid, FetchDid};
 
@@ -64,6 +64,7 @@ impl<D: Depot, K: Told> Repo<D, K> {
     ) -> Result<Named<D::Stage>, StepRefusal>
         requires live { IsLive K.start self.old }
         requires layout { IsName name }
+        requires goes { GoesOn K.start self.old who (step_of step) }
         requires may { MayBegin K.start self.old who (step_of step) (name_of name) }
         ensures step { Did K.start self.old self.new who (step_of step) (λ stage. WasBegun) result }
         ensures name { IfOk result (λ s. s.name ≡ name) }
@@ -110,6 +111,7 @@ impl<D: Depot, K: Told> Repo<D, K> {
     ) -> Result<Commit, StepRefusal>
         requires live { IsLive K.start self.old }
         requires layout { IsName stage.name }
+        requires goes { GoesOn K.start self.old who (step_of step) }
         requires may { (bytes : _) × Holds K.start (D.Stage.contents stage.stage) bytes × MayCommit K.start self.old who (step_of step) (name_of stage.name) bytes }
         ensures step { CommitDid K.start self.old self.new who (step_of step) (name_of stage.name) (D.Stage.contents stage.stage) result }
         ensures why { IfErr result (λ e. (e ≡ Memory) ⊎ ((e ≡ Refused DepotFault) ⊎ ((e ≡ Refused (NameTaken stage.name)) × (IsMetadata (name_of stage.name) → ⊥)))) }
@@ -160,6 +162,7 @@ impl<D: Depot, K: Told> Repo<D, K> {
     ) -> Result<(), StepRefusal>
         requires live { IsLive K.start self.old }
         requires name { name_of stage.name ≡ Latest }
+        requires goes { GoesOn K.start self.old who LatestStep }
         requires may { (bytes : _) × Holds K.start (D.Stage.contents stage.stage) bytes × MayReplace K.start self.old who bytes }
         ensures step { Did K.start self.old self.new who LatestStep (λ _. WasReplaced) result }
         ensures why { IfErr result (λ e. (e ≡ Memory) ⊎ (e ≡ Refused DepotFault)) }
@@ -193,6 +196,7 @@ impl<D: Depot, K: Told> Repo<D, K> {
     ) -> Result<Option<D::Fetch>, StepRefusal>
         requires live { IsLive K.start self.old }
         requires layout { IsName name }
+        requires goes { GoesOn K.start self.old who (step_of step) }
         requires may { MayFetch K.start self.old who (step_of step) (name_of name) }
         ensures step { FetchDid D.Fetch.left K.start self.old self.new who (step_of step) (name_of name) result }
         ensures count { IfOk result (λ o. IfSome o (λ f. D.Fetch.faults f ≡ 0)) }

@@ -7,7 +7,7 @@ ghost use Rattle.esr_progress.specs.Accepting.{IsCloneRefused, Clonable};
 ghost use Rattle.esr_desk.specs.Entries.{cloned_of, step_of};
 ghost use Rattle.esr_desk.specs.Refusals.{refusal_of};
 ghost use Rattle.esr_desk.specs.Start.{Start, world_of};
-ghost use Rattle.esr_repo.specs.Next.{IsLive, AddedOr, Did};
+ghost use Rattle.esr_repo.specs.Next.{IsLive, GoesOn, AddedOr, Did};
 ghost use Rattle.esr_repo.specs.May.{MaySwap, MayRefuse};
 
 use crate::accepting::index_names_copy;
@@ -136,6 +136,7 @@ impl<D: Depot, K: Told> Repo<D, K> {
         refusal: Refusal,
     ) -> StepRefusal
         requires live { IsLive K.start self.old }
+        requires goes { GoesOn K.start self.old 0 (AskStep (Clone source.now name.now indices.now moment None)) }
         requires why { IsCloneRefused (world_of K.start self.old) source.now name.now indices.now refusal }
         ensures { AddedOr K.start self.old self.new 0 (AskStep (Clone source.now name.now indices.now moment None)) result }
     {
@@ -156,6 +157,7 @@ impl<D: Depot, K: Told> Repo<D, K> {
         moment: u64,
     ) -> Result<u64, StepRefusal>
         requires live { IsLive K.start self.old }
+        requires goes { GoesOn K.start self.old 0 (AskStep (Clone source.now name.now indices.now moment None)) }
         requires once { AreOnce indices.now }
         requires room { length self.old < 2 ^ 41 }
         requires may { Clonable (world_of K.start self.old) source.now name.now indices.now (Ok uuid) }

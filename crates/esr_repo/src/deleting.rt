@@ -1,9 +1,9 @@
 //! The steps of a delete's ticket, its writing aside.
-ghost use Rattle.std.specs.Prelude.{◌≡◌, ◌+◌, ◌<◌, ◌^◌, List, ℕ, length, map, filter, count_by, true, false, IsTrue, IfOk, IfSome, OnOk, OnErr};
-ghost use Rattle.esr_model.specs.Values.{Bytes, Has, IsOneEach, ReadsBack};
+ghost use Rattle.std.specs.Prelude.{◌≡◌, ◌+◌, ◌<◌, ◌^◌, List, ℕ, length, map, filter, count_by, true, false, IfOk, OnOk, OnErr};
+ghost use Rattle.esr_model.specs.Values.{Has, IsOneEach, ReadsBack};
 ghost use Rattle.esr_model.specs.Delete.{kept_count, deleted_root};
 ghost use Rattle.esr_core.specs.Pruning.{AreOfRoot, planned};
-ghost use Rattle.esr_core.specs.Entry.{PruneStep, FetchShard, PlanShards, SettlePruned, RemoveDoomed, EndDelete, DeleteFails, DrawnFrom, WasSettled, WasRemoved, HasEnded};
+ghost use Rattle.esr_core.specs.Entry.{PruneStep, PlanShards, SettlePruned, RemoveDoomed, EndDelete, DrawnFrom, WasSettled, WasRemoved, HasEnded};
 ghost use Rattle.esr_names.specs.Layout.{IsName};
 ghost use Rattle.esr_root.specs.Indices.{AreIndices};
 ghost use Rattle.esr_root.specs.Snaps.{lists};
@@ -11,21 +11,19 @@ ghost use Rattle.esr_formats.specs.Ids.{number_of};
 ghost use Rattle.esr_formats.specs.Names.{name_of};
 ghost use Rattle.esr_formats.specs.Roots.{root_of, root_kind};
 ghost use Rattle.esr_results.specs.Pruned.{pruned_of};
-ghost use Rattle.esr_desk.specs.Entries.{why_of, step_of};
+ghost use Rattle.esr_desk.specs.Entries.{step_of};
 ghost use Rattle.esr_desk.specs.Start.{formats_of, ticket_of, world_of};
-ghost use Rattle.esr_desk.specs.Outcome.{fetch_reply};
-ghost use Rattle.esr_desk.specs.Conditions.{Holds};
-ghost use Rattle.esr_desk.specs.Taken.{fetched_by, LeftBy, IsSettled};
-ghost use Rattle.esr_deleting.specs.Conditions.{CanFetchShard, CanPlan, CanSettleDelete, CanRemove, CanEndDelete, CanFailDelete, removed_by};
-ghost use Rattle.esr_repo.specs.Next.{IsLive, Did};
+ghost use Rattle.esr_desk.specs.Once.{IsFresh};
+ghost use Rattle.esr_desk.specs.Taken.{LeftBy, IsSettled};
+ghost use Rattle.esr_desk.specs.Delete.Conditions.{CanPlan, CanSettleDelete, CanRemove, CanEndDelete};
+ghost use Rattle.esr_repo.specs.Next.{IsLive, GoesOn, Did};
 ghost use Rattle.esr_repo.specs.May.{MaySwap};
 
 use crate::swap::Renewed;
 use crate::taking::info_copy;
 use crate::{Repo, Told};
-use esr_deleting::Planned;
-use esr_depot::{Depot, Fetch};
-use esr_desk::{Answer, BlobNames, EntryRefusal, Prune, Step, StepRefusal, Why};
+use esr_depot::Depot;
+use esr_desk::{Answer, BlobNames, EntryRefusal, Planned, Prune, Step, StepRefusal};
 use esr_formats::write_root;
 use esr_meta::SnapInfo;
 use esr_names::{BlobName, Id, Ids};
@@ -99,30 +97,6 @@ fn indices_rule(root: &RootData)
 }
 
 impl<D: Depot, K: Told> Repo<D, K> {
-    /// The index of a shard that loses a snapshot, to be read from its first byte, or `None` where there is none.
-    pub fn fetch_shard(
-        &mut self,
-        alloc: Global,
-        ticket: u64,
-        name: BlobName,
-    ) -> Result<Option<D::Fetch>, StepRefusal>
-        requires layout { IsName name }
-        requires may { CanFetchShard (ticket_of K.start self.old ticket) (name_of name) }
-        ensures step { Did K.start self.old self.new ticket (PruneStep (FetchShard (name_of name))) fetch_reply result }
-        ensures own { IfOk result (λ o. ticket_of K.start self.new ticket
-            ≡ fetched_by D.Fetch.left (name_of name) o (ticket_of K.start self.old ticket)) }
-        ensures told { IfOk result (λ o. IfSome o (λ f. (bytes : Bytes) × Holds K.start (D.Fetch.left f) bytes)) }
-        ensures count { IfOk result (λ o. IfSome o (λ f. D.Fetch.faults f ≡ 0)) }
-        ensures sure { IfOk result (λ o. IfSome o (λ f. K.start.quiet ≡ true → length self.old < 2 ^ 41 → IsTrue (D.Fetch.is_sure f))) }
-        ensures kept { OnErr result (ticket_of K.start self.new ticket ≡ ticket_of K.start self.old ticket) }
-    {
-        let prune = Prune::Shard { name };
-        self.check(ticket, Step::Prune { prune })?;
-        self.rules();
-        let prune = Prune::Shard { name };
-        self.call_fetch(alloc, ticket, Step::Prune { prune }, name)
-    }
-
     /// The next id, and the root that a plan of these shards writes from it on. It can be written.
     fn planned(
         &self,
@@ -161,6 +135,7 @@ impl<D: Depot, K: Told> Repo<D, K> {
         requires may { (uuids : List ℕ) × CanPlan K.start (ticket_of K.start self.old ticket) uuids (map pruned_of shards.now)
             × ReadsBack root_kind (deleted_root (ticket_of K.start self.old ticket).root uuids (map pruned_of shards.now) plan.first.number) }
         requires first { plan.first.number ≡ (world_of K.start self.old).next_id }
+        requires goes { GoesOn K.start self.old ticket (step_of step) }
         ensures step { Did K.start self.old self.new ticket (step_of step) (λ p. DrawnFrom p.first.number) result }
         ensures own { IfOk result (λ p. ticket_of K.start self.new ticket
             ≡ planned (formats_of K.start) (map pruned_of shards.now) p.first.number (ticket_of K.start self.old ticket)) }
@@ -189,6 +164,7 @@ impl<D: Depot, K: Told> Repo<D, K> {
     ) -> Result<Planned, StepRefusal>
         requires copied { root_of root.now ≡ (ticket_of K.start self.old ticket).root }
         requires may { CanPlan K.start (ticket_of K.start self.old ticket) (map number_of uuids.now) (map pruned_of shards.now) }
+        requires new { IsFresh K.start self.old ticket (PruneStep (PlanShards (map pruned_of shards.now))) }
         ensures step { Did K.start self.old self.new ticket (PruneStep (PlanShards (map pruned_of shards.now))) (λ p. DrawnFrom p.first.number) result }
         ensures own { IfOk result (λ p. ticket_of K.start self.new ticket
             ≡ planned (formats_of K.start) (map pruned_of shards.now) p.first.number (ticket_of K.start self.old ticket)) }
@@ -233,6 +209,7 @@ impl<D: Depot, K: Told> Repo<D, K> {
         root: &RootData,
     ) -> Result<(), StepRefusal>
         requires may { CanSettleDelete K.start (ticket_of K.start self.old ticket) (root_of root.now) }
+        requires new { IsFresh K.start self.old ticket (PruneStep SettlePruned) }
         ensures step { Did K.start self.old self.new ticket (PruneStep SettlePruned) (λ _. WasSettled) result }
         ensures own { OnOk result (ticket_of K.start self.new ticket
             ≡ record (ticket_of K.start self.old ticket) { settled = true }) }
@@ -254,7 +231,7 @@ impl<D: Depot, K: Told> Repo<D, K> {
         self.swap(alloc, ticket, step, Answer::Settled, renewed)
     }
 
-    /// Takes blobs that the ticket's plan dooms away. Where the container fails in it, they count as named, too.
+    /// Takes blobs that the ticket's plan dooms away.
     pub fn remove(
         &mut self,
         alloc: Global,
@@ -262,10 +239,10 @@ impl<D: Depot, K: Told> Repo<D, K> {
         names: &Seq<BlobName>,
     ) -> Result<(), StepRefusal>
         requires layout { (name : BlobName) → Has names.now name → IsName name }
-        requires may { CanRemove K.start self.old ticket (map name_of names.now) }
+        requires may { CanRemove K.start (ticket_of K.start self.old ticket) (map name_of names.now) }
+        requires new { IsFresh K.start self.old ticket (PruneStep (RemoveDoomed (map name_of names.now))) }
         ensures step { Did K.start self.old self.new ticket (PruneStep (RemoveDoomed (map name_of names.now))) (λ _. WasRemoved) result }
         ensures own { ticket_of K.start self.new ticket ≡ ticket_of K.start self.old ticket }
-        ensures removed { (world_of K.start self.new).removed ≡ removed_by result (map name_of names.now) (world_of K.start self.old).removed }
     {
         self.check(ticket, removes(alloc, names)?)?;
         self.rules();
@@ -274,7 +251,7 @@ impl<D: Depot, K: Told> Repo<D, K> {
     }
 
     /// The delete is over; its ticket ends.
-    pub fn deleted(&mut self, alloc: Global, ticket: u64) -> Result<(), StepRefusal>
+    pub fn end_delete(&mut self, alloc: Global, ticket: u64) -> Result<(), StepRefusal>
         requires may { CanEndDelete K.start self.old ticket }
         ensures step { Did K.start self.old self.new ticket (PruneStep EndDelete) (λ _. HasEnded) result }
         ensures own { OnOk result (ticket_of K.start self.new ticket
@@ -289,23 +266,5 @@ impl<D: Depot, K: Told> Repo<D, K> {
         let prune = Prune::End;
         let step = Step::Prune { prune };
         self.note(ticket, step, Answer::Ended, Some(ended), next)
-    }
-
-    /// The delete failed before its settle; its ticket ends.
-    pub fn undeleted(&mut self, alloc: Global, ticket: u64, why: Why) -> Result<(), StepRefusal>
-        requires may { CanFailDelete (ticket_of K.start self.old ticket) }
-        ensures step { Did K.start self.old self.new ticket (PruneStep (DeleteFails (why_of why))) (λ _. HasEnded) result }
-        ensures own { OnOk result (ticket_of K.start self.new ticket
-            ≡ record (ticket_of K.start self.old ticket) { out = false }) }
-        ensures kept { OnErr result (ticket_of K.start self.new ticket ≡ ticket_of K.start self.old ticket) }
-    {
-        let prune = Prune::Failed { why };
-        self.check(ticket, Step::Prune { prune })?;
-        self.rules();
-        let progress = self.plan().delete_failed(alloc, self.term(), ticket)?;
-        let next = self.next_id();
-        let prune = Prune::Failed { why };
-        let step = Step::Prune { prune };
-        self.note(ticket, step, Answer::Ended, Some(progress), next)
     }
 }

@@ -1,11 +1,11 @@
 //! The steps by which a unit swaps the record, and ends.
 ghost use Rattle.std.specs.Prelude.{◌≡◌, ◌<◌, ◌^◌, Some, true, false, IfOk, OnOk, OnErr};
-ghost use Rattle.esr_core.specs.Entry.{RaiseStep, SettleStep, DoneStep, FailedStep, FinishStep, DroppedStep, RaisedTo, WasSettled, HasEnded};
+ghost use Rattle.esr_core.specs.Entry.{RaiseStep, SettleStep, DoneStep, FinishStep, DroppedStep, RaisedTo, WasSettled, HasEnded};
 ghost use Rattle.esr_formats.specs.Roots.{root_of};
 ghost use Rattle.esr_results.specs.Results.{result_of};
-ghost use Rattle.esr_desk.specs.Entries.{why_of};
 ghost use Rattle.esr_desk.specs.Start.{ticket_of};
-ghost use Rattle.esr_desk.specs.Conditions.{CanRaise, IsUnpruned, CanSettle, CanEnd, CanFail, CanFinish, CanDrop};
+ghost use Rattle.esr_desk.specs.Once.{IsFresh};
+ghost use Rattle.esr_desk.specs.Conditions.{CanRaise, IsUnpruned, CanSettle, CanEnd, CanFinish, CanDrop};
 ghost use Rattle.esr_desk.specs.Taken.{LeftBy, HasRaised, IsSettled, HasEndedAs};
 ghost use Rattle.esr_desk.specs.declared.refusal.StepRefusal.{StepRefusal};
 ghost use Rattle.esr_repo.specs.Next.{Did};
@@ -13,7 +13,7 @@ ghost use Rattle.esr_repo.specs.Next.{Did};
 use crate::renewing::{count, entry_refusal};
 use crate::{Repo, Told};
 use esr_depot::Depot;
-use esr_desk::{Answer, EntryRefusal, Step, StepRefusal, Why};
+use esr_desk::{Answer, EntryRefusal, Step, StepRefusal};
 use esr_results::ShardResult;
 use esr_root::RootData;
 use std::alloc::Global;
@@ -22,6 +22,7 @@ impl<D: Depot, K: Told> Repo<D, K> {
     /// Begins a generation for the root that the ticket is to write, and answers it.
     pub fn raise(&mut self, alloc: Global, ticket: u64) -> Result<u64, StepRefusal>
         requires may { CanRaise K.start (ticket_of K.start self.old ticket) }
+        requires new { IsFresh K.start self.old ticket RaiseStep }
         ensures step { Did K.start self.old self.new ticket RaiseStep (λ n. RaisedTo n) result }
         ensures own { IfOk result (λ n. ticket_of K.start self.new ticket
             ≡ record (ticket_of K.start self.old ticket) { raised = Some n }) }
@@ -50,6 +51,7 @@ impl<D: Depot, K: Told> Repo<D, K> {
     pub fn settle(&mut self, alloc: Global, ticket: u64, root: &RootData) -> Result<(), StepRefusal>
         requires may { CanSettle K.start (ticket_of K.start self.old ticket) (root_of root.now) }
         requires unpruned { IsUnpruned (ticket_of K.start self.old ticket) }
+        requires new { IsFresh K.start self.old ticket SettleStep }
         ensures step { Did K.start self.old self.new ticket SettleStep (λ _. WasSettled) result }
         ensures own { OnOk result (ticket_of K.start self.new ticket
             ≡ record (ticket_of K.start self.old ticket) { settled = true }) }
@@ -67,7 +69,7 @@ impl<D: Depot, K: Told> Repo<D, K> {
     }
 
     /// A shard is done; its ticket ends.
-    pub fn done(
+    pub fn end_shard(
         &mut self,
         alloc: Global,
         ticket: u64,
@@ -87,24 +89,8 @@ impl<D: Depot, K: Told> Repo<D, K> {
         self.note(ticket, step, Answer::Ended, Some(progress), next)
     }
 
-    /// A unit failed; its ticket ends.
-    pub fn failed(&mut self, alloc: Global, ticket: u64, why: Why) -> Result<(), StepRefusal>
-        requires may { CanFail (ticket_of K.start self.old ticket) }
-        ensures step { Did K.start self.old self.new ticket (FailedStep (why_of why)) (λ _. HasEnded) result }
-        ensures own { OnOk result (ticket_of K.start self.new ticket
-            ≡ record (ticket_of K.start self.old ticket) { out = false }) }
-        ensures kept { OnErr result (ticket_of K.start self.new ticket ≡ ticket_of K.start self.old ticket) }
-    {
-        self.check(ticket, Step::Failed { why })?;
-        self.rules();
-        let progress = self.plan().unit_failed(alloc, self.term(), ticket)?;
-        let next = self.next_id();
-        let step = Step::Failed { why };
-        self.note(ticket, step, Answer::Ended, Some(progress), next)
-    }
-
     /// An op that failed leaves the list; its ticket ends.
-    pub fn dropped(&mut self, alloc: Global, ticket: u64) -> Result<(), StepRefusal>
+    pub fn end_drop(&mut self, alloc: Global, ticket: u64) -> Result<(), StepRefusal>
         requires may { CanDrop (ticket_of K.start self.old ticket) }
         ensures step { Did K.start self.old self.new ticket DroppedStep (λ _. HasEnded) result }
         ensures own { OnOk result (ticket_of K.start self.new ticket
@@ -122,9 +108,10 @@ impl<D: Depot, K: Told> Repo<D, K> {
         self.swap(alloc, ticket, Step::Dropped, Answer::Ended, renewed)
     }
 
-    /// A settled unit ends.
+    /// The unit of a snapshot or a clone that has settled ends, and so does any but a shard's once its term is over, as a step of its
+    /// own was told.
     pub fn finish(&mut self, alloc: Global, ticket: u64) -> Result<(), StepRefusal>
-        requires may { CanFinish (ticket_of K.start self.old ticket) }
+        requires may { CanFinish K.start self.old ticket }
         ensures step { Did K.start self.old self.new ticket FinishStep (λ _. HasEnded) result }
         ensures own { OnOk result (ticket_of K.start self.new ticket
             ≡ record (ticket_of K.start self.old ticket) { out = false }) }

@@ -1,7 +1,8 @@
 //! What is kept of the world, as the steps read it.
-ghost use Rattle.std.specs.Prelude.{◌≡◌, ◌+◌, ◌^◌, ◌<◌, ◌≤◌, ◌≤ℤ◌, negsuc, suc, true, length, MatchOption};
+ghost use Rattle.std.specs.Prelude.{◌≡◌, ◌+◌, ◌^◌, ◌<◌, ◌≤◌, ◌≤ℤ◌, negsuc, suc, true, ℕ, [], length, MatchOption};
 ghost use Rattle.esr_model.specs.Kept.{first_id};
 ghost use Rattle.esr_core.specs.World.{record_of};
+ghost use Rattle.esr_core.specs.Entry.{Step, Refused as RefusedAs};
 ghost use Rattle.esr_core.specs.Allowed.{NoCleanup};
 ghost use Rattle.esr_core.specs.Tracked.{Tracked};
 ghost use Rattle.esr_core.specs.Ranked.{Ranked};
@@ -11,9 +12,16 @@ ghost use Rattle.esr_formats.specs.Clusters.{count_of, cluster_of};
 ghost use Rattle.esr_record.specs.Record.{AreNumbers};
 ghost use Rattle.esr_progress.specs.Plan.{IsPlanOf, seat_of, seat_of_code};
 ghost use Rattle.esr_desk.specs.Numbered.{Numbered};
-ghost use Rattle.esr_desk.specs.Shown.{NeverFailed};
+ghost use Rattle.esr_desk.specs.Outcome.{Grounds};
+ghost use Rattle.esr_desk.specs.Last.{IsLast};
+ghost use Rattle.esr_desk.specs.Refusals.{refusal_of};
+ghost use Rattle.esr_desk.specs.declared.refusal.EntryRefusal.{EntryRefusal};
+ghost use Rattle.esr_desk.specs.declared.refusal.StepRefusal.TheVariants.{Refused};
+ghost use Rattle.esr_desk.specs.Evidence.{NeverFailed};
 ghost use Rattle.esr_desk.specs.Start.{world_of, ticket_of};
 ghost use Rattle.esr_repo.specs.Repo.{OwnIndices, Gone, AreTests, HasInfos};
+ghost use Rattle.esr_repo.specs.Client.{TellsClient};
+ghost use Rattle.esr_repo.specs.Tickets.{AreStale, AreOfOps};
 ghost use Rattle.esr_repo.specs.Next.{IsLive};
 
 use crate::{Repo, Told};
@@ -34,16 +42,33 @@ impl<D: Depot, K: Told> Repo<D, K> {
         ensures gone { Gone (world_of K.start self.now) }
         ensures read_tracked { ReadTracked (world_of K.start self.now) }
         ensures tests { AreTests (world_of K.start self.now).caller }
+        ensures client { TellsClient (world_of K.start self.now) }
+        ensures stale { AreStale (world_of K.start self.now) }
+        ensures of_ops { AreOfOps (world_of K.start self.now) }
         ensures few_ops { length self.now < 2 ^ 41 → (world_of K.start self.now).next_op < 2 ^ 62 }
         ensures few_tickets { length self.now < 2 ^ 41 → (world_of K.start self.now).next_ticket < 2 ^ 62 }
     {
         let _next = self.next;
     }
 
-    /// Each ticket's number is below the next one.
+    /// Each ticket's number is below the next one, and before the history nothing was made.
     pub fn numbers(&self)
-        ensures { Numbered 1 (world_of K.start self.now) }
+        ensures numbers { Numbered 1 (world_of K.start self.now) }
+        ensures none { K.start.world.entries ≡ [] }
     {
+        let _next = self.next;
+        self.rules();
+    }
+
+    /// The last step, if it was refused, was so on its grounds: the container fails only where it isn't quiet, and a delete aborts
+    /// no unit but those of snapshots and clones.
+    pub fn grounds(&self)
+        ensures { (who : ℕ) (step : Step) (refusal : EntryRefusal) → length self.now ≤ 2 ^ 41 → IsLast self.now who step (RefusedAs (refusal_of refusal))
+            → Grounds K.start self.now who (Refused refusal) }
+    {
+        esr_core::refusals_are_of_their_steps();
+        self.is_legal();
+        self.never_fails();
         self.rules();
     }
 

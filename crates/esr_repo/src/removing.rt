@@ -7,7 +7,7 @@ ghost use Rattle.esr_formats.specs.Names.{name_of, name_kind};
 ghost use Rattle.esr_desk.specs.Entries.{step_of};
 ghost use Rattle.esr_desk.specs.declared.refusal.StepRefusal.TheVariants.{Memory, Refused};
 ghost use Rattle.esr_desk.specs.declared.refusal.EntryRefusal.TheVariants.{DepotFault};
-ghost use Rattle.esr_repo.specs.Next.{IsLive, Did};
+ghost use Rattle.esr_repo.specs.Next.{IsLive, GoesOn, Did};
 ghost use Rattle.esr_repo.specs.May.{MayRemove};
 
 use crate::calls::faulted;
@@ -43,6 +43,7 @@ impl<D: Depot, K: Told> Repo<D, K> {
         requires live { IsLive K.start self.old }
         requires layout { (name : BlobName) → Has names.now name → IsName name }
         requires few { length names.now ≤ 1000 }
+        requires goes { GoesOn K.start self.old who (step_of step) }
         requires may { MayRemove K.start self.old who (step_of step) (map name_of names.now) }
         ensures step { Did K.start self.old self.new who (step_of step) (λ _. WasRemoved) result }
         ensures why { IfErr result (λ e. (e ≡ Memory) ⊎ (e ≡ Refused DepotFault)) }

@@ -37,6 +37,7 @@ pub(crate) fn count(number: i64) -> u64
 /// The refusal of a record, as an entry tells it.
 pub(crate) fn entry_refusal(refusal: RecordRefusal) -> EntryRefusal
     ensures stale { (own now : ℕ) → refusal ≡ records.StaleTerm own now → refusal_of result ≡ entry.StaleTerm own now }
+    ensures terms { (number : ℕ) → refusal ≡ records.TermsSpent number → refusal_of result ≡ entry.TermsSpent number }
     ensures spent { (number : ℤ) → refusal ≡ records.GenerationsSpent number → refusal_of result ≡ entry.GenerationsSpent (count_of number) }
 {
     match refusal {

@@ -134,5 +134,9 @@ impl<D: Depot, K: Told> Repo<D, K> {
         esr_core::each_step_tracks_restores();
         esr_core::the_record_stays();
         esr_core::leaves_go_on();
+        esr_core::each_step_is_one_change();
+        esr_core::each_step_leaves_the_others();
+        esr_core::each_refusal_has_its_cause();
+        esr_core::answers_tell_their_steps();
     }
 }

@@ -1,28 +1,24 @@
 //! The steps of restores.
-ghost use Rattle.std.specs.Prelude.{◌≡◌, ◌==◌, ◌<◌, ◌^◌, List, map, find, option_copied, length, true, false, IsTrue, IfOk, IfSome, OnOk, OnErr};
+ghost use Rattle.std.specs.Prelude.{◌≡◌, ◌==◌, ◌<◌, ◌^◌, List, map, find, option_copied, length, false, IfOk, OnOk, OnErr};
 ghost use Rattle.esr_model.specs.Values.{Bytes};
-ghost use Rattle.esr_core.specs.Entry.{Moment, Restore, AskStep, ReadStep, ReadBlob, RestoredShard, ReadFails, HasEnded, AcceptedRestore as Accepted};
+ghost use Rattle.esr_core.specs.Entry.{Moment, Restore, AskStep, ReadStep, RestoredShard, HasEnded, AcceptedRestore as Accepted};
 ghost use Rattle.esr_core.specs.Allowed.{IsListed};
-ghost use Rattle.esr_names.specs.Layout.{IsName};
-ghost use Rattle.esr_formats.specs.Names.{name_of};
 ghost use Rattle.esr_formats.specs.Refs.{ref_of_code, AreApart};
 ghost use Rattle.esr_progress.specs.Accepting.{IsRestoreRefused};
 ghost use Rattle.esr_progress.specs.Infos.{HasIndices};
-ghost use Rattle.esr_desk.specs.Entries.{why_of, step_of};
+ghost use Rattle.esr_desk.specs.Entries.{step_of};
 ghost use Rattle.esr_desk.specs.Refusals.{refusal_of};
-ghost use Rattle.esr_desk.specs.Outcome.{fetch_reply};
-ghost use Rattle.esr_desk.specs.Conditions.{Holds};
-ghost use Rattle.esr_desk.specs.Readers.{reader_of, read_by};
+ghost use Rattle.esr_desk.specs.Own.{reader_of};
 ghost use Rattle.esr_desk.specs.Start.{Start, formats_of, world_of};
-ghost use Rattle.esr_reading.specs.Conditions.{CanRead, CanEnd};
+ghost use Rattle.esr_desk.specs.Restore.Conditions.{CanEndRestore};
 ghost use Rattle.esr_repo.specs.May.{MayRefuse};
 ghost use Rattle.esr_repo.specs.Next.{IsLive, Did};
 
 use crate::{Repo, Told};
-use esr_depot::{Depot, Fetch};
-use esr_desk::{AcceptedRestore, Answer, EntryRefusal, Read, Step, StepRefusal, Why};
+use esr_depot::Depot;
+use esr_desk::{AcceptedRestore, Answer, EntryRefusal, Read, Step, StepRefusal};
 use esr_meta::{SnapInfo, indices_copy};
-use esr_names::{BlobName, Id, IndexRefs, SnapName};
+use esr_names::{Id, IndexRefs, SnapName};
 use esr_progress::{Command, Refusal};
 use esr_seq::Text;
 use std::alloc::{AllocError, Global};
@@ -115,39 +111,15 @@ impl<D: Depot, K: Told> Repo<D, K> {
         indices_copy(alloc, &info.indices)
     }
 
-    /// The blob of that name, to be read from its first byte, or `None` where there is none.
-    pub fn read(
-        &mut self,
-        alloc: Global,
-        ticket: u64,
-        name: BlobName,
-    ) -> Result<Option<D::Fetch>, StepRefusal>
-        requires layout { IsName name }
-        requires may { CanRead K.start (reader_of K.start self.old ticket) (name_of name) }
-        ensures step { Did K.start self.old self.new ticket (ReadStep (ReadBlob (name_of name))) fetch_reply result }
-        ensures own { IfOk result (λ o. reader_of K.start self.new ticket
-            ≡ read_by D.Fetch.left (name_of name) o (reader_of K.start self.old ticket)) }
-        ensures told { IfOk result (λ o. IfSome o (λ f. (bytes : Bytes) × Holds K.start (D.Fetch.left f) bytes)) }
-        ensures count { IfOk result (λ o. IfSome o (λ f. D.Fetch.faults f ≡ 0)) }
-        ensures sure { IfOk result (λ o. IfSome o (λ f. K.start.quiet ≡ true → length self.old < 2 ^ 41 → IsTrue (D.Fetch.is_sure f))) }
-        ensures kept { OnErr result (reader_of K.start self.new ticket ≡ reader_of K.start self.old ticket) }
-    {
-        let read = Read::Blob { name };
-        self.check(ticket, Step::Read { read })?;
-        self.rules();
-        let read = Read::Blob { name };
-        self.call_fetch(alloc, ticket, Step::Read { read }, name)
-    }
-
     /// A shard is restored, with so many files of so many bytes; its ticket ends.
-    pub fn restored(
+    pub fn end_restore(
         &mut self,
         alloc: Global,
         ticket: u64,
         files: u64,
         bytes: u64,
     ) -> Result<(), StepRefusal>
-        requires may { CanEnd K.start (reader_of K.start self.old ticket) files bytes }
+        requires may { CanEndRestore K.start (reader_of K.start self.old ticket) files bytes }
         ensures step { Did K.start self.old self.new ticket (ReadStep (RestoredShard files bytes)) (λ _. HasEnded) result }
         ensures own { OnOk result (reader_of K.start self.new ticket
             ≡ record (reader_of K.start self.old ticket) { out = false }) }
@@ -161,23 +133,5 @@ impl<D: Depot, K: Told> Repo<D, K> {
         let read = Read::Restored { files, bytes };
         let step = Step::Read { read };
         self.note(ticket, step, Answer::Ended, Some(ended), next)
-    }
-
-    /// A shard is not restored; its ticket ends.
-    pub fn unrestored(&mut self, alloc: Global, ticket: u64, why: Why) -> Result<(), StepRefusal>
-        requires out { (reader_of K.start self.old ticket).out ≡ true }
-        ensures step { Did K.start self.old self.new ticket (ReadStep (ReadFails (why_of why))) (λ _. HasEnded) result }
-        ensures own { OnOk result (reader_of K.start self.new ticket
-            ≡ record (reader_of K.start self.old ticket) { out = false }) }
-        ensures kept { OnErr result (reader_of K.start self.new ticket ≡ reader_of K.start self.old ticket) }
-    {
-        let read = Read::Failed { why };
-        self.check(ticket, Step::Read { read })?;
-        self.rules();
-        let progress = self.plan().shard_read(alloc, ticket)?;
-        let next = self.next_id();
-        let read = Read::Failed { why };
-        let step = Step::Read { read };
-        self.note(ticket, step, Answer::Ended, Some(progress), next)
     }
 }

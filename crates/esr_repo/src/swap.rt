@@ -8,7 +8,7 @@ ghost use Rattle.esr_formats.specs.Clusters.{cluster_of, cluster_kind};
 ghost use Rattle.esr_desk.specs.Entries.{step_of, answer_of};
 ghost use Rattle.esr_desk.specs.declared.refusal.StepRefusal.TheVariants.{Memory, Refused};
 ghost use Rattle.esr_desk.specs.declared.refusal.EntryRefusal.TheVariants.{DepotFault};
-ghost use Rattle.esr_repo.specs.Next.{IsLive, Did};
+ghost use Rattle.esr_repo.specs.Next.{IsLive, GoesOn, Did};
 ghost use Rattle.esr_repo.specs.May.{infos_after, MaySwap};
 
 use crate::steps::renew;
@@ -121,6 +121,7 @@ impl<D: Depot, K: Told> Repo<D, K> {
         renewed: Renewed,
     ) -> Result<(), StepRefusal>
         requires live { IsLive K.start self.old }
+        requires goes { GoesOn K.start self.old who (step_of step) }
         requires may { MaySwap K.start self.old who (step_of step) (answer_of answer) renewed.cluster renewed.root renewed.left renewed.info renewed.progress renewed.next.number }
         ensures step { Did K.start self.old self.new who (step_of step) (λ _. answer_of answer) result }
         ensures why { IfErr result (λ e. (e ≡ Memory) ⊎ (e ≡ Refused DepotFault)) }

@@ -11,7 +11,7 @@ ghost use Rattle.esr_desk.specs.Outcome.{take_reply};
 ghost use Rattle.esr_desk.specs.Start.{world_of};
 ghost use Rattle.esr_desk.specs.Readers.{TookUnit, IsBare};
 ghost use Rattle.esr_repo.specs.Given.{based, IsBased, IsRootable, HasRoot, HasNoRoot};
-ghost use Rattle.esr_repo.specs.Next.{IsLive, Did};
+ghost use Rattle.esr_repo.specs.Next.{IsLive, GoesOn, Did};
 
 use crate::{Repo, Told};
 use esr_depot::Depot;
@@ -132,6 +132,7 @@ impl<D: Depot, K: Told> Repo<D, K> {
         ready: ReadyUnit,
     ) -> Result<Unit, StepRefusal>
         requires live { IsLive K.start self.old }
+        requires goes { GoesOn K.start self.old 0 TakeStep }
         requires gives { GivesUnit (world_of K.start self.old) ready }
         requires base { IsBased ready }
         requires plan { (f : Formats) → IsPlanOf (taken_by f (world_of K.start self.old) ready.op (given_of ready) (fin.get (world_of K.start self.old).ops ready.op)) progress }

@@ -1,21 +1,22 @@
 //! The steps of a verification.
-ghost use Rattle.std.specs.Prelude.{◌≡◌, ◌<◌, ◌^◌, [], ◌++◌, length, map, true, IsTrue, IfOk, IfSome, OnOk, OnErr};
+ghost use Rattle.std.specs.Prelude.{◌≡◌, ◌<◌, ◌^◌, [], length, map, true, IsTrue, IfOk, OnOk, OnErr};
 ghost use Rattle.esr_model.specs.Values.{Bytes, Has};
 ghost use Rattle.esr_core.specs.World.{no_caller};
-ghost use Rattle.esr_core.specs.Entry.{ReadStep, ReadBlob, DrawTest, BeginTest, CommitTest, RemoveTests, VerifiedAll, ReadFails, DrawnFrom, WasBegun, WasDone, WasRemoved, HasEnded};
+ghost use Rattle.esr_core.specs.Entry.{ReadStep, DrawTest, BeginTest, CommitTest, RemoveTests, VerifiedAll, DrawnFrom, WasBegun, WasDone, WasRemoved, HasEnded};
 ghost use Rattle.esr_core.specs.After.{caller_wrote};
 ghost use Rattle.esr_names.specs.Layout.{IsName};
 ghost use Rattle.esr_formats.specs.Names.{name_of};
-ghost use Rattle.esr_desk.specs.Entries.{why_of, step_of};
-ghost use Rattle.esr_desk.specs.Outcome.{fetch_reply};
+ghost use Rattle.esr_desk.specs.Entries.{step_of};
 ghost use Rattle.esr_desk.specs.Conditions.{Holds};
-ghost use Rattle.esr_checking.specs.Caller.{caller_of, drawn_by, fetched_by};
-ghost use Rattle.esr_checking.specs.Conditions.{CanDraw, IsOpen, IsOwn, CanCommit, CanFetch, CanRemove, CanEnd};
+ghost use Rattle.esr_desk.specs.Own.{caller_of};
+ghost use Rattle.esr_desk.specs.Once.{IsFresh};
+ghost use Rattle.esr_desk.specs.Caller.{drawn_by, removed_more};
+ghost use Rattle.esr_desk.specs.Verify.Conditions.{CanDrawTest, IsOwn, CanCommitTest, CanRemoveTests, CanEndVerification, HasTestedNone};
 ghost use Rattle.esr_repo.specs.Next.{Did};
 
 use crate::{Repo, Told};
-use esr_depot::{Depot, Fetch, Stage};
-use esr_desk::{Answer, BlobNames, EntryRefusal, Named, Read, Step, StepRefusal, Why};
+use esr_depot::{Depot, Stage};
+use esr_desk::{Answer, BlobNames, EntryRefusal, Named, Read, Step, StepRefusal};
 use esr_names::{BlobName, Id};
 use esr_seq::Seq;
 use std::alloc::{AllocError, Global};
@@ -32,11 +33,13 @@ fn removes(alloc: Global, names: &[BlobName]) -> Result<Step, AllocError>
 impl<D: Depot, K: Told> Repo<D, K> {
     /// Draws the id of the test blobs, which begins a verification.
     pub fn draw_test(&mut self, alloc: Global) -> Result<Id, StepRefusal>
-        requires may { CanDraw (caller_of K.start self.old) }
+        requires may { CanDrawTest (caller_of K.start self.old) }
         ensures step { Did K.start self.old self.new 0 (ReadStep DrawTest) (λ id. DrawnFrom id.number) result }
         ensures own { caller_of K.start self.new ≡ drawn_by result (caller_of K.start self.old) }
         ensures range { IfOk result (λ id. id.number < 2 ^ 128) }
+        ensures new { IfOk result (λ id. HasTestedNone K.start self.new id.number) }
     {
+        self.rules();
         let read = Read::DrawTest;
         self.check(0, Step::Read { read })?;
         let read = Read::DrawTest;
@@ -59,6 +62,7 @@ impl<D: Depot, K: Told> Repo<D, K> {
     ) -> Result<Named<D::Stage>, StepRefusal>
         requires layout { IsName name }
         requires may { IsOwn (caller_of K.start self.old) (name_of name) }
+        requires new { IsFresh K.start self.old 0 (ReadStep (BeginTest (name_of name))) }
         ensures step { Did K.start self.old self.new 0 (ReadStep (BeginTest (name_of name))) (λ stage. WasBegun) result }
         ensures own { caller_of K.start self.new ≡ caller_of K.start self.old }
         ensures name { IfOk result (λ s. s.name ≡ name) }
@@ -78,7 +82,8 @@ impl<D: Depot, K: Told> Repo<D, K> {
     pub fn commit_test(&mut self, alloc: Global, stage: Named<D::Stage>) -> Result<(), StepRefusal>
         requires layout { IsName stage.name }
         requires holds { (bytes : Bytes) × Holds K.start (D.Stage.contents stage.stage) bytes }
-        requires may { CanCommit (caller_of K.start self.old) (name_of stage.name) }
+        requires may { CanCommitTest (caller_of K.start self.old) (name_of stage.name) }
+        requires new { IsFresh K.start self.old 0 (ReadStep (CommitTest (name_of stage.name))) }
         ensures step { Did K.start self.old self.new 0 (ReadStep (CommitTest (name_of stage.name))) (λ _. WasDone) result }
         ensures own { OnOk result (caller_of K.start self.new
             ≡ caller_wrote (caller_of K.start self.old) (name_of stage.name) (D.Stage.contents stage.stage)) }
@@ -93,36 +98,14 @@ impl<D: Depot, K: Told> Repo<D, K> {
         Ok(())
     }
 
-    /// The test blob of that name, to be read from its first byte, or `None` where there is none.
-    pub fn fetch_test(
-        &mut self,
-        alloc: Global,
-        name: BlobName,
-    ) -> Result<Option<D::Fetch>, StepRefusal>
-        requires layout { IsName name }
-        requires may { CanFetch (caller_of K.start self.old) (name_of name) }
-        ensures step { Did K.start self.old self.new 0 (ReadStep (ReadBlob (name_of name))) fetch_reply result }
-        ensures own { IfOk result (λ o. caller_of K.start self.new
-            ≡ fetched_by D.Fetch.left (name_of name) o (caller_of K.start self.old)) }
-        ensures told { IfOk result (λ o. IfSome o (λ f. (bytes : Bytes) × Holds K.start (D.Fetch.left f) bytes)) }
-        ensures count { IfOk result (λ o. IfSome o (λ f. D.Fetch.faults f ≡ 0)) }
-        ensures sure { IfOk result (λ o. IfSome o (λ f. K.start.quiet ≡ true → length self.old < 2 ^ 41 → IsTrue (D.Fetch.is_sure f))) }
-        ensures kept { OnErr result (caller_of K.start self.new ≡ caller_of K.start self.old) }
-    {
-        let read = Read::Blob { name };
-        self.check(0, Step::Read { read })?;
-        self.rules();
-        let read = Read::Blob { name };
-        self.call_fetch(alloc, 0, Step::Read { read }, name)
-    }
-
     /// Takes the test blobs of these names away.
     pub fn remove_tests(&mut self, alloc: Global, names: &Seq<BlobName>) -> Result<(), StepRefusal>
         requires layout { (name : BlobName) → Has names.now name → IsName name }
-        requires may { CanRemove (caller_of K.start self.old) (map name_of names.now) }
+        requires may { CanRemoveTests (caller_of K.start self.old) (map name_of names.now) }
+        requires new { IsFresh K.start self.old 0 (ReadStep (RemoveTests (map name_of names.now))) }
         ensures step { Did K.start self.old self.new 0 (ReadStep (RemoveTests (map name_of names.now))) (λ _. WasRemoved) result }
         ensures own { OnOk result (caller_of K.start self.new
-            ≡ record (caller_of K.start self.old) { removed = map name_of names.now ++ (caller_of K.start self.old).removed }) }
+            ≡ removed_more (map name_of names.now) (caller_of K.start self.old)) }
         ensures kept { OnErr result (caller_of K.start self.new ≡ caller_of K.start self.old) }
     {
         let names = names.as_slice();
@@ -133,8 +116,8 @@ impl<D: Depot, K: Told> Repo<D, K> {
     }
 
     /// The container was verified: each test blob was there, and was removed.
-    pub fn verified(&mut self, alloc: Global) -> Result<(), StepRefusal>
-        requires may { CanEnd (caller_of K.start self.old) }
+    pub fn end_verification(&mut self, alloc: Global) -> Result<(), StepRefusal>
+        requires may { CanEndVerification (caller_of K.start self.old) }
         ensures step { Did K.start self.old self.new 0 (ReadStep VerifiedAll) (λ _. HasEnded) result }
         ensures own { OnOk result (caller_of K.start self.new ≡ no_caller) }
         ensures kept { OnErr result (caller_of K.start self.new ≡ caller_of K.start self.old) }
@@ -143,20 +126,6 @@ impl<D: Depot, K: Told> Repo<D, K> {
         self.check(0, Step::Read { read })?;
         let next = self.next_id();
         let read = Read::Verified;
-        self.note(0, Step::Read { read }, Answer::Ended, None, next)
-    }
-
-    /// The verification failed.
-    pub fn unverified(&mut self, alloc: Global, why: Why) -> Result<(), StepRefusal>
-        requires open { IsOpen (caller_of K.start self.old) }
-        ensures step { Did K.start self.old self.new 0 (ReadStep (ReadFails (why_of why))) (λ _. HasEnded) result }
-        ensures own { OnOk result (caller_of K.start self.new ≡ no_caller) }
-        ensures kept { OnErr result (caller_of K.start self.new ≡ caller_of K.start self.old) }
-    {
-        let read = Read::Failed { why };
-        self.check(0, Step::Read { read })?;
-        let next = self.next_id();
-        let read = Read::Failed { why };
         self.note(0, Step::Read { read }, Answer::Ended, None, next)
     }
 }

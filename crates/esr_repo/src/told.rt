@@ -22,7 +22,18 @@ pub trait Told {
 }
 
 impl Told for Brand {
-    ghost start = { record { known = λ _ _ _. false; told = λ _ _ _. None; part_size = 1; tells = false; quiet = false; steady = λ _ _ _. false; sure_targets = false; alone = false; world = opened fin.empty no_record no_root } };
+    ghost start = { record {
+      known = λ _ _ _. false;
+      told = λ _ _ _. None;
+      part_size = 1;
+      tells = false;
+      quiet = false;
+      steady = λ _ _ _. false;
+      targets_tell = false;
+      sure_targets = false;
+      alone = false;
+      world = opened fin.empty no_record no_root;
+    } };
 
     ghost clock = { 0 };
 

@@ -1,20 +1,21 @@
-//! The steps by which a unit reads and writes.
-ghost use Rattle.std.specs.Prelude.{◌≡◌, ◌+◌, ◌<◌, ◌^◌, ℕ, [], length, Option, Some, None, true, IsTrue, IfOk, IfSome, OnErr};
+//! The steps by which a unit writes.
+ghost use Rattle.std.specs.Prelude.{◌≡◌, ◌+◌, ◌<◌, ◌^◌, ℕ, [], length, true, IsTrue, IfOk, OnErr};
 ghost use Rattle.esr_model.specs.Names.{Latest};
 ghost use Rattle.esr_model.specs.Values.{Bytes};
-ghost use Rattle.esr_core.specs.Entry.{DrawStep, BeginStep, CommitStep, LatestStep, FetchStep, DrawnFrom, WasBegun, WasReplaced};
+ghost use Rattle.esr_core.specs.Entry.{DrawStep, BeginStep, CommitStep, LatestStep, DrawnFrom, WasBegun, WasReplaced};
 ghost use Rattle.esr_core.specs.Allowed.{IsMetadata, latest_text};
 ghost use Rattle.esr_names.specs.Layout.{IsName};
 ghost use Rattle.esr_formats.specs.Names.{name_of};
 ghost use Rattle.esr_desk.specs.Start.{ticket_of};
-ghost use Rattle.esr_desk.specs.Outcome.{commit_reply, fetch_reply};
-ghost use Rattle.esr_desk.specs.Conditions.{CanDraw, CanCommit, CanPut, CanBegin, Holds, CanFetch};
-ghost use Rattle.esr_desk.specs.Taken.{committed_by, begun_by, tried_by, fetched_by};
+ghost use Rattle.esr_desk.specs.Once.{IsFresh};
+ghost use Rattle.esr_desk.specs.Outcome.{commit_reply};
+ghost use Rattle.esr_desk.specs.Conditions.{CanDraw, CanCommit, CanPut, CanBegin, Holds};
+ghost use Rattle.esr_desk.specs.Taken.{committed_by, begun_by, tried_by};
 ghost use Rattle.esr_desk.specs.declared.refusal.StepRefusal.{StepRefusal};
 ghost use Rattle.esr_repo.specs.Next.{Did};
 
 use crate::{Repo, Told};
-use esr_depot::{Commit, Depot, Fetch, Stage};
+use esr_depot::{Commit, Depot, Stage};
 use esr_desk::{Answer, EntryRefusal, Named, Step, StepRefusal};
 use esr_names::{BlobName, Id};
 use std::alloc::Global;
@@ -23,6 +24,7 @@ impl<D: Depot, K: Told> Repo<D, K> {
     /// Draws so many ids, one after another, and answers the first.
     pub fn draw(&mut self, alloc: Global, ticket: u64, count: u64) -> Result<Id, StepRefusal>
         requires may { CanDraw K.start (ticket_of K.start self.old ticket) count }
+        requires new { IsFresh K.start self.old ticket (DrawStep count) }
         ensures step { Did K.start self.old self.new ticket (DrawStep count) (λ first. DrawnFrom first.number) result }
         ensures own { IfOk result (λ first. ticket_of K.start self.new ticket
             ≡ record (ticket_of K.start self.old ticket) { first = first.number; drawn = count }) }
@@ -55,6 +57,7 @@ impl<D: Depot, K: Told> Repo<D, K> {
     ) -> Result<Named<D::Stage>, StepRefusal>
         requires layout { IsName name }
         requires may { CanBegin K.start (ticket_of K.start self.old ticket) (name_of name) }
+        requires new { IsFresh K.start self.old ticket (BeginStep (name_of name)) }
         ensures step { Did K.start self.old self.new ticket (BeginStep (name_of name)) (λ stage. WasBegun) result }
         ensures own { ticket_of K.start self.new ticket
             ≡ begun_by (name_of name) result (ticket_of K.start self.old ticket) }
@@ -79,6 +82,7 @@ impl<D: Depot, K: Told> Repo<D, K> {
         requires layout { IsName stage.name }
         requires may { (bytes : Bytes) × Holds K.start (D.Stage.contents stage.stage) bytes
             × CanCommit K.start (ticket_of K.start self.old ticket) (name_of stage.name) bytes }
+        requires new { IsFresh K.start self.old ticket (CommitStep (name_of stage.name)) }
         ensures step { Did K.start self.old self.new ticket (CommitStep (name_of stage.name)) commit_reply result }
         ensures own { IfOk result (λ c. ticket_of K.start self.new ticket
             ≡ committed_by (name_of stage.name) (D.Stage.contents stage.stage) c (ticket_of K.start self.old ticket)) }
@@ -102,31 +106,11 @@ impl<D: Depot, K: Told> Repo<D, K> {
         requires name { name_of stage.name ≡ Latest }
         requires may { (n : ℕ) × CanPut K.start (ticket_of K.start self.old ticket) n
             × Holds K.start (D.Stage.contents stage.stage) (latest_text n) }
+        requires new { IsFresh K.start self.old ticket LatestStep }
         ensures step { Did K.start self.old self.new ticket LatestStep (λ _. WasReplaced) result }
         ensures own { ticket_of K.start self.new ticket ≡ tried_by result (ticket_of K.start self.old ticket) }
     {
         self.check(ticket, Step::Latest)?;
         self.call_replace(alloc, ticket, stage)
-    }
-
-    /// The blob of that name, to be read from its first byte, or `None` where there is none.
-    pub fn fetch(
-        &mut self,
-        alloc: Global,
-        ticket: u64,
-        name: BlobName,
-    ) -> Result<Option<D::Fetch>, StepRefusal>
-        requires layout { IsName name }
-        requires may { CanFetch (ticket_of K.start self.old ticket) (name_of name) }
-        ensures step { Did K.start self.old self.new ticket (FetchStep (name_of name)) fetch_reply result }
-        ensures own { IfOk result (λ o. ticket_of K.start self.new ticket
-            ≡ fetched_by D.Fetch.left (name_of name) o (ticket_of K.start self.old ticket)) }
-        ensures told { IfOk result (λ o. IfSome o (λ f. (bytes : Bytes) × Holds K.start (D.Fetch.left f) bytes)) }
-        ensures count { IfOk result (λ o. IfSome o (λ f. D.Fetch.faults f ≡ 0)) }
-        ensures sure { IfOk result (λ o. IfSome o (λ f. K.start.quiet ≡ true → length self.old < 2 ^ 41 → IsTrue (D.Fetch.is_sure f))) }
-        ensures kept { OnErr result (ticket_of K.start self.new ticket ≡ ticket_of K.start self.old ticket) }
-    {
-        self.check(ticket, Step::Fetch { name })?;
-        self.call_fetch(alloc, ticket, Step::Fetch { name }, name)
     }
 }

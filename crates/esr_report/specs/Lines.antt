@@ -5,7 +5,7 @@ use Rattle.std.specs.Cmp.Lexicographic.{slice_cmp}
 use Rattle.esr_names.specs.IdText.{id_text}
 use Rattle.esr_model.specs.Values.{RootSnap}
 use Rattle.esr_model.specs.Places.{by_order, sorted_by}
-use Rattle.esr_core.specs.Entry.{Why, OfDepot, OfSource, OfChange, OfAbsence, OfUnreadable, OfAhead, OfTaken, OfIdsSpent, OfGenerationsSpent, OfTarget, OfPrint, OfDisagreement}
+use Rattle.esr_core.specs.Entry.{Why, OfDepot, OfSource, OfChange, OfAbsence, OfUnreadable, OfAhead, OfTaken, OfAbort, OfIdsSpent, OfGenerationsSpent, OfTarget, OfPrint, OfDisagreement}
 use Rattle.esr_core.specs.Entry.{Refusal, CleanupRunning, NameInUse, TooMany, DeposedAt, AbortedBy, StaleTerm, GenerationsSpent, TermsSpent, IdsSpent, NameTaken, DepotFault, NoSnapshot, NoIndex, BeingDeleted, CloneRunning, RestoreRunning, BusyOp, BusyTicket}
 use Rattle.esr_formats.specs.Names.{name_kind}
 use Rattle.esr_script.specs.declared.item.Item.{Item}
@@ -23,8 +23,9 @@ why_text OfSource = codes "source"
 why_text (OfChange len digest len2 digest2) = codes "changed"
 why_text (OfAbsence name) = codes "damaged " ++ name_kind.text name
 why_text (OfUnreadable name reason) = codes "damaged " ++ name_kind.text name
-why_text (OfAhead name) = codes "damaged " ++ name_kind.text name
+why_text (OfAhead name id) = codes "damaged " ++ name_kind.text name
 why_text (OfTaken name) = codes "name-taken " ++ name_kind.text name
+why_text (OfAbort op) = codes "aborted " ++ decimal op
 why_text (OfIdsSpent next) = codes "spent"
 why_text (OfGenerationsSpent pending) = codes "spent"
 why_text OfTarget = codes "target"

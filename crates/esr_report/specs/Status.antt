@@ -16,7 +16,7 @@ is_deposed reply = false
 abbrev pub damaged_name : Reply → Option BlobName
 damaged_name (Failed (OfAbsence name) op) = Some name
 damaged_name (Failed (OfUnreadable name reason) op) = Some name
-damaged_name (Failed (OfAhead name) op) = Some name
+damaged_name (Failed (OfAhead name id) op) = Some name
 damaged_name (Failed (OfPrint name stated_len stated_digest found_len found_digest) op) = Some name
 damaged_name (Failed (OfDisagreement name other) op) = Some name
 damaged_name reply = None

@@ -66,7 +66,7 @@ fn damaged_name(reply: &Reply) -> Option<BlobName>
         Reply::Failed { why, op: _ } => match why {
             Why::Absent { name } => Some(*name),
             Why::Unreadable { name, reason: _ } => Some(*name),
-            Why::Ahead { name } => Some(*name),
+            Why::Ahead { name, id: _ } => Some(*name),
             Why::Misprinted {
                 name,
                 stated: _,

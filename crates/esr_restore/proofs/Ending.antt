@@ -1,12 +1,14 @@
 -- How the unit of a restore's shard ends where it isn't restored.
-use Rattle.std.proofs.Common.{◌≡◌, ℕ, Bool, true, false, List, [], ◌∷◌, ◌++◌, append_assoc, Ok, Err, refl, sym, ap, ◌∙◌, subst}
-use Rattle.esr_model.specs.Names.{BlobName}
-use Rattle.esr_core.specs.World.{Reader}
-use Rattle.esr_core.specs.Entry.{Reason, Why, OfDepot, OfSource, OfChange, OfAbsence, OfUnreadable, OfAhead, OfTaken, OfIdsSpent, OfGenerationsSpent, OfTarget, OfPrint, OfDisagreement, ReadStep, ReadBlob, ReadFails, Reply, WasFetched, WasAbsent, HasEnded, Refused, DepotFault, Moment}
-use Rattle.esr_desk.specs.declared.entry.Why.{Why as CodeWhy}
-use Rattle.esr_desk.specs.declared.entry.Why.TheVariants as whys
+use Rattle.std.proofs.Common.{◌≡◌, ⊎_elim, ℕ, Bool, true, false, List, refl, sym, ap, ◌∙◌, subst, true≢false}
+use Rattle.esr_core.specs.World.{World}
+use Rattle.esr_core.specs.Allowed.{Blocks, ByFailedSwap, ByDelete}
+use Rattle.esr_core.specs.Refusing.{MayRefuse, ReadFault}
+use Rattle.esr_core.specs.Entry.{OfTarget, ReadBlob, RestoredShard, Step, ReadStep, Refusal, DeposedAt, AbortedBy, Refused, Moment}
+use Rattle.esr_desk.specs.declared.entry.Why.{Why}
+use Rattle.esr_desk.specs.declared.hand.Hand.TheVariants as hands
 use Rattle.esr_desk.specs.declared.refusal.StepRefusal.{StepRefusal}
 use Rattle.esr_desk.specs.declared.refusal.StepRefusal.TheVariants as steps
+use Rattle.esr_desk.specs.declared.refusal.EntryRefusal.{EntryRefusal}
 use Rattle.esr_desk.specs.declared.refusal.EntryRefusal.TheVariants as refusals
 use Rattle.esr_desk.specs.declared.fault.FailedObject.TheVariants as objects
 use Rattle.esr_desk.specs.declared.fault.By.{By}
@@ -14,262 +16,137 @@ use Rattle.esr_desk.specs.declared.fault.By.TheVariants as shows
 use Rattle.esr_desk.specs.declared.unit.UnitRefusal.{UnitRefusal}
 use Rattle.esr_desk.specs.declared.unit.UnitRefusal.TheVariants as units
 use Rattle.esr_desk.specs.Entries.{why_of}
-use Rattle.esr_desk.specs.Start.{Start}
+use Rattle.esr_desk.specs.Refusals.{refusal_of}
+use Rattle.esr_desk.specs.Start.{Start, world_of}
 use Rattle.esr_desk.specs.Last.{IsLast}
 use Rattle.esr_desk.specs.Halts.{Halts}
-use Rattle.esr_desk.specs.Shown.{NeverFailed}
-use Rattle.esr_desk.specs.Unquiet.{unquiet_last}
-use Rattle.esr_desk.specs.Readers.{reader_of}
-use Rattle.esr_reading.specs.Outcome.{Waited, Stepped}
-use Rattle.esr_reading.specs.First.{HasFirst}
-use Rattle.esr_reading.specs.Shown.{Counts, HadFault, HadFetch, IsOf, DepotShown, TargetShown, ReadShown, IsNoSnap, WasUnreadable, IsMisprinted, IsMiscut, IsShown}
-use Rattle.esr_restore.specs.declared.cause.Cause.{Cause}
-use Rattle.esr_restore.specs.declared.trouble.Trouble.{Trouble}
-use Rattle.esr_restore.specs.declared.trouble.Trouble.TheVariants as troubles
-use Rattle.esr_restore.specs.Cause.{cause_refused, cause_by}
-use Rattle.esr_restore.specs.Refused.{HasFailed, IsUnitRefused}
-use Rattle.esr_restore.specs.Trouble.{IsFound, IsReadRefusal, Shown}
+use Rattle.esr_desk.specs.Own.{Own, reader_of}
+use Rattle.esr_desk.specs.Outcome.{Grounds}
+use Rattle.esr_desk.specs.Evidence.{Evidence}
+use Rattle.esr_desk.specs.Restore.First.{HasFirst}
+use Rattle.esr_desk.specs.Restore.Shown.{IsFor, IsRestoreShown}
+use Rattle.esr_unit.specs.declared.trouble.Trouble.{Trouble}
+use Rattle.esr_unit.specs.declared.trouble.Trouble.TheVariants as troubles
+use Rattle.esr_unit.specs.declared.ending.Ending.{Ending}
+use Rattle.esr_unit.specs.declared.ending.Ending.TheVariants as endings
+use Rattle.esr_unit.specs.Ending.{ending_by}
+use Rattle.esr_unit.specs.Shown.{EndingShown}
+use Rattle.esr_unit.specs.Fetch.{IsRefusedBy, FetchErr}
+use Rattle.esr_unit.specs.Fail.{GivenUp}
+use Rattle.esr_unit.specs.Refusals.{RefusesSo, last_refused, reader_refused}
+use Rattle.esr_model.specs.Names.{BlobName}
+use Rattle.esr_restore.specs.Refused.{IsUnitRefused}
+use Rattle.esr_restore.specs.Trouble.{FaultyTarget, IsOfStart, IsTrouble}
 use Rattle.esr_restore.specs.Worked.{Worked}
-use Rattle.esr_restore.proofs.Going.{worked_on}
+use Rattle.esr_restore.proofs.Going.{worked_none, worked_on, worked_same}
 
--- ---- a refusal that leaves the ticket out
+-- ---- what a fetch shows
 
--- where a refusal ends no ticket, it is the refusal itself
-refusal_same : {S F H T : Type 0} (e refusal : StepRefusal) → cause_refused {S = S} {F = F} {H = H} {T = T} e ≡ Err refusal → e ≡ refusal
-refusal_same steps.Memory refusal is = cc
-refusal_same steps.TurnsSpent refusal is = cc
-refusal_same (steps.Refused refusals.DepotFault) refusal is = cc
-refusal_same (steps.Refused (refusals.CleanupRunning op)) refusal is = cc
-refusal_same (steps.Refused (refusals.NameInUse uuid)) refusal is = cc
-refusal_same (steps.Refused (refusals.TooMany limit)) refusal is = cc
-refusal_same (steps.Refused (refusals.Deposed entry)) refusal is = cc
-refusal_same (steps.Refused (refusals.Aborted by)) refusal is = cc
-refusal_same (steps.Refused (refusals.StaleTerm own now)) refusal is = cc
-refusal_same (steps.Refused (refusals.GenerationsSpent spent)) refusal is = cc
-refusal_same (steps.Refused (refusals.TermsSpent spent)) refusal is = cc
-refusal_same (steps.Refused (refusals.IdsSpent next)) refusal is = cc
-refusal_same (steps.Refused (refusals.NameTaken name)) refusal is = cc
-refusal_same (steps.Refused (refusals.NoSnapshot at)) refusal is = cc
-refusal_same (steps.Refused (refusals.BeingDeleted op)) refusal is = cc
-refusal_same (steps.Refused (refusals.NoIndex place)) refusal is = cc
-refusal_same (steps.Refused (refusals.CloneRunning op)) refusal is = cc
-refusal_same (steps.Refused (refusals.RestoreRunning op)) refusal is = cc
-refusal_same (steps.Refused (refusals.BusyOp op)) refusal is = cc
-refusal_same (steps.Refused (refusals.BusyTicket ticket)) refusal is = cc
+module _ {S F H T : Type 0} (e : Evidence S F H T) (law : RefusesSo) (s : Start) (old new : List Moment) (who : ℕ) (name : BlobName) (out : (reader_of s new who).out ≡ true) (count : ℕ) (sure : Bool) where
+  -- it was refused
+  pub fetch_trouble : (refusal : StepRefusal) → IsRefusedBy s old new who (ReadStep (ReadBlob name)) refusal → IsTrouble e count sure s new who (troubles.Step refusal)
+  fetch_trouble refusal h = reader_refused {S = S} {F = F} {H = H} {T = T} e (FaultyTarget count sure) s old new who name law refusal out h
 
--- a fetch that ends no ticket was refused since a record swap had failed
-fetch_halts : {S F H T : Type 0} (s : Start) (log : List Moment) (who : ℕ) (e refusal : StepRefusal) → IsReadRefusal s log who e → cause_refused {S = S} {F = F} {H = H} {T = T} e ≡ Err refusal → Halts s log who e
-fetch_halts s log who steps.Memory refusal h is = tt
-fetch_halts s log who steps.TurnsSpent refusal h is = h.1
-fetch_halts s log who (steps.Refused (refusals.Deposed entry)) refusal h is = (ReadStep (ReadBlob h.0.0), h.0.1)
-fetch_halts s log who (steps.Refused refusals.DepotFault) refusal h is = absurd cc
-fetch_halts s log who (steps.Refused e) refusal h is = absurd h.0.2
+  wanting : (refusal : StepRefusal) → refusal ≡ steps.Memory → IsTrouble e count sure s new who (troubles.Step refusal)
+  wanting refusal is = subst (λ (r : StepRefusal). IsTrouble e count sure s new who (troubles.Step r)) (sym is) tt
 
--- a trouble that leaves the ticket out stops the unit
-pub stopped : {S F H T : Type 0} (fetch_faults : F → ℕ) (count : ℕ) (sure : Bool) (s : Start) (log : List Moment) (who : ℕ) (target : T) (trouble : Trouble F) (refusal : StepRefusal)
-    → Shown fetch_faults count sure s log who trouble → cause_by {S = S} {F = F} {H = H} {T = T} target trouble ≡ Err refusal → Halts s log who refusal
-stopped {S} {F} {H} {T} fetch_faults count sure s log who target (troubles.Step e) refusal shown is =
-    subst (λ (r : StepRefusal). Halts s log who r) (refusal_same {S = S} {F = F} {H = H} {T = T} e refusal is) (fetch_halts {S = S} {F = F} {H = H} {T = T} s log who e refusal shown is)
-stopped fetch_faults count sure s log who target (troubles.Fetch fetch) refusal shown is = absurd cc
-stopped fetch_faults count sure s log who target troubles.Target refusal shown is = absurd cc
-stopped fetch_faults count sure s log who target (troubles.Found why) refusal shown is = absurd cc
+  -- or failed
+  pub whole_trouble : (trouble : Trouble S F) → FetchErr e.fetch_faults s old new who (ReadStep (ReadBlob name)) trouble → IsTrouble e count sure s new who trouble
+  whole_trouble (troubles.Step refusal) h = ⊎_elim
+      (λ (by : IsRefusedBy s old new who (ReadStep (ReadBlob name)) refusal). fetch_trouble refusal by)
+      (λ (is : refusal ≡ steps.Memory). wanting refusal is)
+      h
+  whole_trouble (troubles.Fetch fetch) h = h
+  whole_trouble trouble h = absurd h
 
--- ---- what shows a cause
+-- a file that wasn't begun
+pub start_trouble : {S F H T : Type 0} (e : Evidence S F H T) (count : ℕ) (sure : Bool) (s : Start) (log : List Moment) (who : ℕ) (trouble : Trouble S F) → IsOfStart count sure trouble → IsTrouble e count sure s log who trouble
+start_trouble e count sure s log who (troubles.Step refusal) h = subst (λ (r : StepRefusal). IsTrouble e count sure s log who (troubles.Step r)) (sym h) tt
+start_trouble e count sure s log who troubles.Own h = h
+start_trouble e count sure s log who trouble h = absurd h
 
-had_fault : (log : List Moment) (who : ℕ) (name : BlobName) → IsLast log who (ReadStep (ReadBlob name)) (Refused DepotFault) → HadFault log who
-had_fault log who name last = record {
-  front = last.front;
-  moment = record { entry = record { who = who; step = ReadStep (ReadBlob name); reply = Refused DepotFault }; image = last.image };
-  back = [];
-  name = name;
-  is = last.is;
-  of = refl;
-  step = refl;
-  reply = refl;
-}
+-- ---- what shows the end
+
+module _ {S F H T : Type 0} (e : Evidence S F H T) (count : ℕ) (sure : Bool) (s : Start) (log : List Moment) (who : ℕ) (trouble : Trouble S F) (shown : IsTrouble e count sure s log who trouble) (ending : Ending S F H T) (made : ending ≡ ending_by trouble) where
+  as_ending : (other : Ending S F H T) → ending ≡ other → EndingShown hands.Restore e (FaultyTarget count sure) s log who other
+  as_ending other is = subst (λ (x : Ending S F H T). EndingShown hands.Restore e (FaultyTarget count sure) s log who x) (sym made ∙ is) shown
+
+  -- a cause
+  pub cause_shown : (why : Why) (b : By S F H T) → ending ≡ endings.Failed why b → IsRestoreShown e s log who (why_of why) b
+  cause_shown why b is = as_ending (endings.Failed why b) is
+
+  pub stop_halts : (refusal : StepRefusal) → ending ≡ endings.Stopped refusal → Halts s log who refusal
+  stop_halts refusal is = as_ending (endings.Stopped refusal) is
+
+  pub no_stale : ending ≡ endings.Stale → ⊥
+  no_stale is = as_ending endings.Stale is
+
+  pub own_faulty : ending ≡ endings.Own → FaultyTarget count sure
+  own_faulty is = as_ending endings.Own is
+
+both : (b : Bool) → b ≡ true → b ≡ false → ⊥
+both b x y = cc (x, y)
 
 unsure : (whole sure : Bool) → (whole ≡ true → sure ≡ true) → sure ≡ false → whole ≡ false
-unsure true sure all no_is = absurd (both sure (all refl) no_is)
-  where
-    both : (b : Bool) → b ≡ true → b ≡ false → ⊥
-    both b x y = cc (x, y)
-unsure false sure all no_is = refl
+unsure true sure all is = absurd (both sure (all refl) is)
+unsure false sure all is = refl
 
-found_shown : (S H : Type 0) {F T : Type 0} (c : Counts F T) (s : Start) (log : List Moment) (who : ℕ) (why : CodeWhy) → IsFound s log who why → IsShown {S = S} {F = F} {H = H} {T = T} c s log who (why_of why) shows.Nothing
-found_shown S H c s log who whys.Depot h = h
-found_shown S H c s log who whys.Source h = h
-found_shown S H c s log who (whys.Changed first second) h = h
-found_shown S H c s log who (whys.Absent name) h = h
-found_shown S H c s log who (whys.Unreadable name reason) h = h
-found_shown S H c s log who (whys.Ahead name) h = h
-found_shown S H c s log who (whys.NameTaken name) h = h
-found_shown S H c s log who (whys.IdsSpent next) h = h
-found_shown S H c s log who (whys.GenerationsSpent number) h = h
-found_shown S H c s log who whys.Target h = h
-found_shown S H c s log who (whys.Misprinted name stated found) h = h
-found_shown S H c s log who (whys.Disagreeing name other) h = h
-
-module _ {S F H T : Type 0} (c : Counts F T) (s : Start) (log : List Moment) (who : ℕ) where
-  abbrev IsShownCause : Cause S F H T → Type 0
-  IsShownCause cause = IsShown c s log who (why_of cause.why) cause.by
-
-  refused_shown : (e : StepRefusal) (cause : Cause S F H T) → (s.quiet ≡ true → NeverFailed log) → IsReadRefusal s log who e → cause_refused e ≡ Ok cause → IsShownCause cause
-  refused_shown steps.Memory cause never h is = absurd cc
-  refused_shown steps.TurnsSpent cause never h is = absurd cc
-  refused_shown (steps.Refused refusals.DepotFault) cause never h is =
-      let same : ◌≡◌ {A = Cause S F H T} (record { why = whys.Depot; by = shows.Entry }) cause = cc in
-      subst IsShownCause same (had_fault log who h.0.0 h.0.1, unquiet_last s.quiet log who (ReadStep (ReadBlob h.0.0)) never h.0.1)
-  refused_shown (steps.Refused (refusals.CleanupRunning op)) cause never h is = absurd cc
-  refused_shown (steps.Refused (refusals.NameInUse uuid)) cause never h is = absurd cc
-  refused_shown (steps.Refused (refusals.TooMany limit)) cause never h is = absurd cc
-  refused_shown (steps.Refused (refusals.Deposed entry)) cause never h is = absurd cc
-  refused_shown (steps.Refused (refusals.Aborted by)) cause never h is = absurd cc
-  refused_shown (steps.Refused (refusals.StaleTerm own now)) cause never h is = absurd cc
-  refused_shown (steps.Refused (refusals.GenerationsSpent spent)) cause never h is = absurd cc
-  refused_shown (steps.Refused (refusals.TermsSpent spent)) cause never h is = absurd cc
-  refused_shown (steps.Refused (refusals.IdsSpent next)) cause never h is = absurd cc
-  refused_shown (steps.Refused (refusals.NameTaken name)) cause never h is = absurd cc
-  refused_shown (steps.Refused (refusals.NoSnapshot at)) cause never h is = absurd cc
-  refused_shown (steps.Refused (refusals.BeingDeleted op)) cause never h is = absurd cc
-  refused_shown (steps.Refused (refusals.NoIndex place)) cause never h is = absurd cc
-  refused_shown (steps.Refused (refusals.CloneRunning op)) cause never h is = absurd cc
-  refused_shown (steps.Refused (refusals.RestoreRunning op)) cause never h is = absurd cc
-  refused_shown (steps.Refused (refusals.BusyOp op)) cause never h is = absurd cc
-  refused_shown (steps.Refused (refusals.BusyTicket ticket)) cause never h is = absurd cc
-
-  pub cause_shown : (sure : Bool) (target : T) (trouble : Trouble F) (cause : Cause S F H T) → (s.quiet ≡ true → NeverFailed log) → (s.sure_targets ≡ true → sure ≡ true) → IsOf (reader_of s log who) (c.made_for target) → HasFirst s (reader_of s log who) (c.files target)
-      → Shown c.fetch (c.target target) sure s log who trouble → cause_by target trouble ≡ Ok cause → IsShown c s log who (why_of cause.why) cause.by
-  cause_shown sure target (troubles.Step e) cause never serves of first h is = refused_shown e cause never h is
-  cause_shown sure target (troubles.Fetch fetch) cause never serves of first h is =
-      let same : ◌≡◌ {A = Cause S F H T} (record { why = whys.Depot; by = shows.Object (objects.Fetch fetch) }) cause = cc in
-      subst IsShownCause same h
-  cause_shown sure target troubles.Target cause never serves of first h is =
-      let same : ◌≡◌ {A = Cause S F H T} (record { why = whys.Target; by = shows.Object (objects.Target target) }) cause = cc in
-      subst IsShownCause same (h.0, unsure s.sure_targets sure serves h.1, of, first)
-  cause_shown sure target (troubles.Found why) cause never serves of first h is =
-      let same : ◌≡◌ {A = Cause S F H T} (record { why = why; by = shows.Nothing }) cause = cc in
-      subst IsShownCause same (found_shown S H c s log who why h)
-
--- ---- no stage and no shard shows it
-
-abbrev pub plain : {S F H T : Type 0} → By S F H T → By ⊥ F ⊥ T
-plain (shows.Object (objects.Stage stage)) = shows.Nothing
-plain (shows.Object (objects.Fetch fetch)) = shows.Object (objects.Fetch fetch)
-plain (shows.Object (objects.Shard shard)) = shows.Nothing
-plain (shows.Object (objects.Target target)) = shows.Object (objects.Target target)
-plain shows.Entry = shows.Entry
-plain shows.Nothing = shows.Nothing
-
-module _ {S F H T : Type 0} (c : Counts F T) (s : Start) (log : List Moment) (who : ℕ) where
-  plain_depot : (b : By S F H T) → DepotShown c s log who b → DepotShown c s log who (plain b)
-  plain_depot (shows.Object (objects.Stage stage)) h = absurd h
-  plain_depot (shows.Object (objects.Fetch fetch)) h = h
-  plain_depot (shows.Object (objects.Shard shard)) h = absurd h
-  plain_depot (shows.Object (objects.Target target)) h = h
-  plain_depot shows.Entry h = h
-  plain_depot shows.Nothing h = h
-
-  plain_target : (b : By S F H T) → TargetShown c s (reader_of s log who) b → TargetShown c s (reader_of s log who) (plain b)
-  plain_target (shows.Object (objects.Stage stage)) h = absurd h
-  plain_target (shows.Object (objects.Fetch fetch)) h = h
-  plain_target (shows.Object (objects.Shard shard)) h = absurd h
-  plain_target (shows.Object (objects.Target target)) h = h
-  plain_target shows.Entry h = h
-  plain_target shows.Nothing h = h
-
-  plain_read : (b : By S F H T) (shown : Type 0) → ReadShown b shown → ReadShown (plain b) shown
-  plain_read (shows.Object object) shown h = absurd h
-  plain_read shows.Entry shown h = h
-  plain_read shows.Nothing shown h = h
-
-  pub plain_shown : (why : Why) (b : By S F H T) → IsShown c s log who why b → IsShown c s log who why (plain b)
-  plain_shown OfDepot b h = plain_depot b h
-  plain_shown OfTarget b h = plain_target b h
-  plain_shown (OfAbsence name) b h = plain_read b (HadFetch log who name WasAbsent) h
-  plain_shown (OfUnreadable name reason) b h = plain_read b (WasUnreadable s log who name reason) h
-  plain_shown (OfPrint name stated_len stated_digest found_len found_digest) b h = plain_read b (IsMisprinted s (reader_of s log who) name stated_len stated_digest found_len found_digest) h
-  plain_shown (OfDisagreement name other) b h = plain_read b (IsMiscut s (reader_of s log who) name other) h
-  plain_shown OfSource b h = absurd h
-  plain_shown (OfChange first_len first_digest second_len second_digest) b h = absurd h
-  plain_shown (OfAhead name) b h = absurd h
-  plain_shown (OfTaken name) b h = absurd h
-  plain_shown (OfIdsSpent next) b h = absurd h
-  plain_shown (OfGenerationsSpent pending) b h = absurd h
-
--- ---- it stays shown while others step
-
-module _ (s : Start) (old new : List Moment) (who : ℕ) (waited : Waited s old new who) where
-  had_on : HadFault old who → HadFault new who
-  had_on h = record {
-    front = h.front;
-    moment = h.moment;
-    back = h.back ++ waited.others;
-    name = h.name;
-    is = waited.grew ∙ ap (λ (log : List Moment). log ++ waited.others) h.is ∙ append_assoc h.front (h.moment ∷ h.back) waited.others;
-    of = h.of;
-    step = h.step;
-    reply = h.reply;
-  }
-
-  fetch_on : (name : BlobName) (answer : Reply) → HadFetch old who name answer → HadFetch new who name answer
-  fetch_on name answer h = record {
-    front = h.front;
-    moment = h.moment;
-    back = h.back ++ waited.others;
-    is = waited.grew ∙ ap (λ (log : List Moment). log ++ waited.others) h.is ∙ append_assoc h.front (h.moment ∷ h.back) waited.others;
-    of = h.of;
-    step = h.step;
-    reply = h.reply;
-  }
-
-  unreadable_on : (name : BlobName) (reason : Reason) → WasUnreadable s old who name reason → WasUnreadable s new who name reason
-  unreadable_on name reason h = (fetch_on name WasFetched h.0, subst (λ (q : Reader). IsNoSnap s q name reason) (sym waited.alone) h.1)
-
-module _ {S F H T : Type 0} (c : Counts F T) (s : Start) (old new : List Moment) (who : ℕ) (waited : Waited s old new who) where
-  depot_on : (b : By S F H T) → DepotShown c s old who b → DepotShown c s new who b
-  depot_on (shows.Object (objects.Stage stage)) h = h
-  depot_on (shows.Object (objects.Fetch fetch)) h = h
-  depot_on (shows.Object (objects.Shard shard)) h = h
-  depot_on (shows.Object (objects.Target target)) h = h
-  depot_on shows.Entry h = (had_on s old new who waited h.0, h.1)
-  depot_on shows.Nothing h = h
-
-  read_on : (b : By S F H T) (before after : Type 0) → (before → after) → ReadShown b before → ReadShown b after
-  read_on (shows.Object object) before after on h = h
-  read_on shows.Entry before after on h = h
-  read_on shows.Nothing before after on h = on h
-
-  pub shown_on : (why : Why) (b : By S F H T) → IsShown c s old who why b → IsShown c s new who why b
-  shown_on OfDepot b h = depot_on b h
-  shown_on OfTarget b h = subst (λ (q : Reader). TargetShown c s q b) (sym waited.alone) h
-  shown_on (OfAbsence name) b h = read_on b (HadFetch old who name WasAbsent) (HadFetch new who name WasAbsent) (fetch_on s old new who waited name WasAbsent) h
-  shown_on (OfUnreadable name reason) b h = read_on b (WasUnreadable s old who name reason) (WasUnreadable s new who name reason) (unreadable_on s old new who waited name reason) h
-  shown_on (OfAhead name) b h = h
-  shown_on (OfPrint name stated_len stated_digest found_len found_digest) b h = subst (λ (q : Reader). ReadShown b (IsMisprinted s q name stated_len stated_digest found_len found_digest)) (sym waited.alone) h
-  shown_on (OfDisagreement name other) b h = subst (λ (q : Reader). ReadShown b (IsMiscut s q name other)) (sym waited.alone) h
-  shown_on OfSource b h = h
-  shown_on (OfChange first_len first_digest second_len second_digest) b h = h
-  shown_on (OfTaken name) b h = h
-  shown_on (OfIdsSpent next) b h = h
-  shown_on (OfGenerationsSpent pending) b h = h
-
--- the last entry tells it
-pub has_failed : {S F H T : Type 0} (c : Counts F T) (s : Start) (old new : List Moment) (who : ℕ) (why : CodeWhy) (b : By S F H T) → IsShown c s old who (why_of why) b
-    → Stepped s old new who (ReadFails (why_of why)) HasEnded → HasFailed c s new who why
-has_failed c s old new who why b shown step = record {
-  front = step.front;
-  image = step.image;
-  is = step.is;
-  by = plain b;
-  shown = plain_shown c s step.front who (why_of why) b (shown_on c s old step.front who step.waited (why_of why) b shown);
+-- that the target has failed
+pub target_shown : {S F H T : Type 0} (e : Evidence S F H T) (s : Start) (log : List Moment) (who : ℕ) (target : T) → FaultyTarget (e.target_faults target) (e.target target).is_sure → (s.sure_targets ≡ true → (e.target target).is_sure ≡ true)
+    → IsFor (reader_of s log who) (e.target target).made_for → HasFirst s (reader_of s log who) (e.target target).files → IsRestoreShown e s log who OfTarget (shows.Object (objects.Target target))
+target_shown e s log who target faulty sure of first = record {
+  failed = faulty.0;
+  unsure = unsure s.sure_targets (e.target target).is_sure sure faulty.1;
+  for_it = of;
+  first = first;
 }
+
+pub not_stale : {S F H T : Type 0} (why : Why) (b : By S F H T) → ◌≡◌ {A = Ending S F H T} (endings.Failed why b) endings.Stale → ⊥
+not_stale why b is = cc
+
+-- ---- how it ends then
+
+pub given_refused : {S F H T : Type 0} (e : Evidence S F H T) (s : Start) (old new : List Moment) (who : ℕ) (why : Why) (b : By S F H T) (result : UnitRefusal) → GivenUp hands.Restore e s old new who (endings.Failed why b) result → IsUnitRefused e s old new who result
+given_refused e s old new who why b (units.Failed told) h =
+    let done = subst (λ (w : Why). IsUnitRefused e s old new who (units.Failed w)) (sym h.0) ((reader_of s old who, worked_none (reader_of s old who), ap (λ (o : Own). o.reader) h.1), h.2) in
+    done
+given_refused e s old new who why b (units.Stopped refusal) h = (worked_same (reader_of s old who) (reader_of s new who) (ap (λ (o : Own). o.reader) h.same), h.halts)
+given_refused e s old new who why b units.Stale h = absurd h
+
+-- the end of a ticket whose files are restored is refused since a record swap had failed
+abbrev pub IsBlock : Refusal → Type 0
+IsBlock (DeposedAt place) = Unit {0}
+IsBlock (AbortedBy op) = Unit {0}
+IsBlock refusal = ⊥
+
+block_is : (w : World) (who : ℕ) (step : Step) (refusal : Refusal) → Blocks w who step refusal → IsBlock refusal
+block_is w who step refusal (ByFailedSwap place deposed) = tt
+block_is w who step refusal (ByDelete op deposed aborted) = tt
+
+no_refusal : (step : Step) (refusal : Refusal) → MayRefuse step refusal → (files bytes : ℕ) → step ≡ ReadStep (RestoredShard files bytes) → ⊥
+no_refusal step refusal (ReadFault name) files bytes is = cc
+no_refusal step refusal may files bytes is = cc
+
+module _ (law : RefusesSo) (s : Start) (old new : List Moment) (who files bytes : ℕ) (out : (reader_of s new who).out ≡ true) where
+  entry_halts : (x : EntryRefusal) → IsBlock (refusal_of x) → IsLast new who (ReadStep (RestoredShard files bytes)) (Refused (refusal_of x)) → Grounds s new who (steps.Refused x) → Halts s new who (steps.Refused x)
+  entry_halts (refusals.Deposed entry) is last grounds = (ReadStep (RestoredShard files bytes), last)
+  entry_halts (refusals.Aborted op) is last grounds = absurd (true≢false (sym out ∙ grounds.no_reader))
+  entry_halts x is last grounds = absurd is
+
+  pub end_halts : (refusal : StepRefusal) → IsRefusedBy s old new who (ReadStep (RestoredShard files bytes)) refusal → Halts s new who refusal
+  end_halts steps.Memory h = tt
+  end_halts steps.TurnsSpent h = h.1
+  end_halts (steps.Refused x) h =
+      let is : IsBlock (refusal_of x) = ⊎_elim
+      (λ (blocks : Blocks (world_of s h.0.front) who (ReadStep (RestoredShard files bytes)) (refusal_of x)). block_is (world_of s h.0.front) who (ReadStep (RestoredShard files bytes)) (refusal_of x) blocks)
+      (λ (may : MayRefuse (ReadStep (RestoredShard files bytes)) (refusal_of x)). absurd (no_refusal (ReadStep (RestoredShard files bytes)) (refusal_of x) may files bytes refl))
+      (last_refused law s old new who (ReadStep (RestoredShard files bytes)) (refusal_of x) h.0) in
+      entry_halts x is (record { front = h.0.front; image = h.0.image; is = h.0.is }) h.1
 
 -- ---- a unit that went on before
 
-refused_on : {F T : Type 0} (c : Counts F T) (s : Start) (old mid new : List Moment) (who : ℕ) → Worked (reader_of s old who) (reader_of s mid who) → (refusal : UnitRefusal) → IsUnitRefused c s mid new who refusal → IsUnitRefused c s old new who refusal
-refused_on c s old mid new who worked (units.Failed why) h =
+pub unit_refused_on : {S F H T : Type 0} (e : Evidence S F H T) (s : Start) (old mid new : List Moment) (who : ℕ) (refusal : UnitRefusal) → Worked (reader_of s old who) (reader_of s mid who) → IsUnitRefused e s mid new who refusal → IsUnitRefused e s old new who refusal
+unit_refused_on e s old mid new who (units.Failed why) worked h =
     ((h.0.0, worked_on (reader_of s old who) (reader_of s mid who) h.0.0 worked h.0.1, h.0.2), h.1)
-refused_on c s old mid new who worked (units.Stopped refusal) h = (worked_on (reader_of s old who) (reader_of s mid who) (reader_of s new who) worked h.0, h.1)
-
-pub unit_refused_on : {F T : Type 0} (c : Counts F T) (s : Start) (old mid new : List Moment) (who : ℕ) (refusal : UnitRefusal) → Worked (reader_of s old who) (reader_of s mid who) → IsUnitRefused c s mid new who refusal → IsUnitRefused c s old new who refusal
-unit_refused_on c s old mid new who refusal worked h = refused_on c s old mid new who worked refusal h
+unit_refused_on e s old mid new who (units.Stopped refusal) worked h = (worked_on (reader_of s old who) (reader_of s mid who) (reader_of s new who) worked h.0, h.1)
+unit_refused_on e s old mid new who units.Stale worked h = absurd h

@@ -8,7 +8,7 @@ use Rattle.esr_model.specs.Values.{Bytes, FileEntry}
 use Rattle.esr_model.specs.Image.{AllPairs, FileStands}
 use Rattle.esr_core.specs.World.{Reader}
 use Rattle.esr_core.specs.Restores.{WasRead}
-use Rattle.esr_core.specs.Entry.{RestoredShard, HasEnded, Moment}
+use Rattle.esr_core.specs.Entry.{ReadStep, RestoredShard, HasEnded, Moment}
 use Rattle.esr_source.specs.Address.{address}
 use Rattle.esr_source.specs.Begun.{new_files}
 use Rattle.esr_source.specs.declared.address.Address.{Address}
@@ -18,13 +18,16 @@ use Rattle.esr_formats.specs.Shards.{entry_of, shard_snap_of}
 use Rattle.esr_progress.specs.declared.unit.Work.{Work}
 use Rattle.esr_progress.specs.declared.unit.Work.TheVariants as works
 use Rattle.esr_desk.specs.Start.{Start, formats_of}
-use Rattle.esr_desk.specs.Readers.{reader_of, fresh_reader, TookWork}
-use Rattle.esr_reading.specs.Outcome.{Stepped}
-use Rattle.esr_reading.specs.Shown.{IsOf}
+use Rattle.esr_desk.specs.Own.{reader_of}
+use Rattle.esr_desk.specs.Readers.{fresh_reader, TookWork}
+use Rattle.esr_desk.specs.Outcome.{Stepped}
+use Rattle.esr_desk.specs.Evidence.{Evidence}
+use Rattle.esr_desk.specs.Restore.Shown.{IsFor}
+use Rattle.esr_desk.specs.Restore.Targets.{AreRestored, IsFilled}
 use Rattle.esr_restore.specs.Worked.{Worked}
 use Rattle.esr_restore.specs.Snapped.{IsAt, HasSnap}
 use Rattle.esr_restore.specs.Files.{len_of, sum_files, IsFile, RestoredAll, HasFiles}
-use Rattle.esr_restore.specs.Restored.{AreRestored, HasRestored}
+use Rattle.esr_restore.specs.Restored.{HasRestored}
 use Rattle.esr_restore.proofs.Pairs.{pairs_map, pairs_of_map, pairs_to_map, pairs_length}
 
 -- ---- what the files are
@@ -93,20 +96,16 @@ are_restored s q at uuid snap files_old files_new is_at read all held is tells =
       bytes_is = ap (λ (n : ℕ). min n (2 ^ 64 - 1)) (same_sum s q at uuid is_at tells snap.files all.held all.each);
     })
 
--- the ticket has ended, and the target has the files
-pub has_restored : (s : Start) (old mid new : List Moment) (who : ℕ) (at : ShardId) (uuid : ℕ) (snap : SnapValue) (made_for : Address) (files_old files_new : Option (List (Bytes × Bytes)))
-    → Worked (reader_of s old who) (reader_of s mid who) → IsAt (reader_of s mid who) at.index.number at.number uuid → HasSnap s (reader_of s mid who) snap → RestoredAll s (reader_of s mid who) at snap.files files_old files_new
-    → Stepped s mid new who (RestoredShard (length snap.files) (sum_files snap.files)) HasEnded → reader_of s new who ≡ record (reader_of s mid who) { out = false } → IsOf (reader_of s mid who) made_for
-    → HasRestored s old new who made_for files_new
-has_restored s old mid new who at uuid snap made_for files_old files_new worked is_at read all step ended of = record {
-  count = length snap.files;
-  bytes = sum_files snap.files;
+-- the ticket has ended
+pub has_restored : (s : Start) (old mid new : List Moment) (who count bytes : ℕ) → Worked (reader_of s old who) (reader_of s mid who) → Stepped s mid new who (ReadStep (RestoredShard count bytes)) HasEnded
+    → reader_of s new who ≡ record (reader_of s mid who) { out = false } → HasRestored s old new who
+has_restored s old mid new who count bytes worked step ended = record {
+  count = count;
+  bytes = bytes;
   last = record { front = step.front; image = step.image; is = step.is };
   q = reader_of s mid who;
   worked = worked;
   ended = ended;
-  target = of;
-  restored = are_restored s (reader_of s mid who) at uuid snap files_old files_new is_at read all;
 }
 
 -- ---- the ticket as it was taken
@@ -122,14 +121,14 @@ took_at w op q uuid at index place is took =
     subst (λ (r : Reader). IsAt r at.index.number at.number uuid.number) (sym (took_fresh w op q uuid at index place is took).0) (fresh_at op uuid.number at.index.number at.number index place)
 
 -- the target is that of its shard
-fresh_of : (op uuid index number : ℕ) (name place : Bytes) → IsOf (fresh_reader op uuid index number name place) (address place name number)
+fresh_of : (op uuid index number : ℕ) (name place : Bytes) → IsFor (fresh_reader op uuid index number name place) (address place name number)
 fresh_of op uuid index number name place = record { place = refl; index = refl; number = refl }
 
-pub took_of : (w : Work) (op : ℕ) (old new : Reader) (uuid : Id) (at : ShardId) (index place : Bytes) (made_for : Address) → w ≡ works.RestoreShard uuid at index place → TookWork w op old → made_for ≡ address place index at.number → Worked old new → IsOf new made_for
+pub took_of : (w : Work) (op : ℕ) (old new : Reader) (uuid : Id) (at : ShardId) (index place : Bytes) (made_for : Address) → w ≡ works.RestoreShard uuid at index place → TookWork w op old → made_for ≡ address place index at.number → Worked old new → IsFor new made_for
 took_of w op old new uuid at index place made_for is took made worked =
     let fresh = (took_fresh w op old uuid at index place is took).0 in
-    let of = subst (λ (r : Reader). IsOf r (address place index at.number)) (sym fresh) (fresh_of op uuid.number at.index.number at.number index place) in
-    subst (λ (a : Address). IsOf new a) (sym made) (record {
+    let of = subst (λ (r : Reader). IsFor r (address place index at.number)) (sym fresh) (fresh_of op uuid.number at.index.number at.number index place) in
+    subst (λ (a : Address). IsFor new a) (sym made) (record {
       place = of.place ∙ sym (ap (λ (r : Reader). r.place) worked.same);
       index = of.index ∙ sym (ap (λ (r : Reader). r.name) worked.same);
       number = of.number ∙ sym (ap (λ (r : Reader). r.number) worked.same);
@@ -144,3 +143,24 @@ none_yet false files is = subst (λ (o : Option (List (Bytes × Bytes))). IfSome
 pub are_told : (told : Bool) (held : List (Bytes × Bytes)) (files_old files_new : Option (List (Bytes × Bytes))) → files_old ≡ new_files told → files_new ≡ option_map (λ _. held) files_old → told ≡ true → IsSome files_new
 are_told true held files_old files_new new are yes_is = subst (λ (o : Option (List (Bytes × Bytes))). IsSome o) (sym (are ∙ ap (λ (o : Option (List (Bytes × Bytes))). option_map (λ _. held) o) new)) refl
 are_told false held files_old files_new new are yes_is = absurd cc
+
+-- ---- the target that is handed over
+
+-- it is the shard's own, listed under the op, the name of the index and the number, and has the files
+pub filled : {S F H T : Type 0} (e : Evidence S F H T) (s : Start) (old q : Reader) (op : ℕ) (uuid : Id) (at : ShardId) (index place : Bytes) (snap : SnapValue) (target : T) (files_old : Option (List (Bytes × Bytes))) (told : Bool)
+    → old ≡ fresh_reader op uuid.number at.index.number at.number index place → Worked old q → IsAt q at.index.number at.number uuid.number → HasSnap s q snap → RestoredAll s q at snap.files files_old (e.target target).files
+    → IsFor q (e.target target).made_for → files_old ≡ new_files told → s.targets_tell ≡ told → (s.sure_targets ≡ true → (e.target target).is_sure ≡ true) → (e.target target).begun ≡ None → e.target_faults target ≡ 0
+    → IsFilled e s q (length snap.files) (sum_files snap.files) (record { op = op; index = index; shard = at.number; target = target })
+filled e s old q op uuid at index place snap target files_old told fresh worked is_at read all of new tells sure begun count =
+    let same : record q { read = [] } ≡ fresh_reader op uuid.number at.index.number at.number index place = ap (λ (r : Reader). record r { read = [] }) worked.same ∙ ap (λ (r : Reader). record r { read = [] }) fresh in
+    record {
+      op_is = sym (ap (λ (r : Reader). r.op) same);
+      index_is = sym (ap (λ (r : Reader). r.name) same);
+      shard_is = sym (ap (λ (r : Reader). r.number) same);
+      for_it = of;
+      restored = are_restored s q at uuid.number snap files_old (e.target target).files is_at read all;
+      told = λ yes_is. are_told told all.held files_old (e.target target).files new all.are (sym tells ∙ yes_is);
+      sure = sure;
+      none_begun = begun;
+      none_failed = count;
+    }

@@ -1,33 +1,33 @@
 -- The files of a target whose restore wasn't ended well, and which target is given back.
-use Rattle.std.proofs.Common.{◌≡◌, ◌⊎◌, inl, inr, ℕ, zero, suc, false, List, [], ◌∷◌, ◌++◌, append-nil, take, map, Option, Some, None, IfSome, Result, Ok, Err, OnErr, option_map, refl, sym, ap, ◌∙◌, subst}
+use Rattle.std.proofs.Common.{◌≡◌, ◌⊎◌, inl, inr, ℕ, zero, suc, false, List, [], ◌∷◌, ◌++◌, take, map, Option, Some, None, IfSome, Result, Ok, Err, OnErr, option_map, refl, sym, ap, ◌∙◌, subst}
 use Rattle.esr_names.specs.declared.blob.ShardId.{ShardId}
 use Rattle.esr_model.specs.Values.{Bytes, FileEntry}
 use Rattle.esr_model.specs.Image.{AllPairs}
 use Rattle.esr_core.specs.World.{Reader}
-use Rattle.esr_core.specs.Entry.{OfTarget, ReadFails, Refusal, Moment}
+use Rattle.esr_core.specs.Entry.{OfTarget, RestoredShard, ReadFails, ReadStep, Refusal, Moment}
 use Rattle.esr_source.specs.declared.address.Address.{Address}
+use Rattle.esr_source.specs.Told.{TargetTold}
 use Rattle.esr_shardidx.specs.declared.entry.FileEntry.{FileEntry as CodeEntry}
 use Rattle.esr_shardidx.specs.Snapshots.{SnapValue}
 use Rattle.esr_formats.specs.Shards.{entry_of, shard_snap_of}
+use Rattle.esr_desk.specs.declared.hand.Hand.TheVariants as hands
+use Rattle.esr_desk.specs.declared.entry.Why.{Why}
 use Rattle.esr_desk.specs.declared.entry.Why.TheVariants as whys
+use Rattle.esr_desk.specs.declared.fault.By.{By}
 use Rattle.esr_desk.specs.declared.refusal.StepRefusal.{StepRefusal}
-use Rattle.esr_desk.specs.declared.fault.FailedObject.TheVariants as objects
-use Rattle.esr_desk.specs.declared.fault.By.TheVariants as shows
 use Rattle.esr_desk.specs.declared.unit.UnitRefusal.{UnitRefusal}
 use Rattle.esr_desk.specs.declared.unit.UnitRefusal.TheVariants as units
-use Rattle.esr_desk.specs.Entries.{why_of}
 use Rattle.esr_desk.specs.Refusals.{told_refusal}
 use Rattle.esr_desk.specs.Start.{Start}
-use Rattle.esr_desk.specs.Readers.{reader_of}
-use Rattle.esr_reading.specs.Outcome.{Refusing}
-use Rattle.esr_reading.specs.First.{IsRestoredAs, AreFirst, HasFirst}
-use Rattle.esr_reading.specs.Shown.{IsOf}
-use Rattle.esr_restore.specs.declared.cause.Cause.{Cause}
-use Rattle.esr_restore.specs.declared.trouble.Trouble.{Trouble}
-use Rattle.esr_restore.specs.declared.trouble.Trouble.TheVariants as troubles
-use Rattle.esr_restore.specs.Cause.{cause_by, left_by}
-use Rattle.esr_restore.specs.Files.{IsFile, RestoredAll}
-use Rattle.esr_restore.specs.Left.{WasReportRefused, IsLeft}
+use Rattle.esr_desk.specs.Own.{Own, reader_of}
+use Rattle.esr_desk.specs.Outcome.{Refusing}
+use Rattle.esr_desk.specs.Evidence.{Evidence}
+use Rattle.esr_desk.specs.Restore.First.{IsRestoredAs, AreFirst, HasFirst}
+use Rattle.esr_desk.specs.Restore.Shown.{IsFor}
+use Rattle.esr_unit.specs.declared.ending.Ending.TheVariants as endings
+use Rattle.esr_unit.specs.Fail.{GivenUp, IsReported}
+use Rattle.esr_restore.specs.Files.{IsFile}
+use Rattle.esr_restore.specs.Left.{WasEndRefused, IsLeft}
 use Rattle.esr_restore.specs.Snapped.{IsAt, HasSnap}
 use Rattle.esr_restore.specs.Worked.{Worked}
 use Rattle.esr_restore.proofs.Pairs.{pairs_map, pairs_of_map}
@@ -78,13 +78,9 @@ first_files s a b at uuid snap k files_old files_mid files_new worked is_at read
     held_first s b at uuid snap (take k snap.files) rest.0 so.held files_old files_new is_at read rest.1
     (pairs_map (IsFile s a at) (IsFile s b at) (stands_more s a b at worked) (take k snap.files) so.held so.each) (same ∙ so.are)
 
--- all of them were
-pub first_all : (s : Start) (q : Reader) (at : ShardId) (uuid : ℕ) (snap : SnapValue) (files_old files_new : Option (List (Bytes × Bytes))) → IsAt q at.index.number at.number uuid → HasSnap s q snap → RestoredAll s q at snap.files files_old files_new → HasFirst s q files_new
-first_all s q at uuid snap files_old files_new is_at read all = held_first s q at uuid snap snap.files [] all.held files_old files_new is_at read (sym (append-nil (map entry_of snap.files))) all.each all.are
-
 -- ---- where the ticket has ended
 
-of_ended : (q : Reader) (address : Address) → IsOf q address → IsOf (record q { out = false }) address
+of_ended : (q : Reader) (address : Address) → IsFor q address → IsFor (record q { out = false }) address
 of_ended q address of = record { place = of.place; index = of.index; number = of.number }
 
 are_first_ended : (s : Start) (q : Reader) (entries : List FileEntry) → (entries ≡ []) ⊎ AreFirst s q entries → (entries ≡ []) ⊎ AreFirst s (record q { out = false }) entries
@@ -103,48 +99,41 @@ first_ended s q files h = record {
 -- ---- which target is given back
 
 -- the report that the target failed was refused
-report_refused : (s : Start) (old new : List Moment) (who : ℕ) (refusal : Option Refusal) → Refusing s old new who (ReadFails OfTarget) refusal → WasReportRefused new who refusal
+pub report_refused : (s : Start) (old new : List Moment) (who : ℕ) (refusal : Option Refusal) → Refusing s old new who (ReadStep (ReadFails OfTarget)) refusal → WasEndRefused new who refusal
 report_refused s old new who None h = tt
-report_refused s old new who (Some refusal) h = record { front = h.front; image = h.image; is = h.is }
+report_refused s old new who (Some refusal) h = inl (record { front = h.front; image = h.image; is = h.is })
 
-module _ {T : Type 0} (made_for : T → Address) (files : T → Option (List (Bytes × Bytes))) (s : Start) (log : List Moment) (who : ℕ) (old : Reader) (target : T) (of : IsOf old (made_for target)) (first : HasFirst s old (files target)) where
+-- so was the end that took it
+pub end_refused : (s : Start) (old new : List Moment) (who files bytes : ℕ) (refusal : Option Refusal) → Refusing s old new who (ReadStep (RestoredShard files bytes)) refusal → WasEndRefused new who refusal
+end_refused s old new who files bytes None h = tt
+end_refused s old new who files bytes (Some refusal) h = inr (files, bytes, record { front = h.front; image = h.image; is = h.is })
+
+module _ {T : Type 0} (told : T → TargetTold) (s : Start) (old : Reader) (target : T) (of : IsFor old (told target).made_for) (first : HasFirst s old (told target).files) where
   abbrev IsGiven : Reader → Type 0
-  IsGiven q = IsOf q (made_for target) × HasFirst s q (files target)
+  IsGiven q = IsFor q (told target).made_for × HasFirst s q (told target).files
 
   -- the ticket has ended, or is out still
-  given_ended : (refusal : UnitRefusal) → reader_of s log who ≡ record old { out = false } → IsLeft made_for files s log who refusal (Some target)
-  given_ended refusal is = subst IsGiven (sym is) (of_ended old (made_for target) of, first_ended s old (files target) first)
+  given_ended : (log : List Moment) (who : ℕ) (refusal : UnitRefusal) → reader_of s log who ≡ record old { out = false } → IsLeft told s log who refusal (Some target)
+  given_ended log who refusal is = subst IsGiven (sym is) (of_ended old (told target).made_for of, first_ended s old (told target).files first)
 
-  pub given_out : (refusal : UnitRefusal) → reader_of s log who ≡ old → IsLeft made_for files s log who refusal (Some target)
-  given_out refusal is = subst IsGiven (sym is) (of, first)
+  pub given_out : (log : List Moment) (who : ℕ) (refusal : UnitRefusal) → reader_of s log who ≡ old → IsLeft told s log who refusal (Some target)
+  given_out log who refusal is = subst IsGiven (sym is) (of, first)
 
-  with_left : (refusal : UnitRefusal) (left same : Option T) → left ≡ same → IsLeft made_for files s log who refusal same → IsLeft made_for files s log who refusal left
-  with_left refusal left same is h = subst (λ (o : Option T). IsLeft made_for files s log who refusal o) (sym is) h
+-- it failed for something else
+pub left_given : {S F H T : Type 0} (e : Evidence S F H T) (s : Start) (old new : List Moment) (who : ℕ) (target : T) → IsFor (reader_of s old who) (e.target target).made_for → HasFirst s (reader_of s old who) (e.target target).files
+    → (why : Why) (b : By S F H T) (result : UnitRefusal) → GivenUp hands.Restore e s old new who (endings.Failed why b) result → IsLeft e.target s new who result (Some target)
+left_given e s old new who target of first why b (units.Failed reason) h = given_ended e.target s (reader_of s old who) target of first new who (units.Failed reason) (ap (λ (o : Own). o.reader) h.1)
+left_given e s old new who target of first why b (units.Stopped refusal) h = given_out e.target s (reader_of s old who) target of first new who (units.Stopped refusal) (ap (λ (o : Own). o.reader) h.same)
+left_given e s old new who target of first why b units.Stale h = absurd h
 
-  pub left_ended : {S F H : Type 0} (trouble : Trouble F) (cause : Cause S F H T) (left : Option T) → reader_of s log who ≡ record old { out = false } → cause_by target trouble ≡ Ok cause → left ≡ left_by target trouble
-      → IsLeft made_for files s log who (units.Failed cause.why) left
-  left_ended (troubles.Step e) cause left ended is same = with_left (units.Failed cause.why) left (Some target) same (given_ended (units.Failed cause.why) ended)
-  left_ended (troubles.Fetch fetch) cause left ended is same = with_left (units.Failed cause.why) left (Some target) same (given_ended (units.Failed cause.why) ended)
-  left_ended {S = S} {F = F} {H = H} troubles.Target cause left ended is same =
-      let it : ◌≡◌ {A = Cause S F H T} (record { why = whys.Target; by = shows.Object (objects.Target target) }) cause = cc in
-      with_left (units.Failed cause.why) left None same (ap (λ (x : Cause S F H T). x.why) (sym it))
-  left_ended (troubles.Found why) cause left ended is same = with_left (units.Failed cause.why) left (Some target) same (given_ended (units.Failed cause.why) ended)
+-- the target failed
+pub left_taken : {S F H T : Type 0} (e : Evidence S F H T) (s : Start) (old new : List Moment) (who : ℕ) (b : By S F H T) (result : UnitRefusal) → GivenUp hands.Restore e s old new who (endings.Failed whys.Target b) result
+    → IsReported hands.Restore s old new who (endings.Failed whys.Target b) result → IsLeft e.target s new who result None
+left_taken e s old new who b (units.Failed reason) h report = h.0
+left_taken e s old new who b (units.Stopped refusal) h report = report_refused s old new who (told_refusal refusal) report
+left_taken e s old new who b units.Stale h report = absurd h
 
-  -- the report of the cause was refused
-  pub left_unreported : {S F H : Type 0} (before : List Moment) (trouble : Trouble F) (cause : Cause S F H T) (refusal : StepRefusal) (left : Option T) → reader_of s log who ≡ old → cause_by target trouble ≡ Ok cause
-      → Refusing s before log who (ReadFails (why_of cause.why)) (told_refusal refusal) → left ≡ left_by target trouble → IsLeft made_for files s log who (units.Stopped refusal) left
-  left_unreported before (troubles.Step e) cause refusal left kept is refused same = with_left (units.Stopped refusal) left (Some target) same (given_out (units.Stopped refusal) kept)
-  left_unreported before (troubles.Fetch fetch) cause refusal left kept is refused same = with_left (units.Stopped refusal) left (Some target) same (given_out (units.Stopped refusal) kept)
-  left_unreported {S = S} {F = F} {H = H} before troubles.Target cause refusal left kept is refused same =
-      let it : ◌≡◌ {A = Cause S F H T} (record { why = whys.Target; by = shows.Object (objects.Target target) }) cause = cc in
-      with_left (units.Stopped refusal) left None same
-      (report_refused s before log who (told_refusal refusal) (subst (λ (x : Cause S F H T). Refusing s before log who (ReadFails (why_of x.why)) (told_refusal refusal)) (sym it) refused))
-  left_unreported before (troubles.Found why) cause refusal left kept is refused same = with_left (units.Stopped refusal) left (Some target) same (given_out (units.Stopped refusal) kept)
-
-  -- no report was made
-  pub left_stopped : {S F H : Type 0} (trouble : Trouble F) (refusal : StepRefusal) (left : Option T) → reader_of s log who ≡ old → cause_by {S = S} {F = F} {H = H} {T = T} target trouble ≡ Err refusal → left ≡ left_by target trouble
-      → IsLeft made_for files s log who (units.Stopped refusal) left
-  left_stopped (troubles.Step e) refusal left kept is same = with_left (units.Stopped refusal) left (Some target) same (given_out (units.Stopped refusal) kept)
-  left_stopped (troubles.Fetch fetch) refusal left kept is same = with_left (units.Stopped refusal) left (Some target) same (given_out (units.Stopped refusal) kept)
-  left_stopped troubles.Target refusal left kept is same = absurd cc
-  left_stopped (troubles.Found why) refusal left kept is same = with_left (units.Stopped refusal) left (Some target) same (given_out (units.Stopped refusal) kept)
+-- the unit was stopped, and none is given back
+pub stopped_left : {T : Type 0} (told : T → TargetTold) (s : Start) (log : List Moment) (who : ℕ) (refusal : StepRefusal) (result : UnitRefusal) (target : Option T) → result ≡ units.Stopped refusal → target ≡ None → WasEndRefused log who (told_refusal refusal) → IsLeft told s log who result target
+stopped_left {T} told s log who refusal result target is none h =
+    subst (λ (r : UnitRefusal). IsLeft told s log who r target) (sym is) (subst (λ (o : Option T). IsLeft told s log who (units.Stopped refusal) o) (sym none) h)

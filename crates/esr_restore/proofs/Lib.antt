@@ -1,5 +1,4 @@
 pub mod Going
-pub mod Refusals
 pub mod Reading
 pub mod Pairs
 pub mod Sizes

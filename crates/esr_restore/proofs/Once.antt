@@ -8,12 +8,14 @@ use Rattle.esr_names.specs.declared.blob.ShardId.{ShardId}
 use Rattle.esr_names.specs.declared.blob.BlobName.TheVariants as code
 use Rattle.esr_model.specs.Names.{BlobName, ShardSnap, File, Part}
 use Rattle.esr_model.specs.Values.{Has}
-use Rattle.esr_core.specs.Entry.{Moment}
+use Rattle.esr_core.specs.Entry.{ReadBlob, ReadStep, Moment}
 use Rattle.esr_shardidx.specs.declared.entry.FileEntry.{FileEntry as CodeEntry}
 use Rattle.esr_shardidx.specs.Parts.{part_count, part_name}
 use Rattle.esr_shardidx.specs.Snapshots.{SnapValue, has_name, AreSnapFiles, IsShardSnap}
 use Rattle.esr_formats.specs.Names.{name_of}
-use Rattle.esr_reading.specs.Once.{IsUnread, ReadsOnly, reads_on, reads_more, still_unread}
+use Rattle.esr_desk.specs.Start.{Start}
+use Rattle.esr_desk.specs.Once.{IsFresh}
+use Rattle.esr_desk.specs.Made.{ReadsOnly, reads_on, reads_more, still_unread}
 use Rattle.esr_restore.specs.Unread.{AreUnread, IsPartOf, IsPartBefore, IsPartOfAny}
 
 -- ---- parts
@@ -31,19 +33,19 @@ parts_differ at e i k less =
     ]
 
 -- the next part is unread
-pub part_unread : (old now : List Moment) (who : ℕ) (at : ShardId) (e : CodeEntry) (k : ℕ) → AreUnread old who (IsPartOf at e) → k < part_count e.print.len e.part_size → ReadsOnly old now who (IsPartBefore at e k) → IsUnread now who (name_of (part_name at e k))
-part_unread old now who at e k unread within reads =
+pub part_unread : (s : Start) (old now : List Moment) (who : ℕ) (at : ShardId) (e : CodeEntry) (k : ℕ) → AreUnread s old who (IsPartOf at e) → k < part_count e.print.len e.part_size → ReadsOnly s old now who (IsPartBefore at e k) → IsFresh s now who (ReadStep (ReadBlob (name_of (part_name at e k))))
+part_unread s old now who at e k unread within reads =
     let name = name_of (part_name at e k) in
-    still_unread old now who name (IsPartBefore at e k) (unread name (k, refl)) reads (λ before. parts_differ at e before.0 k before.1 within before.2)
+    still_unread s old now who name (IsPartBefore at e k) (unread name (k, refl)) reads (λ before. parts_differ at e before.0 k before.1 within before.2)
 
-pub part_more : (old mid new : List Moment) (who : ℕ) (at : ShardId) (e : CodeEntry) (k : ℕ) → ReadsOnly old mid who (IsPartBefore at e k) → ReadsOnly mid new who (λ n. n ≡ name_of (part_name at e k)) → ReadsOnly old new who (IsPartBefore at e (k + 1))
-part_more old mid new who at e k first second =
-    reads_on old mid new who (IsPartBefore at e (k + 1))
-    (reads_more old mid who (IsPartBefore at e k) (IsPartBefore at e (k + 1)) (λ name before. let less : before.0 < k = before.1 in (before.0, omega (arith, less), before.2)) first)
-    (reads_more mid new who (λ n. n ≡ name_of (part_name at e k)) (IsPartBefore at e (k + 1)) (λ name same. (k, omega arith, sym same)) second)
+pub part_more : (s : Start) (old mid new : List Moment) (who : ℕ) (at : ShardId) (e : CodeEntry) (k : ℕ) → ReadsOnly s old mid who (IsPartBefore at e k) → ReadsOnly s mid new who (λ n. n ≡ name_of (part_name at e k)) → ReadsOnly s old new who (IsPartBefore at e (k + 1))
+part_more s old mid new who at e k first second =
+    reads_on s old mid new who (IsPartBefore at e (k + 1))
+    (reads_more s old mid who (IsPartBefore at e k) (IsPartBefore at e (k + 1)) (λ name before. let less : before.0 < k = before.1 in (before.0, omega (arith, less), before.2)) first)
+    (reads_more s mid new who (λ n. n ≡ name_of (part_name at e k)) (IsPartBefore at e (k + 1)) (λ name same. (k, omega arith, sym same)) second)
 
-pub parts_all : (old new : List Moment) (who : ℕ) (at : ShardId) (e : CodeEntry) (k : ℕ) → ReadsOnly old new who (IsPartBefore at e k) → ReadsOnly old new who (IsPartOf at e)
-parts_all old new who at e k reads = reads_more old new who (IsPartBefore at e k) (IsPartOf at e) (λ name before. (before.0, before.2)) reads
+pub parts_all : (s : Start) (old new : List Moment) (who : ℕ) (at : ShardId) (e : CodeEntry) (k : ℕ) → ReadsOnly s old new who (IsPartBefore at e k) → ReadsOnly s old new who (IsPartOf at e)
+parts_all s old new who at e k reads = reads_more s old new who (IsPartBefore at e k) (IsPartOf at e) (λ name before. (before.0, before.2)) reads
 
 -- ---- files
 
@@ -88,10 +90,10 @@ one_file at snap k e name whole less is (j, own) (r, has, (i, old)) =
     no_twin e (take k snap.files) r (subst (λ (x : CodeEntry). list_any (has_name x.name) (take k snap.files) ≡ false) (sym is) (ids_at [] snap.files k e whole.files less)) has id
 
 -- the parts of the next file are unread
-pub file_unread : (old now : List Moment) (who : ℕ) (at : ShardId) (snap : SnapValue) (k : ℕ) (e : CodeEntry) → IsShardSnap snap → k < length snap.files → e ≡ get_or snap.files k e
-    → AreUnread old who (IsPartOfAny at snap.files) → ReadsOnly old now who (IsPartOfAny at (take k snap.files)) → AreUnread now who (IsPartOf at e)
-file_unread old now who at snap k e whole less is unread reads name part =
-    still_unread old now who name (IsPartOfAny at (take k snap.files)) (unread name (e, has_at snap.files k e less is, part)) reads
+pub file_unread : (s : Start) (old now : List Moment) (who : ℕ) (at : ShardId) (snap : SnapValue) (k : ℕ) (e : CodeEntry) → IsShardSnap snap → k < length snap.files → e ≡ get_or snap.files k e
+    → AreUnread s old who (IsPartOfAny at snap.files) → ReadsOnly s old now who (IsPartOfAny at (take k snap.files)) → AreUnread s now who (IsPartOf at e)
+file_unread s old now who at snap k e whole less is unread reads name part =
+    still_unread s old now who name (IsPartOfAny at (take k snap.files)) (unread name (e, has_at snap.files k e less is, part)) reads
     (one_file at snap k e name whole less is part)
 
 has_left : {A : Type 0} (xs ys : List A) (y : A) → Has xs y → Has (xs ++ ys) y
@@ -106,15 +108,15 @@ has_last (x ∷ xs) y = inr (has_last xs y)
 any_left : (at : ShardId) (xs ys : List CodeEntry) (name : BlobName) → IsPartOfAny at xs name → IsPartOfAny at (xs ++ ys) name
 any_left at xs ys name (r, has, part) = (r, has_left xs ys r has, part)
 
-pub file_more : (old mid new : List Moment) (who : ℕ) (at : ShardId) (es : List CodeEntry) (k : ℕ) (e : CodeEntry) → k < length es → e ≡ get_or es k e
-    → ReadsOnly old mid who (IsPartOfAny at (take k es)) → ReadsOnly mid new who (IsPartOf at e) → ReadsOnly old new who (IsPartOfAny at (take (k + 1) es))
-file_more old mid new who at es k e less is first second =
+pub file_more : (s : Start) (old mid new : List Moment) (who : ℕ) (at : ShardId) (es : List CodeEntry) (k : ℕ) (e : CodeEntry) → k < length es → e ≡ get_or es k e
+    → ReadsOnly s old mid who (IsPartOfAny at (take k es)) → ReadsOnly s mid new who (IsPartOf at e) → ReadsOnly s old new who (IsPartOfAny at (take (k + 1) es))
+file_more s old mid new who at es k e less is first second =
     let more : take (k + 1) es ≡ take k es ++ e ∷ [] = take_more es k e less ∙ ap (λ (x : CodeEntry). take k es ++ x ∷ []) (sym is) in
     let all = IsPartOfAny at (take k es ++ e ∷ []) in
-    subst (λ (xs : List CodeEntry). ReadsOnly old new who (IsPartOfAny at xs)) (sym more)
-    (reads_on old mid new who all
-    (reads_more old mid who (IsPartOfAny at (take k es)) all (λ name before. any_left at (take k es) (e ∷ []) name before) first)
-    (reads_more mid new who (IsPartOf at e) all (λ name part. (e, has_last (take k es) e, part)) second))
+    subst (λ (xs : List CodeEntry). ReadsOnly s old new who (IsPartOfAny at xs)) (sym more)
+    (reads_on s old mid new who all
+    (reads_more s old mid who (IsPartOfAny at (take k es)) all (λ name before. any_left at (take k es) (e ∷ []) name before) first)
+    (reads_more s mid new who (IsPartOf at e) all (λ name part. (e, has_last (take k es) e, part)) second))
 
 -- ---- after the snapshot of the shard
 
@@ -134,5 +136,5 @@ not_snap at uuid e k =
 not_any : (at : ShardId) (uuid : ℕ) (es : List CodeEntry) (name : BlobName) → IsPartOfAny at es name → name ≡ ShardSnap at.index.number at.number uuid → ⊥
 not_any at uuid es name (r, has, (i, part)) same = not_snap at uuid r i (part ∙ same)
 
-pub files_unread : (old now : List Moment) (who : ℕ) (at : ShardId) (uuid : ℕ) (es : List CodeEntry) → ((name : BlobName) → IsUnread old who name) → ReadsOnly old now who (λ n. n ≡ ShardSnap at.index.number at.number uuid) → AreUnread now who (IsPartOfAny at es)
-files_unread old now who at uuid es unread reads name part = still_unread old now who name (λ n. n ≡ ShardSnap at.index.number at.number uuid) (unread name) reads (not_any at uuid es name part)
+pub files_unread : (s : Start) (old now : List Moment) (who : ℕ) (at : ShardId) (uuid : ℕ) (es : List CodeEntry) → ((name : BlobName) → IsFresh s old who (ReadStep (ReadBlob name))) → ReadsOnly s old now who (λ n. n ≡ ShardSnap at.index.number at.number uuid) → AreUnread s now who (IsPartOfAny at es)
+files_unread s old now who at uuid es unread reads name part = still_unread s old now who name (λ n. n ≡ ShardSnap at.index.number at.number uuid) (unread name) reads (not_any at uuid es name part)

@@ -21,8 +21,8 @@ use Rattle.esr_shardidx.specs.declared.entry.FileEntry.{FileEntry as CodeEntry}
 use Rattle.esr_shardidx.specs.Parts.{part_count as code_count}
 use Rattle.esr_formats.specs.Shards.{entry_of}
 use Rattle.esr_desk.specs.Start.{Start}
-use Rattle.esr_reading.specs.Conditions.{CanRead}
-use Rattle.esr_reading.specs.Parts.{IsFront, front_of}
+use Rattle.esr_desk.specs.Restore.Conditions.{CanRead}
+use Rattle.esr_desk.specs.Restore.Parts.{IsFront, front_of}
 use Rattle.esr_restore.specs.Worked.{Worked}
 use Rattle.esr_restore.specs.Snapped.{IsAt, IsListed}
 use Rattle.esr_restore.specs.Parts.{Came, ReadPart, ReadParts}

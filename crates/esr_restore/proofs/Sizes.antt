@@ -13,7 +13,7 @@ use Rattle.esr_shardidx.specs.declared.entry.FileEntry.{FileEntry as CodeEntry}
 use Rattle.esr_shardidx.specs.Parts.{part_name, part_count as code_count}
 use Rattle.esr_formats.specs.Names.{name_of}
 use Rattle.esr_formats.specs.Shards.{entry_of}
-use Rattle.esr_reading.specs.Parts.{sized, sized_parts}
+use Rattle.esr_desk.specs.Restore.Parts.{sized, sized_parts}
 
 -- the name of the part of that number
 abbrev pub blob_name : ShardId → CodeEntry → ℕ → BlobName

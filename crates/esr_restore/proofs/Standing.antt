@@ -22,13 +22,16 @@ use Rattle.esr_formats.specs.Formats.{formats}
 use Rattle.esr_formats.specs.Shards.{entry_of}
 use Rattle.esr_desk.specs.declared.entry.Why.{Why}
 use Rattle.esr_desk.specs.Start.{Start, formats_of}
-use Rattle.esr_desk.specs.Readers.{reader_of}
-use Rattle.esr_reading.specs.Parts.{sized, IsFront, front_of, AreFronts, AreExact}
-use Rattle.esr_reading.specs.Shown.{HasReadFile, IsMisprinted, IsMiscut}
+use Rattle.esr_desk.specs.Own.{reader_of}
+use Rattle.esr_desk.specs.Restore.Parts.{sized, IsFront, front_of, AreFronts, AreExact}
+use Rattle.esr_desk.specs.Restore.Shown.{HasReadFile, IsMisprinted, IsMiscut, IsRestoreShown}
 use Rattle.esr_restore.specs.Snapped.{IsAt, IsListed}
 use Rattle.esr_restore.specs.Parts.{ReadParts}
 use Rattle.esr_restore.specs.Files.{RestoredFile}
-use Rattle.esr_restore.specs.Trouble.{IsFound, IsOther, IsCutOtherwise, Judged}
+use Rattle.esr_desk.specs.declared.fault.By.TheVariants as shows
+use Rattle.esr_desk.specs.Entries.{why_of}
+use Rattle.esr_desk.specs.Evidence.{Evidence}
+use Rattle.esr_restore.specs.Trouble.{IsOther, IsCutOtherwise, Judged}
 use Rattle.esr_restore.proofs.Parts.{IsExact}
 use Rattle.esr_restore.proofs.Reading.{snap_is}
 
@@ -104,7 +107,7 @@ restored_file s q hasher begun_old begun_new at e found exact files mid files_ne
 
 -- ---- what is wrong with it
 
-module _ (s : Start) (log : List Moment) (who : ℕ) (hasher : Hasher) (begun_old begun_new : Option Begun) (at : ShardId) (uuid : Id) (e : CodeEntry) (found : Print) (exact : Bool)
+module _ {S F H T : Type 0} (ev : Evidence S F H T) (s : Start) (log : List Moment) (who : ℕ) (hasher : Hasher) (begun_old begun_new : Option Begun) (at : ShardId) (uuid : Id) (e : CodeEntry) (found : Print) (exact : Bool)
     (is_at : IsAt (reader_of s log who) at.index.number at.number uuid.number) (listed : IsListed s (reader_of s log who) e) (read : ReadParts s (reader_of s log who) hasher begun_old begun_new at e exact)
     (hashed : (m : List ℕ) → HasFed hasher m → found ≡ print_of m) where
   fronts_own : s.tells ≡ true → AreFronts (WasRead (reader_of s log who).read) (reader_of s log who).index (reader_of s log who).number (entry_of e) read.fronts
@@ -151,13 +154,13 @@ module _ (s : Start) (log : List Moment) (who : ℕ) (hasher : Hasher) (begun_ol
         (subst (λ (n : ℕ). AreExact at.index.number n (entry_of e) read.fronts) is_at.number_is (subst (λ (i : ℕ). AreExact i (reader_of s log who).number (entry_of e) read.fronts) is_at.index_is exactly));
   }
 
-  found_by : (why : Why) → IsOther at e found why ⊎ IsCutOtherwise at uuid e found exact why → IsFound s log who why
-  found_by why (inl other) = subst (λ (w : Why). IsFound s log who w) (sym other.0) (misprinted other.1)
-  found_by why (inr cut) = subst (λ (w : Why). IsFound s log who w) (sym cut.0) (miscut cut.1 cut.2)
+  found_by : (why : Why) → IsOther at e found why ⊎ IsCutOtherwise at uuid e found exact why → IsRestoreShown ev s log who (why_of why) shows.Nothing
+  found_by why (inl other) = subst (λ (w : Why). IsRestoreShown ev s log who (why_of w) shows.Nothing) (sym other.0) (misprinted other.1)
+  found_by why (inr cut) = subst (λ (w : Why). IsRestoreShown ev s log who (why_of w) shows.Nothing) (sym cut.0) (miscut cut.1 cut.2)
 
-  pub judged_so : (judged : Option Why) (why : Why) → Judged at uuid e found exact judged → judged ≡ Some why → IsFound s log who why
+  pub judged_so : (judged : Option Why) (why : Why) → Judged at uuid e found exact judged → judged ≡ Some why → IsRestoreShown ev s log who (why_of why) shows.Nothing
   judged_so None why h is = absurd cc
-  judged_so (Some other) why h is = let same : other ≡ why = cc in subst (λ (w : Why). IsFound s log who w) same (found_by other h)
+  judged_so (Some other) why h is = let same : other ≡ why = cc in subst (λ (w : Why). IsRestoreShown ev s log who (why_of w) shows.Nothing) same (found_by other h)
 
 pub judged_well : (at : ShardId) (uuid : Id) (e : CodeEntry) (found : Print) (exact : Bool) (judged : Option Why) → Judged at uuid e found exact judged → judged ≡ None → (e.print ≡ found) × (exact ≡ true)
 judged_well at uuid e found exact None h is = h

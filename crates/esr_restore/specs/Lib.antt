@@ -1,9 +1,7 @@
 pub mod Worked
 pub mod Went
 pub mod Snapped
-pub mod Refusable
 pub mod Trouble
-pub mod Cause
 pub mod Parts
 pub mod Files
 pub mod Restored

@@ -15,7 +15,7 @@ use Rattle.esr_shardidx.specs.declared.entry.FileEntry.{FileEntry as CodeEntry}
 use Rattle.esr_formats.specs.Shards.{entry_of}
 use Rattle.esr_desk.specs.Start.{Start, told_bytes}
 use Rattle.esr_desk.specs.Readers.{with_read}
-use Rattle.esr_reading.specs.Parts.{IsFront, AreFronts, AreExact}
+use Rattle.esr_desk.specs.Restore.Parts.{IsFront, AreFronts, AreExact}
 
 -- a blob came, of which nothing is read yet; where the container is quiet no read of it fails
 pub record Came (s : Start) (old new : Reader) (name : BlobName) (left : Option Bytes) (sure : Bool) : Type 0 where

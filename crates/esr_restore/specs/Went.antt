@@ -3,7 +3,7 @@ use Rattle.std.specs.Prelude.{ℕ, List}
 use Rattle.esr_core.specs.Entry.{Moment}
 use Rattle.esr_desk.specs.Start.{Start}
 use Rattle.esr_desk.specs.Grew.{GrewBy}
-use Rattle.esr_desk.specs.Readers.{reader_of}
+use Rattle.esr_desk.specs.Own.{reader_of}
 use Rattle.esr_restore.specs.Worked.{Worked}
 
 -- the history has gone on, and the ticket has read more

@@ -2,44 +2,45 @@
 ghost use Rattle.std.specs.Prelude.{◌≡◌, ◌<◌, Some, None, map, length, Contains, IfErr, IfSome, OnOk, OnErr};
 ghost use Rattle.esr_source.specs.Begun.{begun_file};
 ghost use Rattle.esr_shardidx.specs.Entries.{IsEntry};
-ghost use Rattle.esr_desk.specs.Readers.{reader_of};
-ghost use Rattle.esr_reading.specs.Once.{ReadsOnly};
+ghost use Rattle.esr_desk.specs.Calls.{HasTaken};
+ghost use Rattle.esr_desk.specs.Own.{reader_of};
+ghost use Rattle.esr_desk.specs.Made.{ReadsOnly};
 ghost use Rattle.esr_restore.specs.Files.{RestoredFile};
 ghost use Rattle.esr_restore.specs.Snapped.{IsAt, IsListed};
 ghost use Rattle.esr_restore.specs.Unread.{AreUnread, IsPartOf};
-ghost use Rattle.esr_restore.specs.Trouble.{Shown, IsOfStart, Judged};
+ghost use Rattle.esr_desk.specs.Evidence.{evidence};
+ghost use Rattle.esr_restore.specs.Trouble.{IsTrouble, IsOfStart, Judged};
 ghost use Rattle.esr_restore.specs.Went.{Went};
 
 use crate::part::read_parts;
-use crate::trouble::Trouble;
 use esr_depot::CallError;
 use esr_desk::{Desk, StepRefusal, Why};
 use esr_hash::{Hasher, Print};
 use esr_names::{BlobName, Id, ShardId};
-use esr_reading::RestoreDesk;
 use esr_shardidx::FileEntry;
 use esr_source::Target;
+use esr_unit::Trouble;
 use std::alloc::Global;
 
 /// Begins the file of an entry.
-fn begin_file<Q: RestoreDesk>(
+fn begin_file<Q: Desk>(
     alloc: Global,
     target: &mut Q::Target,
     entry: &FileEntry,
-) -> Result<(), Trouble<Q::Fetch>>
-    requires none_begun { Q.Target.begun target.old ≡ None }
-    requires free { IfSome (Q.Target.files target.old) (λ fs. Contains (map (λ f. f.0) fs) entry.now.physical → ⊥) }
-    ensures begun { OnOk result (Q.Target.begun target.new ≡ Some (begun_file entry.now.physical (Q.Target.files target.old) entry.now.print.len)) }
-    ensures files { Q.Target.files target.new ≡ Q.Target.files target.old }
-    ensures made_for { Q.Target.made_for target.new ≡ Q.Target.made_for target.old }
-    ensures is_sure { Q.Target.is_sure target.new ≡ Q.Target.is_sure target.old }
+) -> Result<(), Trouble<Q::Stage, Q::Fetch>>
+    requires none_begun { (Q.Target.told target.old).begun ≡ None }
+    requires free { IfSome (Q.Target.told target.old).files (λ fs. Contains (map (λ f. f.0) fs) entry.now.physical → ⊥) }
+    ensures begun { OnOk result ((Q.Target.told target.new).begun ≡ Some (begun_file entry.now.physical (Q.Target.told target.old).files entry.now.print.len)) }
+    ensures files { (Q.Target.told target.new).files ≡ (Q.Target.told target.old).files }
+    ensures made_for { (Q.Target.told target.new).made_for ≡ (Q.Target.told target.old).made_for }
+    ensures is_sure { (Q.Target.told target.new).is_sure ≡ (Q.Target.told target.old).is_sure }
     ensures steady { OnOk result (Q.Target.faults target.new ≡ Q.Target.faults target.old) }
-    ensures trouble { IfErr result (IsOfStart (Q.Target.faults target.new) (Q.Target.is_sure target.new)) }
+    ensures trouble { IfErr result (IsOfStart (Q.Target.faults target.new) (Q.Target.told target.new).is_sure) }
 {
     match target.create(alloc, entry.physical.as_str(), entry.print.len) {
         Ok(()) => Ok(()),
         Err(CallError::Memory) => Err(Trouble::Step(StepRefusal::Memory)),
-        Err(CallError::Failed) => Err(Trouble::Target),
+        Err(CallError::Failed) => Err(Trouble::Own),
     }
 }
 
@@ -65,7 +66,7 @@ fn judge(at: ShardId, uuid: Id, entry: &FileEntry, found: Print, is_exact: bool)
 
 /// Reads the file of an entry and writes it to the target, which it joins if it is as the entry states; else the target has
 /// the files that it had.
-pub fn restore_file<Q: RestoreDesk>(
+pub fn restore_file<Q: Desk>(
     alloc: Global,
     desk: &mut Q,
     ticket: u64,
@@ -74,27 +75,27 @@ pub fn restore_file<Q: RestoreDesk>(
     entry: &FileEntry,
     target: &mut Q::Target,
     buf: &mut [u8],
-) -> Result<(), Trouble<Q::Fetch>>
-    requires mine { Q.holds desk.old ticket }
+) -> Result<(), Trouble<Q::Stage, Q::Fetch>>
+    requires mine { HasTaken (Q.calls desk.old) ticket }
     requires at { IsAt (reader_of Q.start (Q.seen desk.old) ticket) at.index.number at.number uuid.number }
     requires few { at.number < 1024 }
     requires entry { IsEntry entry.now }
     requires listed { IsListed Q.start (reader_of Q.start (Q.seen desk.old) ticket) entry.now }
-    requires none_begun { Q.Target.begun target.old ≡ None }
-    requires free { IfSome (Q.Target.files target.old) (λ fs. Contains (map (λ f. f.0) fs) entry.now.physical → ⊥) }
+    requires none_begun { (Q.Target.told target.old).begun ≡ None }
+    requires free { IfSome (Q.Target.told target.old).files (λ fs. Contains (map (λ f. f.0) fs) entry.now.physical → ⊥) }
     requires buffer { 0 < length buf.old }
-    requires new { AreUnread (Q.seen desk.old) ticket (IsPartOf at entry.now) }
+    requires new { AreUnread Q.start (Q.seen desk.old) ticket (IsPartOf at entry.now) }
     ensures buffer { length buf.new ≡ length buf.old }
-    ensures restored { OnOk result (RestoredFile Q.start (reader_of Q.start (Q.seen desk.new) ticket) at entry.now (Q.Target.files target.old) (Q.Target.files target.new)) }
-    ensures kept { OnErr result (Q.Target.files target.new ≡ Q.Target.files target.old) }
-    ensures begun { OnOk result (Q.Target.begun target.new ≡ None) }
+    ensures restored { OnOk result (RestoredFile Q.start (reader_of Q.start (Q.seen desk.new) ticket) at entry.now (Q.Target.told target.old).files (Q.Target.told target.new).files) }
+    ensures kept { OnErr result ((Q.Target.told target.new).files ≡ (Q.Target.told target.old).files) }
+    ensures begun { OnOk result ((Q.Target.told target.new).begun ≡ None) }
     ensures steady { OnOk result (Q.Target.faults target.new ≡ Q.Target.faults target.old) }
-    ensures made_for { Q.Target.made_for target.new ≡ Q.Target.made_for target.old }
-    ensures is_sure { Q.Target.is_sure target.new ≡ Q.Target.is_sure target.old }
-    ensures reads { OnOk result (ReadsOnly (Q.seen desk.old) (Q.seen desk.new) ticket (IsPartOf at entry.now)) }
-    ensures trouble { IfErr result (Shown Q.Fetch.faults (Q.Target.faults target.new) (Q.Target.is_sure target.new) Q.start (Q.seen desk.new) ticket) }
+    ensures made_for { (Q.Target.told target.new).made_for ≡ (Q.Target.told target.old).made_for }
+    ensures is_sure { (Q.Target.told target.new).is_sure ≡ (Q.Target.told target.old).is_sure }
+    ensures reads { OnOk result (ReadsOnly Q.start (Q.seen desk.old) (Q.seen desk.new) ticket (IsPartOf at entry.now)) }
+    ensures trouble { IfErr result (IsTrouble (evidence Q.Stage.faults Q.Fetch.faults Q.Shard.faults Q.Target.faults Q.Shard.told Q.Target.told) (Q.Target.faults target.new) (Q.Target.told target.new).is_sure Q.start (Q.seen desk.new) ticket) }
     ensures went { Went Q.start (Q.seen desk.old) (Q.seen desk.new) ticket }
-    ensures holds { Q.holds desk.new ticket }
+    ensures calls { HasTaken (Q.calls desk.new) ticket }
 {
     begin_file::<Q>(alloc, target, entry)?;
     let mut hasher = Hasher::start();
@@ -114,6 +115,6 @@ pub fn restore_file<Q: RestoreDesk>(
     }
     match target.end() {
         Ok(()) => Ok(()),
-        Err(_) => Err(Trouble::Target),
+        Err(_) => Err(Trouble::Own),
     }
 }

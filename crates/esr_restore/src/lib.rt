@@ -1,13 +1,10 @@
 //! The unit of a restore's shard: reads what a snapshot has of the shard, and writes its files to a target.
 #![tactic(auto)]
 
-mod cause;
 mod file;
 mod files;
-mod law;
 mod part;
 mod snap;
-mod trouble;
 mod unit;
 mod unrestored;
 

@@ -1,32 +1,35 @@
 //! The parts of a file, read back one after another.
 ghost use Rattle.std.specs.Prelude.{◌≡◌, ◌+◌, ◌<◌, ◌≤◌, ◌^◌, [], IfOk, IfErr, OnOk, IsSomeAnd, length};
 ghost use Rattle.esr_hash.specs.Fed.{fed_count, HasFed};
+ghost use Rattle.esr_core.specs.Entry.{ReadBlob, ReadStep};
 ghost use Rattle.esr_names.specs.Layout.{IsName};
 ghost use Rattle.esr_formats.specs.Names.{name_of};
 ghost use Rattle.esr_shardidx.specs.Entries.{IsEntry};
-ghost use Rattle.esr_desk.specs.Readers.{reader_of};
-ghost use Rattle.esr_reading.specs.Once.{IsUnread, ReadsOnly};
-ghost use Rattle.esr_reading.specs.Conditions.{CanRead};
+ghost use Rattle.esr_desk.specs.Calls.{HasTaken};
+ghost use Rattle.esr_desk.specs.Once.{IsFresh};
+ghost use Rattle.esr_desk.specs.Own.{reader_of};
+ghost use Rattle.esr_desk.specs.Made.{ReadsOnly};
+ghost use Rattle.esr_desk.specs.Restore.Conditions.{CanRead};
 ghost use Rattle.esr_restore.specs.Parts.{ReadPart, ReadParts};
 ghost use Rattle.esr_restore.specs.Unread.{AreUnread, IsPartOf};
 ghost use Rattle.esr_restore.specs.Snapped.{IsAt, IsListed};
-ghost use Rattle.esr_restore.specs.Trouble.{Shown};
+ghost use Rattle.esr_desk.specs.Evidence.{evidence};
+ghost use Rattle.esr_restore.specs.Trouble.{IsTrouble};
 ghost use Rattle.esr_restore.specs.Went.{Went};
 
 use crate::snap::fetch;
-use crate::trouble::Trouble;
 use esr_desk::Desk;
 use esr_hash::Hasher;
 use esr_names::{BlobName, Id, ShardId};
 use esr_parts::{BackError, Extent, part_plan, read_back};
-use esr_reading::RestoreDesk;
 use esr_shardidx::{FileEntry, part_count, part_name};
 use esr_source::Target;
+use esr_unit::Trouble;
 use std::alloc::Global;
 
 /// Reads a part of `size` bytes for the file that is begun, and hashes what it reads. It answers whether the part has
 /// exactly that size.
-fn read_part<Q: RestoreDesk>(
+fn read_part<Q: Desk>(
     alloc: Global,
     desk: &mut Q,
     ticket: u64,
@@ -35,24 +38,24 @@ fn read_part<Q: RestoreDesk>(
     target: &mut Q::Target,
     hasher: &mut Hasher,
     buf: &mut [u8],
-) -> Result<bool, Trouble<Q::Fetch>>
-    requires mine { Q.holds desk.old ticket }
+) -> Result<bool, Trouble<Q::Stage, Q::Fetch>>
+    requires mine { HasTaken (Q.calls desk.old) ticket }
     requires layout { IsName name }
     requires may { CanRead Q.start (reader_of Q.start (Q.seen desk.old) ticket) (name_of name) }
-    requires room { IsSomeAnd (Q.Target.begun target.old) (λ b. size ≤ b.room) }
+    requires room { IsSomeAnd (Q.Target.told target.old).begun (λ b. size ≤ b.room) }
     requires bound { fed_count hasher.old + size + 1 < 2 ^ 61 }
     requires buffer { 0 < length buf.old }
-    requires new { IsUnread (Q.seen desk.old) ticket (name_of name) }
+    requires new { IsFresh Q.start (Q.seen desk.old) ticket (ReadStep (ReadBlob (name_of name))) }
     ensures buffer { length buf.new ≡ length buf.old }
-    ensures read { IfOk result (ReadPart Q.start (reader_of Q.start (Q.seen desk.new) ticket) hasher.old hasher.new (Q.Target.begun target.old) (Q.Target.begun target.new) (name_of name) size) }
-    ensures files { Q.Target.files target.new ≡ Q.Target.files target.old }
+    ensures read { IfOk result (ReadPart Q.start (reader_of Q.start (Q.seen desk.new) ticket) hasher.old hasher.new (Q.Target.told target.old).begun (Q.Target.told target.new).begun (name_of name) size) }
+    ensures files { (Q.Target.told target.new).files ≡ (Q.Target.told target.old).files }
     ensures steady { OnOk result (Q.Target.faults target.new ≡ Q.Target.faults target.old) }
-    ensures made_for { Q.Target.made_for target.new ≡ Q.Target.made_for target.old }
-    ensures is_sure { Q.Target.is_sure target.new ≡ Q.Target.is_sure target.old }
-    ensures reads { IfOk result (λ w. ReadsOnly (Q.seen desk.old) (Q.seen desk.new) ticket (λ n. n ≡ name_of name)) }
-    ensures trouble { IfErr result (Shown Q.Fetch.faults (Q.Target.faults target.new) (Q.Target.is_sure target.new) Q.start (Q.seen desk.new) ticket) }
+    ensures made_for { (Q.Target.told target.new).made_for ≡ (Q.Target.told target.old).made_for }
+    ensures is_sure { (Q.Target.told target.new).is_sure ≡ (Q.Target.told target.old).is_sure }
+    ensures reads { IfOk result (λ w. ReadsOnly Q.start (Q.seen desk.old) (Q.seen desk.new) ticket (λ n. n ≡ name_of name)) }
+    ensures trouble { IfErr result (IsTrouble (evidence Q.Stage.faults Q.Fetch.faults Q.Shard.faults Q.Target.faults Q.Shard.told Q.Target.told) (Q.Target.faults target.new) (Q.Target.told target.new).is_sure Q.start (Q.seen desk.new) ticket) }
     ensures went { Went Q.start (Q.seen desk.old) (Q.seen desk.new) ticket }
-    ensures holds { Q.holds desk.new ticket }
+    ensures calls { HasTaken (Q.calls desk.new) ticket }
 {
     let mut blob = fetch(alloc, desk, ticket, name)?;
     match read_back(&mut blob, target, hasher, size, buf) {
@@ -60,13 +63,13 @@ fn read_part<Q: RestoreDesk>(
         Ok(Extent::Short) => Ok(false),
         Ok(Extent::Long) => Ok(false),
         Err(BackError::Fetch) => Err(Trouble::Fetch { fetch: blob }),
-        Err(BackError::Target) => Err(Trouble::Target),
+        Err(BackError::Target) => Err(Trouble::Own),
     }
 }
 
 /// Reads the parts of the file that is begun, and hashes what it reads. It answers whether each has exactly the size that is
 /// stated.
-pub fn read_parts<Q: RestoreDesk>(
+pub fn read_parts<Q: Desk>(
     alloc: Global,
     desk: &mut Q,
     ticket: u64,
@@ -76,26 +79,26 @@ pub fn read_parts<Q: RestoreDesk>(
     target: &mut Q::Target,
     hasher: &mut Hasher,
     buf: &mut [u8],
-) -> Result<bool, Trouble<Q::Fetch>>
-    requires mine { Q.holds desk.old ticket }
+) -> Result<bool, Trouble<Q::Stage, Q::Fetch>>
+    requires mine { HasTaken (Q.calls desk.old) ticket }
     requires at { IsAt (reader_of Q.start (Q.seen desk.old) ticket) at.index.number at.number uuid.number }
     requires few { at.number < 1024 }
     requires entry { IsEntry entry.now }
     requires listed { IsListed Q.start (reader_of Q.start (Q.seen desk.old) ticket) entry.now }
-    requires room { IsSomeAnd (Q.Target.begun target.old) (λ b. b.room ≡ entry.now.print.len) }
+    requires room { IsSomeAnd (Q.Target.told target.old).begun (λ b. b.room ≡ entry.now.print.len) }
     requires fresh { HasFed hasher.old [] }
     requires buffer { 0 < length buf.old }
-    requires new { AreUnread (Q.seen desk.old) ticket (IsPartOf at entry.now) }
+    requires new { AreUnread Q.start (Q.seen desk.old) ticket (IsPartOf at entry.now) }
     ensures buffer { length buf.new ≡ length buf.old }
-    ensures read { IfOk result (ReadParts Q.start (reader_of Q.start (Q.seen desk.new) ticket) hasher.new (Q.Target.begun target.old) (Q.Target.begun target.new) at entry.now) }
-    ensures files { Q.Target.files target.new ≡ Q.Target.files target.old }
+    ensures read { IfOk result (ReadParts Q.start (reader_of Q.start (Q.seen desk.new) ticket) hasher.new (Q.Target.told target.old).begun (Q.Target.told target.new).begun at entry.now) }
+    ensures files { (Q.Target.told target.new).files ≡ (Q.Target.told target.old).files }
     ensures steady { OnOk result (Q.Target.faults target.new ≡ Q.Target.faults target.old) }
-    ensures made_for { Q.Target.made_for target.new ≡ Q.Target.made_for target.old }
-    ensures is_sure { Q.Target.is_sure target.new ≡ Q.Target.is_sure target.old }
-    ensures reads { IfOk result (λ e. ReadsOnly (Q.seen desk.old) (Q.seen desk.new) ticket (IsPartOf at entry.now)) }
-    ensures trouble { IfErr result (Shown Q.Fetch.faults (Q.Target.faults target.new) (Q.Target.is_sure target.new) Q.start (Q.seen desk.new) ticket) }
+    ensures made_for { (Q.Target.told target.new).made_for ≡ (Q.Target.told target.old).made_for }
+    ensures is_sure { (Q.Target.told target.new).is_sure ≡ (Q.Target.told target.old).is_sure }
+    ensures reads { IfOk result (λ e. ReadsOnly Q.start (Q.seen desk.old) (Q.seen desk.new) ticket (IsPartOf at entry.now)) }
+    ensures trouble { IfErr result (IsTrouble (evidence Q.Stage.faults Q.Fetch.faults Q.Shard.faults Q.Target.faults Q.Shard.told Q.Target.told) (Q.Target.faults target.new) (Q.Target.told target.new).is_sure Q.start (Q.seen desk.new) ticket) }
     ensures went { Went Q.start (Q.seen desk.old) (Q.seen desk.new) ticket }
-    ensures holds { Q.holds desk.new ticket }
+    ensures calls { HasTaken (Q.calls desk.new) ticket }
 {
     let mut is_exact = true;
     for number in 0..part_count(entry.print.len, entry.part_size) {

@@ -1,60 +1,61 @@
 //! The unit of a restore's shard.
-ghost use Rattle.std.specs.Prelude.{◌≡◌, ◌<◌, [], None, true, false, length, IfErr, IfOk, IfSome, IsSome, OnOk, OnErr};
-ghost use Rattle.esr_core.specs.Entry.{RestoredShard, HasEnded};
+ghost use Rattle.std.specs.Prelude.{◌≡◌, ◌<◌, [], None, true, false, length, IfErr, IfOk, IfSome, OnOk, OnErr};
+ghost use Rattle.esr_core.specs.Entry.{ReadStep, RestoredShard, HasEnded};
+ghost use Rattle.esr_desk.specs.Own.{made_of, reader_of};
+ghost use Rattle.esr_desk.specs.Calls.{HasTaken};
 ghost use Rattle.esr_desk.specs.Grew.{GrewBy};
-ghost use Rattle.esr_desk.specs.Readers.{reader_of, TookRestore};
-ghost use Rattle.esr_desk.specs.Once.{HasMadeNone};
-ghost use Rattle.esr_reading.specs.Outcome.{Outcome};
-ghost use Rattle.esr_reading.specs.First.{HasFirst};
-ghost use Rattle.esr_reading.specs.Shown.{IsOf};
+ghost use Rattle.esr_desk.specs.Readers.{TookRestore};
+ghost use Rattle.esr_desk.specs.Outcome.{Outcome};
+ghost use Rattle.esr_desk.specs.declared.unit.UnitRefusal.TheVariants.{Stopped};
+ghost use Rattle.esr_desk.specs.Evidence.{evidence};
+ghost use Rattle.esr_desk.specs.Restore.First.{HasFirst};
+ghost use Rattle.esr_desk.specs.Restore.Shown.{IsFor};
+ghost use Rattle.esr_desk.specs.Restore.Targets.{IsFilled};
 ghost use Rattle.esr_restore.specs.Files.{sum_files, HasFiles, RestoredAll};
 ghost use Rattle.esr_restore.specs.Snapped.{IsAt, HasSnap};
-ghost use Rattle.esr_restore.specs.Trouble.{Shown};
+ghost use Rattle.esr_restore.specs.Trouble.{IsTrouble};
 ghost use Rattle.esr_restore.specs.Went.{Went};
 ghost use Rattle.esr_restore.specs.Restored.{HasRestored};
 ghost use Rattle.esr_restore.specs.Refused.{IsUnitRefused};
 ghost use Rattle.esr_restore.specs.Left.{IsLeft};
 
-use crate::cause::cause_of;
 use crate::files::{restore_files, sum_of};
-use crate::law::refusals;
 use crate::snap::fetch_snap;
-use crate::trouble::Trouble;
 use crate::unrestored::Unrestored;
-use esr_desk::{Desk, StepRefusal, Unit, UnitRefusal};
+use esr_desk::{By, Desk, FailedObject, Hand, RestoredTarget, StepRefusal, Unit, UnitRefusal, Why};
 use esr_names::{Id, ShardId};
-use esr_progress::Work;
-use esr_reading::RestoreDesk;
+use esr_progress::{ReadyUnit, Work};
 use esr_shardidx::ShardSnap;
 use esr_source::{Target, Targets};
+use esr_unit::{Ending, Trouble, ending_of, give_up};
 use std::alloc::Global;
 
 /// Restores the files that the snapshot has of the shard, and answers these. Where that fails the target has the files that
 /// were ended before.
-fn restore<Q: RestoreDesk>(
+fn restore<Q: Desk>(
     alloc: Global,
     desk: &mut Q,
     ticket: u64,
     at: ShardId,
     uuid: Id,
     target: &mut Q::Target,
-) -> Result<ShardSnap, Trouble<Q::Fetch>>
-    requires mine { Q.holds desk.old ticket }
+) -> Result<ShardSnap, Trouble<Q::Stage, Q::Fetch>>
+    requires mine { HasTaken (Q.calls desk.old) ticket }
     requires at { IsAt (reader_of Q.start (Q.seen desk.old) ticket) at.index.number at.number uuid.number }
     requires few { at.number < 1024 }
-    requires none_begun { Q.Target.begun target.old ≡ None }
-    requires empty { IfSome (Q.Target.files target.old) (λ fs. fs ≡ []) }
-    requires new { HasMadeNone (Q.seen desk.old) ticket }
+    requires none_begun { (Q.Target.told target.old).begun ≡ None }
+    requires empty { IfSome (Q.Target.told target.old).files (λ fs. fs ≡ []) }
+    requires new { made_of Q.start (Q.seen desk.old) ticket ≡ [] }
     ensures snap { IfOk result (λ v. HasSnap Q.start (reader_of Q.start (Q.seen desk.new) ticket) v) }
-    ensures restored { IfOk result (λ v. RestoredAll Q.start (reader_of Q.start (Q.seen desk.new) ticket) at v.files (Q.Target.files target.old) (Q.Target.files target.new)) }
-    ensures first { OnErr result (HasFirst Q.start (reader_of Q.start (Q.seen desk.new) ticket) (Q.Target.files target.new)) }
-    ensures begun { OnOk result (Q.Target.begun target.new ≡ None) }
+    ensures restored { IfOk result (λ v. RestoredAll Q.start (reader_of Q.start (Q.seen desk.new) ticket) at v.files (Q.Target.told target.old).files (Q.Target.told target.new).files) }
+    ensures first { OnErr result (HasFirst Q.start (reader_of Q.start (Q.seen desk.new) ticket) (Q.Target.told target.new).files) }
+    ensures begun { OnOk result ((Q.Target.told target.new).begun ≡ None) }
     ensures steady { OnOk result (Q.Target.faults target.new ≡ Q.Target.faults target.old) }
-    ensures made_for { Q.Target.made_for target.new ≡ Q.Target.made_for target.old }
-    ensures is_sure { Q.Target.is_sure target.new ≡ Q.Target.is_sure target.old }
-    ensures trouble { IfErr result (Shown Q.Fetch.faults (Q.Target.faults target.new) (Q.Target.is_sure target.new) Q.start (Q.seen desk.new) ticket) }
+    ensures made_for { (Q.Target.told target.new).made_for ≡ (Q.Target.told target.old).made_for }
+    ensures is_sure { (Q.Target.told target.new).is_sure ≡ (Q.Target.told target.old).is_sure }
+    ensures trouble { IfErr result (IsTrouble (evidence Q.Stage.faults Q.Fetch.faults Q.Shard.faults Q.Target.faults Q.Shard.told Q.Target.told) (Q.Target.faults target.new) (Q.Target.told target.new).is_sure Q.start (Q.seen desk.new) ticket) }
     ensures went { Went Q.start (Q.seen desk.old) (Q.seen desk.new) ticket }
-    ensures holds { Q.holds desk.new ticket }
+    ensures calls { HasTaken (Q.calls desk.new) ticket }
 {
     let mut buf = [0; 65536];
     let snap = fetch_snap(alloc, desk, ticket, at, uuid)?;
@@ -63,122 +64,147 @@ fn restore<Q: RestoreDesk>(
 }
 
 /// Ends the ticket of a shard whose files are restored.
-fn finish<Q: RestoreDesk>(
+fn finish<Q: Desk>(
     alloc: Global,
     desk: &mut Q,
     ticket: u64,
     snap: &ShardSnap,
+    target: RestoredTarget<Q::Target>,
 ) -> Result<(), StepRefusal>
-    requires mine { Q.holds desk.old ticket }
+    requires mine { HasTaken (Q.calls desk.old) ticket }
     requires out { (reader_of Q.start (Q.seen desk.old) ticket).out ≡ true }
     requires read { HasFiles Q.start (reader_of Q.start (Q.seen desk.old) ticket) snap.now }
-    ensures step { Outcome Q.start (Q.seen desk.old) (Q.seen desk.new) ticket (RestoredShard (length snap.now.files) (sum_files snap.now.files)) (λ _. HasEnded) result }
+    requires filled { IsFilled (evidence Q.Stage.faults Q.Fetch.faults Q.Shard.faults Q.Target.faults Q.Shard.told Q.Target.told)
+        Q.start (reader_of Q.start (Q.seen desk.old) ticket) (length snap.now.files) (sum_files snap.now.files) target }
+    ensures step { Outcome Q.start (Q.seen desk.old) (Q.seen desk.new) ticket (ReadStep (RestoredShard (length snap.now.files) (sum_files snap.now.files))) (λ _. HasEnded) result }
     ensures own { OnOk result (reader_of Q.start (Q.seen desk.new) ticket ≡ record (reader_of Q.start (Q.seen desk.old) ticket) { out = false }) }
     ensures kept { OnErr result (reader_of Q.start (Q.seen desk.new) ticket ≡ reader_of Q.start (Q.seen desk.old) ticket) }
-    ensures holds { Q.holds desk.new ticket }
+    ensures calls { Q.calls desk.new ≡ Q.calls desk.old }
 {
     let entries = snap.files();
-    desk.restored(alloc, ticket, entries.len() as u64, sum_of(entries))
+    let files = entries.len() as u64;
+    desk.end_restore(alloc, ticket, files, sum_of(entries), target)
 }
 
 /// Ends the ticket for a trouble, unless that leaves it out. The target, which has the files that were ended before, is given
 /// back, unless it failed: then the report of that takes it, also where that is refused.
-fn fail<Q: RestoreDesk>(
+fn fail<Q: Desk>(
     alloc: Global,
     desk: &mut Q,
     ticket: u64,
     target: Q::Target,
-    trouble: Trouble<Q::Fetch>,
+    trouble: Trouble<Q::Stage, Q::Fetch>,
 ) -> Unrestored<Q::Target>
-    requires mine { Q.holds desk.old ticket }
+    requires mine { HasTaken (Q.calls desk.old) ticket }
     requires out { (reader_of Q.start (Q.seen desk.old) ticket).out ≡ true }
-    requires of { IsOf (reader_of Q.start (Q.seen desk.old) ticket) (Q.Target.made_for target) }
-    requires first { HasFirst Q.start (reader_of Q.start (Q.seen desk.old) ticket) (Q.Target.files target) }
-    requires sure { Q.start.sure_targets ≡ true → Q.Target.is_sure target ≡ true }
-    requires trouble { Shown Q.Fetch.faults (Q.Target.faults target) (Q.Target.is_sure target) Q.start (Q.seen desk.old) ticket trouble }
-    ensures refused { IsUnitRefused (record { fetch = Q.Fetch.faults; target = Q.Target.faults; made_for = Q.Target.made_for; files = Q.Target.files })
+    requires of { IsFor (reader_of Q.start (Q.seen desk.old) ticket) (Q.Target.told target).made_for }
+    requires first { HasFirst Q.start (reader_of Q.start (Q.seen desk.old) ticket) (Q.Target.told target).files }
+    requires sure { Q.start.sure_targets ≡ true → (Q.Target.told target).is_sure ≡ true }
+    requires trouble { IsTrouble (evidence Q.Stage.faults Q.Fetch.faults Q.Shard.faults Q.Target.faults Q.Shard.told Q.Target.told) (Q.Target.faults target) (Q.Target.told target).is_sure Q.start (Q.seen desk.old) ticket trouble }
+    ensures refused { IsUnitRefused (evidence Q.Stage.faults Q.Fetch.faults Q.Shard.faults Q.Target.faults Q.Shard.told Q.Target.told)
         Q.start (Q.seen desk.old) (Q.seen desk.new) ticket result.refusal }
-    ensures left { IsLeft Q.Target.made_for Q.Target.files Q.start (Q.seen desk.new) ticket result.refusal result.target }
+    ensures left { IsLeft Q.Target.told Q.start (Q.seen desk.new) ticket result.refusal result.target }
     ensures grew { GrewBy Q.start ticket (Q.seen desk.old) (Q.seen desk.new) }
-    ensures holds { Q.holds desk.new ticket }
+    ensures calls { HasTaken (Q.calls desk.new) ticket }
 {
-    refusals();
-    desk.never_fails();
-    let (found, left) = cause_of(target, trouble);
-    match found {
-        Ok(cause) => {
-            let why = cause.why;
-            match desk.unrestored(alloc, ticket, why, cause.by) {
-                Ok(()) => Unrestored {
-                    refusal: UnitRefusal::Failed(why),
-                    target: left,
-                },
-                Err(refusal) => Unrestored {
-                    refusal: UnitRefusal::Stopped(refusal),
-                    target: left,
-                },
+    match ending_of(trouble) {
+        Ending::Failed { why, by } => {
+            let ending = Ending::Failed { why, by };
+            Unrestored {
+                refusal: give_up(alloc, desk, Hand::Restore, ticket, ending),
+                target: Some(target),
             }
         }
-        Err(refusal) => Unrestored {
-            refusal: UnitRefusal::Stopped(refusal),
-            target: left,
-        },
+        Ending::Own => {
+            let object = FailedObject::Target { target };
+            let by = By::Object { object };
+            let why = Why::Target;
+            let failed = Ending::Failed { why, by };
+            Unrestored {
+                refusal: give_up(alloc, desk, Hand::Restore, ticket, failed),
+                target: None,
+            }
+        }
+        Ending::Stale => unreachable!(),
+        Ending::Stopped(refusal) => {
+            let left = Some(target);
+            Unrestored {
+                refusal: UnitRefusal::Stopped(refusal),
+                target: left,
+            }
+        }
+    }
+}
+
+/// The unit is stopped, and there is no target to give back.
+fn stopped<T: Drop>(refusal: StepRefusal) -> Unrestored<T>
+    ensures refusal { result.refusal ≡ Stopped refusal }
+    ensures target { result.target ≡ None }
+{
+    Unrestored {
+        refusal: UnitRefusal::Stopped(refusal),
+        target: None,
     }
 }
 
 /// Reads the snapshot of the unit's shard and the parts of its files, writes the files to a target of their own, and ends the
-/// ticket. Where an object failed, a blob is absent or doesn't read, or a file isn't as the snapshot states, the ticket ends as
-/// failed. Where the shard isn't restored the target has the files that were ended before, the first ones of the snapshot, and
-/// is given back; one that failed went to the report of that, also where that was refused.
-pub fn run_unit<Q: RestoreDesk, T: Targets<Target = Q::Target>>(
+/// ticket, by which the target is listed. Where an object failed, a blob is absent or doesn't read, or a file isn't as the
+/// snapshot states, the ticket ends as failed. Where the shard isn't restored the target has the files that were ended before,
+/// the first ones of the snapshot, and is given back; one that failed went to the report of that, and one that has all files to
+/// the end of the ticket, also where that was refused.
+pub fn run_unit<Q: Desk, T: Targets<Target = Q::Target>>(
     alloc: Global,
     desk: &mut Q,
-    unit: &Unit,
+    unit: Unit,
     targets: &T,
-) -> Result<Q::Target, Unrestored<Q::Target>>
-    requires mine { Q.holds desk.old unit.now.ready.ticket }
-    requires fresh { TookRestore Q.start (Q.seen desk.old) unit.now }
-    requires new { HasMadeNone (Q.seen desk.old) unit.now.ready.ticket }
-    requires sure { Q.start.sure_targets ≡ T.is_quiet targets.now }
-    ensures ok { IfOk result (λ t. HasRestored Q.start (Q.seen desk.old) (Q.seen desk.new) unit.now.ready.ticket (Q.Target.made_for t) (Q.Target.files t)) }
-    ensures told { IfOk result (λ t. T.is_told targets.now ≡ true → IsSome (Q.Target.files t)) }
-    ensures count { IfOk result (λ t. T.is_quiet targets.now ≡ true → Q.Target.is_sure t ≡ true) }
-    ensures begun { IfOk result (λ t. Q.Target.begun t ≡ None) }
-    ensures steady { IfOk result (λ t. Q.Target.faults t ≡ 0) }
-    ensures refused { IfErr result (λ e. IsUnitRefused (record { fetch = Q.Fetch.faults; target = Q.Target.faults; made_for = Q.Target.made_for; files = Q.Target.files })
-        Q.start (Q.seen desk.old) (Q.seen desk.new) unit.now.ready.ticket e.refusal) }
-    ensures left { IfErr result (λ e. IsLeft Q.Target.made_for Q.Target.files Q.start (Q.seen desk.new) unit.now.ready.ticket e.refusal e.target) }
-    ensures grew { GrewBy Q.start unit.now.ready.ticket (Q.seen desk.old) (Q.seen desk.new) }
-    ensures holds { Q.holds desk.new unit.now.ready.ticket }
+) -> Result<(), Unrestored<Q::Target>>
+    requires mine { HasTaken (Q.calls desk.old) unit.ready.ticket }
+    requires fresh { TookRestore Q.start (Q.seen desk.old) unit }
+    requires new { made_of Q.start (Q.seen desk.old) unit.ready.ticket ≡ [] }
+    requires sure { Q.start.sure_targets ≡ (T.told targets.now).is_quiet }
+    requires tells { Q.start.targets_tell ≡ (T.told targets.now).tells }
+    ensures ok { OnOk result (HasRestored Q.start (Q.seen desk.old) (Q.seen desk.new) unit.ready.ticket) }
+    ensures refused { IfErr result (λ e. IsUnitRefused (evidence Q.Stage.faults Q.Fetch.faults Q.Shard.faults Q.Target.faults Q.Shard.told Q.Target.told)
+        Q.start (Q.seen desk.old) (Q.seen desk.new) unit.ready.ticket e.refusal) }
+    ensures left { IfErr result (λ e. IsLeft Q.Target.told Q.start (Q.seen desk.new) unit.ready.ticket e.refusal e.target) }
+    ensures grew { GrewBy Q.start unit.ready.ticket (Q.seen desk.old) (Q.seen desk.new) }
+    ensures calls { HasTaken (Q.calls desk.new) unit.ready.ticket }
 {
-    refusals();
-    let ticket = unit.ready.ticket;
+    esr_core::refusals_are_of_their_steps();
+    let Unit { ready, .. } = unit;
+    let ReadyUnit {
+        ticket,
+        op,
+        work,
+        ..
+    } = ready;
     let Work::RestoreShard {
         uuid,
         shard: at,
         index,
         place,
-    } = &unit.ready.work
+    } = work
     else {
         unreachable!();
     };
     let mut target = match targets.target(alloc, place.as_str(), index.as_str(), at.number) {
         Ok(target) => target,
-        Err(_) => {
-            return Err(Unrestored {
-                refusal: UnitRefusal::Stopped(StepRefusal::Memory),
-                target: None,
-            });
-        }
+        Err(_) => return Err(stopped(StepRefusal::Memory)),
     };
-    match restore(alloc, desk, ticket, *at, *uuid, &mut target) {
-        Ok(snap) => match finish(alloc, desk, ticket, &snap) {
-            Ok(()) => Ok(target),
-            Err(refusal) => Err(Unrestored {
-                refusal: UnitRefusal::Stopped(refusal),
-                target: Some(target),
-            }),
-        },
+    match restore(alloc, desk, ticket, at, uuid, &mut target) {
+        Ok(snap) => {
+            let shard = at.number;
+            let restored = RestoredTarget {
+                op,
+                index,
+                shard,
+                target,
+            };
+            match finish(alloc, desk, ticket, &snap, restored) {
+                Ok(()) => Ok(()),
+                Err(refusal) => Err(stopped(refusal)),
+            }
+        }
         Err(trouble) => Err(fail(alloc, desk, ticket, target, trouble)),
     }
 }

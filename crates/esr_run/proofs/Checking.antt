@@ -9,7 +9,7 @@ use Rattle.esr_core.specs.World.{World, Ticket, Reader}
 use Rattle.esr_core.specs.Tracked.{Tracked}
 use Rattle.esr_core.specs.Allowed as allowed
 use Rattle.esr_core.specs.Allowed.{Allows, Allowed}
-use Rattle.esr_core.specs.Entry.{Given, Read, ReadBlob, CheckedAll, VerifiedAll, ReadFails, Step, LookStep, ReadStep, Reply, Gave, Looked, DeposedAt, Refused, HasEnded, Entry, Moment}
+use Rattle.esr_core.specs.Entry.{Given, Read, ReadBlob, CheckedAll, VerifiedAll, ReadFails, Step, LookStep, ReadStep, Reply, Gave, Looked, DeposedAt, Refusal, Refused, HasEnded, Entry, Moment}
 use Rattle.esr_desk.specs.declared.refusal.StepRefusal.{StepRefusal}
 use Rattle.esr_desk.specs.declared.refusal.StepRefusal.TheVariants as steps
 use Rattle.esr_desk.specs.declared.refusal.EntryRefusal.{EntryRefusal}
@@ -17,13 +17,11 @@ use Rattle.esr_desk.specs.declared.refusal.EntryRefusal.TheVariants as refusals
 use Rattle.esr_desk.specs.declared.unit.UnitRefusal.{UnitRefusal}
 use Rattle.esr_desk.specs.declared.unit.UnitRefusal.TheVariants as units
 use Rattle.esr_desk.specs.Start.{Start, Legal, formats_of, world_of, ticket_of}
-use Rattle.esr_desk.specs.Readers.{or_no_reader}
-use Rattle.esr_checking.specs.Caller.{caller_of}
-use Rattle.esr_checking.specs.Shown.{Counts}
+use Rattle.esr_desk.specs.Own.{or_no_reader, caller_of}
+use Rattle.esr_desk.specs.Evidence.{Evidence}
 use Rattle.esr_quiet.specs.Asked.{is_line_ask, as_asked, asked_steps, GrewAsking}
 use Rattle.esr_quiet.specs.Numbers.{HasNoTickets}
 use Rattle.esr_quiet.proofs.Prefixes.{legal_front}
-use Rattle.esr_drive.specs.Restored.{Restoration, restorations_by, restorations_in, RestoresNone}
 use Rattle.esr_drive.specs.Takes.{idle_take, idle_takes, takes_more}
 use Rattle.esr_verify.specs.Idle.{IsIdle}
 use Rattle.esr_check.specs.Began.{IsOfCheck, AllOfCheck, HasBegun, BeganOne, NotBegun, Begun, AsksOne, NoneChecked, HasEndedCheck}
@@ -35,17 +33,17 @@ use Rattle.esr_run.specs.Checked.{AreChecked, HasLooked}
 use Rattle.esr_run.specs.Made.{MadeFirst, AreIn, LineMade, LineRests, LineSpends, WasLookRefused, CheckEnds}
 use Rattle.esr_run.specs.Verified.{AreVerified, AreBegun, AreClosed, AreWhole, MayVerify, VerifiesOn}
 use Rattle.esr_run.proofs.Completing.{in_front, in_middle}
-use Rattle.esr_run.proofs.Filling.{line_none}
 use Rattle.esr_run.proofs.Making.{world_one, legal_one, same_or_not}
 use Rattle.esr_run.proofs.Taking.{no_take}
 use Rattle.esr_run.proofs.Checks.{split_end, IsNoCheckEnd, checked_more}
-use Rattle.esr_run.proofs.Verifying.{NoShard, AllRead, StandsAfter, TurnsAre, all_asked, none_asked, reads_in, reads_none, reads_takes, same_read, none_idle, closed_one, begun_one, verified_more}
+use Rattle.esr_run.proofs.Verifying.{NoShard, AllRead, StandsAfter, TurnsAre, all_asked, none_asked, reads_in, reads_takes, same_read, none_idle, closed_one, begun_one, verified_more}
 
 -- the answer of a line by that of its check
 abbrev pub check_result : {X : Type 0} → Result X UnitRefusal → Result Unit StepRefusal
 check_result (Ok x) = Ok tt
 check_result (Err (units.Failed why)) = Ok tt
 check_result (Err (units.Stopped refusal)) = Err refusal
+check_result (Err units.Stale) = Ok tt
 
 -- ---- what it adds asks for its look alone
 
@@ -84,6 +82,7 @@ check_made s old new (Err (units.Failed why)) h legal = begun_asks s old new h l
 check_made s old new (Err (units.Stopped (steps.Refused refusal))) h legal = begun_asks s old new h legal
 check_made s old new (Err (units.Stopped steps.Memory)) h legal = front_asked s old new h legal
 check_made s old new (Err (units.Stopped steps.TurnsSpent)) h legal = front_asked s old new h legal
+check_made s old new (Err units.Stale) h legal = absurd h
 
 -- ---- its steps after the look read, and restore no shard
 
@@ -111,14 +110,14 @@ looks_so f size w who step reply image a = tt
 no_gave : (reply : Reply) (ticket op : ℕ) (unit : Given) → OfLook LookStep reply → reply ≡ Gave ticket op unit → ⊥
 no_gave reply ticket op unit of is = subst (λ (r : Reply). OfLook LookStep r) is of
 
-refused_gave : (place ticket op : ℕ) (unit : Given) → Refused (DeposedAt place) ≡ Gave ticket op unit → ⊥
-refused_gave place ticket op unit e = cc
+refused_gave : (refusal : Refusal) (ticket op : ℕ) (unit : Given) → Refused refusal ≡ Gave ticket op unit → ⊥
+refused_gave refusal ticket op unit e = cc
 
 module _ (laws : StepsStay) (s : Start) (numbered : HasNoTickets s) (ops : Tracked s.world) where
   look_none : (log : List Moment) (m : Moment) → Allowed (formats_of s) s.part_size (world_of s log) m → m.entry.step ≡ LookStep → (ticket op : ℕ) (unit : Given) → m.entry.reply ≢ Gave ticket op unit
   look_none log m a step ticket op unit is = elim a.answered [
     | inl alive ↦ no_gave m.entry.reply ticket op unit (subst (λ (x : Step). OfLook x m.entry.reply) step (looks_so (formats_of s) s.part_size (world_of s log) m.entry.who m.entry.step m.entry.reply m.image alive.1)) is
-    | inr dead ↦ refused_gave dead.place ticket op unit (sym dead.refused ∙ is)
+    | inr blocked ↦ refused_gave blocked.refusal ticket op unit (sym blocked.refused ∙ is)
   ]
 
   look_in : (log : List Moment) (m : Moment) → m.entry.who ≡ 0 → m.entry.step ≡ LookStep → Legal s (log ++ m ∷ []) → AreIn s log → AreIn s (log ++ m ∷ [])
@@ -147,6 +146,7 @@ module _ (laws : StepsStay) (s : Start) (numbered : HasNoTickets s) (ops : Track
   check_rests X old new (Err (units.Stopped (steps.Refused refusal))) asks legal alone turns rest = inl (begun_in old new asks legal rest)
   check_rests X old new (Err (units.Stopped steps.Memory)) asks legal alone turns rest = tt
   check_rests X old new (Err (units.Stopped steps.TurnsSpent)) asks legal alone turns rest = turns alone
+  check_rests X old new (Err units.Stale) asks legal alone turns rest = absurd asks
 
 pub check_spends : {X : Type 0} (s : Start) (new : List Moment) (r : Result X UnitRefusal) → s.alone ≡ true → IfErr r (TurnsAre s new) → LineSpends new (check_result r)
 check_spends s new (Ok x) alone t = tt
@@ -154,36 +154,15 @@ check_spends s new (Err (units.Failed why)) alone t = tt
 check_spends s new (Err (units.Stopped (steps.Refused refusal))) alone t = tt
 check_spends s new (Err (units.Stopped steps.Memory)) alone t = tt
 check_spends s new (Err (units.Stopped steps.TurnsSpent)) alone t = t alone
+check_spends s new (Err units.Stale) alone t = tt
 
-pub check_turns : {X S F : Type 0} (c : Counts S F) (s : Start) (old new : List Moment) (r : Result X UnitRefusal) → IfErr r (IsCheckRefused c s old new) → IfErr r (TurnsAre s new)
-check_turns c s old new (Ok x) h = tt
-check_turns c s old new (Err (units.Failed why)) h = tt
-check_turns c s old new (Err (units.Stopped steps.Memory)) h = tt
-check_turns c s old new (Err (units.Stopped steps.TurnsSpent)) h = h
-check_turns c s old new (Err (units.Stopped (steps.Refused refusal))) h = tt
-
--- ---- it restores nothing
-
-begun_none : (old new : List Moment) → HasBegun old new → RestoresNone old new
-begun_none old new h = record {
-  more = h.look ∷ h.rest;
-  is = h.is;
-  none =
-      ap (λ (l : List Restoration). l ++ restorations_in (old ++ h.look ∷ []) h.rest)
-      (ap (λ (k : ℕ). restorations_by old k h.look.entry.reply h.look.entry.step) h.looker ∙ line_none old h.look.entry.step h.look.entry.reply (inr h.looks))
-      ∙ reads_none (old ++ h.look ∷ []) h.rest (check_reads h.rest h.all);
-}
-
-maybe_none : (old new : List Moment) → BeganOne old new → RestoresNone old new
-maybe_none old new (NotBegun is) = record { more = []; is = is ∙ sym (append-nil old); none = refl }
-maybe_none old new (Begun h) = begun_none old new h
-
-pub check_none : {X : Type 0} (old new : List Moment) (r : Result X UnitRefusal) → AsksOne old new r → RestoresNone old new
-check_none old new (Ok x) h = begun_none old new h
-check_none old new (Err (units.Failed why)) h = begun_none old new h
-check_none old new (Err (units.Stopped (steps.Refused refusal))) h = begun_none old new h
-check_none old new (Err (units.Stopped steps.Memory)) h = maybe_none old new h
-check_none old new (Err (units.Stopped steps.TurnsSpent)) h = maybe_none old new h
+pub check_turns : {X S F H T : Type 0} (evidence : Evidence S F H T) (s : Start) (old new : List Moment) (r : Result X UnitRefusal) → IfErr r (IsCheckRefused evidence s old new) → IfErr r (TurnsAre s new)
+check_turns evidence s old new (Ok x) h = tt
+check_turns evidence s old new (Err (units.Failed why)) h = tt
+check_turns evidence s old new (Err (units.Stopped steps.Memory)) h = tt
+check_turns evidence s old new (Err (units.Stopped steps.TurnsSpent)) h = h
+check_turns evidence s old new (Err units.Stale) h = tt
+check_turns evidence s old new (Err (units.Stopped (steps.Refused refusal))) h = tt
 
 -- ---- it takes no unit
 
@@ -204,6 +183,7 @@ check_takes old new (Err (units.Failed why)) h = begun_takes old new h
 check_takes old new (Err (units.Stopped (steps.Refused refusal))) h = begun_takes old new h
 check_takes old new (Err (units.Stopped steps.Memory)) h = maybe_takes old new h
 check_takes old new (Err (units.Stopped steps.TurnsSpent)) h = maybe_takes old new h
+check_takes old new (Err units.Stale) h = absurd h
 
 -- ---- and it is whole
 
@@ -321,13 +301,14 @@ deposed_caller : (s : Start) (old new : List Moment) (refusal : EntryRefusal) �
 deposed_caller s old new (refusals.Deposed entry) h = h.1
 deposed_caller s old new refusal h = absurd h
 
-pub check_refused : (X : Type 0) {S F : Type 0} (c : Counts S F) (s : Start) (workers : ℕ) (old new : List Moment) (e : UnitRefusal) → AsksOne {X = X} old new (Err e) → IsCheckRefused c s old new e → NoneChecked old new → (Legal s old → Legal s new) → MayVerify s workers true old
+pub check_refused : (X : Type 0) {S F H T : Type 0} (evidence : Evidence S F H T) (s : Start) (workers : ℕ) (old new : List Moment) (e : UnitRefusal) → AsksOne {X = X} old new (Err e) → IsCheckRefused evidence s old new e → NoneChecked old new → (Legal s old → Legal s new) → MayVerify s workers true old
     → VerifiesOn s workers true new (check_result {X = X} (Err e))
-check_refused X c s workers old new (units.Failed why) asks err none legal may = record { whole = whole_then s workers old new asks none may; idle = subst IsIdle (sym err.0) none_idle; legal = legal may.legal }
-check_refused X c s workers old new (units.Stopped (steps.Refused refusal)) asks err none legal may =
+check_refused X evidence s workers old new (units.Failed why) asks err none legal may = record { whole = whole_then s workers old new asks none may; idle = subst IsIdle (sym err.0) none_idle; legal = legal may.legal }
+check_refused X evidence s workers old new (units.Stopped (steps.Refused refusal)) asks err none legal may =
     record { whole = whole_then s workers old new asks none may; idle = subst IsIdle (sym (deposed_caller s old new refusal err)) may.idle; legal = legal may.legal }
-check_refused X c s workers old new (units.Stopped steps.Memory) asks err none legal may = whole_maybe s workers old new asks none may
-check_refused X c s workers old new (units.Stopped steps.TurnsSpent) asks err none legal may = whole_maybe s workers old new asks none may
+check_refused X evidence s workers old new (units.Stopped steps.Memory) asks err none legal may = whole_maybe s workers old new asks none may
+check_refused X evidence s workers old new (units.Stopped steps.TurnsSpent) asks err none legal may = whole_maybe s workers old new asks none may
+check_refused X evidence s workers old new units.Stale asks err none legal may = absurd asks
 
 -- ---- it has ended
 
@@ -379,8 +360,9 @@ was_refused s old new (refusals.Deposed entry) h stops =
     ]
 was_refused s old new refusal h stops = absurd stops
 
-pub check_ended : (X : Type 0) {S F : Type 0} (c : Counts S F) (s : Start) (old new : List Moment) (e : UnitRefusal) → AsksOne {X = X} old new (Err e) → IsCheckRefused c s old new e → CheckEnds old new (check_result {X = X} (Err e))
-check_ended X c s old new (units.Failed why) asks err = err.2
-check_ended X c s old new (units.Stopped (steps.Refused refusal)) asks err = was_refused s old new refusal asks err
-check_ended X c s old new (units.Stopped steps.Memory) asks err = tt
-check_ended X c s old new (units.Stopped steps.TurnsSpent) asks err = tt
+pub check_ended : (X : Type 0) {S F H T : Type 0} (evidence : Evidence S F H T) (s : Start) (old new : List Moment) (e : UnitRefusal) → AsksOne {X = X} old new (Err e) → IsCheckRefused evidence s old new e → CheckEnds old new (check_result {X = X} (Err e))
+check_ended X evidence s old new (units.Failed why) asks err = err.2
+check_ended X evidence s old new (units.Stopped (steps.Refused refusal)) asks err = was_refused s old new refusal asks err
+check_ended X evidence s old new (units.Stopped steps.Memory) asks err = tt
+check_ended X evidence s old new (units.Stopped steps.TurnsSpent) asks err = tt
+check_ended X evidence s old new units.Stale asks err = absurd asks

@@ -1,16 +1,17 @@
 -- Histories without a check that failed, and those whose checks are whole.
 use Rattle.std.proofs.Common.{◌≡◌, ◌≢◌, ◌⊎◌, ℕ, true, false, true≢false, List, [], ◌∷◌, ◌++◌, append-nil, append_assoc, Option, Some, None, refl, sym, ap, ◌∙◌, subst, inl, inr, ⊎_elim}
+use Rattle.std.specs.FinMap as fin
 use Rattle.esr_model.specs.Values.{Bytes, Has, Formats}
 use Rattle.esr_model.specs.Names.{BlobName}
 use Rattle.esr_model.specs.Image.{Image}
-use Rattle.esr_core.specs.World.{World, Caller}
-use Rattle.esr_core.specs.Entry.{Read, ReadBlob, BeginTest, CommitTest, RemoveTests, CheckedAll, DrawTest, VerifiedAll, ReadFails, Why, Step, ReadStep, Reply, WasFetched, WasAbsent, WasDone, WasRemoved, DrawnFrom, IdsSpent, DeposedAt, Refused, HasEnded, Moment}
+use Rattle.esr_core.specs.World.{World, Ticket, Caller}
+use Rattle.esr_core.specs.Entry.{Read, ReadBlob, BeginTest, CommitTest, RemoveTests, CheckedAll, DrawTest, VerifiedAll, ReadFails, Why, Step, ReadStep, Reply, WasFetched, WasAbsent, WasDone, WasRemoved, DrawnFrom, IdsSpent, Refusal, Refused, HasEnded, Moment}
 use Rattle.esr_core.specs.After.{told_blob, caller_told, caller_wrote, caller_after}
 use Rattle.esr_core.specs.Allowed as allowed
-use Rattle.esr_core.specs.Allowed.{IsChecking, ReadAllows, ReadFound, VerifyAllows, DrawingTest, TestSpent, Allows, Allowed}
-use Rattle.esr_core.proofs.Histories.{deposed_stays}
-use Rattle.esr_desk.specs.Start.{Start, Legal, formats_of, world_of}
-use Rattle.esr_checking.specs.Caller.{caller_of}
+use Rattle.esr_core.specs.Allowed.{IsChecking, ReadAllows, ReadFound, VerifyAllows, DrawingTest, TestSpent, Allows, Allowed, Blocks, ByFailedSwap, ByDelete}
+use Rattle.esr_core.proofs.Blocked.{blocked_stays}
+use Rattle.esr_desk.specs.Start.{Start, Legal, formats_of, world_of, no_ticket, or_no_ticket, ticket_of}
+use Rattle.esr_desk.specs.Own.{caller_of}
 use Rattle.esr_quiet.proofs.Callers.{caller_one}
 use Rattle.esr_quiet.proofs.Prefixes.{legal_front}
 use Rattle.esr_verify.specs.Began.{IsFurther, AllFurther, HasBegun, BeganOne, NotBegun, Begun}
@@ -118,6 +119,10 @@ draw_closed f c reply image of is_open = of
 
 -- ---- worlds in which no check is open, or that are deposed
 
+-- who 0 has no ticket
+abbrev pub NoneZero : Start → Type 0
+NoneZero s = (log : List Moment) → ticket_of s log 0 ≡ no_ticket
+
 abbrev IsSafe : Start → List Moment → Type 0
 IsSafe s log = (IsOpen (caller_of s log) → ⊥) ⊎ ((world_of s log).deposed ≡ true)
 
@@ -134,18 +139,25 @@ module _ (s : Start) (log : List Moment) (m : Moment) (legal : Legal s (log ++ m
   dead_then : (world_of s log).deposed ≡ true → (world_of s (log ++ m ∷ [])).deposed ≡ true
   dead_then dead = elim is_allowed.answered [
     | inl alive ↦ absurd (true≢false (sym dead ∙ alive.0))
-    | inr d ↦ ap (λ (w : World). w.deposed) (world_one (formats_of s) s.world log m ∙ deposed_stays (formats_of s) (world_of s log) m d) ∙ dead
+    | inr blocked ↦ ap (λ (w : World). w.deposed) (world_one (formats_of s) s.world log m ∙ blocked_stays (formats_of s) (world_of s log) m blocked) ∙ dead
   ]
 
   safe_further : (read : Read) → m.entry.who ≡ 0 → m.entry.step ≡ ReadStep read → IsFurther read → IsSafe s log → IsSafe s (log ++ m ∷ [])
   safe_further read who is further (inl none) = inl (λ is_open. none (further_open (formats_of s) (caller_of s log) read m.entry.reply m.image further (subst IsOpen (caller_then (ReadStep read) who is) is_open)))
   safe_further read who is further (inr dead) = inr (dead_then dead)
 
-  safe_draw : m.entry.who ≡ 0 → m.entry.step ≡ ReadStep DrawTest → IsSafe s (log ++ m ∷ [])
-  safe_draw who is = elim is_allowed.answered [
+  -- who 0 has no ticket, so that no delete blocks its steps
+  client_deposed : NoneZero s → (refusal : Refusal) → m.entry.who ≡ 0 → Blocks (world_of s log) m.entry.who m.entry.step refusal → (world_of s log).deposed ≡ true
+  client_deposed none _ who (ByFailedSwap place deposed) = deposed
+  client_deposed none _ who (ByDelete by undeposed a) =
+      let there : ticket_of s log 0 ≡ a.t = ap (λ (k : ℕ). or_no_ticket (fin.get (world_of s log).tickets k)) (sym who) ∙ ap or_no_ticket a.out.there in
+      absurd (true≢false (sym a.out.out ∙ ap (λ (t : Ticket). t.out) (sym there ∙ none log)))
+
+  safe_draw : NoneZero s → m.entry.who ≡ 0 → m.entry.step ≡ ReadStep DrawTest → IsSafe s (log ++ m ∷ [])
+  safe_draw none who is = elim is_allowed.answered [
     | inl alive ↦ inl (λ is_open. draw_closed (formats_of s) (caller_of s log) m.entry.reply m.image
         (subst (λ (x : Step). OfDraw x m.entry.reply) is (draws (formats_of s) s.part_size (world_of s log) m.entry.who m.entry.step m.entry.reply m.image alive.1)) (subst IsOpen (caller_then (ReadStep DrawTest) who is) is_open))
-    | inr d ↦ inr (dead_then d.deposed)
+    | inr blocked ↦ inr (dead_then (client_deposed none blocked.refusal who blocked.blocks))
   ]
 
   -- so it isn't the end of a check that failed
@@ -153,11 +165,11 @@ module _ (s : Start) (log : List Moment) (m : Moment) (legal : Legal s (log ++ m
   safe_end why reply (inl none) is_open = none (is_open.looked, is_open.undrawn, is_open.unspent)
   safe_end why reply (inr dead) is_open = elim is_allowed.answered [
     | inl alive ↦ true≢false (sym dead ∙ alive.0)
-    | inr d ↦ no_refusal d.place (sym reply ∙ d.refused)
+    | inr blocked ↦ no_refusal blocked.refusal (sym reply ∙ blocked.refused)
   ]
     where
-      no_refusal : (place : ℕ) → HasEnded ≡ Refused (DeposedAt place) → ⊥
-      no_refusal place e = cc
+      no_refusal : (refusal : Refusal) → HasEnded ≡ Refused refusal → ⊥
+      no_refusal refusal e = cc
 
 -- ---- one moment more
 
@@ -185,17 +197,17 @@ draw_no_end : (why : Why) → ReadStep DrawTest ≡ ReadStep (ReadFails why) →
 draw_no_end why e = cc
 
 -- a verification ends no check
-pub begun_unchecked : (s : Start) (old new : List Moment) → HasBegun old new → Legal s new → NoCheckFails s old → NoCheckFails s new
-begun_unchecked s old new h legal was =
+pub begun_unchecked : (s : Start) → NoneZero s → (old new : List Moment) → HasBegun old new → Legal s new → NoCheckFails s old → NoCheckFails s new
+begun_unchecked s none_zero old new h legal was =
     let both : (old ++ h.draw ∷ []) ++ h.rest ≡ new = append_assoc old (h.draw ∷ []) h.rest ∙ sym h.is in
     let whole : Legal s ((old ++ h.draw ∷ []) ++ h.rest) = subst (Legal s) (sym both) legal in
     let one : Legal s (old ++ h.draw ∷ []) = legal_front (formats_of s) s.part_size (old ++ h.draw ∷ []) h.rest s.world whole in
     subst (NoCheckFails s) both
-    (fails_further s (old ++ h.draw ∷ []) h.rest h.all whole (safe_draw s old h.draw one h.drawer h.drew) (fails_other s old h.draw (λ why who is. draw_no_end why (sym h.drew ∙ is)) was))
+    (fails_further s (old ++ h.draw ∷ []) h.rest h.all whole (safe_draw s old h.draw one none_zero h.drawer h.drew) (fails_other s old h.draw (λ why who is. draw_no_end why (sym h.drew ∙ is)) was))
 
-pub maybe_unchecked : (s : Start) (old new : List Moment) → BeganOne old new → Legal s new → NoCheckFails s old → NoCheckFails s new
-maybe_unchecked s old new (NotBegun is) legal was = subst (NoCheckFails s) (sym is) was
-maybe_unchecked s old new (Begun draw rest is drawer drew all) legal was = begun_unchecked s old new (record { draw = draw; rest = rest; is = is; drawer = drawer; drew = drew; all = all }) legal was
+pub maybe_unchecked : (s : Start) → NoneZero s → (old new : List Moment) → BeganOne old new → Legal s new → NoCheckFails s old → NoCheckFails s new
+maybe_unchecked s none_zero old new (NotBegun is) legal was = subst (NoCheckFails s) (sym is) was
+maybe_unchecked s none_zero old new (Begun draw rest is drawer drew all) legal was = begun_unchecked s none_zero old new (record { draw = draw; rest = rest; is = is; drawer = drawer; drew = drew; all = all }) legal was
 
 -- ---- checks that ended well
 

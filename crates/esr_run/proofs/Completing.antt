@@ -3,13 +3,11 @@ use Rattle.std.proofs.Common.{◌≡◌, ◌⊎◌, ℕ, suc, ◌+◌, ◌^◌, 
 use Rattle.std.specs.Prelude.{◌&&◌, ◌==◌, unwrap_or, if◌then◌else◌}
 use Rattle.std.proofs.lemmas.Bool.{ltb-true, ltb-false}
 use Rattle.std.proofs.lemmas.List.Sums.{sum_by-cons}
-use Rattle.esr_model.specs.Values.{Bytes, Has, Formats}
+use Rattle.esr_model.specs.Values.{Bytes, Has}
 use Rattle.esr_model.specs.Image.{Image}
 use Rattle.esr_core.specs.World.{World, Caller, Opened}
 use Rattle.esr_core.specs.Entry.{AskedIndex, Snapshot, Restore, Step, AskStep, ElectStep, Reply, Refused, DepotFault, DeposedAt, IdsSpent, GenerationsSpent, TermsSpent, Entry, Moment}
-use Rattle.esr_core.specs.Allowed as allowed
-use Rattle.esr_core.specs.Allowed.{Allows, Allowed}
-use Rattle.esr_core.specs.History.{world_from, IsLegal, AreTold}
+use Rattle.esr_core.specs.History.{AreTold}
 use Rattle.esr_depot.specs.Image.{Image as Held}
 use Rattle.esr_depot.specs.Look.{Look, now}
 use Rattle.esr_script.specs.declared.item.AskedIndex.{AskedIndex as LineIndex}
@@ -18,11 +16,13 @@ use Rattle.esr_script.specs.declared.item.Item.TheVariants as items
 use Rattle.esr_script.specs.declared.item.ScriptLine.{ScriptLine}
 use Rattle.esr_report.specs.Replies.{replies}
 use Rattle.esr_report.specs.Status.{ending, status_of}
-use Rattle.esr_desk.specs.Start.{Start, Legal, formats_of}
+use Rattle.esr_desk.specs.Start.{Start, Legal}
 use Rattle.esr_desk.specs.declared.fault.Fault.{Fault}
-use Rattle.esr_run.specs.Counts.{Counts, unit_counts, read_counts, verify_counts, AreShown}
+use Rattle.esr_desk.specs.declared.hand.Hand.TheVariants as hands
+use Rattle.esr_desk.specs.Evidence.{Evidence}
+use Rattle.esr_desk.specs.Shown.{AreShown}
 use Rattle.esr_desk.specs.Once.{AreOnce}
-use Rattle.esr_checking.specs.Tested.{AreTested}
+use Rattle.esr_desk.specs.Verify.Tested.{AreTested}
 use Rattle.esr_repo.specs.Log.{image_of, image_at, log_from, log_of, tick}
 use Rattle.esr_repo.specs.Counted.{is_fault, fault_entries}
 use Rattle.esr_repo.specs.Calm.{IsCalm}
@@ -38,7 +38,7 @@ use Rattle.esr_run.specs.Images.{TellsAll}
 use Rattle.esr_run.specs.Complete.{AsksRestore, IsQuietFor, IsAnsweredWell, Completes}
 use Rattle.esr_run.specs.Laws.{QuietLaws}
 use Rattle.esr_run.specs.Verified.{AreClosed}
-use Rattle.esr_run.specs.Made.{MadeFirst, HasFallen, AreDone, NoneOpen}
+use Rattle.esr_run.specs.Made.{MadeFirst, AskedApart, HasFallen, AreDone, NoneOpen}
 use Rattle.esr_run.proofs.Parts.{are_parts}
 
 -- ---- entries and moments
@@ -133,34 +133,9 @@ place_of [] m h = absurd h
 place_of (n ∷ log) m (inl e) = record { front = []; back = log; is = ap (λ (x : Moment). x ∷ log) e }
 place_of (n ∷ log) m (inr h) = let p = place_of log m h in record { front = n ∷ p.front; back = p.back; is = ap (λ (l : List Moment). n ∷ l) p.is }
 
-legal_rest : (f : Formats) (size : ℕ) (front back : List Moment) (w : World) → IsLegal f size w (front ++ back) → IsLegal f size (world_from f w front) back
-legal_rest f size [] back w legal = legal
-legal_rest f size (m ∷ front) back w legal = legal_rest f size front back _ legal.1
-
--- an ask and an election are nobody's
-abbrev IsNobodys : ℕ → Step → Type 0
-IsNobodys who (AskStep command) = who ≡ 0
-IsNobodys who ElectStep = who ≡ 0
-IsNobodys who step = Unit {0}
-
-nobodys : (f : Formats) (size : ℕ) (w : World) (who : ℕ) (step : Step) (reply : Reply) (image : Option Image) → Allows f size w who step reply image → IsNobodys who step
-nobodys f size w who step reply image (allowed.Accepting name indices moment o im accepts same) = refl
-nobodys f size w who step reply image (allowed.Electing im room same) = refl
-nobodys f size w who step reply image (allowed.Cleaning command d x im recorded there cleans same) = refl
-nobodys f size w who step reply image (allowed.Used name indices moment uuid im clean is same) = refl
-nobodys f size w who step reply image (allowed.Full name indices moment im clean unused full same) = refl
-nobodys f size w who step reply image (allowed.AskSpent name indices moment im clean unused room spent same) = refl
-nobodys f size w who step reply image (allowed.ElectSpent im last same) = refl
-nobodys f size w who step reply image (allowed.AskFails name indices moment im accepts same) = refl
-nobodys f size w who step reply image (allowed.ElectFails im room same) = refl
-nobodys f size w who step reply image (allowed.AskingRestore name place answer im allows same) = refl
-nobodys f size w who step reply image (allowed.AskingClone source name names moment taken answer im allows same) = refl
-nobodys f size w who step reply image (allowed.AskingDelete names answer im allows same) = refl
-nobodys f size w who step reply image a = tt
-
-module _ (s : Start) (log : List Moment) (es : List Entry) (entries : entries_of log ≡ es) (legal : Legal s log) (none : fault_entries es ≡ 0) (named : AreDeposedSo es) where
-  never_deposed : (m : Moment) (place : ℕ) → Has log m → m.entry.reply ≡ Refused (DeposedAt place) → ⊥
-  never_deposed m place h is =
+module _ (log : List Moment) (es : List Entry) (entries : entries_of log ≡ es) (none : fault_entries es ≡ 0) where
+  never_deposed : AreDeposedSo es → (m : Moment) (place : ℕ) → Has log m → m.entry.reply ≡ Refused (DeposedAt place) → ⊥
+  never_deposed named m place h is =
       let p = place_of log m h in
       let whole : es ≡ entries_of p.front ++ m.entry ∷ entries_of p.back = sym entries ∙ ap entries_of p.is ∙ entries_both p.front (m ∷ p.back) in
       let fell : FailedSwap (entries_of p.front) place = named (entries_of p.front) (entries_of p.back) m.entry place whole is in
@@ -171,15 +146,6 @@ module _ (s : Start) (log : List Moment) (es : List Entry) (entries : entries_of
       in_front [] b e h = absurd h
       in_front (x ∷ a) b e (inl is) = inl is
       in_front (x ∷ a) b e (inr h) = inr (in_front a b e h)
-
-  pub asks_nobody : (m : Moment) → Has log m → IsNobodys m.entry.who m.entry.step
-  asks_nobody m h =
-      let p = place_of log m h in
-      let here : Allowed (formats_of s) s.part_size (world_from (formats_of s) s.world p.front) m = (legal_rest (formats_of s) s.part_size p.front (m ∷ p.back) s.world (subst (Legal s) p.is legal)).0 in
-      ⊎_elim
-      (λ alive. nobodys (formats_of s) s.part_size (world_from (formats_of s) s.world p.front) m.entry.who m.entry.step m.entry.reply m.image alive.1)
-      (λ dead. absurd (never_deposed m dead.place h dead.refused))
-      here.answered
 
   pub calm_is : AreCalm log
   calm_is m h is = none_counted es m.entry none (subst (λ (l : List Entry). Has l m.entry) entries (has_entry log m h)) is
@@ -317,7 +283,7 @@ is_steady telling place name number quiet there = ap (λ (b : Bool). b && unwrap
 
 -- ---- a run over quiet objects
 
-module _ {S F H T : Type 0} (laws : QuietLaws S F H T) (count : Counts S F H T) (telling : Telling) (size moment : ℕ) (lines : List ScriptLine) (before after : Look) (world : World) (clock : ℕ) (history : List Entry) (faults : List (Fault S F H T))
+module _ {S F H T : Type 0} (laws : QuietLaws S F H T) (evidence : Evidence S F H T) (telling : Telling) (size moment : ℕ) (lines : List ScriptLine) (before after : Look) (world : World) (clock : ℕ) (history : List Entry) (faults : List (Fault S F H T))
     (opened : (i : Held) → now before ≡ Some i → Opened (formats_by telling) (image_of i) world) where
   abbrev s : Start
   s = start_of telling size true before world
@@ -325,7 +291,7 @@ module _ {S F H T : Type 0} (laws : QuietLaws S F H T) (count : Counts S F H T) 
   abbrev log : List Moment
   log = log_of after clock history
 
-  module _ (legal : Legal s log) (told : s.tells ≡ true → AreTold log) (shown : AreShown {S = S} {F = F} {H = H} {T = T} count s log faults) (once : AreOnce s log) (tested : AreTested s log) (calm : IsCalm true after.sure history) (named : AreDeposedSo history)
+  module _ (legal : Legal s log) (told : s.tells ≡ true → AreTold log) (shown : AreShown {S = S} {F = F} {H = H} {T = T} evidence s log faults) (once : AreOnce s log) (tested : AreTested s log) (calm : IsCalm true after.sure history) (named : AreDeposedSo history)
       (made : MadeFirst s (steps_of moment lines) [] log) (apart : AreClosed s log) (quiet_for : IsQuietFor telling before lines) (tells_all : TellsAll (formats_by telling) world log) (few : length history < 2 ^ 40) (unspent : (e : Entry) → Has history e → IsSpent e.reply → ⊥) where
     entries : entries_of log ≡ history
     entries = entries_are (image_at after) clock history
@@ -333,10 +299,7 @@ module _ {S F H T : Type 0} (laws : QuietLaws S F H T) (count : Counts S F H T) 
     none_faults : fault_entries history ≡ 0
     none_faults = (calm refl (let less : length history < 2 ^ 40 = few in omega (arith, less))).0
 
-    nobody : (m : Moment) → Has log m → IsNobodys m.entry.who m.entry.step
-    nobody = asks_nobody s log history entries legal none_faults named
-
-    -- what nobody's ticket asked is what lines ask for
+    -- what who 0 asked is what lines ask for
     wanted : (m : Moment) → Has log m → m.entry.who ≡ 0 → is_line_ask m.entry.step ≡ true → OfLine moment lines (as_asked m.entry.step)
     wanted m h who ask =
         let asked : asked_steps log ≡ made.first = ap asked_steps made.grew.is ∙ made.grew.asked refl in
@@ -345,8 +308,7 @@ module _ {S F H T : Type 0} (laws : QuietLaws S F H T) (count : Counts S F H T) 
         of_line moment lines step (in_wanted made.first made.rest (steps_of moment lines) step made.is first)
 
     steady : AreSteady s log
-    steady m name indices when h is a number has below =
-        let who : m.entry.who ≡ 0 = subst (IsNobodys m.entry.who) is (nobody m h) in
+    steady m name indices when h who is a number has below =
         let from = wanted m h who (ap is_line_ask is) in
         let snap = of_snapshot moment from.line.item name indices when (subst (λ (step : Step). Has (steps_of_item moment from.line.item) (as_asked step)) is from.step_is) in
         let one = in_map snap.line_indices a (subst (λ (l : List AskedIndex). Has l a) snap.indices_are has) in
@@ -356,16 +318,18 @@ module _ {S F H T : Type 0} (laws : QuietLaws S F H T) (count : Counts S F H T) 
         is_steady telling a.place a.name number quiet_for.sources there
 
     unelected : AreUnelected log
-    unelected m h is =
-        let who : m.entry.who ≡ 0 = subst (IsNobodys m.entry.who) is (nobody m h) in
+    unelected m h who is =
         let from = wanted m h who (ap is_line_ask is) in
         no_election moment from.line.item (subst (λ (step : Step). Has (steps_of_item moment from.line.item) (as_asked step)) is from.step_is)
 
     tells : s.tells ≡ true
     tells = ap is_some quiet_for.holds.told
 
-    smooth : IsSmooth s log
-    smooth = record {
+    calm_log : AreCalm log
+    calm_log = calm_is log history entries none_faults
+
+    smooth : AskedApart s [] log → IsSmooth s log
+    smooth asked_apart = record {
       tells = tells;
       quiet = refl;
       known = tells_all.known;
@@ -379,33 +343,33 @@ module _ {S F H T : Type 0} (laws : QuietLaws S F H T) (count : Counts S F H T) 
       once = once;
       tested = tested;
       steady = steady;
-      calm = calm_is s log history entries legal none_faults named;
+      calm = calm_log;
       unspent = λ m h spent. unspent m.entry (subst (λ (l : List Entry). Has l m.entry) entries (has_entry log m h)) spent;
       unelected = unelected;
+      apart = λ front back m command is who step. (asked_apart.apart front back m command (sym asked_apart.is ∙ is) who step).tickets;
     }
 
-    none_failed : NoneFailed log
-    none_failed = laws.fails (unit_counts count) s log faults smooth shown.units
+    none_failed : IsSmooth s log → NoneFailed log
+    none_failed smooth = laws.fails evidence s log faults smooth (shown.shown hands.Unit)
 
-    none_undeleted : NoneUndeleted log
-    none_undeleted = laws.deletes (unit_counts count) s log faults smooth shown.deletes
+    none_undeleted : IsSmooth s log → NoneUndeleted log
+    none_undeleted smooth = laws.deletes evidence s log faults smooth (shown.shown hands.Delete)
 
     -- no line asks for a restore
     unasked : ((line : ScriptLine) (name place : Bytes) → Has lines line → line.item ≡ items.Restore name place → ⊥) → NoneAsked log
-    unasked none m name place h is =
-        let who : m.entry.who ≡ 0 = subst (IsNobodys m.entry.who) is (nobody m h) in
+    unasked none m name place h who is =
         let from = wanted m h who (ap is_line_ask is) in
         let it = of_restore moment from.line.item name place (subst (λ (step : Step). Has (steps_of_item moment from.line.item) (as_asked step)) is from.step_is) in
         none from.line it.0 it.1 from.there it.2
 
-    none_unrestored : NoneUnrestored log
-    none_unrestored = ⊎_elim
-        (λ (asks : AsksRestore lines). laws.restores (read_counts count) s log faults smooth (quiet_for.targets asks) shown.restores)
+    none_unrestored : IsSmooth s log → NoneUnrestored log
+    none_unrestored smooth = ⊎_elim
+        (λ (asks : AsksRestore lines). laws.restores evidence s log faults smooth (quiet_for.targets asks) (shown.shown hands.Restore))
         (λ none. laws.unasked s log smooth (unasked none))
         (find_restore lines)
 
-    none_unverified : NoneUnverified log
-    none_unverified = laws.verifies (verify_counts count) s log faults smooth shown.verifications
+    none_unverified : IsSmooth s log → NoneUnverified log
+    none_unverified smooth = laws.verifies evidence s log faults smooth (shown.shown hands.Check)
 
     -- one after another
     in_turn : NoneOpen s log → IsInTurn s log
@@ -414,12 +378,12 @@ module _ {S F H T : Type 0} (laws : QuietLaws S F H T) (count : Counts S F H T) 
       closed = ap (λ (c : Caller). c.drawn) closed;
     }
 
-    rules : AreByRule log
-    rules = laws.rules s log smooth none_failed
+    rules : IsSmooth s log → AreByRule log
+    rules smooth = laws.rules s log smooth (none_failed smooth)
 
     -- the work wasn't stopped
     not_stopped : HasFallen s moment lines [] log → ⊥
-    not_stopped (inl fell) = smooth.calm fell.1.moment fell.1.there fell.1.failed
+    not_stopped (inl fell) = calm_log fell.1.moment fell.1.there fell.1.failed
     not_stopped (inr all) =
         let many : length history ≡ length log = ap length (sym entries) ∙ as_many log in
         let most : 2 ^ 40 ≤ length log = all in
@@ -428,15 +392,16 @@ module _ {S F H T : Type 0} (laws : QuietLaws S F H T) (count : Counts S F H T) 
 
     well : AreKnown lines → AreDone s moment lines [] log → IsAnsweredWell s moment lines log history
     well known done =
-        let checks : AreChecksInTurn moment lines log = inr (are_parts s moment lines log refl done.parted (never_deposed s log history entries legal none_faults named)) in
+        let checks : AreChecksInTurn moment lines log = inr (are_parts s moment lines log refl done.parted (never_deposed log history entries none_faults named)) in
+        let is_smooth : IsSmooth s log = smooth done.apart in
         let asked : asked_steps log ≡ steps_of moment lines = ap asked_steps done.grew.is ∙ done.grew.asked refl in
         record {
-          answered = subst (λ (es : List Entry). AreAnswered lines (replies lines es)) entries (laws.answered s log lines moment smooth none_failed none_undeleted none_unrestored none_unverified checks rules (in_turn done.closed) done.idle known asked);
-          ends = subst (λ (es : List Entry). EndsWell lines es) entries (laws.ends s log lines moment smooth none_failed none_undeleted none_unrestored none_unverified checks rules (in_turn done.closed) done.idle known asked);
+          answered = subst (λ (es : List Entry). AreAnswered lines (replies lines es)) entries (laws.answered s log lines moment is_smooth (none_failed is_smooth) (none_undeleted is_smooth) (none_unrestored is_smooth) (none_unverified is_smooth) checks (rules is_smooth) (in_turn done.closed) done.idle known asked);
+          ends = subst (λ (es : List Entry). EndsWell lines es) entries (laws.ends s log lines moment is_smooth (none_failed is_smooth) (none_undeleted is_smooth) (none_unrestored is_smooth) (none_unverified is_smooth) checks (rules is_smooth) (in_turn done.closed) done.idle known asked);
           waits = done.waits;
         }
 
-  pub completes : (status : ℕ) → Legal s log → (s.tells ≡ true → AreTold log) → AreShown {S = S} {F = F} {H = H} {T = T} count s log faults → AreOnce s log → AreTested s log → IsCalm true after.sure history → AreDeposedSo history
+  pub completes : (status : ℕ) → Legal s log → (s.tells ≡ true → AreTold log) → AreShown {S = S} {F = F} {H = H} {T = T} evidence s log faults → AreOnce s log → AreTested s log → IsCalm true after.sure history → AreDeposedSo history
       → MadeFirst s (steps_of moment lines) [] log → AreClosed s log → AreDone s moment lines [] log ⊎ HasFallen s moment lines [] log → AreKnown lines → status ≡ status_of (ending lines history) → IsQuietFor telling before lines → Completes telling size moment lines before world clock after history status
   completes status legal told shown once tested calm named made apart done known is quiet_for tells_all =
       ⊎_elim

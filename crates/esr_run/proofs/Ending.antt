@@ -9,11 +9,11 @@ use Rattle.esr_depot.specs.Look.{Look, now}
 use Rattle.esr_depot.specs.Calls.{HasCause, Stays}
 use Rattle.esr_formats.specs.Clusters.{cluster_of}
 use Rattle.esr_formats.specs.Roots.{root_of}
+use Rattle.esr_source.specs.Told.{FileList, SourcesTold, TargetsTold}
 use Rattle.esr_desk.specs.Start.{Start}
 use Rattle.esr_desk.specs.Sources.{TellSame, AreSources}
-use Rattle.esr_desk.specs.Once.{AreOnce, NoneTwice}
-use Rattle.esr_deleting.specs.Once.{AreRemovedOnce}
-use Rattle.esr_checking.specs.Tested.{AreTested}
+use Rattle.esr_desk.specs.Once.{AreOnce, NoneTwice, AreRemovedOnce}
+use Rattle.esr_desk.specs.Verify.Tested.{AreTested}
 use Rattle.esr_repo.specs.Calm.{IsCalm}
 use Rattle.esr_quiet.specs.Asked.{asked_steps}
 use Rattle.esr_complete.specs.Lines.{steps_of}
@@ -23,20 +23,22 @@ use Rattle.esr_run.specs.Verified.{AreWhole}
 use Rattle.esr_run.specs.Waits.{TakesFew}
 use Rattle.esr_run.specs.Made.{MadeFirst, HasFallen, AreDone}
 use Rattle.std.specs.Io.KnownBytes.{Appends}
-use Rattle.esr_opening.specs.Opening.{Kept, known_blobs, IsFault, IsOpening, IsOpenRefused}
+use Rattle.esr_opening.specs.Opening.{Kept, known_blobs, world_in, IsFault, IsOpening, IsOpenRefused}
 use Rattle.esr_opening.specs.declared.refusal.OpenRefusal.{OpenRefusal}
 use Rattle.esr_opening.specs.declared.refusal.OpenRefusal.TheVariants as refusals
 use Rattle.esr_repo.specs.Past.{IsPast}
 use Rattle.esr_script.specs.Jobs.{job_of}
 use Rattle.esr_script.specs.declared.item.ScriptLine.{ScriptLine}
 use Rattle.esr_desk.specs.declared.fault.Fault.{Fault}
-use Rattle.esr_run.specs.Counts.{Counts, AreShown}
+use Rattle.esr_desk.specs.Evidence.{Evidence}
+use Rattle.esr_desk.specs.Shown.{AreShown}
 use Rattle.esr_repo.specs.Log.{log_of}
 use Rattle.esr_run.specs.Asked.{wanted_of, part_size_of, workers_of}
 use Rattle.esr_run.specs.Ends.{RunEnd, BadWords, Unreadable, BadScript, BadLine, OpenFault, Damaged, NoTerm, Carried, exit_of, text_of}
 use Rattle.esr_run.specs.Faults.{listed, fetch_of, HasFetch}
-use Rattle.esr_run.specs.Start.{Telling, is_absent, formats_by, start_of, LegalRun}
-use Rattle.esr_run.specs.Laws.{Laws}
+use Rattle.esr_drive.specs.Outside.{IsOutside}
+use Rattle.esr_run.specs.Start.{Telling, telling, is_absent, formats_by, start_of, LegalRun}
+use Rattle.esr_run.specs.Laws.{Laws, KeptLaws}
 use Rattle.esr_run.specs.Stops.{StoppedBy}
 use Rattle.esr_run.specs.Causes.{Given, IsScript, IsOpenedRun, IsUntouched, IsUnopened, IsRunOf, IsCauseOf, IsOpenCause, IsTextOf, IsVerdict, IsTold, exit_unprinted, IsPrinted, IsEndOf, end_of_refusal}
 use Rattle.esr_run.proofs.Worlds.{begun_world, start_is}
@@ -44,27 +46,31 @@ use Rattle.esr_run.proofs.Keeping.{untouched_kept, refused_kept, every_image_kep
 use Rattle.esr_run.proofs.Dooms.{untouched_tidy, refused_tidy, every_image_tidy, end_tidy, each_dooms_exactly}
 use Rattle.esr_run.proofs.Told.{stays_told}
 use Rattle.esr_run.proofs.Sourceless.{needs_no_source}
+use Rattle.esr_run.proofs.Undamaged.{stays_undamaged}
 
 -- ---- what is told at the start
 
-pub are_sources : (files : Telling) (size : ℕ) (quiet : Bool) (l : Look) (w : World) → AreSources (start_of files size quiet l w) files.files files.is_there files.is_quiet
-are_sources files size quiet l w = record {
-  told = λ place name number known. by (files.files place name number) (files.is_there place name number) known;
-  steady = λ place name number e. both files.is_quiet (files.is_there place name number) e;
+are_sources : (sources : SourcesTold) (targets : TargetsTold) (size : ℕ) (quiet : Bool) (l : Look) (w : World) → AreSources (start_of (telling sources targets) size quiet l w) sources
+are_sources sources targets size quiet l w = record {
+  told = λ place name number known. by (sources.files place name number) (sources.is_there place name number) known;
+  steady = λ place name number e. both sources.is_quiet (sources.is_there place name number) e;
 }
   where
-    by : (o : Option (List (Bytes × Bytes))) (there : Option Bool) → (is_some o || is_absent there) ≡ true → TellSame o (if is_absent there then None else o) ⊎ (there ≡ Some false)
+    by : (o : Option FileList) (there : Option Bool) → (is_some o || is_absent there) ≡ true → TellSame o (if is_absent there then None else o) ⊎ ((there ≡ Some false) × ((if is_absent there then None else o) ≡ None))
     by (Some x) None e = inl (x, refl, refl)
     by (Some x) (Some true) e = inl (x, refl, refl)
-    by (Some x) (Some false) e = inr refl
+    by (Some x) (Some false) e = inr (refl, refl)
     by None None e = absurd cc
     by None (Some true) e = absurd cc
-    by None (Some false) e = inr refl
+    by None (Some false) e = inr (refl, refl)
 
     both : (a : Bool) (o : Option Bool) → (a && unwrap_or o false) ≡ true → (a ≡ true) × (o ≡ Some true)
     both true None e = absurd cc
     both true (Some b) e = (refl, ap (λ (x : Bool). Some x) e)
     both false o e = absurd cc
+
+pub is_outside : (sources : SourcesTold) (targets : TargetsTold) (size : ℕ) (quiet : Bool) (l : Look) (w : World) → (1 ≤ size) × (size ≤ 2 ^ 30) → IsOutside (start_of (telling sources targets) size quiet l w) sources targets size
+is_outside sources targets size quiet l w sized = record { told = are_sources sources targets size quiet l w; sure = refl; tells = refl; size = refl; sized = sized }
 
 -- ---- what became of the container
 
@@ -83,24 +89,25 @@ pub refused_at : {F : Type 0} (count : F → ℕ) (before mid after : Look) (old
 refused_at count before mid after old_faults mid_faults new_faults refusal same faults refused =
     subst (λ (l : Look). IsOpenRefused count before l old_faults new_faults refusal) (sym same) (subst (λ (n : ℕ). IsOpenRefused count before mid old_faults n refusal) (sym faults) refused)
 
-pub unopened : {S F H T : Type 0} (laws : Laws) (count : Counts S F H T) (files : Telling) (before after : Look) (old_faults new_faults : ℕ) (history : List Entry) (faults : List (Fault S F H T)) (refusal : OpenRefusal F)
-    → IsOpenRefused count.fetch before after old_faults new_faults refusal → history ≡ [] → faults ≡ listed (fetch_of refusal) → IsUnopened count files before after old_faults new_faults history faults
-unopened laws count files before after old_faults new_faults history faults refusal refused empty are =
-    record { refusal = refusal; refused = refused; every_image = refused_kept laws files count.fetch before after old_faults new_faults refusal refused; tidy = refused_tidy files count.fetch before after old_faults new_faults refusal refused; empty = empty; faults_are = are }
+pub unopened : {S F H T : Type 0} (laws : Laws) (evidence : Evidence S F H T) (files : Telling) (before after : Look) (old_faults new_faults : ℕ) (history : List Entry) (faults : List (Fault S F H T)) (refusal : OpenRefusal F)
+    → IsOpenRefused evidence.fetch_faults before after old_faults new_faults refusal → history ≡ [] → faults ≡ listed (fetch_of refusal) → IsUnopened evidence files before after old_faults new_faults history faults
+unopened laws evidence files before after old_faults new_faults history faults refusal refused empty are =
+    record { refusal = refusal; refused = refused; every_image = refused_kept laws files evidence.fetch_faults before after old_faults new_faults refusal refused; tidy = refused_tidy files evidence.fetch_faults before after old_faults new_faults refusal refused; empty = empty; faults_are = are }
 
 -- what is told of the history by the container alone, as the run tells it
 abbrev pub Begun : Telling → ℕ → Bool → Look → Kept → Start
 Begun files size quiet mid k = start_of files size quiet mid (begun_world (now mid) (cluster_of k.cluster) (root_of k.root) k.plan)
 
-unfoldable pub opened_run : {S F H T : Type 0} (laws : Laws) (count : Counts S F H T) (files : Telling) (size workers moment : ℕ) (lines : List ScriptLine) (quiet : Bool) (before mid after : Look) (k : Kept) (history : List Entry) (faults : List (Fault S F H T)) → IsOpening before mid k → (2 ^ 62 ≤ before.sure → quiet ≡ true)
-    → LegalRun (Begun files size quiet mid k) mid.clock after history → IsPast (Begun files size quiet mid k) mid.clock mid.since after history → AreShown count (Begun files size quiet mid k) (log_of after mid.clock history) faults
+unfoldable pub opened_run : {S F H T : Type 0} (laws : Laws) (kept : KeptLaws S F H T) (evidence : Evidence S F H T) (files : Telling) (size workers moment : ℕ) (lines : List ScriptLine) (quiet : Bool) (before mid after : Look) (k : Kept) (history : List Entry) (faults : List (Fault S F H T)) → IsOpening before mid k → (2 ^ 62 ≤ before.sure → quiet ≡ true)
+    → LegalRun (Begun files size quiet mid k) mid.clock after history → IsPast (Begun files size quiet mid k) mid.clock mid.since after history → AreShown evidence (Begun files size quiet mid k) (log_of after mid.clock history) faults
     → AreOnce (Begun files size quiet mid k) (log_of after mid.clock history) → AreTested (Begun files size quiet mid k) (log_of after mid.clock history) → NoneTwice (log_of after mid.clock history) → AreRemovedOnce (log_of after mid.clock history) → IsCalm quiet after.sure history → MadeFirst (Begun files size quiet mid k) (steps_of moment lines) [] (log_of after mid.clock history)
     → AreWhole (Begun files size quiet mid k) workers (asks_check lines) (log_of after mid.clock history) → TakesFew lines (log_of after mid.clock history)
-    → IsOpenedRun count files size workers moment lines before after history faults
-opened_run {S} {F} {H} {T} laws count files size workers moment lines quiet before mid after k history faults o quiet_is legal past shown once tested single removed calm made verified takes =
+    → IsOpenedRun evidence files size workers moment lines before after history faults
+opened_run {S} {F} {H} {T} laws kept evidence files size workers moment lines quiet before mid after k history faults o quiet_is legal past shown once tested single removed calm made verified takes =
     let is = start_is files size quiet before mid k o in
     let run = subst (λ (s : Start). LegalRun s mid.clock after history) is legal in
     let was = subst (λ (s : Start). IsPast s mid.clock mid.since after history) is past in
+    let seen = subst (λ (s : Start). AreShown {S = S} {F = F} {H = H} {T = T} evidence s (log_of after mid.clock history) faults) is shown in
     let asked : asked_steps (log_of after mid.clock history) ++ made.rest ≡ steps_of moment lines = ap (λ (l : List Step). l ++ made.rest) (ap asked_steps made.grew.is ∙ made.grew.asked refl) ∙ made.is in
     record {
       world = _;
@@ -123,7 +130,9 @@ opened_run {S} {F} {H} {T} laws count files size workers moment lines quiet befo
       tidy = every_image_tidy laws files size quiet before mid after k history o run was;
       end_tidy = end_tidy laws files size quiet before mid after k history o run was;
       dooms = each_dooms_exactly laws files size quiet before mid after k history o run was;
-      shown = subst (λ (s : Start). AreShown {S = S} {F = F} {H = H} {T = T} count s (log_of after mid.clock history) faults) is shown;
+      undamaged = stays_undamaged kept evidence files size moment lines quiet before after (world_in (now before) o.cluster o.root) mid.clock history faults (λ i e. o.opens i _ _ e) run.legal
+          (stays_told files size quiet before after _ mid.clock mid.since history run was) seen single (made.rest, asked);
+      shown = seen;
       once = subst (λ (s : Start). AreOnce s (log_of after mid.clock history)) is once;
       tested = subst (λ (s : Start). AreTested s (log_of after mid.clock history)) is tested;
       single = single;
@@ -143,19 +152,19 @@ not_wanting SwapFailed is = cc
 not_wanting (BlobDamaged name) is = cc
 not_wanting NumbersSpent is = cc
 
-pub verdict_opening : {S F H T : Type 0} (laws : Laws) (count : Counts S F H T) (files : Telling) (size workers moment : ℕ) (lines : List ScriptLine) (quiet : Bool) (before mid after : Look) (k : Kept) (history : List Entry) (faults : List (Fault S F H T))
+pub verdict_opening : {S F H T : Type 0} (laws : Laws) (kept : KeptLaws S F H T) (evidence : Evidence S F H T) (files : Telling) (size workers moment : ℕ) (lines : List ScriptLine) (quiet : Bool) (before mid after : Look) (k : Kept) (history : List Entry) (faults : List (Fault S F H T))
     (old_faults new_faults status : ℕ) (text : Bytes) → IsOpening before mid k → (2 ^ 62 ≤ before.sure → quiet ≡ true)
-    → LegalRun (Begun files size quiet mid k) mid.clock after history → IsPast (Begun files size quiet mid k) mid.clock mid.since after history → AreShown count (Begun files size quiet mid k) (log_of after mid.clock history) faults
+    → LegalRun (Begun files size quiet mid k) mid.clock after history → IsPast (Begun files size quiet mid k) mid.clock mid.since after history → AreShown evidence (Begun files size quiet mid k) (log_of after mid.clock history) faults
     → AreOnce (Begun files size quiet mid k) (log_of after mid.clock history) → AreTested (Begun files size quiet mid k) (log_of after mid.clock history) → NoneTwice (log_of after mid.clock history) → AreRemovedOnce (log_of after mid.clock history) → IsCalm quiet after.sure history → MadeFirst (Begun files size quiet mid k) (steps_of moment lines) [] (log_of after mid.clock history)
     → AreWhole (Begun files size quiet mid k) workers (asks_check lines) (log_of after mid.clock history) → TakesFew lines (log_of after mid.clock history)
     → IsTold status text (Some (Carried lines history))
     → (status ≡ 8) ⊎ (AreDone (Begun files size quiet mid k) moment lines [] (log_of after mid.clock history) ⊎ HasFallen (Begun files size quiet mid k) moment lines [] (log_of after mid.clock history))
-    → IsVerdict status text (IsOpenCause count files size workers moment before after old_faults new_faults lines history faults)
+    → IsVerdict status text (IsOpenCause evidence files size workers moment before after old_faults new_faults lines history faults)
 unfolding opened_run
-verdict_opening laws count files size workers moment lines quiet before mid after k history faults old_faults new_faults status text o quiet_is legal past shown once tested single removed calm made verified takes (inl wanting) done = inl wanting
-verdict_opening laws count files size workers moment lines quiet before mid after k history faults old_faults new_faults status text o quiet_is legal past shown once tested single removed calm made verified takes (inr told) (inl wanting) =
+verdict_opening laws kept evidence files size workers moment lines quiet before mid after k history faults old_faults new_faults status text o quiet_is legal past shown once tested single removed calm made verified takes (inl wanting) done = inl wanting
+verdict_opening laws kept evidence files size workers moment lines quiet before mid after k history faults old_faults new_faults status text o quiet_is legal past shown once tested single removed calm made verified takes (inr told) (inl wanting) =
     absurd (not_wanting (ending lines history) (sym told.0 ∙ wanting))
-verdict_opening laws count files size workers moment lines quiet before mid after k history faults old_faults new_faults status text o quiet_is legal past shown once tested single removed calm made verified takes (inr told) (inr done) =
+verdict_opening laws kept evidence files size workers moment lines quiet before mid after k history faults old_faults new_faults status text o quiet_is legal past shown once tested single removed calm made verified takes (inr told) (inr done) =
     inr (record {
       end = Carried lines history;
       status_is = told.0;
@@ -164,7 +173,7 @@ verdict_opening laws count files size workers moment lines quiet before mid afte
         refl,
         refl,
         (
-          opened_run laws count files size workers moment lines quiet before mid after k history faults o quiet_is legal past shown once tested single removed calm made verified takes,
+          opened_run laws kept evidence files size workers moment lines quiet before mid after k history faults o quiet_is legal past shown once tested single removed calm made verified takes,
           subst (λ (s : Start). AreDone s moment lines [] (log_of after mid.clock history) ⊎ HasFallen s moment lines [] (log_of after mid.clock history)) (start_is files size quiet before mid k o) done,
         ),
       );
@@ -179,56 +188,56 @@ told_none status text Cause (inl wanting) = inl wanting
 told_none status text Cause (inr told) = inl told
 
 -- the fetch of the opening is listed
-has_fetch : {S F H T : Type 0} (count : Counts S F H T) (faults : List (Fault S F H T)) (old_faults new_faults : ℕ) (fetch : Option F) → faults ≡ listed fetch → IsFault count.fetch old_faults new_faults fetch
-    → HasCause old_faults new_faults true ⊎ HasFetch count.fetch faults
-has_fetch count faults old_faults new_faults fetch are (inl cause) = inl cause
-has_fetch count faults old_faults new_faults None are (inr failed) = absurd failed
-has_fetch count faults old_faults new_faults (Some fetch) are (inr failed) = inr (subst (λ fs. HasFetch count.fetch fs) (sym are) (record { fetch = fetch; listed_so = inl refl; failed = failed }))
+has_fetch : {S F H T : Type 0} (evidence : Evidence S F H T) (faults : List (Fault S F H T)) (old_faults new_faults : ℕ) (fetch : Option F) → faults ≡ listed fetch → IsFault evidence.fetch_faults old_faults new_faults fetch
+    → HasCause old_faults new_faults true ⊎ HasFetch evidence.fetch_faults faults
+has_fetch evidence faults old_faults new_faults fetch are (inl cause) = inl cause
+has_fetch evidence faults old_faults new_faults None are (inr failed) = absurd failed
+has_fetch evidence faults old_faults new_faults (Some fetch) are (inr failed) = inr (subst (λ fs. HasFetch evidence.fetch_faults fs) (sym are) (record { fetch = fetch; listed_so = inl refl; failed = failed }))
 
-pub verdict_refused : {S F H T : Type 0} (status : ℕ) (text : Bytes) (count : Counts S F H T) (files : Telling) (size workers moment : ℕ) (before after : Look) (old_faults new_faults : ℕ) (lines : List ScriptLine) (history : List Entry) (faults : List (Fault S F H T))
-    (refusal : OpenRefusal F) → IsTold status text (end_of_refusal refusal) → IsOpenRefused count.fetch before after old_faults new_faults refusal → history ≡ [] → faults ≡ listed (fetch_of refusal) → IsVerdict status text (IsOpenCause count files size workers moment before after old_faults new_faults lines history faults)
-verdict_refused status text count files size workers moment before after old_faults new_faults lines history faults refusals.Memory told refused empty are = told_none status text (IsOpenCause count files size workers moment before after old_faults new_faults lines history faults) told
-verdict_refused status text count files size workers moment before after old_faults new_faults lines history faults (refusals.DepotFault fetch) told refused empty are =
-    told_end status text (IsOpenCause count files size workers moment before after old_faults new_faults lines history faults) OpenFault told (empty, record { fetch = fetch; refused = refused; shown = has_fetch count faults old_faults new_faults fetch are refused.0 })
-verdict_refused status text count files size workers moment before after old_faults new_faults lines history faults (refusals.Damaged name why) told refused empty are = told_end status text (IsOpenCause count files size workers moment before after old_faults new_faults lines history faults) (Damaged name) told (empty, (why, refused))
-verdict_refused status text count files size workers moment before after old_faults new_faults lines history faults (refusals.TermsSpent term) told refused empty are = told_end status text (IsOpenCause count files size workers moment before after old_faults new_faults lines history faults) NoTerm told (empty, (term, refused))
+pub verdict_refused : {S F H T : Type 0} (status : ℕ) (text : Bytes) (evidence : Evidence S F H T) (files : Telling) (size workers moment : ℕ) (before after : Look) (old_faults new_faults : ℕ) (lines : List ScriptLine) (history : List Entry) (faults : List (Fault S F H T))
+    (refusal : OpenRefusal F) → IsTold status text (end_of_refusal refusal) → IsOpenRefused evidence.fetch_faults before after old_faults new_faults refusal → history ≡ [] → faults ≡ listed (fetch_of refusal) → IsVerdict status text (IsOpenCause evidence files size workers moment before after old_faults new_faults lines history faults)
+verdict_refused status text evidence files size workers moment before after old_faults new_faults lines history faults refusals.Memory told refused empty are = told_none status text (IsOpenCause evidence files size workers moment before after old_faults new_faults lines history faults) told
+verdict_refused status text evidence files size workers moment before after old_faults new_faults lines history faults (refusals.DepotFault fetch) told refused empty are =
+    told_end status text (IsOpenCause evidence files size workers moment before after old_faults new_faults lines history faults) OpenFault told (empty, record { fetch = fetch; refused = refused; shown = has_fetch evidence faults old_faults new_faults fetch are refused.0 })
+verdict_refused status text evidence files size workers moment before after old_faults new_faults lines history faults (refusals.Damaged name why) told refused empty are = told_end status text (IsOpenCause evidence files size workers moment before after old_faults new_faults lines history faults) (Damaged name) told (empty, (why, refused))
+verdict_refused status text evidence files size workers moment before after old_faults new_faults lines history faults (refusals.TermsSpent term) told refused empty are = told_end status text (IsOpenCause evidence files size workers moment before after old_faults new_faults lines history faults) NoTerm told (empty, (term, refused))
 
-pub verdict_stopped : {S F H T : Type 0} (status : ℕ) (text : Bytes) (count : Counts S F H T) (given : Given) (files : Telling) (reader : ℕ) (before after : Look) (old_faults new_faults : ℕ) (history : List Entry) (faults : List (Fault S F H T)) (end : Option RunEnd)
-    → IsTold status text end → StoppedBy (wanted_of (job_of given.words)) given.script given.faults reader end → IsUntouched files before after history faults → IsVerdict status text (IsCauseOf count given files reader before after old_faults new_faults history faults)
-verdict_stopped status text count given files reader before after old_faults new_faults history faults None told stop un = told_none status text (IsCauseOf count given files reader before after old_faults new_faults history faults) told
-verdict_stopped status text count given files reader before after old_faults new_faults history faults (Some BadWords) told stop un = told_end status text (IsCauseOf count given files reader before after old_faults new_faults history faults) BadWords told (un, stop)
-verdict_stopped status text count given files reader before after old_faults new_faults history faults (Some Unreadable) told stop un = told_end status text (IsCauseOf count given files reader before after old_faults new_faults history faults) Unreadable told (un, stop)
-verdict_stopped status text count given files reader before after old_faults new_faults history faults (Some BadScript) told stop un = told_end status text (IsCauseOf count given files reader before after old_faults new_faults history faults) BadScript told (un, stop)
-verdict_stopped status text count given files reader before after old_faults new_faults history faults (Some (BadLine number)) told stop un = told_end status text (IsCauseOf count given files reader before after old_faults new_faults history faults) (BadLine number) told (un, stop)
-verdict_stopped status text count given files reader before after old_faults new_faults history faults (Some OpenFault) told stop un = absurd stop
-verdict_stopped status text count given files reader before after old_faults new_faults history faults (Some (Damaged name)) told stop un = absurd stop
-verdict_stopped status text count given files reader before after old_faults new_faults history faults (Some NoTerm) told stop un = absurd stop
-verdict_stopped status text count given files reader before after old_faults new_faults history faults (Some (Carried script entries)) told stop un = absurd stop
+pub verdict_stopped : {S F H T : Type 0} (status : ℕ) (text : Bytes) (evidence : Evidence S F H T) (given : Given) (files : Telling) (reader : ℕ) (before after : Look) (old_faults new_faults : ℕ) (history : List Entry) (faults : List (Fault S F H T)) (end : Option RunEnd)
+    → IsTold status text end → StoppedBy (wanted_of (job_of given.words)) given.script given.faults reader end → IsUntouched files before after history faults → IsVerdict status text (IsCauseOf evidence given files reader before after old_faults new_faults history faults)
+verdict_stopped status text evidence given files reader before after old_faults new_faults history faults None told stop un = told_none status text (IsCauseOf evidence given files reader before after old_faults new_faults history faults) told
+verdict_stopped status text evidence given files reader before after old_faults new_faults history faults (Some BadWords) told stop un = told_end status text (IsCauseOf evidence given files reader before after old_faults new_faults history faults) BadWords told (un, stop)
+verdict_stopped status text evidence given files reader before after old_faults new_faults history faults (Some Unreadable) told stop un = told_end status text (IsCauseOf evidence given files reader before after old_faults new_faults history faults) Unreadable told (un, stop)
+verdict_stopped status text evidence given files reader before after old_faults new_faults history faults (Some BadScript) told stop un = told_end status text (IsCauseOf evidence given files reader before after old_faults new_faults history faults) BadScript told (un, stop)
+verdict_stopped status text evidence given files reader before after old_faults new_faults history faults (Some (BadLine number)) told stop un = told_end status text (IsCauseOf evidence given files reader before after old_faults new_faults history faults) (BadLine number) told (un, stop)
+verdict_stopped status text evidence given files reader before after old_faults new_faults history faults (Some OpenFault) told stop un = absurd stop
+verdict_stopped status text evidence given files reader before after old_faults new_faults history faults (Some (Damaged name)) told stop un = absurd stop
+verdict_stopped status text evidence given files reader before after old_faults new_faults history faults (Some NoTerm) told stop un = absurd stop
+verdict_stopped status text evidence given files reader before after old_faults new_faults history faults (Some (Carried script entries)) told stop un = absurd stop
 
 -- from the opening on, with the words and the script
-with_script : {S F H T : Type 0} (count : Counts S F H T) (given : Given) (files : Telling) (reader size workers : ℕ) (before after : Look) (old_faults new_faults : ℕ) (lines : List ScriptLine) (history : List Entry) (faults : List (Fault S F H T)) (end : RunEnd)
-    → part_size_of (wanted_of (job_of given.words)) ≡ Some size → workers_of (job_of given.words) ≡ Some workers → IsScript given lines → IsOpenCause count files size workers given.moment before after old_faults new_faults lines history faults end → IsCauseOf count given files reader before after old_faults new_faults history faults end
-with_script count given files reader size workers before after old_faults new_faults lines history faults (Carried script entries) size_is workers_are is cause =
+with_script : {S F H T : Type 0} (evidence : Evidence S F H T) (given : Given) (files : Telling) (reader size workers : ℕ) (before after : Look) (old_faults new_faults : ℕ) (lines : List ScriptLine) (history : List Entry) (faults : List (Fault S F H T)) (end : RunEnd)
+    → part_size_of (wanted_of (job_of given.words)) ≡ Some size → workers_of (job_of given.words) ≡ Some workers → IsScript given lines → IsOpenCause evidence files size workers given.moment before after old_faults new_faults lines history faults end → IsCauseOf evidence given files reader before after old_faults new_faults history faults end
+with_script evidence given files reader size workers before after old_faults new_faults lines history faults (Carried script entries) size_is workers_are is cause =
     (cause.1, (record { size = size; size_is = size_is; workers = workers; workers_are = workers_are; lines = lines; script = is; run = cause.2.0 }, sym cause.0, cause.2.1))
-with_script count given files reader size workers before after old_faults new_faults lines history faults OpenFault size_is workers_are is cause = ((lines, is), cause)
-with_script count given files reader size workers before after old_faults new_faults lines history faults (Damaged name) size_is workers_are is cause = ((lines, is), cause)
-with_script count given files reader size workers before after old_faults new_faults lines history faults NoTerm size_is workers_are is cause = ((lines, is), cause)
-with_script count given files reader size workers before after old_faults new_faults lines history faults BadWords size_is workers_are is cause = absurd cause
-with_script count given files reader size workers before after old_faults new_faults lines history faults Unreadable size_is workers_are is cause = absurd cause
-with_script count given files reader size workers before after old_faults new_faults lines history faults BadScript size_is workers_are is cause = absurd cause
-with_script count given files reader size workers before after old_faults new_faults lines history faults (BadLine number) size_is workers_are is cause = absurd cause
+with_script evidence given files reader size workers before after old_faults new_faults lines history faults OpenFault size_is workers_are is cause = ((lines, is), cause)
+with_script evidence given files reader size workers before after old_faults new_faults lines history faults (Damaged name) size_is workers_are is cause = ((lines, is), cause)
+with_script evidence given files reader size workers before after old_faults new_faults lines history faults NoTerm size_is workers_are is cause = ((lines, is), cause)
+with_script evidence given files reader size workers before after old_faults new_faults lines history faults BadWords size_is workers_are is cause = absurd cause
+with_script evidence given files reader size workers before after old_faults new_faults lines history faults Unreadable size_is workers_are is cause = absurd cause
+with_script evidence given files reader size workers before after old_faults new_faults lines history faults BadScript size_is workers_are is cause = absurd cause
+with_script evidence given files reader size workers before after old_faults new_faults lines history faults (BadLine number) size_is workers_are is cause = absurd cause
 
-pub verdict_opened : {S F H T : Type 0} (status : ℕ) (text : Bytes) (count : Counts S F H T) (given : Given) (files : Telling) (reader size workers : ℕ) (before after : Look) (old_faults new_faults : ℕ) (lines : List ScriptLine) (history : List Entry) (faults : List (Fault S F H T))
-    → part_size_of (wanted_of (job_of given.words)) ≡ Some size → workers_of (job_of given.words) ≡ Some workers → IsScript given lines → IsVerdict status text (IsOpenCause count files size workers given.moment before after old_faults new_faults lines history faults)
-    → IsVerdict status text (IsCauseOf count given files reader before after old_faults new_faults history faults)
-verdict_opened status text count given files reader size workers before after old_faults new_faults lines history faults size_is workers_are is (inl wanting) = inl wanting
-verdict_opened status text count given files reader size workers before after old_faults new_faults lines history faults size_is workers_are is (inr v) =
-    inr (record { end = v.end; status_is = v.status_is; text_is = v.text_is; cause = with_script count given files reader size workers before after old_faults new_faults lines history faults v.end size_is workers_are is v.cause })
+pub verdict_opened : {S F H T : Type 0} (status : ℕ) (text : Bytes) (evidence : Evidence S F H T) (given : Given) (files : Telling) (reader size workers : ℕ) (before after : Look) (old_faults new_faults : ℕ) (lines : List ScriptLine) (history : List Entry) (faults : List (Fault S F H T))
+    → part_size_of (wanted_of (job_of given.words)) ≡ Some size → workers_of (job_of given.words) ≡ Some workers → IsScript given lines → IsVerdict status text (IsOpenCause evidence files size workers given.moment before after old_faults new_faults lines history faults)
+    → IsVerdict status text (IsCauseOf evidence given files reader before after old_faults new_faults history faults)
+verdict_opened status text evidence given files reader size workers before after old_faults new_faults lines history faults size_is workers_are is (inl wanting) = inl wanting
+verdict_opened status text evidence given files reader size workers before after old_faults new_faults lines history faults size_is workers_are is (inr v) =
+    inr (record { end = v.end; status_is = v.status_is; text_is = v.text_is; cause = with_script evidence given files reader size workers before after old_faults new_faults lines history faults v.end size_is workers_are is v.cause })
 
-pub run_opened : {S F H T : Type 0} (count : Counts S F H T) (given : Given) (files : Telling) (size workers : ℕ) (lines : List ScriptLine) (before after : Look) (old_faults new_faults : ℕ) (history : List Entry) (faults : List (Fault S F H T))
-    → IsScript given lines → part_size_of (wanted_of (job_of given.words)) ≡ Some size → workers_of (job_of given.words) ≡ Some workers → IsUnopened count files before after old_faults new_faults history faults ⊎ IsOpenedRun count files size workers given.moment lines before after history faults → IsRunOf count given files before after old_faults new_faults history faults
-run_opened count given files size workers lines before after old_faults new_faults history faults is size_is workers_are (inl unopened) = inr (inl unopened)
-run_opened count given files size workers lines before after old_faults new_faults history faults is size_is workers_are (inr run) = inr (inr (record { size = size; size_is = size_is; workers = workers; workers_are = workers_are; lines = lines; script = is; run = run }))
+pub run_opened : {S F H T : Type 0} (evidence : Evidence S F H T) (given : Given) (files : Telling) (size workers : ℕ) (lines : List ScriptLine) (before after : Look) (old_faults new_faults : ℕ) (history : List Entry) (faults : List (Fault S F H T))
+    → IsScript given lines → part_size_of (wanted_of (job_of given.words)) ≡ Some size → workers_of (job_of given.words) ≡ Some workers → IsUnopened evidence files before after old_faults new_faults history faults ⊎ IsOpenedRun evidence files size workers given.moment lines before after history faults → IsRunOf evidence given files before after old_faults new_faults history faults
+run_opened evidence given files size workers lines before after old_faults new_faults history faults is size_is workers_are (inl unopened) = inr (inl unopened)
+run_opened evidence given files size workers lines before after old_faults new_faults history faults is size_is workers_are (inr run) = inr (inr (record { size = size; size_is = size_is; workers = workers; workers_are = workers_are; lines = lines; script = is; run = run }))
 
 -- ---- printed
 
@@ -275,5 +284,5 @@ printed status wanted text old new old_faults new_faults Cause (inr v) is =
 -- ---- the objects that failed
 
 -- over the same history
-pub logged : {S F H T : Type 0} (count : Counts S F H T) (s : Start) (log same : List Moment) (faults : List (Fault S F H T)) → same ≡ log → AreShown count s log faults → AreShown count s same faults
-logged {S} {F} {H} {T} count s log same faults e shown = subst (λ (l : List Moment). AreShown {S = S} {F = F} {H = H} {T = T} count s l faults) (sym e) shown
+pub logged : {S F H T : Type 0} (evidence : Evidence S F H T) (s : Start) (log same : List Moment) (faults : List (Fault S F H T)) → same ≡ log → AreShown evidence s log faults → AreShown evidence s same faults
+logged {S} {F} {H} {T} evidence s log same faults e shown = subst (λ (l : List Moment). AreShown {S = S} {F = F} {H = H} {T = T} evidence s l faults) (sym e) shown

@@ -1,7 +1,7 @@
-pub mod Filling
-pub mod Making
-pub mod Unended
+pub mod Alone
 pub mod Parts
+pub mod Apart
+pub mod Making
 pub mod Reading
 pub mod Asking
 pub mod Scripts
@@ -16,9 +16,9 @@ pub mod Counting
 pub mod Completing
 pub mod Sourceless
 pub mod Smoothly
-pub mod Waiting
 pub mod Taking
 pub mod Checks
 pub mod Verifying
 pub mod Checking
 pub mod Falling
+pub mod Undamaged

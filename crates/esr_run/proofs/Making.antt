@@ -19,7 +19,7 @@ use Rattle.esr_desk.specs.Start.{Start, Legal, formats_of, world_of, or_no_ticke
 use Rattle.esr_desk.specs.Outcome.{Stepped, Refusing, Outcome}
 use Rattle.esr_desk.specs.Last.{IsLast}
 use Rattle.esr_desk.specs.Grew.{NoneOut}
-use Rattle.esr_desk.specs.Readers.{or_no_reader, reader_of}
+use Rattle.esr_desk.specs.Own.{or_no_reader, reader_of}
 use Rattle.esr_quiet.specs.Asked.{GrewAsking}
 use Rattle.esr_quiet.specs.Asking.{asking_none, asking_on, asks_of, asking_refused}
 use Rattle.esr_quiet.specs.Numbers.{HasNoTickets}
@@ -28,10 +28,12 @@ use Rattle.esr_complete.specs.Lines.{steps_of_item, steps_of}
 use Rattle.esr_complete.specs.Answers.{NoReaderOut, IsIdle}
 use Rattle.esr_run.specs.Script.{is_carried, first_bad}
 use Rattle.esr_run.specs.Laws.{StepsStay}
-use Rattle.esr_run.proofs.Filling.{AsksLine}
+use Rattle.esr_drive.specs.Works.{WorksOnly}
+use Rattle.esr_verify.specs.Began.{HasBegun}
 use Rattle.esr_check.specs.Began.{HasEndedCheck}
-use Rattle.esr_run.specs.Checked.{is_check, asks_check, EndsNone}
-use Rattle.esr_run.specs.Made.{MadeFirst, HasStopped, HasNoReaders, AreIn, LineMade, LineRests, WaitEnds, WaitEnded, WaitsEnded, AreMade, AreDone, NoneOpen, WasStopped, WasLeft, AreAsked, LineSpends, WasLookRefused, CheckEnds, CheckEnded, ChecksEnded, LinePart, AreInParts}
+use Rattle.esr_run.specs.Checked.{is_check, asks_check}
+use Rattle.esr_run.specs.Made.{MadeFirst, HasStopped, HasNoReaders, AreIn, LineMade, LineRests, WaitEnds, WaitEnded, WaitsEnded, AreMade, AreDone, NoneOpen, WasStopped, WasLeft, AreAsked, LineSpends, WasLookRefused, CheckEnds, CheckEnded, ChecksEnded, VerifyBegins, AsksLine, LinePart, AreInParts, AskedApart}
+use Rattle.esr_run.proofs.Apart.{apart_none, apart_on, works_apart, line_apart}
 
 abbrev Readers : Type 0
 Readers = FinMap nat_cmp Reader
@@ -166,11 +168,22 @@ was_stopped s new (steps.Refused refusal) alone h some =
       stops = h.3;
     })
 
-pub rests_waiting : (s : Start) (old new : List Moment) (result : Result Unit StepRefusal) → OnOk result (s.alone ≡ true → AreIn s old → AreIn s new) → IfErr result (IsStopped s new) → s.alone ≡ true → AreIn s old → LineRests s new result
-rests_waiting s old new (Ok x) ok stopped alone rest = ok alone rest
-rests_waiting s old new (Err steps.Memory) ok stopped alone rest = tt
-rests_waiting s old new (Err steps.TurnsSpent) ok stopped alone rest = stopped alone
-rests_waiting s old new (Err (steps.Refused refusal)) ok stopped alone rest = inr (was_stopped s new (steps.Refused refusal) alone stopped (λ e. cc))
+pub rests_waiting : (s : Start) (old new : List Moment) (result : Result Unit StepRefusal) → OnOk result (s.alone ≡ true → NoneOut s old → NoneOut s new) → OnOk result (s.alone ≡ true → NoReaderOut s old → NoReaderOut s new)
+    → IfErr result (IsStopped s new) → s.alone ≡ true → AreIn s old → LineRests s new result
+rests_waiting s old new (Ok x) rest readers stopped alone none = record { tickets = rest alone none.tickets; readers = readers alone none.readers }
+rests_waiting s old new (Err steps.Memory) rest readers stopped alone none = tt
+rests_waiting s old new (Err steps.TurnsSpent) rest readers stopped alone none = stopped alone
+rests_waiting s old new (Err (steps.Refused refusal)) rest readers stopped alone none = inr (was_stopped s new (steps.Refused refusal) alone stopped (λ e. cc))
+
+pub spends_waiting : (s : Start) (new : List Moment) (result : Result Unit StepRefusal) → IfErr result (IsStopped s new) → s.alone ≡ true → LineSpends new result
+spends_waiting s new (Ok x) stopped alone = tt
+spends_waiting s new (Err e) stopped alone = spent_waiting s new e stopped alone
+
+pub made_waiting : (s : Start) (old new : List Moment) (result : Result Unit StepRefusal) → GrewAsking s [] old new → LineMade s [] old new result
+made_waiting s old new (Ok x) g = g
+made_waiting s old new (Err steps.Memory) g = record { first = []; rest = []; grew = g; is = refl }
+made_waiting s old new (Err steps.TurnsSpent) g = record { first = []; rest = []; grew = g; is = refl }
+made_waiting s old new (Err (steps.Refused refusal)) g = g
 
 pub wait_ends : (s : Start) (new : List Moment) (result : Result Unit StepRefusal) → OnOk result (IsLast new 0 TakeStep NothingReady) → IfErr result (IsStopped s new) → s.alone ≡ true → WaitEnds new result
 wait_ends s new (Ok x) idle stopped alone = idle
@@ -320,10 +333,11 @@ steps_append : (moment : ℕ) (a b : List ScriptLine) → steps_of moment (a ++ 
 steps_append moment [] b = refl
 steps_append moment (line ∷ a) b = ap (λ (l : List Step). steps_of_item moment line.item ++ l) (steps_append moment a b) ∙ sym (append_assoc (steps_of_item moment line.item) (steps_of moment a) (steps_of moment b))
 
--- no ticket is out, and each wait among them has ended
+-- no ticket is out, nor was where they asked, and each wait among them has ended
 pub record Rested (s : Start) (moment : ℕ) (done : List ScriptLine) (old new : List Moment) : Type 0 where
   pub none_out : AreIn s new
   pub waits : WaitsEnded s moment done old new
+  pub apart : AskedApart s old new
 
 pub record Front (s : Start) (moment : ℕ) (left lines : List ScriptLine) (old new : List Moment) : Type 0 where
   pub done : List ScriptLine
@@ -334,22 +348,26 @@ pub record Front (s : Start) (moment : ℕ) (left lines : List ScriptLine) (old 
   pub rests : s.alone ≡ true → AreIn s old → Rested s moment done old new ⊎ HasStopped new
 
 pub front_none : (s : Start) (moment : ℕ) (lines : List ScriptLine) (log : List Moment) → Front s moment lines lines log log
-front_none s moment lines log = record { done = []; is = refl; grew = asking_none s log; checks = no_checks s moment log log; parts = refl; rests = λ alone none. inl (record { none_out = none; waits = no_waits s moment log log }) }
+front_none s moment lines log = record { done = []; is = refl; grew = asking_none s log; checks = no_checks s moment log log; parts = refl; rests = λ alone none. inl (record { none_out = none; waits = no_waits s moment log log; apart = apart_none s log }) }
 
 pub front_next : (s : Start) (moment : ℕ) (line : ScriptLine) (rest lines : List ScriptLine) (old mid new : List Moment) → Front s moment (line ∷ rest) lines old mid → GrewAsking s (steps_of_item moment line.item) mid new
-    → EndsCheck line.item mid new → (is_check line.item ≡ false → EndsNone mid new) → (s.alone ≡ true → AreIn s mid → LineEnded s line.item new) → Front s moment rest lines old new
-front_next s moment line rest lines old mid new f g ends others ended =
+    → LinePart line.item mid new → (s.alone ≡ true → AreIn s mid → LineEnded s line.item new) → Front s moment rest lines old new
+front_next s moment line rest lines old mid new f g part ended =
     let same : steps_of moment (f.done ++ line ∷ []) ≡ steps_of moment f.done ++ steps_of_item moment line.item =
     steps_append moment f.done (line ∷ []) ∙ ap (λ (l : List Step). steps_of moment f.done ++ l) (append-nil (steps_of_item moment line.item)) in
     record {
       done = f.done ++ line ∷ [];
       is = append_assoc f.done (line ∷ []) rest ∙ f.is;
       grew = subst (λ (l : List Step). GrewAsking s l old new) (sym same) (asking_on s (steps_of moment f.done) (steps_of_item moment line.item) old mid new f.grew g);
-      checks = checks_next s moment f.done line old mid new f.grew g f.checks ends;
-      parts = parts_next s moment f.done line old mid new f.parts g (record { checks = ends; others = others });
+      checks = checks_next s moment f.done line old mid new f.grew g f.checks part.checks;
+      parts = parts_next s moment f.done line old mid new f.parts g part;
       rests = λ alone none. ⊎_elim
           (λ (r : Rested s moment f.done old mid). ⊎_elim
-          (λ (e : AreIn s new × (line.item ≡ items.Wait → IsLast new 0 TakeStep NothingReady)). inl (record { none_out = e.0; waits = waits_next s moment f.done line old mid new f.grew g r.waits e.0 e.1 }))
+          (λ (e : AreIn s new × (line.item ≡ items.Wait → IsLast new 0 TakeStep NothingReady)). inl (record {
+            none_out = e.0;
+            waits = waits_next s moment f.done line old mid new f.grew g r.waits e.0 e.1;
+            apart = apart_on s old mid new r.apart (line_apart s moment line.item mid new alone r.none_out g part);
+          }))
           (λ (was : HasStopped new). inr was)
           (ended alone r.none_out))
           (λ (was : HasStopped mid). inr (stopped_stays s (steps_of_item moment line.item) mid new g was))
@@ -388,7 +406,7 @@ front_all s moment left lines old new none f closed alone out =
     let grew : GrewAsking s (steps_of moment lines) old new = subst (λ (l : List ScriptLine). GrewAsking s (steps_of moment l) old new) all f.grew in
     let checks : ChecksEnded s moment lines old new = subst (λ (l : List ScriptLine). ChecksEnded s moment l old new) all f.checks in
     elim (f.rests alone out) [
-      | inl r ↦ inl (record { grew = grew; waits = subst (λ (l : List ScriptLine). WaitsEnded s moment l old new) all r.waits; checks = checks; parts = subst (λ (l : List ScriptLine). AreInParts s moment l old new) all f.parts; rests = r.none_out; closed = closed })
+      | inl r ↦ inl (record { grew = grew; waits = subst (λ (l : List ScriptLine). WaitsEnded s moment l old new) all r.waits; checks = checks; parts = subst (λ (l : List ScriptLine). AreInParts s moment l old new) all f.parts; apart = r.apart; rests = r.none_out; closed = closed })
       | inr (inl was) ↦ inr (inl (record { grew = grew; checks = checks; closed = closed }, was))
       | inr (inr turns) ↦ inr (inr turns)
     ]
@@ -406,9 +424,9 @@ made_then s wanted old mid new f g = record {
 then_asked : (s : Start) (moment : ℕ) (lines : List ScriptLine) (old mid new : List Moment) → GrewAsking s (steps_of moment lines) old mid → GrewAsking s [] mid new → GrewAsking s (steps_of moment lines) old new
 then_asked s moment lines old mid new all g = subst (λ (l : List Step). GrewAsking s l old new) (append-nil (steps_of moment lines)) (asking_on s (steps_of moment lines) [] old mid new all g)
 
-pub done_then : (s : Start) (moment : ℕ) (lines : List ScriptLine) (old mid new : List Moment) → (s.alone ≡ true → AreIn s old → AreMade s moment lines old mid ⊎ WasLeft s moment lines old mid) → GrewAsking s [] mid new → EndsNone mid new → (s.alone ≡ true → AreIn s mid → IsIdle s new ⊎ HasStopped new)
+pub done_then : (s : Start) (moment : ℕ) (lines : List ScriptLine) (old mid new : List Moment) → (s.alone ≡ true → AreIn s old → AreMade s moment lines old mid ⊎ WasLeft s moment lines old mid) → GrewAsking s [] mid new → WorksOnly mid new → (s.alone ≡ true → AreIn s mid → IsIdle s new ⊎ HasStopped new)
     → (NoneOpen s mid → NoneOpen s new) → s.alone ≡ true → AreIn s old → AreDone s moment lines old new ⊎ WasLeft s moment lines old new
-done_then s moment lines old mid new made g unended done closes alone none = elim (made alone none) [
+done_then s moment lines old mid new made g works done closes alone none = elim (made alone none) [
   | inl all ↦ made_well all (done alone all.rests)
   | inr (inl left) ↦ inr (left_on left (stopped_stays s [] mid new g (inl left.1)))
   | inr (inr turns) ↦ inr (turns_on turns)
@@ -425,7 +443,8 @@ done_then s moment lines old mid new made g unended done closes alone none = eli
       grew = then_asked s moment lines old mid new all.grew g;
       waits = λ before after line is wait. wait_on s moment before [] old mid new g (all.waits before after line is wait);
       checks = checks_then all.checks;
-      parted = record { mid = mid; parts = all.parts; grew = g; none = unended };
+      parted = record { mid = mid; parts = all.parts; grew = g; works = works };
+      apart = apart_on s old mid new all.apart (works_apart s mid new works);
       idle = idle;
       closed = closes all.closed;
     })
@@ -441,12 +460,6 @@ done_then s moment lines old mid new made g unended done closes alone none = eli
         let whole : length new ≡ length mid + length g.more = ap length g.is ∙ length-append mid g.more in
         let most : 2 ^ 40 ≤ length mid = turns in
         inr (omega (arith, whole, most))
-
-pub turns_spent : (s : Start) (new : List Moment) (e : StepRefusal) → e ≡ steps.TurnsSpent → IsStopped s new e → s.alone ≡ true → HasStopped new
-turns_spent s new e is h alone = inr (subst (IsStopped s new) is h alone)
-
-pub step_refused : (s : Start) (new : List Moment) (e : StepRefusal) (refusal : EntryRefusal) → e ≡ steps.Refused refusal → IsStopped s new e → s.alone ≡ true → HasStopped new
-step_refused s new e refusal is h alone = was_stopped s new (steps.Refused refusal) alone (subst (IsStopped s new) is h) (λ none. cc)
 
 -- ---- by the answer of a line
 
@@ -466,6 +479,10 @@ made_stopped s moment left lines wanted old mid new (steps.Refused refusal) asks
 -- the look of a check was refused
 pub look_refused : (mid new : List Moment) (e : StepRefusal) (refusal : EntryRefusal) → e ≡ steps.Refused refusal → CheckEnds {X = Unit} mid new (Err e) → WasLookRefused mid new
 look_refused mid new e refusal is h = subst (λ (x : StepRefusal). CheckEnds {X = Unit} mid new (Err x)) is h
+
+-- a verification was refused after its draw
+pub begun_refused : (mid new : List Moment) (e : StepRefusal) (refusal : EntryRefusal) → e ≡ steps.Refused refusal → VerifyBegins {X = Unit} mid new (Err e) → HasBegun mid new
+begun_refused mid new e refusal is h = subst (λ (x : StepRefusal). VerifyBegins {X = Unit} mid new (Err x)) is h
 
 -- all turns were taken
 pub spent_turns : (new : List Moment) (e : StepRefusal) → e ≡ steps.TurnsSpent → LineSpends {X = Unit} new (Err e) → 2 ^ 40 ≤ length new
@@ -498,10 +515,10 @@ take_rest [] = take_all (length (drop 1 none) - 1) (drop 1 none) (let few : 0 �
 take_rest (x ∷ rest) = take_all (length (x ∷ rest) - 1) rest (let le : length rest ≤ suc (length rest) - 1 = omega arith in le)
 
 step_front : (s : Start) (moment : ℕ) (line : ScriptLine) (left lines : List ScriptLine) (old mid new : List Moment) → 1 ≤ length left → line ≡ slice_index_or left 0 line → Front s moment left lines old mid → GrewAsking s (steps_of_item moment line.item) mid new
-    → EndsCheck line.item mid new → (is_check line.item ≡ false → EndsNone mid new) → (s.alone ≡ true → AreIn s mid → LineEnded s line.item new) → Front s moment (drop 1 left) lines old new
-step_front s moment line [] lines old mid new some is f g ends others ended = absurd (let none : List ScriptLine = [] in let le : 1 ≤ length none = some in omega (arith, le))
-step_front s moment line (x ∷ rest) lines old mid new some is f g ends others ended =
-    front_next s moment x rest lines old mid new f (subst (λ (l : ScriptLine). GrewAsking s (steps_of_item moment l.item) mid new) is g) (subst (λ (l : ScriptLine). EndsCheck l.item mid new) is ends) (subst (λ (l : ScriptLine). is_check l.item ≡ false → EndsNone mid new) is others) (subst (λ (l : ScriptLine). s.alone ≡ true → AreIn s mid → LineEnded s l.item new) is ended)
+    → LinePart line.item mid new → (s.alone ≡ true → AreIn s mid → LineEnded s line.item new) → Front s moment (drop 1 left) lines old new
+step_front s moment line [] lines old mid new some is f g part ended = absurd (let none : List ScriptLine = [] in let le : 1 ≤ length none = some in omega (arith, le))
+step_front s moment line (x ∷ rest) lines old mid new some is f g part ended =
+    front_next s moment x rest lines old mid new f (subst (λ (l : ScriptLine). GrewAsking s (steps_of_item moment l.item) mid new) is g) (subst (λ (l : ScriptLine). LinePart l.item mid new) is part) (subst (λ (l : ScriptLine). s.alone ≡ true → AreIn s mid → LineEnded s l.item new) is ended)
 
 -- a line that is a check is one of these
 asks_has : (done : List ScriptLine) (line : ScriptLine) (rest : List ScriptLine) → is_check line.item ≡ true → asks_check (done ++ line ∷ rest) ≡ true
@@ -526,8 +543,8 @@ asks_here s moment line left lines old mid some is f check =
     subst (λ (l : List ScriptLine). asks_check l ≡ true) (ap (λ (l : List ScriptLine). f.done ++ l) (sym first.1) ∙ f.is) (asks_has f.done line first.0 check)
 
 pub front_step : (s : Start) (moment : ℕ) (line : ScriptLine) (left lines : List ScriptLine) (old mid new : List Moment) → 1 ≤ length left → line ≡ slice_index_or left 0 line → Front s moment left lines old mid → GrewAsking s (steps_of_item moment line.item) mid new
-    → EndsCheck line.item mid new → (is_check line.item ≡ false → EndsNone mid new) → (s.alone ≡ true → AreIn s mid → LineEnded s line.item new) → Front s moment (take (length left - 1) (drop 1 left)) lines old new
-front_step s moment line left lines old mid new some is f g ends others ended = subst (λ (l : List ScriptLine). Front s moment l lines old new) (sym (take_rest left)) (step_front s moment line left lines old mid new some is f g ends others ended)
+    → LinePart line.item mid new → (s.alone ≡ true → AreIn s mid → LineEnded s line.item new) → Front s moment (take (length left - 1) (drop 1 left)) lines old new
+front_step s moment line left lines old mid new some is f g part ended = subst (λ (l : List ScriptLine). Front s moment l lines old new) (sym (take_rest left)) (step_front s moment line left lines old mid new some is f g part ended)
 
 when_good : (b : Bool) (number : ℕ) (o : Option ℕ) → (if b then o else Some number) ≡ None → o ≡ None
 when_good true number o e = e
@@ -549,9 +566,6 @@ as_refused s wanted mid new e refusal is h = subst (λ (x : StepRefusal). LineMa
 
 pub rests_refused : (s : Start) (new : List Moment) (e : StepRefusal) (refusal : EntryRefusal) → e ≡ steps.Refused refusal → LineRests {X = Unit} s new (Err e) → AreIn s new ⊎ HasStopped new
 rests_refused s new e refusal is h = subst (λ (x : StepRefusal). LineRests {X = Unit} s new (Err x)) is h
-
-pub as_spent : (s : Start) (wanted : List Step) (mid new : List Moment) (e : StepRefusal) → e ≡ steps.TurnsSpent → LineMade {X = Unit} s wanted mid new (Err e) → LineMade {X = Unit} s wanted mid new (Err steps.TurnsSpent)
-as_spent s wanted mid new e is h = subst (λ (x : StepRefusal). LineMade {X = Unit} s wanted mid new (Err x)) is h
 
 pub rests_spent : (s : Start) (new : List Moment) (e : StepRefusal) → e ≡ steps.TurnsSpent → LineRests {X = Unit} s new (Err e) → LineRests {X = Unit} s new (Err steps.TurnsSpent)
 rests_spent s new e is h = subst (λ (x : StepRefusal). LineRests {X = Unit} s new (Err x)) is h

@@ -8,7 +8,7 @@ use Rattle.esr_desk.specs.Start.{Start}
 use Rattle.esr_desk.specs.Outcome.{Outcome}
 use Rattle.esr_drive.specs.Takes.{idle_take, idle_takes, stepped_takes, refused_takes}
 use Rattle.esr_run.specs.Waits.{waits_in, waits_of, TakesFew}
-use Rattle.esr_run.proofs.Filling.{AsksLine}
+use Rattle.esr_run.specs.Made.{AsksLine}
 use Rattle.esr_run.proofs.Making.{take_rest}
 
 -- ---- what a line asks for takes no unit

@@ -6,7 +6,7 @@ use Rattle.esr_model.specs.Values.{Has, Formats}
 use Rattle.esr_model.specs.Names.{BlobName}
 use Rattle.esr_model.specs.Image.{Image}
 use Rattle.esr_core.specs.World.{World, Ticket, Reader, no_caller}
-use Rattle.esr_core.specs.Entry.{Asked, Read, ReadBlob, RestoredShard, DrawTest, BeginTest, CommitTest, RemoveTests, VerifiedAll, ReadFails, Step, AskStep, LookStep, TakeStep, ReadStep, Reply, DeposedAt, StaleTerm, Refused, HasEnded, DrawnFrom, WasRemoved, Entry, Moment}
+use Rattle.esr_core.specs.Entry.{Asked, Read, ReadBlob, RestoredShard, DrawTest, BeginTest, CommitTest, RemoveTests, VerifiedAll, ReadFails, Step, AskStep, LookStep, TakeStep, ReadStep, Reply, DeposedAt, AbortedBy, StaleTerm, Refused, HasEnded, DrawnFrom, WasRemoved, Entry, Moment}
 use Rattle.esr_core.specs.After.{answered, caller_after, after}
 use Rattle.esr_desk.specs.declared.refusal.StepRefusal.{StepRefusal}
 use Rattle.esr_desk.specs.declared.refusal.StepRefusal.TheVariants as steps
@@ -16,10 +16,9 @@ use Rattle.esr_desk.specs.declared.unit.UnitRefusal.{UnitRefusal}
 use Rattle.esr_desk.specs.declared.unit.UnitRefusal.TheVariants as units
 use Rattle.esr_desk.specs.Refusals.{refusal_of}
 use Rattle.esr_desk.specs.Start.{Start, Legal, formats_of, world_of, ticket_of}
-use Rattle.esr_desk.specs.Readers.{or_no_reader}
+use Rattle.esr_desk.specs.Own.{or_no_reader, caller_of}
 use Rattle.esr_desk.specs.Outcome.{Waited, Stepped, Outcome}
-use Rattle.esr_checking.specs.Caller.{caller_of}
-use Rattle.esr_checking.specs.Shown.{Counts}
+use Rattle.esr_desk.specs.Evidence.{Evidence}
 use Rattle.esr_quiet.specs.Asked.{is_line_ask, as_asked, asked_steps, GrewAsking}
 use Rattle.esr_quiet.specs.Asking.{asking_none}
 use Rattle.esr_quiet.specs.Numbers.{HasNoTickets}
@@ -27,21 +26,19 @@ use Rattle.esr_quiet.specs.Smooth.{HasDrawn}
 use Rattle.esr_quiet.proofs.Prefixes.{legal_front}
 use Rattle.esr_drive.specs.Works.{IsWork, AllWork, WorksOnly}
 use Rattle.esr_drive.specs.Takes.{idle_take, idle_takes, takes_more}
-use Rattle.esr_drive.specs.Restored.{Restoration, restorations_by, restorations_in, RestoresNone}
 use Rattle.esr_verify.specs.Idle.{IsIdle}
 use Rattle.esr_verify.specs.Steps.{Answered, test_names, writing, reading, verification}
 use Rattle.esr_verify.specs.Verified.{Are, HasVerified}
 use Rattle.esr_verify.specs.Refused.{StopsVerify, IsVerifyRefused}
 use Rattle.esr_verify.specs.Began.{IsFurther, AllFurther, HasBegun, BeganOne, NotBegun, Begun, AsksOne, NoneVerified}
-use Rattle.esr_run.specs.Made.{MadeFirst, AreIn, LineMade, LineRests, LineSpends, NoneOpen}
+use Rattle.esr_run.specs.Made.{MadeFirst, AreIn, LineMade, LineRests, LineSpends, VerifyBegins, AsksLine, NoneOpen}
 use Rattle.esr_run.specs.Laws.{StepsStay, WorkLeaves}
 use Rattle.esr_check.specs.Began.{IsOfCheck}
 use Rattle.esr_run.specs.Checked.{HasLooked}
 use Rattle.esr_run.specs.Verified.{AreVerified, AreBegun, AreClosed, AreWhole, MayVerify, VerifiesOn}
-use Rattle.esr_run.proofs.Filling.{AsksLine}
 use Rattle.esr_run.proofs.Completing.{in_front, in_middle}
 use Rattle.esr_run.proofs.Making.{world_one, legal_one, same_or_not}
-use Rattle.esr_run.proofs.Checks.{no_cons, split_end, fails_other, begun_unchecked, maybe_unchecked, begun_checked, maybe_checked}
+use Rattle.esr_run.proofs.Checks.{NoneZero, no_cons, split_end, fails_other, begun_unchecked, maybe_unchecked, begun_checked, maybe_checked}
 
 -- ---- steps that read nothing for who 0
 
@@ -108,12 +105,14 @@ looked_idle = refl
 -- by an ask or a look
 ask_idle : (f : Formats) (w : World) (command : Asked) (reply : Reply) (image : Option Image) → IsIdle w.caller → IsIdle (caller_after f (answered f w 0 (AskStep command) reply image).caller 0 (AskStep command) reply image)
 ask_idle f w command (Refused (DeposedAt place)) image idle = idle
+ask_idle f w command (Refused (AbortedBy op)) image idle = idle
 ask_idle f w command (Refused (StaleTerm own now)) image idle = idle
 ask_idle f w command (Refused refusal) image idle = none_idle
 ask_idle f w command reply image idle = none_idle
 
 look_idle : (f : Formats) (w : World) (reply : Reply) (image : Option Image) → IsIdle w.caller → IsIdle (caller_after f (answered f w 0 LookStep reply image).caller 0 LookStep reply image)
 look_idle f w (Refused (DeposedAt place)) image idle = idle
+look_idle f w (Refused (AbortedBy op)) image idle = idle
 look_idle f w (Refused (StaleTerm own now)) image idle = idle
 look_idle f w (Refused refusal) image idle = looked_idle
 look_idle f w reply image idle = looked_idle
@@ -259,6 +258,7 @@ abbrev pub line_result : Result Unit UnitRefusal → Result Unit StepRefusal
 line_result (Ok x) = Ok tt
 line_result (Err (units.Failed why)) = Ok tt
 line_result (Err (units.Stopped refusal)) = Err refusal
+line_result (Err units.Stale) = Ok tt
 
 pub verify_made : (s : Start) (old new : List Moment) (r : Result Unit UnitRefusal) → AsksOne old new r → (Legal s old → Legal s new) → LineMade s (ReadStep DrawTest ∷ []) old new (line_result r)
 verify_made s old new (Ok x) h legal = begun_asks s old new h legal
@@ -266,6 +266,15 @@ verify_made s old new (Err (units.Failed why)) h legal = begun_asks s old new h 
 verify_made s old new (Err (units.Stopped (steps.Refused refusal))) h legal = begun_asks s old new h legal
 verify_made s old new (Err (units.Stopped steps.Memory)) h legal = front_asked s old new h legal
 verify_made s old new (Err (units.Stopped steps.TurnsSpent)) h legal = front_asked s old new h legal
+verify_made s old new (Err units.Stale) h legal = absurd h
+
+pub verify_begins : (old new : List Moment) (r : Result Unit UnitRefusal) → AsksOne old new r → VerifyBegins old new (line_result r)
+verify_begins old new (Ok x) h = h
+verify_begins old new (Err (units.Failed why)) h = h
+verify_begins old new (Err (units.Stopped (steps.Refused refusal))) h = h
+verify_begins old new (Err (units.Stopped steps.Memory)) h = tt
+verify_begins old new (Err (units.Stopped steps.TurnsSpent)) h = tt
+verify_begins old new (Err units.Stale) h = absurd h
 
 -- its steps, one after another: each is of who 0 and reads, and restores no shard
 abbrev pub NoShard : Read → Type 0
@@ -307,6 +316,7 @@ asked_reads old new (Err (units.Failed why)) h = begun_reads old new h
 asked_reads old new (Err (units.Stopped (steps.Refused refusal))) h = begun_reads old new h
 asked_reads old new (Err (units.Stopped steps.Memory)) h = one_reads old new h
 asked_reads old new (Err (units.Stopped steps.TurnsSpent)) h = one_reads old new h
+asked_reads old new (Err units.Stale) h = absurd h
 
 -- ---- it leaves tickets
 
@@ -316,13 +326,15 @@ TurnsAre s new (units.Stopped steps.TurnsSpent) = s.alone ≡ true → 2 ^ 40 �
 TurnsAre s new (units.Stopped steps.Memory) = Unit {0}
 TurnsAre s new (units.Stopped (steps.Refused refusal)) = Unit {0}
 TurnsAre s new (units.Failed why) = Unit {0}
+TurnsAre s new units.Stale = Unit {0}
 
-pub turns_of : {S F : Type 0} (c : Counts S F) (s : Start) (old new : List Moment) (r : Result Unit UnitRefusal) → IfErr r (IsVerifyRefused c s old new) → IfErr r (TurnsAre s new)
-turns_of c s old new (Ok x) h = tt
-turns_of c s old new (Err (units.Failed why)) h = tt
-turns_of c s old new (Err (units.Stopped steps.Memory)) h = tt
-turns_of c s old new (Err (units.Stopped steps.TurnsSpent)) h = h
-turns_of c s old new (Err (units.Stopped (steps.Refused refusal))) h = tt
+pub turns_of : {S F H T : Type 0} (evidence : Evidence S F H T) (s : Start) (old new : List Moment) (r : Result Unit UnitRefusal) → IfErr r (IsVerifyRefused evidence s old new) → IfErr r (TurnsAre s new)
+turns_of evidence s old new (Ok x) h = tt
+turns_of evidence s old new (Err (units.Failed why)) h = tt
+turns_of evidence s old new (Err (units.Stopped steps.Memory)) h = tt
+turns_of evidence s old new (Err (units.Stopped steps.TurnsSpent)) h = h
+turns_of evidence s old new (Err units.Stale) h = tt
+turns_of evidence s old new (Err (units.Stopped (steps.Refused refusal))) h = tt
 
 module _ (laws : StepsStay) (s : Start) (numbered : HasNoTickets s) where
   read_in : (log : List Moment) (m : Moment) (read : Read) → m.entry.who ≡ 0 → m.entry.step ≡ ReadStep read → Legal s (log ++ m ∷ []) → AreIn s log → AreIn s (log ++ m ∷ [])
@@ -353,6 +365,7 @@ module _ (laws : StepsStay) (s : Start) (numbered : HasNoTickets s) where
       by (Err (units.Stopped (steps.Refused refusal))) t now = inl now
       by (Err (units.Stopped steps.Memory)) t now = tt
       by (Err (units.Stopped steps.TurnsSpent)) t now = t alone
+      by (Err units.Stale) t now = now
 
 pub verify_spends : (s : Start) (new : List Moment) (r : Result Unit UnitRefusal) → s.alone ≡ true → IfErr r (TurnsAre s new) → LineSpends new (line_result r)
 verify_spends s new (Ok x) alone t = tt
@@ -360,22 +373,7 @@ verify_spends s new (Err (units.Failed why)) alone t = tt
 verify_spends s new (Err (units.Stopped (steps.Refused refusal))) alone t = tt
 verify_spends s new (Err (units.Stopped steps.Memory)) alone t = tt
 verify_spends s new (Err (units.Stopped steps.TurnsSpent)) alone t = t alone
-
--- ---- it restores nothing
-
-read_restores : (before : List Moment) (who : ℕ) (reply : Reply) (read : Read) → NoShard read → restorations_by before who reply (ReadStep read) ≡ []
-read_restores before who HasEnded (RestoredShard files bytes) none = absurd none
-read_restores before who HasEnded read none = refl
-read_restores before who reply read none = refl
-
-pub reads_none : (before more : List Moment) → AllRead more → restorations_in before more ≡ []
-reads_none before [] all = refl
-reads_none before (m ∷ more) all =
-    ap (λ (l : List Restoration). l ++ restorations_in (before ++ m ∷ []) more) (ap (restorations_by before m.entry.who m.entry.reply) all.1.1 ∙ read_restores before m.entry.who m.entry.reply all.1.0 all.1.2)
-    ∙ reads_none (before ++ m ∷ []) more all.2
-
-pub verify_none : (old new : List Moment) (r : Result Unit UnitRefusal) → AsksOne old new r → RestoresNone old new
-verify_none old new r asks = let h = asked_reads old new r asks in record { more = h.more; is = h.is; none = reads_none old h.more h.all }
+verify_spends s new (Err units.Stale) alone t = tt
 
 -- ---- it takes no unit
 
@@ -543,59 +541,60 @@ deposed_caller : (s : Start) (old new : List Moment) (refusal : EntryRefusal) �
 deposed_caller s old new (refusals.Deposed entry) h = h.1
 deposed_caller s old new refusal h = absurd h
 
-pub verify_well : (s : Start) (workers : ℕ) (checks : Bool) (old new : List Moment) → HasBegun old new → HasVerified s old new workers → (Legal s old → Legal s new) → MayVerify s workers checks old → MayVerify s workers checks new
-verify_well s workers checks old new asks ok legal may = record {
+pub verify_well : (s : Start) → NoneZero s → (workers : ℕ) (checks : Bool) (old new : List Moment) → HasBegun old new → HasVerified s old new workers → (Legal s old → Legal s new) → MayVerify s workers checks old → MayVerify s workers checks new
+verify_well s none_zero workers checks old new asks ok legal may = record {
   whole = record {
     verified = ok_verified s workers old new ok may.whole.verified;
     checked = begun_checked s old new asks may.whole.checked;
     begun = begun_all checks old new asks may.whole.begun;
     closed = closed_all s old new asks may.idle may.whole.closed;
-    unchecked = λ no. begun_unchecked s old new asks (legal may.legal) (may.whole.unchecked no);
+    unchecked = λ no. begun_unchecked s none_zero old new asks (legal may.legal) (may.whole.unchecked no);
   };
   idle = subst IsIdle (sym ok.closed) none_idle;
   legal = legal may.legal;
 }
 
-pub verify_refused : {S F : Type 0} (c : Counts S F) (s : Start) (workers : ℕ) (checks : Bool) (old new : List Moment) (e : UnitRefusal) → AsksOne {X = Unit} old new (Err e) → IsVerifyRefused c s old new e → NoneVerified old new
+pub verify_refused : {S F H T : Type 0} (evidence : Evidence S F H T) (s : Start) → NoneZero s → (workers : ℕ) (checks : Bool) (old new : List Moment) (e : UnitRefusal) → AsksOne {X = Unit} old new (Err e) → IsVerifyRefused evidence s old new e → NoneVerified old new
     → (Legal s old → Legal s new) → MayVerify s workers checks old → VerifiesOn s workers checks new (line_result (Err e))
-verify_refused c s workers checks old new (units.Failed why) asks err none legal may = record {
+verify_refused evidence s none_zero workers checks old new (units.Failed why) asks err none legal may = record {
   whole = record {
     verified = err_verified s workers old new none may.whole.verified;
     checked = begun_checked s old new asks may.whole.checked;
     begun = begun_all checks old new asks may.whole.begun;
     closed = closed_all s old new asks may.idle may.whole.closed;
-    unchecked = λ no. begun_unchecked s old new asks (legal may.legal) (may.whole.unchecked no);
+    unchecked = λ no. begun_unchecked s none_zero old new asks (legal may.legal) (may.whole.unchecked no);
   };
   idle = subst IsIdle (sym err.0) none_idle;
   legal = legal may.legal;
 }
-verify_refused c s workers checks old new (units.Stopped (steps.Refused refusal)) asks err none legal may = record {
+verify_refused evidence s none_zero workers checks old new (units.Stopped (steps.Refused refusal)) asks err none legal may = record {
   whole = record {
     verified = err_verified s workers old new none may.whole.verified;
     checked = begun_checked s old new asks may.whole.checked;
     begun = begun_all checks old new asks may.whole.begun;
     closed = closed_all s old new asks may.idle may.whole.closed;
-    unchecked = λ no. begun_unchecked s old new asks (legal may.legal) (may.whole.unchecked no);
+    unchecked = λ no. begun_unchecked s none_zero old new asks (legal may.legal) (may.whole.unchecked no);
   };
   idle = subst IsIdle (sym (deposed_caller s old new refusal err)) may.idle;
   legal = legal may.legal;
 }
-verify_refused c s workers checks old new (units.Stopped steps.Memory) asks err none legal may =
+verify_refused evidence s none_zero workers checks old new (units.Stopped steps.Memory) asks err none legal may =
     record {
       verified = err_verified s workers old new none may.whole.verified;
       checked = maybe_checked s old new asks may.whole.checked;
       begun = begun_maybe checks old new asks may.whole.begun;
       closed = closed_maybe s old new asks may.idle may.whole.closed;
-      unchecked = λ no. maybe_unchecked s old new asks (legal may.legal) (may.whole.unchecked no);
+      unchecked = λ no. maybe_unchecked s none_zero old new asks (legal may.legal) (may.whole.unchecked no);
     }
-verify_refused c s workers checks old new (units.Stopped steps.TurnsSpent) asks err none legal may =
+verify_refused evidence s none_zero workers checks old new (units.Stopped steps.TurnsSpent) asks err none legal may =
     record {
       verified = err_verified s workers old new none may.whole.verified;
       checked = maybe_checked s old new asks may.whole.checked;
       begun = begun_maybe checks old new asks may.whole.begun;
       closed = closed_maybe s old new asks may.idle may.whole.closed;
-      unchecked = λ no. maybe_unchecked s old new asks (legal may.legal) (may.whole.unchecked no);
+      unchecked = λ no. maybe_unchecked s none_zero old new asks (legal may.legal) (may.whole.unchecked no);
     }
+verify_refused evidence s none_zero workers checks old new units.Stale asks err none legal may = absurd asks
 
 -- ---- by the line that a run carries out
 

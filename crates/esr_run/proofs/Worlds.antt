@@ -44,11 +44,11 @@ idle_world blobs safe pending term root deletes next_op =
       next_ticket = 1;
       next_id = first_id term;
       doomed = [];
-      removed = [];
       deposed = false;
       restores = fin.empty;
       readers = fin.empty;
       caller = no_caller;
+      entries = [];
     }
 
 -- by what was kept of it: the deletes stand in the list of ops
@@ -145,6 +145,7 @@ begins tracks files size quiet before after k o listed only =
       live = refl;
       no_tickets = refl;
       uncalled = refl;
+      no_entries = refl;
       read_tracked = subst ReadTracked (sym is) (tracks (known_blobs (now before)) (cluster_of o.cluster) (root_of o.root));
       infos = subst (λ (x : World). AreInfosOf (formats_by files) x (is_some (now after)) k.infos) (sym is)
           (subst (λ (b : Bool). AreInfosOf (formats_by files) w b k.infos) (told_some (now before) ∙ sym (same_tells before after k o)) (o.infos (known_by files) (told_by files)));

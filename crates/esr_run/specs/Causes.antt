@@ -1,10 +1,9 @@
 -- Why a run ended as it did.
-use Rattle.std.specs.Prelude.{◌≡◌, ◌⊎◌, ℕ, zero, suc, ◌^◌, ◌≤◌, Bool, true, List, [], ◌++◌, length, Option, Some, None, is_some, Ok, Err}
+use Rattle.std.specs.Prelude.{◌≡◌, ◌⊎◌, ℕ, zero, suc, ◌^◌, ◌≤◌, Bool, true, List, [], ◌++◌, length, Option, Some, None, Ok, Err}
 use Rattle.std.specs.Io.KnownBytes.{Appends, Consumes}
 use Rattle.esr_model.specs.Values.{Bytes}
 use Rattle.esr_core.specs.World.{World, Opened}
 use Rattle.esr_core.specs.Entry.{Step, Entry}
-use Rattle.esr_core.specs.History.{AreTold}
 use Rattle.esr_depot.specs.Image.{Image as Held}
 use Rattle.esr_depot.specs.Look.{Look, now}
 use Rattle.esr_depot.specs.Calls.{HasCause, Stays}
@@ -24,10 +23,10 @@ use Rattle.esr_repo.specs.Calm.{IsCalm}
 use Rattle.esr_quiet.specs.Asked.{asked_steps}
 use Rattle.esr_complete.specs.Lines.{steps_of}
 use Rattle.esr_desk.specs.declared.fault.Fault.{Fault}
-use Rattle.esr_run.specs.Counts.{Counts, AreShown}
-use Rattle.esr_desk.specs.Once.{AreOnce, NoneTwice}
-use Rattle.esr_deleting.specs.Once.{AreRemovedOnce}
-use Rattle.esr_checking.specs.Tested.{AreTested}
+use Rattle.esr_desk.specs.Evidence.{Evidence}
+use Rattle.esr_desk.specs.Shown.{AreShown}
+use Rattle.esr_desk.specs.Once.{AreOnce, NoneTwice, AreRemovedOnce}
+use Rattle.esr_desk.specs.Verify.Tested.{AreTested}
 use Rattle.esr_run.specs.Asked.{Wanted, ReadScript, OneCommand, NoCommand, NoRun, AsksScript, wanted_of, workers_of, part_size_of, single_script}
 use Rattle.esr_run.specs.Script.{AreBytes, first_bad, bad_line}
 use Rattle.esr_run.specs.Ends.{RunEnd, BadWords, Unreadable, BadScript, BadLine, OpenFault, Damaged, NoTerm, Carried, text_of, exit_of, exit_at, text_at}
@@ -37,6 +36,7 @@ use Rattle.esr_run.specs.Images.{StaysKept, EveryImageKept, AnsweredStay}
 use Rattle.esr_run.specs.Tidy.{StaysTidy, EveryImageTidy, EndTidy, EachDoomsExactly}
 use Rattle.esr_run.specs.Told.{StaysTold, EndKept}
 use Rattle.esr_run.specs.Sourceless.{NeedsNoSource}
+use Rattle.esr_run.specs.Undamaged.{StaysUndamaged}
 use Rattle.esr_run.specs.Checked.{asks_check}
 use Rattle.esr_run.specs.Verified.{AreWhole}
 use Rattle.esr_run.specs.Waits.{TakesFew}
@@ -129,9 +129,9 @@ pub record IsUntouched {S F H T : Type 0} (files : Telling) (before after : Look
   pub none : faults ≡ []
 
 -- It wasn't opened; it counts faults, and so does each of its fetches.
-pub record IsUnopened {S F H T : Type 0} (count : Counts S F H T) (files : Telling) (before after : Look) (old_faults new_faults : ℕ) (history : List Entry) (faults : List (Fault S F H T)) : Type 0 where
+pub record IsUnopened {S F H T : Type 0} (evidence : Evidence S F H T) (files : Telling) (before after : Look) (old_faults new_faults : ℕ) (history : List Entry) (faults : List (Fault S F H T)) : Type 0 where
   pub refusal : OpenRefusal F
-  pub refused : IsOpenRefused count.fetch before after old_faults new_faults refusal
+  pub refused : IsOpenRefused evidence.fetch_faults before after old_faults new_faults refusal
   pub every_image : StaysKept (formats_by files) before after
   pub tidy : StaysTidy (formats_by files) before after
   pub empty : history ≡ []
@@ -139,7 +139,7 @@ pub record IsUnopened {S F H T : Type 0} (count : Counts S F H T) (files : Telli
   pub faults_are : faults ≡ listed (fetch_of refusal)
 
 -- It was opened, as this world, and the history is legal from there to what it has now, over its moments from this clock on.
-pub record IsOpenedRun {S F H T : Type 0} (count : Counts S F H T) (files : Telling) (size workers moment : ℕ) (lines : List ScriptLine) (before after : Look) (history : List Entry) (faults : List (Fault S F H T)) : Type 0 where
+pub record IsOpenedRun {S F H T : Type 0} (evidence : Evidence S F H T) (files : Telling) (size workers moment : ℕ) (lines : List ScriptLine) (before after : Look) (history : List Entry) (faults : List (Fault S F H T)) : Type 0 where
   pub world : World
   pub clock : ℕ
   -- whether it is taken for quiet, as it is where it was sure to serve 2^62 calls
@@ -165,8 +165,10 @@ pub record IsOpenedRun {S F H T : Type 0} (count : Counts S F H T) (files : Tell
   pub tidy : EveryImageTidy (formats_by files) world (log_of after clock history) before after
   pub end_tidy : EndTidy (formats_by files) world (log_of after clock history) before after
   pub dooms : EachDoomsExactly (formats_by files) world (log_of after clock history) before
+  -- over a kept container that tells nothing is found damaged and no name taken, whatever calls fail
+  pub undamaged : StaysUndamaged (formats_by files) world (log_of after clock history) before
   -- each failure of a unit that the history tells has its cause, and the objects that failed are listed
-  pub shown : AreShown count (start_of files size quiet before world) (log_of after clock history) faults
+  pub shown : AreShown evidence (start_of files size quiet before world) (log_of after clock history) faults
   -- no blob is committed twice, but for the metadata of a finalization
   pub once : AreOnce (start_of files size quiet before world) (log_of after clock history)
   -- no test blob is committed twice, and each that was added holds the text of the id that was drawn
@@ -187,12 +189,12 @@ pub record IsOpenedRun {S F H T : Type 0} (count : Counts S F H T) (files : Tell
 
 -- Each line was carried out, the work of each wait was done when it ended, and at the end no unit is ready or out and no verification
 -- is open; or a record swap failed, and each line was asked all the same; or all turns were taken.
-abbrev pub IsWorked : {S F H T : Type 0} (count : Counts S F H T) (files : Telling) (size workers moment : ℕ) (lines : List ScriptLine) (before after : Look) (history : List Entry) (faults : List (Fault S F H T)) → IsOpenedRun count files size workers moment lines before after history faults → Type 0
-IsWorked count files size workers moment lines before after history faults r =
+abbrev pub IsWorked : {S F H T : Type 0} (evidence : Evidence S F H T) (files : Telling) (size workers moment : ℕ) (lines : List ScriptLine) (before after : Look) (history : List Entry) (faults : List (Fault S F H T)) → IsOpenedRun evidence files size workers moment lines before after history faults → Type 0
+IsWorked evidence files size workers moment lines before after history faults r =
     AreDone (start_of files size r.quiet before r.world) moment lines [] (log_of after r.clock history) ⊎ HasFallen (start_of files size r.quiet before r.world) moment lines [] (log_of after r.clock history)
 
 -- with parts of the size for which the words ask
-pub record IsCarried {S F H T : Type 0} (count : Counts S F H T) (given : Given) (files : Telling) (before after : Look) (history : List Entry) (faults : List (Fault S F H T)) : Type 0 where
+pub record IsCarried {S F H T : Type 0} (evidence : Evidence S F H T) (given : Given) (files : Telling) (before after : Look) (history : List Entry) (faults : List (Fault S F H T)) : Type 0 where
   pub size : ℕ
   pub size_is : part_size_of (wanted_of (job_of given.words)) ≡ Some size
   -- and of as many workers
@@ -200,48 +202,48 @@ pub record IsCarried {S F H T : Type 0} (count : Counts S F H T) (given : Given)
   pub workers_are : workers_of (job_of given.words) ≡ Some workers
   pub lines : List ScriptLine
   pub script : IsScript given lines
-  pub run : IsOpenedRun count files size workers given.moment lines before after history faults
+  pub run : IsOpenedRun evidence files size workers given.moment lines before after history faults
 
 -- The container wasn't touched, or it wasn't opened, and there is no history; or it was opened, and the history is legal from
 -- there on.
-abbrev pub IsRunOf : {S F H T : Type 0} → Counts S F H T → Given → Telling → Look → Look → ℕ → ℕ → List Entry → List (Fault S F H T) → Type 0
-IsRunOf count given files before after old_faults new_faults history faults =
+abbrev pub IsRunOf : {S F H T : Type 0} → Evidence S F H T → Given → Telling → Look → Look → ℕ → ℕ → List Entry → List (Fault S F H T) → Type 0
+IsRunOf evidence given files before after old_faults new_faults history faults =
     IsUntouched files before after history faults
-    ⊎ (IsUnopened count files before after old_faults new_faults history faults ⊎ IsCarried count given files before after history faults)
+    ⊎ (IsUnopened evidence files before after old_faults new_faults history faults ⊎ IsCarried evidence given files before after history faults)
 
 -- ---- why a run ended so
 
 -- The container failed as it was opened: its count of faults shows it, or that of a fetch of the opening which is listed.
-pub record FailedToOpen {S F H T : Type 0} (count : Counts S F H T) (before after : Look) (old_faults new_faults : ℕ) (faults : List (Fault S F H T)) : Type 0 where
+pub record FailedToOpen {S F H T : Type 0} (evidence : Evidence S F H T) (before after : Look) (old_faults new_faults : ℕ) (faults : List (Fault S F H T)) : Type 0 where
   pub fetch : Option F
-  pub refused : IsOpenRefused count.fetch before after old_faults new_faults (refusals.DepotFault fetch)
-  pub shown : HasCause old_faults new_faults true ⊎ HasFetch count.fetch faults
+  pub refused : IsOpenRefused evidence.fetch_faults before after old_faults new_faults (refusals.DepotFault fetch)
+  pub shown : HasCause old_faults new_faults true ⊎ HasFetch evidence.fetch_faults faults
 
 -- Why the container wasn't opened: it failed, or something in it is damaged, or its last term has come.
-abbrev pub IsRefused : {S F H T : Type 0} → Counts S F H T → Look → Look → ℕ → ℕ → List (Fault S F H T) → RunEnd → Type 0
-IsRefused count before after old_faults new_faults faults OpenFault = FailedToOpen count before after old_faults new_faults faults
-IsRefused count before after old_faults new_faults faults (Damaged name) = (why : Why) × IsOpenRefused count.fetch before after old_faults new_faults (refusals.Damaged name why)
-IsRefused count before after old_faults new_faults faults NoTerm = (term : ℕ) × IsOpenRefused count.fetch before after old_faults new_faults (refusals.TermsSpent term)
-IsRefused count before after old_faults new_faults faults BadWords = ⊥
-IsRefused count before after old_faults new_faults faults Unreadable = ⊥
-IsRefused count before after old_faults new_faults faults BadScript = ⊥
-IsRefused count before after old_faults new_faults faults (BadLine number) = ⊥
-IsRefused count before after old_faults new_faults faults (Carried script history) = ⊥
+abbrev pub IsRefused : {S F H T : Type 0} → Evidence S F H T → Look → Look → ℕ → ℕ → List (Fault S F H T) → RunEnd → Type 0
+IsRefused evidence before after old_faults new_faults faults OpenFault = FailedToOpen evidence before after old_faults new_faults faults
+IsRefused evidence before after old_faults new_faults faults (Damaged name) = (why : Why) × IsOpenRefused evidence.fetch_faults before after old_faults new_faults (refusals.Damaged name why)
+IsRefused evidence before after old_faults new_faults faults NoTerm = (term : ℕ) × IsOpenRefused evidence.fetch_faults before after old_faults new_faults (refusals.TermsSpent term)
+IsRefused evidence before after old_faults new_faults faults BadWords = ⊥
+IsRefused evidence before after old_faults new_faults faults Unreadable = ⊥
+IsRefused evidence before after old_faults new_faults faults BadScript = ⊥
+IsRefused evidence before after old_faults new_faults faults (BadLine number) = ⊥
+IsRefused evidence before after old_faults new_faults faults (Carried script history) = ⊥
 
 -- there is no history, since the container wasn't opened
-abbrev pub EndedUnopened : {S F H T : Type 0} → Counts S F H T → Look → Look → ℕ → ℕ → List Entry → List (Fault S F H T) → RunEnd → Type 0
-EndedUnopened count before after old_faults new_faults history faults end = (history ≡ []) × IsRefused count before after old_faults new_faults faults end
+abbrev pub EndedUnopened : {S F H T : Type 0} → Evidence S F H T → Look → Look → ℕ → ℕ → List Entry → List (Fault S F H T) → RunEnd → Type 0
+EndedUnopened evidence before after old_faults new_faults history faults end = (history ≡ []) × IsRefused evidence before after old_faults new_faults faults end
 
-abbrev pub IsCauseOf : {S F H T : Type 0} → Counts S F H T → Given → Telling → ℕ → Look → Look → ℕ → ℕ → List Entry → List (Fault S F H T) → RunEnd → Type 0
-IsCauseOf count given files reader before after old_faults new_faults history faults (Carried script entries) =
-    (entries ≡ history) × ((c : IsCarried count given files before after history faults) × (c.lines ≡ script) × IsWorked count files c.size c.workers given.moment c.lines before after history faults c.run)
-IsCauseOf count given files reader before after old_faults new_faults history faults OpenFault = AsksLines given × EndedUnopened count before after old_faults new_faults history faults OpenFault
-IsCauseOf count given files reader before after old_faults new_faults history faults (Damaged name) = AsksLines given × EndedUnopened count before after old_faults new_faults history faults (Damaged name)
-IsCauseOf count given files reader before after old_faults new_faults history faults NoTerm = AsksLines given × EndedUnopened count before after old_faults new_faults history faults NoTerm
-IsCauseOf count given files reader before after old_faults new_faults history faults BadWords = IsUntouched files before after history faults × IsStopped given reader BadWords
-IsCauseOf count given files reader before after old_faults new_faults history faults Unreadable = IsUntouched files before after history faults × IsStopped given reader Unreadable
-IsCauseOf count given files reader before after old_faults new_faults history faults BadScript = IsUntouched files before after history faults × IsStopped given reader BadScript
-IsCauseOf count given files reader before after old_faults new_faults history faults (BadLine number) = IsUntouched files before after history faults × IsStopped given reader (BadLine number)
+abbrev pub IsCauseOf : {S F H T : Type 0} → Evidence S F H T → Given → Telling → ℕ → Look → Look → ℕ → ℕ → List Entry → List (Fault S F H T) → RunEnd → Type 0
+IsCauseOf evidence given files reader before after old_faults new_faults history faults (Carried script entries) =
+    (entries ≡ history) × ((c : IsCarried evidence given files before after history faults) × (c.lines ≡ script) × IsWorked evidence files c.size c.workers given.moment c.lines before after history faults c.run)
+IsCauseOf evidence given files reader before after old_faults new_faults history faults OpenFault = AsksLines given × EndedUnopened evidence before after old_faults new_faults history faults OpenFault
+IsCauseOf evidence given files reader before after old_faults new_faults history faults (Damaged name) = AsksLines given × EndedUnopened evidence before after old_faults new_faults history faults (Damaged name)
+IsCauseOf evidence given files reader before after old_faults new_faults history faults NoTerm = AsksLines given × EndedUnopened evidence before after old_faults new_faults history faults NoTerm
+IsCauseOf evidence given files reader before after old_faults new_faults history faults BadWords = IsUntouched files before after history faults × IsStopped given reader BadWords
+IsCauseOf evidence given files reader before after old_faults new_faults history faults Unreadable = IsUntouched files before after history faults × IsStopped given reader Unreadable
+IsCauseOf evidence given files reader before after old_faults new_faults history faults BadScript = IsUntouched files before after history faults × IsStopped given reader BadScript
+IsCauseOf evidence given files reader before after old_faults new_faults history faults (BadLine number) = IsUntouched files before after history faults × IsStopped given reader (BadLine number)
 
 -- the output took the front of the text
 pub record TookFront (old new : Option Bytes) (text : Bytes) : Type 0 where
@@ -292,16 +294,16 @@ abbrev pub IsTold : ℕ → Bytes → Option RunEnd → Type 0
 IsTold status text end = ((status ≡ 8) × (text ≡ [])) ⊎ ((status ≡ exit_at end) × (text ≡ text_at end))
 
 -- the same as why a run ended so, from the opening of the container on
-abbrev pub IsOpenCause : {S F H T : Type 0} → Counts S F H T → Telling → ℕ → ℕ → ℕ → Look → Look → ℕ → ℕ → List ScriptLine → List Entry → List (Fault S F H T) → RunEnd → Type 0
-IsOpenCause count files size workers moment before after old_faults new_faults lines history faults (Carried script entries) =
-    (script ≡ lines) × (entries ≡ history) × ((r : IsOpenedRun count files size workers moment lines before after history faults) × IsWorked count files size workers moment lines before after history faults r)
-IsOpenCause count files size workers moment before after old_faults new_faults lines history faults OpenFault = EndedUnopened count before after old_faults new_faults history faults OpenFault
-IsOpenCause count files size workers moment before after old_faults new_faults lines history faults (Damaged name) = EndedUnopened count before after old_faults new_faults history faults (Damaged name)
-IsOpenCause count files size workers moment before after old_faults new_faults lines history faults NoTerm = EndedUnopened count before after old_faults new_faults history faults NoTerm
-IsOpenCause count files size workers moment before after old_faults new_faults lines history faults BadWords = ⊥
-IsOpenCause count files size workers moment before after old_faults new_faults lines history faults Unreadable = ⊥
-IsOpenCause count files size workers moment before after old_faults new_faults lines history faults BadScript = ⊥
-IsOpenCause count files size workers moment before after old_faults new_faults lines history faults (BadLine number) = ⊥
+abbrev pub IsOpenCause : {S F H T : Type 0} → Evidence S F H T → Telling → ℕ → ℕ → ℕ → Look → Look → ℕ → ℕ → List ScriptLine → List Entry → List (Fault S F H T) → RunEnd → Type 0
+IsOpenCause evidence files size workers moment before after old_faults new_faults lines history faults (Carried script entries) =
+    (script ≡ lines) × (entries ≡ history) × ((r : IsOpenedRun evidence files size workers moment lines before after history faults) × IsWorked evidence files size workers moment lines before after history faults r)
+IsOpenCause evidence files size workers moment before after old_faults new_faults lines history faults OpenFault = EndedUnopened evidence before after old_faults new_faults history faults OpenFault
+IsOpenCause evidence files size workers moment before after old_faults new_faults lines history faults (Damaged name) = EndedUnopened evidence before after old_faults new_faults history faults (Damaged name)
+IsOpenCause evidence files size workers moment before after old_faults new_faults lines history faults NoTerm = EndedUnopened evidence before after old_faults new_faults history faults NoTerm
+IsOpenCause evidence files size workers moment before after old_faults new_faults lines history faults BadWords = ⊥
+IsOpenCause evidence files size workers moment before after old_faults new_faults lines history faults Unreadable = ⊥
+IsOpenCause evidence files size workers moment before after old_faults new_faults lines history faults BadScript = ⊥
+IsOpenCause evidence files size workers moment before after old_faults new_faults lines history faults (BadLine number) = ⊥
 
 -- how a run ends whose container wasn't opened; None: memory was wanting
 abbrev pub end_of_refusal : {F : Type 0} → OpenRefusal F → Option RunEnd
@@ -314,10 +316,10 @@ end_of_refusal (refusals.TermsSpent term) = Some NoTerm
 
 -- from the opening on: over quiet objects memory was wanting, or the last term had come, or the container was opened and each
 -- line was answered well, unless a number was spent
-abbrev pub OpensWell : {S F H T : Type 0} → Counts S F H T → Telling → ℕ → ℕ → ℕ → List ScriptLine → Look → Look → List Entry → List (Fault S F H T) → ℕ → Type 0
-OpensWell count files size workers moment lines before after history faults status =
+abbrev pub OpensWell : {S F H T : Type 0} → Evidence S F H T → Telling → ℕ → ℕ → ℕ → List ScriptLine → Look → Look → List Entry → List (Fault S F H T) → ℕ → Type 0
+OpensWell evidence files size workers moment lines before after history faults status =
     IsQuietFor files before lines
-    → (status ≡ 8) ⊎ (IsLastTerm before ⊎ ((r : IsOpenedRun count files size workers moment lines before after history faults) × Completes files size moment lines before r.world r.clock after history status))
+    → (status ≡ 8) ⊎ (IsLastTerm before ⊎ ((r : IsOpenedRun evidence files size workers moment lines before after history faults) × Completes files size moment lines before r.world r.clock after history status))
 
 -- the script is told, and no read of it failed
 pub record IsReadWell (script : Option Bytes) (old new : ℕ) : Type 0 where
@@ -335,7 +337,7 @@ pub record IsSmoothFor (given : Given) (files : Telling) (before : Look) (reader
 
 -- Completeness of a whole run: then memory was wanting, with status 8, or the last term had come, or each line was answered well,
 -- and the status is 0, or 1 since a command was refused by a rule, unless a number was spent.
-abbrev pub IsComplete : {S F H T : Type 0} → Counts S F H T → Given → Telling → ℕ → Look → Look → ℕ → ℕ → List Entry → List (Fault S F H T) → ℕ → Type 0
-IsComplete count given files reader before after old_out new_out history faults status =
+abbrev pub IsComplete : {S F H T : Type 0} → Evidence S F H T → Given → Telling → ℕ → Look → Look → ℕ → ℕ → List Entry → List (Fault S F H T) → ℕ → Type 0
+IsComplete evidence given files reader before after old_out new_out history faults status =
     (lines : List ScriptLine) → IsSmoothFor given files before reader old_out new_out lines
-    → (status ≡ 8) ⊎ (IsLastTerm before ⊎ ((c : IsCarried count given files before after history faults) × Completes files c.size given.moment c.lines before c.run.world c.run.clock after history status))
+    → (status ≡ 8) ⊎ (IsLastTerm before ⊎ ((c : IsCarried evidence given files before after history faults) × Completes files c.size given.moment c.lines before c.run.world c.run.clock after history status))

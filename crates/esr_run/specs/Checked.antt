@@ -7,7 +7,6 @@ use Rattle.esr_desk.specs.Start.{Start, world_of}
 use Rattle.esr_script.specs.declared.item.Item.{Item}
 use Rattle.esr_script.specs.declared.item.Item.TheVariants as items
 use Rattle.esr_script.specs.declared.item.ScriptLine.{ScriptLine}
-use Rattle.esr_quiet.specs.Smooth.{NoneChecked}
 use Rattle.esr_check.specs.Checked.{HasChecked}
 
 -- Each check that ended well is whole, with exact counts: the steps up to its end, that among them, are just those of a good check, from
@@ -19,12 +18,6 @@ AreChecked s log = (front back : List Moment) (m : Moment) (snapshots blobs : �
 -- no check was ended as failed
 abbrev pub NoCheckFails : Start → List Moment → Type 0
 NoCheckFails s log = (front back : List Moment) (m : Moment) (why : Why) → log ≡ front ++ m ∷ back → m.entry.who ≡ 0 → m.entry.step ≡ ReadStep (ReadFails why) → m.entry.reply ≡ HasEnded → IsChecking (world_of s front) → ⊥
-
--- who 0 ended no check well in what was added
-pub record EndsNone (old new : List Moment) : Type 0 where
-  pub more : List Moment
-  pub is : new ≡ old ++ more
-  pub none : NoneChecked more
 
 -- who 0 has looked, with which a check begins
 abbrev pub HasLooked : List Moment → Type 0

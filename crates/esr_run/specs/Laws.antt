@@ -1,12 +1,12 @@
 -- The laws of the core on which a run rests.
 use Rattle.std.specs.Prelude.{◌≡◌, ◌≢◌, ◌⊎◌, ℕ, suc, ◌≤◌, List, [], ◌∷◌, ◌++◌, Some, true, false}
 use Rattle.std.specs.FinMap as fin
-use Rattle.esr_model.specs.Values.{Has, Formats, ReadsBack, RootData, ClusterRecord}
+use Rattle.esr_model.specs.Values.{Formats, ReadsBack, RootData, ClusterRecord}
 use Rattle.esr_model.specs.Image.{Image, Blobs}
 use Rattle.esr_model.specs.Kept.{Kept}
 use Rattle.esr_model.specs.Shelf.{Shelved, shelf_after}
 use Rattle.esr_core.specs.World.{World, Ticket, image_of, record_of, opened, Opened}
-use Rattle.esr_core.specs.Entry.{Asked, Read, AskStep, TakeStep, LookStep, ReadStep, Refusal, StaleTerm, Refused, Given, Gave, Moment, SettleStep, SettlePruned, PruneStep, WasSettled}
+use Rattle.esr_core.specs.Entry.{Asked, Read, AskStep, TakeStep, LookStep, ReadStep, Refusal, Refused, Given, Gave, Moment, SettleStep, SettlePruned, PruneStep, WasSettled}
 use Rattle.esr_core.specs.After.{after}
 use Rattle.esr_core.specs.History.{world_from, IsLegal, TellsHandedOut, AreTold, committed}
 use Rattle.esr_law.specs.Digests.{HonestUploads, AskNoSnapshot, AreClones}
@@ -18,16 +18,19 @@ use Rattle.esr_core.specs.ReadTracked.{ReadTracked}
 use Rattle.esr_core.specs.Left.{Leaves, safe_in}
 use Rattle.esr_core.specs.Refusing.{RefusedSo, SwapFailed}
 use Rattle.esr_desk.specs.Start.{Start, Legal, no_ticket, ticket_of}
+use Rattle.esr_desk.specs.Once.{NoneTwice}
 use Rattle.esr_desk.specs.declared.fault.Fault.{Fault}
-use Rattle.esr_desk.specs.Shown.{Counts}
+use Rattle.esr_desk.specs.Evidence.{Evidence}
+use Rattle.esr_desk.specs.declared.hand.Hand.TheVariants as hands
 use Rattle.esr_script.specs.declared.item.ScriptLine.{ScriptLine}
 use Rattle.esr_report.specs.Replies.{replies}
-use Rattle.esr_reading.specs.Shown as reading
-use Rattle.esr_checking.specs.Shown as checking
-use Rattle.esr_quiet.specs.Caused.{AreCaused, AreReadCaused, AreDeleteCaused, AreEndsCaused}
+use Rattle.esr_quiet.specs.Caused.{AreCaused}
 use Rattle.esr_quiet.specs.Numbers.{HasNoTickets}
+use Rattle.esr_quiet.specs.OverKept.{OverKept}
+use Rattle.esr_quiet.specs.Undamaged.{NoUnitFindsDamage, NoRestoreFindsDamage, NoDeleteFindsDamage, NoCheckFindsDamage}
+use Rattle.esr_quiet.specs.Untaken.{NoneTaken}
 use Rattle.esr_quiet.specs.Asked.{asked_steps}
-use Rattle.esr_quiet.specs.Smooth.{IsSmooth, NoneFailed, NoneUndeleted, NoneUnrestored, NoneUnverified, NoneAsked, AreUnelected}
+use Rattle.esr_quiet.specs.Smooth.{IsSmooth, NoneFailed, NoneUndeleted, NoneUnrestored, NoneUnverified, NoneAsked}
 use Rattle.esr_quiet.specs.Refusals.{AreByRule}
 use Rattle.esr_complete.specs.Lines.{steps_of, AreKnown, entries_of}
 use Rattle.esr_complete.specs.InTurn.{IsInTurn, AreChecksInTurn}
@@ -64,17 +67,24 @@ WorkLeaves = (f : Formats) (part_size : ℕ) (w : World) (m : Moment) → Allowe
 
 -- why steps may be refused, and which world is deposed
 pub record Refusals : Type 0 where
-  pub of_steps : (f : Formats) (part_size : ℕ) (w : World) (m : Moment) (refusal : Refusal) → Allowed f part_size w m → m.entry.reply ≡ Refused refusal → RefusedSo w m.entry.step refusal
+  pub of_steps : (f : Formats) (part_size : ℕ) (w : World) (m : Moment) (refusal : Refusal) → Allowed f part_size w m → m.entry.reply ≡ Refused refusal → RefusedSo w m.entry.who m.entry.step refusal
   pub deposed : (f : Formats) (w : World) (log : List Moment) → w.deposed ≡ false → (world_from f w log).deposed ≡ true → SwapFailed log
-  pub stale : (s : Start) (log : List Moment) → HasNoTickets s → Legal s log → AreUnelected log → (m : Moment) (own now : ℕ) → Has log m → m.entry.reply ≢ Refused (StaleTerm own now)
+
+-- the laws of histories over kept containers that tell, whatever calls fail
+pub record KeptLaws (S F H T : Type 0) : Type 0 where
+  pub units : (e : Evidence S F H T) (s : Start) (log : List Moment) (faults : List (Fault S F H T)) → OverKept s log → AreCaused hands.Unit e s log faults → NoUnitFindsDamage log
+  pub restores : (e : Evidence S F H T) (s : Start) (log : List Moment) (faults : List (Fault S F H T)) → OverKept s log → AreCaused hands.Restore e s log faults → NoRestoreFindsDamage log
+  pub deletes : (e : Evidence S F H T) (s : Start) (log : List Moment) (faults : List (Fault S F H T)) → OverKept s log → AreCaused hands.Delete e s log faults → NoDeleteFindsDamage log
+  pub checks : (e : Evidence S F H T) (s : Start) (log : List Moment) (faults : List (Fault S F H T)) → OverKept s log → AreCaused hands.Check e s log faults → NoCheckFindsDamage log
+  pub names : (s : Start) (log : List Moment) → OverKept s log → NoneTwice log → NoneTaken log
 
 -- the laws of histories in which nothing fails
 pub record QuietLaws (S F H T : Type 0) : Type 0 where
-  pub fails : (c : Counts S F H T) (s : Start) (log : List Moment) (faults : List (Fault S F H T)) → IsSmooth s log → AreCaused c s log faults → NoneFailed log
-  pub deletes : (c : Counts S F H T) (s : Start) (log : List Moment) (faults : List (Fault S F H T)) → IsSmooth s log → AreDeleteCaused c s log faults → NoneUndeleted log
-  pub restores : (c : reading.Counts F T) (s : Start) (log : List Moment) (faults : List (Fault S F H T)) → IsSmooth s log → s.sure_targets ≡ true → AreReadCaused c s log faults → NoneUnrestored log
+  pub fails : (e : Evidence S F H T) (s : Start) (log : List Moment) (faults : List (Fault S F H T)) → IsSmooth s log → AreCaused hands.Unit e s log faults → NoneFailed log
+  pub deletes : (e : Evidence S F H T) (s : Start) (log : List Moment) (faults : List (Fault S F H T)) → IsSmooth s log → AreCaused hands.Delete e s log faults → NoneUndeleted log
+  pub restores : (e : Evidence S F H T) (s : Start) (log : List Moment) (faults : List (Fault S F H T)) → IsSmooth s log → s.sure_targets ≡ true → AreCaused hands.Restore e s log faults → NoneUnrestored log
   pub unasked : (s : Start) (log : List Moment) → IsSmooth s log → NoneAsked log → NoneUnrestored log
-  pub verifies : (c : checking.Counts S F) (s : Start) (log : List Moment) (faults : List (Fault S F H T)) → IsSmooth s log → AreEndsCaused c s log faults → NoneUnverified log
+  pub verifies : (e : Evidence S F H T) (s : Start) (log : List Moment) (faults : List (Fault S F H T)) → IsSmooth s log → AreCaused hands.Check e s log faults → NoneUnverified log
   pub rules : (s : Start) (log : List Moment) → IsSmooth s log → NoneFailed log → AreByRule log
   pub answered : (s : Start) (log : List Moment) (lines : List ScriptLine) (moment : ℕ) → IsSmooth s log → NoneFailed log → NoneUndeleted log → NoneUnrestored log → NoneUnverified log → AreChecksInTurn moment lines log → AreByRule log → IsInTurn s log → IsIdle s log → AreKnown lines → asked_steps log ≡ steps_of moment lines
       → AreAnswered lines (replies lines (entries_of log))

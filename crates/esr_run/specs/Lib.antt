@@ -2,15 +2,14 @@ pub mod Asked
 pub mod Script
 pub mod Ends
 pub mod Faults
-pub mod Counts
 pub mod Start
 pub mod Images
 pub mod Tidy
 pub mod Told
 pub mod Sourceless
 pub mod Made
-pub mod Filled
 pub mod Complete
+pub mod Undamaged
 pub mod Checked
 pub mod Verified
 pub mod Waits
@@ -18,4 +17,3 @@ pub mod Laws
 pub mod Causes
 pub mod Restored
 pub mod Stops
-pub mod Stop

@@ -1,8 +1,8 @@
 -- How far lines were carried out.
-use Rattle.std.specs.Prelude.{◌≡◌, ◌≢◌, ◌⊎◌, ℕ, ◌^◌, ◌≤◌, false, List, [], ◌∷◌, ◌++◌, length, Result, Ok, Err}
+use Rattle.std.specs.Prelude.{◌≡◌, ◌≢◌, ◌⊎◌, ℕ, ◌^◌, ◌≤◌, List, [], ◌∷◌, ◌++◌, length, Result, Ok, Err}
 use Rattle.std.specs.FinMap as fin
 use Rattle.esr_model.specs.Values.{Has}
-use Rattle.esr_core.specs.Entry.{Step, TakeStep, LookStep, NothingReady, DeposedAt, Refused, Refusal, Moment}
+use Rattle.esr_core.specs.Entry.{Asked, Step, AskStep, TakeStep, LookStep, NothingReady, DeposedAt, Refused, Refusal, Moment}
 use Rattle.esr_core.specs.Refusing.{SwapFailed}
 use Rattle.esr_script.specs.declared.item.Item.{Item}
 use Rattle.esr_script.specs.declared.item.Item.TheVariants as items
@@ -12,14 +12,15 @@ use Rattle.esr_desk.specs.declared.refusal.StepRefusal.TheVariants as steps
 use Rattle.esr_desk.specs.Start.{Start}
 use Rattle.esr_desk.specs.Grew.{NoneOut}
 use Rattle.esr_desk.specs.Last.{IsLast}
-use Rattle.esr_checking.specs.Caller.{caller_of}
+use Rattle.esr_desk.specs.Own.{caller_of}
 use Rattle.esr_quiet.specs.Asked.{GrewAsking}
 use Rattle.esr_drive.specs.Stopped.{StopsWork}
+use Rattle.esr_drive.specs.Works.{WorksOnly}
 use Rattle.esr_complete.specs.Lines.{steps_of_item, steps_of}
 use Rattle.esr_complete.specs.Answers.{NoReaderOut, IsIdle}
 use Rattle.esr_verify.specs.Idle as verify
+use Rattle.esr_verify.specs.Began.{HasBegun}
 use Rattle.esr_check.specs.Began.{HasEndedCheck}
-use Rattle.esr_run.specs.Checked.{is_check, EndsNone}
 
 -- the first of these steps were asked
 pub record MadeFirst (s : Start) (wanted : List Step) (old new : List Moment) : Type 0 where
@@ -121,34 +122,72 @@ pub record CheckEnded (s : Start) (moment : ℕ) (before : List ScriptLine) (old
 abbrev pub ChecksEnded : Start → ℕ → List ScriptLine → List Moment → List Moment → Type 0
 ChecksEnded s moment lines old log = (before after : List ScriptLine) (line : ScriptLine) → lines ≡ before ++ line ∷ after → line.item ≡ items.Check → CheckEnded s moment before old log
 
--- what a line added: of one that asks for a check, its look, fetches and end, or its look, which was refused; in that of another who 0
--- ended no check well
+-- a line that asks for a verification began with its draw, unless memory was wanting or turns were spent
+abbrev pub VerifyBegins : {X : Type 0} → List Moment → List Moment → Result X StepRefusal → Type 0
+VerifyBegins old new (Ok x) = HasBegun old new
+VerifyBegins old new (Err steps.Memory) = Unit {0}
+VerifyBegins old new (Err steps.TurnsSpent) = Unit {0}
+VerifyBegins old new (Err (steps.Refused refusal)) = HasBegun old new
+
+-- a command or a look
+abbrev pub AsksLine : Step → Type 0
+AsksLine step = ((command : Asked) × (step ≡ AskStep command)) ⊎ (step ≡ LookStep)
+
+-- each is one of who 0
+abbrev pub AllAsk : List Moment → Type 0
+AllAsk [] = Unit {0}
+AllAsk (m ∷ more) = (m.entry.who ≡ 0) × AsksLine m.entry.step × AllAsk more
+
+-- the history went on by these alone
+pub record AsksOnly (old new : List Moment) : Type 0 where
+  pub more : List Moment
+  pub is : new ≡ old ++ more
+  pub all : AllAsk more
+
+-- what a line adds, but for a check or a verification: a wait takes and steps of tickets alone, another what it asks for alone
+abbrev pub AddsOnly : Item → List Moment → List Moment → Type 0
+AddsOnly items.Wait old new = WorksOnly old new
+AddsOnly items.Check old new = Unit {0}
+AddsOnly items.Verify old new = Unit {0}
+AddsOnly item old new = AsksOnly old new
+
+-- what a line added: one that asks for a check its look, fetches and end, or its look, which was refused; one that asks for a
+-- verification its draw and further steps of it
 pub record LinePart (item : Item) (old new : List Moment) : Type 0 where
   pub checks : item ≡ items.Check → HasEndedCheck old new ⊎ WasLookRefused old new
-  pub others : is_check item ≡ false → EndsNone old new
+  pub verifies : item ≡ items.Verify → HasBegun old new
+  pub only : AddsOnly item old new
 
 -- each line has its part, one after another, in which what it asks for was asked, and nothing else
 abbrev pub AreInParts : Start → ℕ → List ScriptLine → List Moment → List Moment → Type 0
 AreInParts s moment [] old new = new ≡ old
 AreInParts s moment (line ∷ lines) old new = (mid : List Moment) × GrewAsking s (steps_of_item moment line.item) old mid × LinePart line.item old mid × AreInParts s moment lines mid new
 
--- and after these parts nothing was asked, nor a check ended well
+-- and after these parts units were worked, and nothing else
 pub record AreParted (s : Start) (moment : ℕ) (lines : List ScriptLine) (old new : List Moment) : Type 0 where
   pub mid : List Moment
   pub parts : AreInParts s moment lines old mid
   pub grew : GrewAsking s [] mid new
-  pub none : EndsNone mid new
+  pub works : WorksOnly mid new
+
+-- among what was added who 0 asked for commands only where no ticket was out
+pub record AskedApart (s : Start) (old new : List Moment) : Type 0 where
+  pub more : List Moment
+  pub is : new ≡ old ++ more
+  pub apart : (front back : List Moment) (m : Moment) (command : Asked) → more ≡ front ++ m ∷ back → m.entry.who ≡ 0 → m.entry.step ≡ AskStep command → AreIn s (old ++ front)
 
 -- no verification is open
 abbrev pub NoneOpen : Start → List Moment → Type 0
 NoneOpen s log = verify.IsIdle (caller_of s log)
 
--- all lines were carried out, each in its part, each wait and each check has ended, no ticket is out, and no verification is open
+-- all lines were carried out, each in its part and asked where no ticket was out, each wait and each check has ended, no ticket is out,
+-- and no verification is open
 pub record AreMade (s : Start) (moment : ℕ) (lines : List ScriptLine) (old new : List Moment) : Type 0 where
   pub grew : GrewAsking s (steps_of moment lines) old new
   pub waits : WaitsEnded s moment lines old new
   pub checks : ChecksEnded s moment lines old new
   pub parts : AreInParts s moment lines old new
+  pub apart : AskedApart s old new
   pub rests : AreIn s new
   pub closed : NoneOpen s new
 
@@ -158,6 +197,7 @@ pub record AreDone (s : Start) (moment : ℕ) (lines : List ScriptLine) (old new
   pub waits : WaitsEnded s moment lines old new
   pub checks : ChecksEnded s moment lines old new
   pub parted : AreParted s moment lines old new
+  pub apart : AskedApart s old new
   pub idle : IsIdle s new
   pub closed : NoneOpen s new
 

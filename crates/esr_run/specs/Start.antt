@@ -6,6 +6,7 @@ use Rattle.esr_core.specs.World as core
 use Rattle.esr_core.specs.Entry.{Entry}
 use Rattle.esr_depot.specs.Image.{Image as Held}
 use Rattle.esr_depot.specs.Look.{Look, now}
+use Rattle.esr_source.specs.Told.{SourcesTold, TargetsTold}
 use Rattle.esr_formats.specs.Formats.{formats}
 use Rattle.esr_desk.specs.Start.{Start, formats_of, world_of, Legal}
 use Rattle.esr_repo.specs.Log.{image_of, ticks, log_of}
@@ -18,6 +19,9 @@ pub record Telling : Type 0 where
   pub is_quiet : Bool
   pub targets_quiet : Bool
   pub targets_told : Bool
+
+abbrev pub telling : SourcesTold → TargetsTold → Telling
+telling s t = record { files = s.files; is_there = s.is_there; is_quiet = s.is_quiet; targets_quiet = t.is_quiet; targets_told = t.tells }
 
 -- a place that isn't there has no files
 abbrev pub is_absent : Option Bool → Bool
@@ -54,6 +58,7 @@ start_of telling size quiet l world =
       tells = is_some (now l);
       quiet = quiet;
       steady = steady_by telling;
+      targets_tell = telling.targets_told;
       sure_targets = telling.targets_quiet;
       alone = true;
       world = world;

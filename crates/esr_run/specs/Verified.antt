@@ -4,7 +4,7 @@ use Rattle.esr_core.specs.Entry.{Read, DrawTest, ReadStep, VerifiedAll, HasEnded
 use Rattle.esr_desk.specs.declared.refusal.StepRefusal.{StepRefusal}
 use Rattle.esr_desk.specs.declared.refusal.StepRefusal.TheVariants as steps
 use Rattle.esr_desk.specs.Start.{Start, Legal}
-use Rattle.esr_checking.specs.Caller.{caller_of}
+use Rattle.esr_desk.specs.Own.{caller_of}
 use Rattle.esr_quiet.specs.Asked.{is_line_ask}
 use Rattle.esr_quiet.specs.Smooth.{HasDrawn}
 use Rattle.esr_verify.specs.Idle.{IsIdle}

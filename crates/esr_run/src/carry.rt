@@ -1,41 +1,36 @@
 //! The lines of a script are carried out, in order.
-ghost use Rattle.std.specs.Prelude.{◌≡◌, ◌⊎◌, ◌+◌, ◌<◌, ◌≤◌, ℕ, Bool, ◌^◌, ◌∷◌, ◌++◌, [], true, false, None, OnOk};
-ghost use Rattle.esr_script.specs.declared.item.Item.TheVariants.{Wait, Check};
+ghost use Rattle.std.specs.Prelude.{◌≡◌, ◌⊎◌, ◌+◌, ◌<◌, ◌≤◌, ℕ, Bool, ◌^◌, ◌∷◌, ◌++◌, [], true, None, OnOk};
+ghost use Rattle.esr_script.specs.declared.item.Item.TheVariants.{Wait, Check, Verify};
 ghost use Rattle.esr_core.specs.Entry.{Clone, DeleteSnapshots, Restore, DrawTest, AskStep, LookStep, ReadStep};
 ghost use Rattle.esr_core.specs.Restores.{AreOnce};
 ghost use Rattle.esr_core.specs.Tracked.{Tracked};
 ghost use Rattle.esr_core.specs.ReadTracked.{ReadTracked};
-ghost use Rattle.esr_desk.specs.Sources.{AreSources};
 ghost use Rattle.esr_desk.specs.Start.{Legal};
 ghost use Rattle.esr_quiet.specs.Asked.{GrewAsking};
 ghost use Rattle.esr_quiet.specs.Numbers.{HasNoTickets};
-ghost use Rattle.esr_drive.specs.Restored.{Telling, AreTargetsOf, RestoresNone};
+ghost use Rattle.esr_drive.specs.Outside.{IsOutside};
 ghost use Rattle.esr_drive.specs.Takes.{idle_takes};
+ghost use Rattle.esr_drive.specs.Works.{WorksOnly};
 ghost use Rattle.esr_complete.specs.Answers.{IsIdle};
 ghost use Rattle.esr_complete.specs.Lines.{command_of_line, steps_of_item, steps_of};
-ghost use Rattle.esr_run.specs.Made.{MadeFirst, HasStopped, WasLeft, NoneOpen, LineSpends, AreIn, LineMade, LineRests, WaitEnds, CheckEnds, AreMade, AreDone};
-ghost use Rattle.esr_run.specs.Filled.{Fills, LineFills};
-ghost use Rattle.esr_run.specs.Checked.{is_check, asks_check, EndsNone};
+ghost use Rattle.esr_run.specs.Made.{MadeFirst, HasStopped, WasLeft, NoneOpen, LineSpends, AreIn, LineMade, LineRests, WaitEnds, CheckEnds, VerifyBegins, AsksOnly, AddsOnly, AreMade, AreDone};
+ghost use Rattle.esr_run.specs.Checked.{is_check, asks_check};
 ghost use Rattle.esr_run.specs.Verified.{AreWhole, MayVerify, VerifiesOn};
 ghost use Rattle.esr_run.specs.Waits.{waits_in, waits_of};
-ghost use Rattle.esr_run.specs.Stop.{result_of};
 ghost use Rattle.esr_run.specs.Script.{is_askable, is_carried, first_bad};
 
 use crate::command::command_of;
 use crate::law::{steps_stay, work_leaves};
-use esr_checking::{CheckDesk, VerifyDesk};
-use esr_deleting::DeleteDesk;
-use esr_desk::{CloneDesk, Desk, StepRefusal, UnitRefusal};
-use esr_drive::{RestoredTarget, RestoredTargets, work};
+use esr_desk::{Client, Desk, StepRefusal, UnitRefusal};
+use esr_drive::work;
 use esr_names::{IndexNames, SnapName, SnapNames};
-use esr_reading::RestoreDesk;
 use esr_script::{AskedIndex, Item, ScriptLine};
 use esr_seq::Text;
 use esr_source::{Gate, Sources, Target, Targets};
 use std::alloc::{AllocError, Global};
 
 /// Asks for a snapshot.
-fn ask<Q: Desk>(
+fn ask<Q: Client>(
     alloc: Global,
     desk: &mut Q,
     name: &SnapName,
@@ -48,9 +43,8 @@ fn ask<Q: Desk>(
     ensures made { LineMade Q.start (AskStep (command_of_line name.now indices.now moment) ∷ []) (Q.seen desk.old) (Q.seen desk.new) result }
     ensures rests { Q.start.alone ≡ true → AreIn Q.start (Q.seen desk.old) → LineRests Q.start (Q.seen desk.new) result }
     ensures spent { Q.start.alone ≡ true → LineSpends (Q.seen desk.new) result }
-    ensures none { Q.start.alone ≡ true → RestoresNone (Q.seen desk.old) (Q.seen desk.new) }
     ensures takes { Q.start.alone ≡ true → idle_takes (Q.seen desk.new) ≡ idle_takes (Q.seen desk.old) }
-    ensures unchecked { Q.start.alone ≡ true → EndsNone (Q.seen desk.old) (Q.seen desk.new) }
+    ensures only { Q.start.alone ≡ true → AsksOnly (Q.seen desk.old) (Q.seen desk.new) }
     ensures verified { (workers : ℕ) (checks : Bool) → Q.start.alone ≡ true → MayVerify Q.start workers checks (Q.seen desk.old) → VerifiesOn Q.start workers checks (Q.seen desk.new) result }
 {
     steps_stay();
@@ -64,7 +58,7 @@ fn ask<Q: Desk>(
 }
 
 /// Asks for a clone: of these indices, each named once, or of all where none is named.
-fn make_clone<Q: CloneDesk>(
+fn make_clone<Q: Client>(
     alloc: Global,
     desk: &mut Q,
     source: &SnapName,
@@ -78,9 +72,8 @@ fn make_clone<Q: CloneDesk>(
     ensures made { LineMade Q.start (AskStep (Clone source.now name.now indices.now moment None) ∷ []) (Q.seen desk.old) (Q.seen desk.new) result }
     ensures rests { Q.start.alone ≡ true → AreIn Q.start (Q.seen desk.old) → LineRests Q.start (Q.seen desk.new) result }
     ensures spent { Q.start.alone ≡ true → LineSpends (Q.seen desk.new) result }
-    ensures none { Q.start.alone ≡ true → RestoresNone (Q.seen desk.old) (Q.seen desk.new) }
     ensures takes { Q.start.alone ≡ true → idle_takes (Q.seen desk.new) ≡ idle_takes (Q.seen desk.old) }
-    ensures unchecked { Q.start.alone ≡ true → EndsNone (Q.seen desk.old) (Q.seen desk.new) }
+    ensures only { Q.start.alone ≡ true → AsksOnly (Q.seen desk.old) (Q.seen desk.new) }
     ensures verified { (workers : ℕ) (checks : Bool) → Q.start.alone ≡ true → MayVerify Q.start workers checks (Q.seen desk.old) → VerifiesOn Q.start workers checks (Q.seen desk.new) result }
 {
     steps_stay();
@@ -91,15 +84,14 @@ fn make_clone<Q: CloneDesk>(
 }
 
 /// Asks for a delete of all these snapshots.
-fn delete<Q: DeleteDesk>(alloc: Global, desk: &mut Q, names: &SnapNames) -> Result<(), StepRefusal>
+fn delete<Q: Client>(alloc: Global, desk: &mut Q, names: &SnapNames) -> Result<(), StepRefusal>
     requires numbered { HasNoTickets Q.start }
     requires ops { Tracked Q.start.world }
     ensures made { LineMade Q.start (AskStep (DeleteSnapshots names.now) ∷ []) (Q.seen desk.old) (Q.seen desk.new) result }
     ensures rests { Q.start.alone ≡ true → AreIn Q.start (Q.seen desk.old) → LineRests Q.start (Q.seen desk.new) result }
     ensures spent { Q.start.alone ≡ true → LineSpends (Q.seen desk.new) result }
-    ensures none { Q.start.alone ≡ true → RestoresNone (Q.seen desk.old) (Q.seen desk.new) }
     ensures takes { Q.start.alone ≡ true → idle_takes (Q.seen desk.new) ≡ idle_takes (Q.seen desk.old) }
-    ensures unchecked { Q.start.alone ≡ true → EndsNone (Q.seen desk.old) (Q.seen desk.new) }
+    ensures only { Q.start.alone ≡ true → AsksOnly (Q.seen desk.old) (Q.seen desk.new) }
     ensures verified { (workers : ℕ) (checks : Bool) → Q.start.alone ≡ true → MayVerify Q.start workers checks (Q.seen desk.old) → VerifiesOn Q.start workers checks (Q.seen desk.new) result }
 {
     steps_stay();
@@ -110,7 +102,7 @@ fn delete<Q: DeleteDesk>(alloc: Global, desk: &mut Q, names: &SnapNames) -> Resu
 }
 
 /// Asks for a restore.
-fn restore<Q: RestoreDesk>(
+fn restore<Q: Client>(
     alloc: Global,
     desk: &mut Q,
     name: &SnapName,
@@ -121,9 +113,8 @@ fn restore<Q: RestoreDesk>(
     ensures made { LineMade Q.start (AskStep (Restore name.now place.now) ∷ []) (Q.seen desk.old) (Q.seen desk.new) result }
     ensures rests { Q.start.alone ≡ true → AreIn Q.start (Q.seen desk.old) → LineRests Q.start (Q.seen desk.new) result }
     ensures spent { Q.start.alone ≡ true → LineSpends (Q.seen desk.new) result }
-    ensures none { Q.start.alone ≡ true → RestoresNone (Q.seen desk.old) (Q.seen desk.new) }
     ensures takes { Q.start.alone ≡ true → idle_takes (Q.seen desk.new) ≡ idle_takes (Q.seen desk.old) }
-    ensures unchecked { Q.start.alone ≡ true → EndsNone (Q.seen desk.old) (Q.seen desk.new) }
+    ensures only { Q.start.alone ≡ true → AsksOnly (Q.seen desk.old) (Q.seen desk.new) }
     ensures verified { (workers : ℕ) (checks : Bool) → Q.start.alone ≡ true → MayVerify Q.start workers checks (Q.seen desk.old) → VerifiesOn Q.start workers checks (Q.seen desk.new) result }
 {
     steps_stay();
@@ -134,15 +125,14 @@ fn restore<Q: RestoreDesk>(
 }
 
 /// Asks for the snapshots of the safe root.
-fn list<Q: Desk>(alloc: Global, desk: &mut Q) -> Result<(), StepRefusal>
+fn list<Q: Client>(alloc: Global, desk: &mut Q) -> Result<(), StepRefusal>
     requires numbered { HasNoTickets Q.start }
     requires ops { Tracked Q.start.world }
     ensures made { LineMade Q.start (LookStep ∷ []) (Q.seen desk.old) (Q.seen desk.new) result }
     ensures rests { Q.start.alone ≡ true → AreIn Q.start (Q.seen desk.old) → LineRests Q.start (Q.seen desk.new) result }
     ensures spent { Q.start.alone ≡ true → LineSpends (Q.seen desk.new) result }
-    ensures none { Q.start.alone ≡ true → RestoresNone (Q.seen desk.old) (Q.seen desk.new) }
     ensures takes { Q.start.alone ≡ true → idle_takes (Q.seen desk.new) ≡ idle_takes (Q.seen desk.old) }
-    ensures unchecked { Q.start.alone ≡ true → EndsNone (Q.seen desk.old) (Q.seen desk.new) }
+    ensures only { Q.start.alone ≡ true → AsksOnly (Q.seen desk.old) (Q.seen desk.new) }
     ensures verified { (workers : ℕ) (checks : Bool) → Q.start.alone ≡ true → MayVerify Q.start workers checks (Q.seen desk.old) → VerifiesOn Q.start workers checks (Q.seen desk.new) result }
 {
     steps_stay();
@@ -152,45 +142,16 @@ fn list<Q: Desk>(alloc: Global, desk: &mut Q) -> Result<(), StepRefusal>
     Ok(())
 }
 
-/// The refusal that stopped the work, as a result.
-fn answer(stop: Option<StepRefusal>) -> Result<(), StepRefusal>
-    ensures { result ≡ result_of stop }
-{
-    match stop {
-        None => Ok(()),
-        Some(refusal) => Err(refusal),
-    }
-}
-
-/// Puts targets to those that were filled before.
-fn keep<T: Drop>(
-    filled: &mut Vec<RestoredTarget<T>>,
-    more: RestoredTargets<T>,
-) -> Result<(), AllocError>
-    ensures { OnOk result (filled.new.items ≡ filled.old.items ++ more) }
-{
-    filled.append(&mut more.into_vec())
-}
-
-/// Works all units that are ready, and puts the targets that they fill to those that were filled before.
-fn wait<
-    Q: RestoreDesk<Shard = S::Shard, Target = T::Target> + DeleteDesk,
-    S: Sources,
-    T: Targets,
-    G: Gate,
->(
+/// Works all units that are ready.
+fn wait<Q: Desk<Shard = S::Shard, Target = T::Target>, S: Sources, T: Targets, G: Gate>(
     alloc: Global,
     desk: &mut Q,
     sources: &S,
     targets: &T,
     gate: &G,
     part_size: u64,
-    filled: &mut Vec<RestoredTarget<T::Target>>,
 ) -> Result<(), StepRefusal>
-    requires sources { AreSources Q.start (S.files sources.now) (S.is_there sources.now) (S.is_quiet sources.now) }
-    requires sure { Q.start.sure_targets ≡ T.is_quiet targets.now }
-    requires size { part_size ≡ Q.start.part_size }
-    requires sized { (1 ≤ part_size) × (part_size ≤ 2 ^ 30) }
+    requires outside { IsOutside Q.start (S.told sources.now) (T.told targets.now) part_size }
     requires numbered { HasNoTickets Q.start }
     requires tracked { ReadTracked Q.start.world }
     requires ops { Tracked Q.start.world }
@@ -198,24 +159,18 @@ fn wait<
     ensures rests { Q.start.alone ≡ true → AreIn Q.start (Q.seen desk.old) → LineRests Q.start (Q.seen desk.new) result }
     ensures spent { Q.start.alone ≡ true → LineSpends (Q.seen desk.new) result }
     ensures ended { Q.start.alone ≡ true → WaitEnds (Q.seen desk.new) result }
-    ensures filled { Q.start.alone ≡ true → LineFills (record { made_for = T.Target.made_for; files = T.Target.files; is_sure = T.Target.is_sure; begun = T.Target.begun; faults = T.Target.faults; are_told = T.is_told targets.now; are_quiet = T.is_quiet targets.now })
-        Q.start (Q.seen desk.old) (Q.seen desk.new) filled.old.items filled.new.items result }
     ensures verified { (workers : ℕ) (checks : Bool) → Q.start.alone ≡ true → MayVerify Q.start workers checks (Q.seen desk.old) → VerifiesOn Q.start workers checks (Q.seen desk.new) result }
     ensures whole { (workers : ℕ) (checks : Bool) → Q.start.alone ≡ true → AreWhole Q.start workers checks (Q.seen desk.old) → AreWhole Q.start workers checks (Q.seen desk.new) }
     ensures closed { Q.start.alone ≡ true → Legal Q.start (Q.seen desk.old) → NoneOpen Q.start (Q.seen desk.old) → NoneOpen Q.start (Q.seen desk.new) }
     ensures takes { Q.start.alone ≡ true → idle_takes (Q.seen desk.new) ≤ idle_takes (Q.seen desk.old) + 1 }
-    ensures unchecked { Q.start.alone ≡ true → EndsNone (Q.seen desk.old) (Q.seen desk.new) }
+    ensures only { Q.start.alone ≡ true → WorksOnly (Q.seen desk.old) (Q.seen desk.new) }
 {
     work_leaves();
-    let worked = work(alloc, desk, sources, targets, gate, part_size);
-    if keep(filled, worked.restored).is_err() {
-        return Err(StepRefusal::Memory);
-    }
-    answer(worked.stop)
+    work(alloc, desk, sources, targets, gate, part_size)
 }
 
 /// Verifies the container. A verification that fails is no reason to stop.
-fn verify<Q: VerifyDesk>(alloc: Global, desk: &mut Q, workers: u32) -> Result<(), StepRefusal>
+fn verify<Q: Client>(alloc: Global, desk: &mut Q, workers: u32) -> Result<(), StepRefusal>
     requires alone { Q.start.alone ≡ true }
     requires numbered { HasNoTickets Q.start }
     requires ops { Tracked Q.start.world }
@@ -226,9 +181,8 @@ fn verify<Q: VerifyDesk>(alloc: Global, desk: &mut Q, workers: u32) -> Result<()
     ensures made { LineMade Q.start (ReadStep DrawTest ∷ []) (Q.seen desk.old) (Q.seen desk.new) result }
     ensures rests { AreIn Q.start (Q.seen desk.old) → LineRests Q.start (Q.seen desk.new) result }
     ensures spent { LineSpends (Q.seen desk.new) result }
-    ensures none { RestoresNone (Q.seen desk.old) (Q.seen desk.new) }
     ensures takes { idle_takes (Q.seen desk.new) ≡ idle_takes (Q.seen desk.old) }
-    ensures unchecked { EndsNone (Q.seen desk.old) (Q.seen desk.new) }
+    ensures begun { VerifyBegins (Q.seen desk.old) (Q.seen desk.new) result }
     ensures verified { (checks : Bool) → MayVerify Q.start workers checks (Q.seen desk.old) → VerifiesOn Q.start workers checks (Q.seen desk.new) result }
 {
     steps_stay();
@@ -236,11 +190,12 @@ fn verify<Q: VerifyDesk>(alloc: Global, desk: &mut Q, workers: u32) -> Result<()
         Ok(()) => Ok(()),
         Err(UnitRefusal::Failed(_)) => Ok(()),
         Err(UnitRefusal::Stopped(refusal)) => Err(refusal),
+        Err(UnitRefusal::Stale) => unreachable!(),
     }
 }
 
 /// Checks the repository. A check that fails is no reason to stop.
-fn check<Q: CheckDesk>(alloc: Global, desk: &mut Q) -> Result<(), StepRefusal>
+fn check<Q: Client>(alloc: Global, desk: &mut Q) -> Result<(), StepRefusal>
     requires alone { Q.start.alone ≡ true }
     requires numbered { HasNoTickets Q.start }
     requires ops { Tracked Q.start.world }
@@ -248,7 +203,6 @@ fn check<Q: CheckDesk>(alloc: Global, desk: &mut Q) -> Result<(), StepRefusal>
     ensures made { LineMade Q.start (LookStep ∷ []) (Q.seen desk.old) (Q.seen desk.new) result }
     ensures rests { AreIn Q.start (Q.seen desk.old) → LineRests Q.start (Q.seen desk.new) result }
     ensures spent { LineSpends (Q.seen desk.new) result }
-    ensures none { RestoresNone (Q.seen desk.old) (Q.seen desk.new) }
     ensures takes { idle_takes (Q.seen desk.new) ≡ idle_takes (Q.seen desk.old) }
     ensures checked { CheckEnds (Q.seen desk.old) (Q.seen desk.new) result }
     ensures verified { (workers : ℕ) → MayVerify Q.start workers true (Q.seen desk.old) → VerifiesOn Q.start workers true (Q.seen desk.new) result }
@@ -256,21 +210,13 @@ fn check<Q: CheckDesk>(alloc: Global, desk: &mut Q) -> Result<(), StepRefusal>
     steps_stay();
     match esr_check::check(alloc, desk) {
         Ok(_) => Ok(()),
-        Err(UnitRefusal::Failed(..)) => Ok(()),
+        Err(UnitRefusal::Failed(_)) => Ok(()),
         Err(UnitRefusal::Stopped(refusal)) => Err(refusal),
+        Err(UnitRefusal::Stale) => unreachable!(),
     }
 }
 
-fn carry_line<
-    Q: RestoreDesk<Shard = S::Shard, Target = T::Target>
-        + DeleteDesk
-        + CloneDesk
-        + VerifyDesk
-        + CheckDesk,
-    S: Sources,
-    T: Targets,
-    G: Gate,
->(
+fn carry_line<Q: Client<Shard = S::Shard, Target = T::Target>, S: Sources, T: Targets, G: Gate>(
     alloc: Global,
     desk: &mut Q,
     item: &Item,
@@ -280,7 +226,6 @@ fn carry_line<
     part_size: u64,
     workers: u32,
     moment: u64,
-    filled: &mut Vec<RestoredTarget<T::Target>>,
 ) -> Result<(), StepRefusal>
     requires carried { is_carried item.now ≡ true }
     requires alone { Q.start.alone ≡ true }
@@ -288,10 +233,7 @@ fn carry_line<
     requires few { workers ≤ 64 }
     requires idle { NoneOpen Q.start (Q.seen desk.old) }
     requires legal { Legal Q.start (Q.seen desk.old) }
-    requires sources { AreSources Q.start (S.files sources.now) (S.is_there sources.now) (S.is_quiet sources.now) }
-    requires sure { Q.start.sure_targets ≡ T.is_quiet targets.now }
-    requires size { part_size ≡ Q.start.part_size }
-    requires sized { (1 ≤ part_size) × (part_size ≤ 2 ^ 30) }
+    requires outside { IsOutside Q.start (S.told sources.now) (T.told targets.now) part_size }
     requires numbered { HasNoTickets Q.start }
     requires tracked { ReadTracked Q.start.world }
     requires ops { Tracked Q.start.world }
@@ -301,9 +243,8 @@ fn carry_line<
     ensures checked { item.now ≡ Check → CheckEnds (Q.seen desk.old) (Q.seen desk.new) result }
     ensures ended { item.now ≡ Wait → Q.start.alone ≡ true → WaitEnds (Q.seen desk.new) result }
     ensures takes { idle_takes (Q.seen desk.new) ≤ idle_takes (Q.seen desk.old) + waits_in item.now }
-    ensures unchecked { is_check item.now ≡ false → EndsNone (Q.seen desk.old) (Q.seen desk.new) }
-    ensures filled { Q.start.alone ≡ true → LineFills (record { made_for = T.Target.made_for; files = T.Target.files; is_sure = T.Target.is_sure; begun = T.Target.begun; faults = T.Target.faults; are_told = T.is_told targets.now; are_quiet = T.is_quiet targets.now })
-        Q.start (Q.seen desk.old) (Q.seen desk.new) filled.old.items filled.new.items result }
+    ensures begun { item.now ≡ Verify → VerifyBegins (Q.seen desk.old) (Q.seen desk.new) result }
+    ensures only { AddsOnly item.now (Q.seen desk.old) (Q.seen desk.new) }
     ensures verified { (checks : Bool) → (is_check item.now ≡ true → checks ≡ true) → MayVerify Q.start workers checks (Q.seen desk.old) → VerifiesOn Q.start workers checks (Q.seen desk.new) result }
 {
     match item {
@@ -315,7 +256,7 @@ fn carry_line<
         } => make_clone(alloc, desk, source, name, indices, moment),
         Item::Delete { names } => delete(alloc, desk, names),
         Item::Restore { name, place } => restore(alloc, desk, name, place),
-        Item::Wait => wait(alloc, desk, sources, targets, gate, part_size, filled),
+        Item::Wait => wait(alloc, desk, sources, targets, gate, part_size),
         Item::List => list(alloc, desk),
         Item::Check => check(alloc, desk),
         Item::Verify => verify(alloc, desk, workers),
@@ -325,16 +266,7 @@ fn carry_line<
 
 /// Carries out the lines. A refusal that the history tells is no reason to stop; none is carried out once the desk's turns
 /// are spent.
-fn carry_lines<
-    Q: RestoreDesk<Shard = S::Shard, Target = T::Target>
-        + DeleteDesk
-        + CloneDesk
-        + VerifyDesk
-        + CheckDesk,
-    S: Sources,
-    T: Targets,
-    G: Gate,
->(
+fn carry_lines<Q: Client<Shard = S::Shard, Target = T::Target>, S: Sources, T: Targets, G: Gate>(
     alloc: Global,
     desk: &mut Q,
     lines: &[ScriptLine],
@@ -344,31 +276,25 @@ fn carry_lines<
     part_size: u64,
     workers: u32,
     moment: u64,
-    filled: &mut Vec<RestoredTarget<T::Target>>,
 ) -> Result<(), AllocError>
     requires carried { first_bad lines.now ≡ None }
     requires alone { Q.start.alone ≡ true }
     requires some { 0 < workers }
     requires few { workers ≤ 64 }
     requires may { MayVerify Q.start workers (asks_check lines.now) (Q.seen desk.old) }
-    requires sources { AreSources Q.start (S.files sources.now) (S.is_there sources.now) (S.is_quiet sources.now) }
-    requires sure { Q.start.sure_targets ≡ T.is_quiet targets.now }
-    requires size { part_size ≡ Q.start.part_size }
-    requires sized { (1 ≤ part_size) × (part_size ≤ 2 ^ 30) }
+    requires outside { IsOutside Q.start (S.told sources.now) (T.told targets.now) part_size }
     requires numbered { HasNoTickets Q.start }
     requires tracked { ReadTracked Q.start.world }
     requires ops { Tracked Q.start.world }
     ensures made { MadeFirst Q.start (steps_of moment lines.now) (Q.seen desk.old) (Q.seen desk.new) }
     ensures rests { OnOk result (Q.start.alone ≡ true → AreIn Q.start (Q.seen desk.old) → AreMade Q.start moment lines.now (Q.seen desk.old) (Q.seen desk.new) ⊎ WasLeft Q.start moment lines.now (Q.seen desk.old) (Q.seen desk.new)) }
-    ensures filled { OnOk result (Q.start.alone ≡ true → Fills (record { made_for = T.Target.made_for; files = T.Target.files; is_sure = T.Target.is_sure; begun = T.Target.begun; faults = T.Target.faults; are_told = T.is_told targets.now; are_quiet = T.is_quiet targets.now })
-        Q.start (Q.seen desk.old) (Q.seen desk.new) filled.old.items filled.new.items) }
     ensures whole { AreWhole Q.start workers (asks_check lines.now) (Q.seen desk.new) }
     ensures takes { idle_takes (Q.seen desk.new) ≤ idle_takes (Q.seen desk.old) + waits_of lines.now }
 {
     let mut left = lines;
     while let [line, rest @ ..] = left {
         match carry_line(
-            alloc, desk, &line.item, sources, targets, gate, part_size, workers, moment, filled,
+            alloc, desk, &line.item, sources, targets, gate, part_size, workers, moment,
         ) {
             Ok(()) => {}
             Err(StepRefusal::Refused(_)) => {}
@@ -381,37 +307,26 @@ fn carry_lines<
 }
 
 /// Works all units that are ready after the last line.
-fn work_out<
-    Q: RestoreDesk<Shard = S::Shard, Target = T::Target> + DeleteDesk,
-    S: Sources,
-    T: Targets,
-    G: Gate,
->(
+fn work_out<Q: Desk<Shard = S::Shard, Target = T::Target>, S: Sources, T: Targets, G: Gate>(
     alloc: Global,
     desk: &mut Q,
     sources: &S,
     targets: &T,
     gate: &G,
     part_size: u64,
-    filled: &mut Vec<RestoredTarget<T::Target>>,
 ) -> Result<(), AllocError>
-    requires sources { AreSources Q.start (S.files sources.now) (S.is_there sources.now) (S.is_quiet sources.now) }
-    requires sure { Q.start.sure_targets ≡ T.is_quiet targets.now }
-    requires size { part_size ≡ Q.start.part_size }
-    requires sized { (1 ≤ part_size) × (part_size ≤ 2 ^ 30) }
+    requires outside { IsOutside Q.start (S.told sources.now) (T.told targets.now) part_size }
     requires numbered { HasNoTickets Q.start }
     requires tracked { ReadTracked Q.start.world }
     requires ops { Tracked Q.start.world }
     ensures grew { GrewAsking Q.start [] (Q.seen desk.old) (Q.seen desk.new) }
     ensures done { OnOk result (Q.start.alone ≡ true → AreIn Q.start (Q.seen desk.old) → IsIdle Q.start (Q.seen desk.new) ⊎ HasStopped (Q.seen desk.new)) }
-    ensures filled { OnOk result (Q.start.alone ≡ true → Fills (record { made_for = T.Target.made_for; files = T.Target.files; is_sure = T.Target.is_sure; begun = T.Target.begun; faults = T.Target.faults; are_told = T.is_told targets.now; are_quiet = T.is_quiet targets.now })
-        Q.start (Q.seen desk.old) (Q.seen desk.new) filled.old.items filled.new.items) }
     ensures whole { (workers : ℕ) (checks : Bool) → Q.start.alone ≡ true → AreWhole Q.start workers checks (Q.seen desk.old) → AreWhole Q.start workers checks (Q.seen desk.new) }
     ensures closed { Q.start.alone ≡ true → Legal Q.start (Q.seen desk.old) → NoneOpen Q.start (Q.seen desk.old) → NoneOpen Q.start (Q.seen desk.new) }
     ensures takes { Q.start.alone ≡ true → idle_takes (Q.seen desk.new) ≤ idle_takes (Q.seen desk.old) + 1 }
-    ensures unchecked { Q.start.alone ≡ true → EndsNone (Q.seen desk.old) (Q.seen desk.new) }
+    ensures only { Q.start.alone ≡ true → WorksOnly (Q.seen desk.old) (Q.seen desk.new) }
 {
-    match wait(alloc, desk, sources, targets, gate, part_size, filled) {
+    match wait(alloc, desk, sources, targets, gate, part_size) {
         Ok(()) => Ok(()),
         Err(StepRefusal::Memory) => Err(AllocError),
         Err(StepRefusal::TurnsSpent) => Ok(()),
@@ -419,14 +334,9 @@ fn work_out<
     }
 }
 
-/// Carries out the lines, and works all units that are ready then. The targets that restores filled are put to those that are
-/// given.
+/// Carries out the lines, and works all units that are ready then.
 pub(crate) fn carry<
-    Q: RestoreDesk<Shard = S::Shard, Target = T::Target>
-        + DeleteDesk
-        + CloneDesk
-        + VerifyDesk
-        + CheckDesk,
+    Q: Client<Shard = S::Shard, Target = T::Target>,
     S: Sources,
     T: Targets,
     G: Gate,
@@ -440,31 +350,25 @@ pub(crate) fn carry<
     part_size: u64,
     workers: u32,
     moment: u64,
-    filled: &mut Vec<RestoredTarget<T::Target>>,
 ) -> Result<(), AllocError>
     requires carried { first_bad lines.now ≡ None }
     requires alone { Q.start.alone ≡ true }
     requires some { 0 < workers }
     requires few { workers ≤ 64 }
     requires may { MayVerify Q.start workers (asks_check lines.now) (Q.seen desk.old) }
-    requires sources { AreSources Q.start (S.files sources.now) (S.is_there sources.now) (S.is_quiet sources.now) }
-    requires sure { Q.start.sure_targets ≡ T.is_quiet targets.now }
-    requires size { part_size ≡ Q.start.part_size }
-    requires sized { (1 ≤ part_size) × (part_size ≤ 2 ^ 30) }
+    requires outside { IsOutside Q.start (S.told sources.now) (T.told targets.now) part_size }
     requires numbered { HasNoTickets Q.start }
     requires tracked { ReadTracked Q.start.world }
     requires ops { Tracked Q.start.world }
     ensures made { MadeFirst Q.start (steps_of moment lines.now) (Q.seen desk.old) (Q.seen desk.new) }
     ensures done { OnOk result (Q.start.alone ≡ true → AreIn Q.start (Q.seen desk.old) → AreDone Q.start moment lines.now (Q.seen desk.old) (Q.seen desk.new) ⊎ WasLeft Q.start moment lines.now (Q.seen desk.old) (Q.seen desk.new)) }
-    ensures filled { OnOk result (Q.start.alone ≡ true → Fills (record { made_for = T.Target.made_for; files = T.Target.files; is_sure = T.Target.is_sure; begun = T.Target.begun; faults = T.Target.faults; are_told = T.is_told targets.now; are_quiet = T.is_quiet targets.now })
-        Q.start (Q.seen desk.old) (Q.seen desk.new) filled.old.items filled.new.items) }
     ensures whole { AreWhole Q.start workers (asks_check lines.now) (Q.seen desk.new) }
     ensures takes { idle_takes (Q.seen desk.new) ≤ idle_takes (Q.seen desk.old) + (waits_of lines.now + 1) }
 {
     match carry_lines(
-        alloc, desk, lines, sources, targets, gate, part_size, workers, moment, filled,
+        alloc, desk, lines, sources, targets, gate, part_size, workers, moment,
     ) {
-        Ok(()) => work_out(alloc, desk, sources, targets, gate, part_size, filled),
+        Ok(()) => work_out(alloc, desk, sources, targets, gate, part_size),
         Err(AllocError) => Err(AllocError),
     }
 }

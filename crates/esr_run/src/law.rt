@@ -2,7 +2,7 @@
 ghost use Rattle.std.specs.Prelude.{◌≡◌, Some};
 ghost use Rattle.esr_depot.specs.Image.{Image};
 ghost use Rattle.esr_depot.specs.Look.{now};
-ghost use Rattle.esr_run.specs.Laws.{Laws, StepsStay, WorkLeaves, Refusals, QuietLaws};
+ghost use Rattle.esr_run.specs.Laws.{Laws, StepsStay, WorkLeaves, Refusals, KeptLaws, QuietLaws};
 ghost use Rattle.esr_run.specs.Tidy.{TidyLaws};
 
 use esr_depot::Depot;
@@ -53,7 +53,17 @@ pub(crate) fn refusals()
 {
     esr_core::refusals_are_of_their_steps();
     esr_core::only_failed_swaps_depose();
-    esr_quiet::no_step_is_stale();
+}
+
+/// The laws of histories over a kept container that tells, for the objects of a run.
+pub(crate) fn kept_laws<S, F, H, T>()
+    ensures { KeptLaws S F H T }
+{
+    esr_quiet::no_unit_finds_damage::<S, F, H, T>();
+    esr_quiet::no_restore_finds_damage::<S, F, H, T>();
+    esr_quiet::no_delete_finds_damage::<S, F, H, T>();
+    esr_quiet::no_check_finds_damage::<S, F, H, T>();
+    esr_quiet::no_name_is_taken();
 }
 
 /// The laws of histories in which nothing fails, for the objects of a run.

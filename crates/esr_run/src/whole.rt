@@ -1,20 +1,19 @@
 //! A whole run.
 ghost use Rattle.std.specs.Prelude.{◌≡◌, ◌⊎◌, ◌<◌, ◌≤◌, ◌^◌, ℕ, true, false, [], Some, None, OnOk, IfOk, IsErr, vec_len, vec_capacity};
 ghost use Rattle.esr_model.specs.Places.{sorted_by};
-ghost use Rattle.esr_drive.specs.Restored.{Telling, AreTargetsOf};
+ghost use Rattle.esr_drive.specs.Outside.{IsOutside};
+ghost use Rattle.esr_desk.specs.Evidence.{evidence};
+ghost use Rattle.esr_desk.specs.Restore.Targets.{AreTargetsOf};
+ghost use Rattle.esr_desk.specs.Shown.{AreShown};
 ghost use Rattle.esr_targets.specs.Lines.{AreNumbered, ops_of_lines};
 ghost use Rattle.esr_targets.specs.Listed.{target_first, listed};
 ghost use Rattle.esr_targets.specs.Targets.{AreTargetsOfLines};
 ghost use Rattle.esr_run.specs.Restored.{OpensRestored, HasRestored};
-ghost use Rattle.esr_run.specs.Filled.{unless_wanting};
-ghost use Rattle.esr_desk.specs.Sources.{AreSources};
 ghost use Rattle.esr_repo.specs.Begun.{IsBegun};
-ghost use Rattle.esr_desk.specs.Once.{AreOnce, NoneTwice};
-ghost use Rattle.esr_deleting.specs.Once.{AreRemovedOnce};
-ghost use Rattle.esr_checking.specs.Tested.{AreTested};
+ghost use Rattle.esr_desk.specs.Once.{AreOnce, NoneTwice, AreRemovedOnce};
+ghost use Rattle.esr_desk.specs.Verify.Tested.{AreTested};
 ghost use Rattle.esr_core.specs.Tracked.{Tracked};
 ghost use Rattle.esr_core.specs.ReadTracked.{ReadTracked};
-ghost use Rattle.esr_run.specs.Counts.{AreShown};
 ghost use Rattle.esr_quiet.specs.Numbers.{HasNoTickets};
 ghost use Rattle.esr_complete.specs.Lines.{steps_of};
 ghost use Rattle.esr_repo.specs.Calm.{IsCalm};
@@ -26,7 +25,7 @@ ghost use Rattle.esr_script.specs.Jobs.{job_of};
 ghost use Rattle.esr_run.specs.Asked.{wanted_of};
 ghost use Rattle.esr_run.specs.Ends.{Carried};
 ghost use Rattle.esr_run.specs.Script.{first_bad};
-ghost use Rattle.esr_run.specs.Start.{LegalRun};
+ghost use Rattle.esr_run.specs.Start.{telling, LegalRun};
 ghost use Rattle.esr_run.specs.Causes.{Given, IsReadFor, IsTold, IsVerdict, IsUnopened, IsOpenedRun, IsOpenCause, IsRunOf, IsCauseOf, IsEndOf, OpensWell, IsComplete};
 ghost use Rattle.esr_core.specs.World.{no_caller};
 ghost use Rattle.esr_run.specs.Checked.{asks_check};
@@ -38,13 +37,12 @@ use crate::asked::{Asked, asked_for};
 use crate::carry::carry;
 use crate::ended::Ended;
 use crate::fault::{faults_of, room_for_one};
-use crate::law::{laws, only_now, quiet_laws, refusals};
+use crate::law::{kept_laws, laws, only_now, quiet_laws, refusals};
 use crate::stop::Stop;
 use crate::unopened::{ended_at, stop_of};
 use crate::verdict::{Verdict, print_verdict, reported, wanting};
 use esr_depot::Depot;
-use esr_desk::{Fault, Faults, History};
-use esr_drive::{RestoredTarget, RestoredTargets};
+use esr_desk::{Fault, Faults, History, RestoredTargets, no_step_is_made_twice};
 use esr_opening::{Opening, open_container};
 use esr_repo::{Repo, Told};
 use esr_script::{Script, Words};
@@ -54,7 +52,6 @@ use esr_source::{Gate, Lines, Out, Sources, Target, Targets};
 use esr_targets::{TargetList, each_target_is_of_its_line, targets_of};
 use std::alloc::{AllocError, Global};
 use std::marker::Brand;
-use std::sync::Wait;
 
 /// A run that is not printed yet.
 #[derive(Drop)]
@@ -65,38 +62,28 @@ pub(crate) struct Done<D: Depot, T> {
     pub history: History,
 }
 
-/// What was carried out on a repository: the targets that restores filled, unless memory was wanting.
+/// What was carried out on a repository, with the targets that restores filled. It ended early where memory was wanting.
 #[derive(Drop)]
 struct Work<R, F, T> {
     repo: R,
     faults: F,
-    filled: Result<RestoredTargets<T>, AllocError>,
-}
-
-/// The targets that were filled, unless memory was wanting.
-fn unless_wanting<T: Drop>(
+    restored: RestoredTargets<T>,
     carried: Result<(), AllocError>,
-    filled: Vec<RestoredTarget<T>>,
-) -> Result<RestoredTargets<T>, AllocError>
-    ensures { result ≡ unless_wanting carried filled.items }
-{
-    match carried {
-        Ok(()) => Ok(Seq::from_vec(filled)),
-        Err(AllocError) => Err(AllocError),
-    }
 }
 
 /// The targets by their lines, unless memory was wanting.
 fn targets_by_lines<T: Drop>(
     alloc: Global,
-    filled: Result<RestoredTargets<T>, AllocError>,
+    carried: Result<(), AllocError>,
+    restored: RestoredTargets<T>,
     script: &Script,
     history: &History,
 ) -> Result<TargetList<T>, AllocError>
-    ensures listed { IfOk result (λ targets. IfOk filled (λ restored. targets ≡ sorted_by target_first (listed (ops_of_lines script.now history.now) restored))) }
-    ensures wanting { IsErr filled → IsErr result }
+    ensures listed { IfOk result (λ targets. targets ≡ sorted_by target_first (listed (ops_of_lines script.now history.now) restored)) }
+    ensures wanting { IsErr carried → IsErr result }
 {
-    targets_of(alloc, script.as_slice(), history.as_slice(), filled?)
+    carried?;
+    targets_of(alloc, script.as_slice(), history.as_slice(), restored)
 }
 
 /// The verdict of a run whose script was carried out, and its targets, unless memory was wanting.
@@ -127,10 +114,7 @@ fn carry_on<D: Depot, S: Sources, T: Targets, G: Gate, K: Told>(
     moment: u64,
 ) -> Work<Repo<D, K>, Faults<D::Stage, D::Fetch, S::Shard, T::Target>, T::Target>
     requires fresh { repo ≡ [] }
-    requires sources { AreSources K.start (S.files sources.now) (S.is_there sources.now) (S.is_quiet sources.now) }
-    requires sure { K.start.sure_targets ≡ T.is_quiet targets.now }
-    requires size { asked.now.part_size ≡ K.start.part_size }
-    requires sized { (1 ≤ asked.now.part_size) × (asked.now.part_size ≤ 2 ^ 30) }
+    requires outside { IsOutside K.start (S.told sources.now) (T.told targets.now) asked.now.part_size }
     requires good { first_bad asked.now.script ≡ None }
     requires numbered { HasNoTickets K.start }
     requires readers { HasNoReaders K.start }
@@ -140,21 +124,18 @@ fn carry_on<D: Depot, S: Sources, T: Targets, G: Gate, K: Told>(
     requires workers { (1 ≤ asked.now.workers) × (asked.now.workers ≤ 64) }
     requires nobody { K.start.world.caller ≡ no_caller }
     requires alive { K.start.world.deposed ≡ false }
-    ensures shown { AreShown (record { stage = D.Stage.faults; fetch = D.Fetch.faults; shard = S.Shard.faults; target = T.Target.faults; made_for = λ h. (S.Shard.origin h).address; target_for = T.Target.made_for; held = T.Target.files; is_sure = T.Target.is_sure; begun = T.Target.begun }) K.start result.repo result.faults }
+    ensures shown { AreShown (evidence D.Stage.faults D.Fetch.faults S.Shard.faults T.Target.faults S.Shard.told T.Target.told) K.start result.repo result.faults }
     ensures once { AreOnce K.start result.repo }
     ensures tested { AreTested K.start result.repo }
-    ensures single { NoneTwice result.repo }
     ensures removed { AreRemovedOnce result.repo }
     ensures made { MadeFirst K.start (steps_of moment asked.now.script) [] result.repo }
-    ensures done { OnOk result.filled (AreDone K.start moment asked.now.script [] result.repo ⊎ HasFallen K.start moment asked.now.script [] result.repo) }
+    ensures done { OnOk result.carried (AreDone K.start moment asked.now.script [] result.repo ⊎ HasFallen K.start moment asked.now.script [] result.repo) }
     ensures whole { AreWhole K.start asked.now.workers (asks_check asked.now.script) result.repo }
     ensures takes { TakesFew asked.now.script result.repo }
-    ensures filled { IfOk result.filled (AreTargetsOf (record { made_for = T.Target.made_for; files = T.Target.files; is_sure = T.Target.is_sure; begun = T.Target.begun; faults = T.Target.faults; are_told = T.is_told targets.now; are_quiet = T.is_quiet targets.now })
-        K.start [] result.repo) }
+    ensures restored { AreTargetsOf (evidence D.Stage.faults D.Fetch.faults S.Shard.faults T.Target.faults S.Shard.told T.Target.told) K.start result.repo result.restored }
 {
     refusals();
     let mut desk = Solo::<D, K, S::Shard, T::Target>::new(alloc, repo);
-    let mut filled = Vec::new(alloc);
     let lines = asked.script.as_slice();
     let carried = carry(
         alloc,
@@ -166,13 +147,13 @@ fn carry_on<D: Depot, S: Sources, T: Targets, G: Gate, K: Told>(
         asked.part_size,
         asked.workers,
         moment,
-        &mut filled,
     );
-    let (repo, faults) = desk.into_parts();
+    let (repo, faults, restored) = desk.into_parts();
     Work {
         repo,
         faults,
-        filled: unless_wanting(carried, filled),
+        restored,
+        carried,
     }
 }
 
@@ -195,16 +176,13 @@ fn run_told<D: Depot, S: Sources, T: Targets, G: Gate, K: Told>(
     requires calm { K.start.quiet ≡ true → 2 ^ 41 ≤ (D.look opening.depot).sure }
     requires alone { K.start.alone ≡ true }
     requires readers { HasNoReaders K.start }
-    requires sources { AreSources K.start (S.files sources.now) (S.is_there sources.now) (S.is_quiet sources.now) }
-    requires sure { K.start.sure_targets ≡ T.is_quiet targets.now }
-    requires size { asked.now.part_size ≡ K.start.part_size }
-    requires sized { (1 ≤ asked.now.part_size) × (asked.now.part_size ≤ 2 ^ 30) }
+    requires outside { IsOutside K.start (S.told sources.now) (T.told targets.now) asked.now.part_size }
     requires good { first_bad asked.now.script ≡ None }
     requires lines { AreNumbered asked.now.script }
     requires workers { (1 ≤ asked.now.workers) × (asked.now.workers ≤ 64) }
     ensures legal { LegalRun K.start K.clock (D.look result.0.depot) result.0.history }
     ensures past { IsPast K.start K.clock K.past (D.look result.0.depot) result.0.history }
-    ensures shown { AreShown (record { stage = D.Stage.faults; fetch = D.Fetch.faults; shard = S.Shard.faults; target = T.Target.faults; made_for = λ h. (S.Shard.origin h).address; target_for = T.Target.made_for; held = T.Target.files; is_sure = T.Target.is_sure; begun = T.Target.begun })
+    ensures shown { AreShown (evidence D.Stage.faults D.Fetch.faults S.Shard.faults T.Target.faults S.Shard.told T.Target.told)
         K.start (log_of (D.look result.0.depot) K.clock result.0.history) result.1 }
     ensures counted { IsCounted K.faults (D.faults result.0.depot) result.0.history }
     ensures named { AreDeposedSo result.0.history }
@@ -214,23 +192,26 @@ fn run_told<D: Depot, S: Sources, T: Targets, G: Gate, K: Told>(
     ensures removed { AreRemovedOnce (log_of (D.look result.0.depot) K.clock result.0.history) }
     ensures calm { IsCalm K.start.quiet (D.look result.0.depot).sure result.0.history }
     ensures made { MadeFirst K.start (steps_of moment asked.now.script) [] (log_of (D.look result.0.depot) K.clock result.0.history) }
-    ensures done { (result.0.verdict.status ≡ 8) ⊎ (AreDone K.start moment asked.now.script [] (log_of (D.look result.0.depot) K.clock result.0.history) ⊎ HasFallen K.start moment asked.now.script [] (log_of (D.look result.0.depot) K.clock result.0.history)) }
+    ensures done { (result.0.verdict.status ≡ 8) ⊎ (AreDone K.start moment asked.now.script [] (log_of (D.look result.0.depot) K.clock result.0.history) ⊎ HasFallen K.start moment asked.now.script []
+        (log_of (D.look result.0.depot) K.clock result.0.history)) }
     ensures verified { AreWhole K.start asked.now.workers (asks_check asked.now.script) (log_of (D.look result.0.depot) K.clock result.0.history) }
     ensures takes { TakesFew asked.now.script (log_of (D.look result.0.depot) K.clock result.0.history) }
     ensures told { IsTold result.0.verdict.status result.0.verdict.text (Some (Carried asked.now.script result.0.history)) }
-    ensures restored { (result.0.verdict.status ≡ 8) ⊎ AreTargetsOfLines (record { made_for = T.Target.made_for; files = T.Target.files; is_sure = T.Target.is_sure; begun = T.Target.begun; faults = T.Target.faults; are_told = T.is_told targets.now; are_quiet = T.is_quiet targets.now })
+    ensures restored { (result.0.verdict.status ≡ 8) ⊎ AreTargetsOfLines (evidence D.Stage.faults D.Fetch.faults S.Shard.faults T.Target.faults S.Shard.told T.Target.told)
         K.start moment asked.now.script (log_of (D.look result.0.depot) K.clock result.0.history) result.0.targets }
 {
-    each_target_is_of_its_line::<T::Target>();
+    each_target_is_of_its_line::<D::Stage, D::Fetch, S::Shard, T::Target>();
+    no_step_is_made_twice();
     let repo = Repo::<D, K>::from_opening(alloc, opening);
     let worked = carry_on::<D, S, T, G, K>(alloc, repo, asked, sources, targets, gate, moment);
     let Work {
         repo,
         faults,
-        filled,
+        restored,
+        carried,
     } = worked;
     let (depot, history) = repo.into_parts();
-    let listed = targets_by_lines(alloc, filled, &asked.script, &history);
+    let listed = targets_by_lines(alloc, carried, restored, &asked.script, &history);
     let (verdict, targets) = verdict_after(alloc, listed, &asked.script, &history);
     let done = Done {
         verdict,
@@ -261,17 +242,23 @@ fn open_and_carry<D: Depot, S: Sources, T: Targets, G: Gate>(
     requires good { first_bad asked.now.script ≡ None }
     requires lines { AreNumbered asked.now.script }
     requires workers { (1 ≤ asked.now.workers) × (asked.now.workers ≤ 64) }
-    ensures run { IsUnopened (record { stage = D.Stage.faults; fetch = D.Fetch.faults; shard = S.Shard.faults; target = T.Target.faults; made_for = λ h. (S.Shard.origin h).address; target_for = T.Target.made_for; held = T.Target.files; is_sure = T.Target.is_sure; begun = T.Target.begun }) (record { files = S.files sources.now; is_there = S.is_there sources.now; is_quiet = S.is_quiet sources.now; targets_quiet = T.is_quiet targets.now; targets_told = T.is_told targets.now }) (D.look depot) (D.look result.0.depot) (D.faults depot) (D.faults result.0.depot) result.0.history result.1
-        ⊎ IsOpenedRun (record { stage = D.Stage.faults; fetch = D.Fetch.faults; shard = S.Shard.faults; target = T.Target.faults; made_for = λ h. (S.Shard.origin h).address; target_for = T.Target.made_for; held = T.Target.files; is_sure = T.Target.is_sure; begun = T.Target.begun }) (record { files = S.files sources.now; is_there = S.is_there sources.now; is_quiet = S.is_quiet sources.now; targets_quiet = T.is_quiet targets.now; targets_told = T.is_told targets.now }) asked.now.part_size asked.now.workers moment asked.now.script (D.look depot) (D.look result.0.depot) result.0.history result.1 }
-    ensures complete { OpensWell (record { stage = D.Stage.faults; fetch = D.Fetch.faults; shard = S.Shard.faults; target = T.Target.faults; made_for = λ h. (S.Shard.origin h).address; target_for = T.Target.made_for; held = T.Target.files; is_sure = T.Target.is_sure; begun = T.Target.begun }) (record { files = S.files sources.now; is_there = S.is_there sources.now; is_quiet = S.is_quiet sources.now; targets_quiet = T.is_quiet targets.now; targets_told = T.is_told targets.now }) asked.now.part_size asked.now.workers moment asked.now.script (D.look depot) (D.look result.0.depot) result.0.history result.1 result.0.verdict.status }
+    ensures run { IsUnopened (evidence D.Stage.faults D.Fetch.faults S.Shard.faults T.Target.faults S.Shard.told T.Target.told) (telling (S.told sources.now) (T.told targets.now)) (D.look depot)
+        (D.look result.0.depot) (D.faults depot) (D.faults result.0.depot) result.0.history result.1
+        ⊎ IsOpenedRun (evidence D.Stage.faults D.Fetch.faults S.Shard.faults T.Target.faults S.Shard.told T.Target.told) (telling (S.told sources.now) (T.told targets.now)) asked.now.part_size
+        asked.now.workers moment asked.now.script (D.look depot) (D.look result.0.depot) result.0.history result.1 }
+    ensures complete { OpensWell (evidence D.Stage.faults D.Fetch.faults S.Shard.faults T.Target.faults S.Shard.told T.Target.told) (telling (S.told sources.now) (T.told targets.now))
+        asked.now.part_size asked.now.workers moment asked.now.script (D.look depot) (D.look result.0.depot) result.0.history result.1 result.0.verdict.status }
     ensures told { IsVerdict result.0.verdict.status result.0.verdict.text
-        (IsOpenCause (record { stage = D.Stage.faults; fetch = D.Fetch.faults; shard = S.Shard.faults; target = T.Target.faults; made_for = λ h. (S.Shard.origin h).address; target_for = T.Target.made_for; held = T.Target.files; is_sure = T.Target.is_sure; begun = T.Target.begun }) (record { files = S.files sources.now; is_there = S.is_there sources.now; is_quiet = S.is_quiet sources.now; targets_quiet = T.is_quiet targets.now; targets_told = T.is_told targets.now }) asked.now.part_size asked.now.workers moment (D.look depot) (D.look result.0.depot) (D.faults depot) (D.faults result.0.depot) asked.now.script result.0.history result.1) }
+        (IsOpenCause (evidence D.Stage.faults D.Fetch.faults S.Shard.faults T.Target.faults S.Shard.told T.Target.told) (telling (S.told sources.now) (T.told targets.now)) asked.now.part_size
+        asked.now.workers moment (D.look depot) (D.look result.0.depot) (D.faults depot) (D.faults result.0.depot) asked.now.script result.0.history result.1) }
     ensures counted { IsCounted (D.faults depot) (D.faults result.0.depot) result.0.history }
     ensures named { AreDeposedSo result.0.history }
-    ensures restored { OpensRestored (record { stage = D.Stage.faults; fetch = D.Fetch.faults; shard = S.Shard.faults; target = T.Target.faults; made_for = λ h. (S.Shard.origin h).address; target_for = T.Target.made_for; held = T.Target.files; is_sure = T.Target.is_sure; begun = T.Target.begun }) (record { files = S.files sources.now; is_there = S.is_there sources.now; is_quiet = S.is_quiet sources.now; targets_quiet = T.is_quiet targets.now; targets_told = T.is_told targets.now }) asked.now.part_size asked.now.workers moment asked.now.script (D.look depot) (D.look result.0.depot) result.0.history result.1 result.0.targets result.0.verdict.status }
+    ensures restored { OpensRestored (evidence D.Stage.faults D.Fetch.faults S.Shard.faults T.Target.faults S.Shard.told T.Target.told) (telling (S.told sources.now) (T.told targets.now))
+        asked.now.part_size asked.now.workers moment asked.now.script (D.look depot) (D.look result.0.depot) result.0.history result.1 result.0.targets result.0.verdict.status }
 {
     laws();
     quiet_laws::<D::Stage, D::Fetch, S::Shard, T::Target>();
+    kept_laws::<D::Stage, D::Fetch, S::Shard, T::Target>();
     match open_container(alloc, depot) {
         Ok(opening) => {
             only_now(&opening.depot);
@@ -298,16 +285,22 @@ fn carry_out<D: Depot, S: Sources, T: Targets, G: Gate, I: Lines>(
     Done<D, T::Target>,
     Faults<D::Stage, D::Fetch, S::Shard, T::Target>,
 )
-    ensures run { IsRunOf (record { stage = D.Stage.faults; fetch = D.Fetch.faults; shard = S.Shard.faults; target = T.Target.faults; made_for = λ h. (S.Shard.origin h).address; target_for = T.Target.made_for; held = T.Target.files; is_sure = T.Target.is_sure; begun = T.Target.begun }) (record { words = words.now; script = I.left script.old; faults = I.faults script.old; moment = moment }) (record { files = S.files sources.now; is_there = S.is_there sources.now; is_quiet = S.is_quiet sources.now; targets_quiet = T.is_quiet targets.now; targets_told = T.is_told targets.now })
+    ensures run { IsRunOf (evidence D.Stage.faults D.Fetch.faults S.Shard.faults T.Target.faults S.Shard.told T.Target.told)
+        (record { words = words.now; script = I.left script.old; faults = I.faults script.old; moment = moment }) (telling (S.told sources.now) (T.told targets.now))
         (D.look depot) (D.look result.0.depot) (D.faults depot) (D.faults result.0.depot) result.0.history result.1 }
     ensures told { IsVerdict result.0.verdict.status result.0.verdict.text
-        (IsCauseOf (record { stage = D.Stage.faults; fetch = D.Fetch.faults; shard = S.Shard.faults; target = T.Target.faults; made_for = λ h. (S.Shard.origin h).address; target_for = T.Target.made_for; held = T.Target.files; is_sure = T.Target.is_sure; begun = T.Target.begun }) (record { words = words.now; script = I.left script.old; faults = I.faults script.old; moment = moment }) (record { files = S.files sources.now; is_there = S.is_there sources.now; is_quiet = S.is_quiet sources.now; targets_quiet = T.is_quiet targets.now; targets_told = T.is_told targets.now }) (I.faults script.new)
+        (IsCauseOf (evidence D.Stage.faults D.Fetch.faults S.Shard.faults T.Target.faults S.Shard.told T.Target.told)
+        (record { words = words.now; script = I.left script.old; faults = I.faults script.old; moment = moment }) (telling (S.told sources.now) (T.told targets.now)) (I.faults script.new)
         (D.look depot) (D.look result.0.depot) (D.faults depot) (D.faults result.0.depot) result.0.history result.1) }
-    ensures complete { (old new : ℕ) → IsComplete (record { stage = D.Stage.faults; fetch = D.Fetch.faults; shard = S.Shard.faults; target = T.Target.faults; made_for = λ h. (S.Shard.origin h).address; target_for = T.Target.made_for; held = T.Target.files; is_sure = T.Target.is_sure; begun = T.Target.begun }) (record { words = words.now; script = I.left script.old; faults = I.faults script.old; moment = moment }) (record { files = S.files sources.now; is_there = S.is_there sources.now; is_quiet = S.is_quiet sources.now; targets_quiet = T.is_quiet targets.now; targets_told = T.is_told targets.now }) (I.faults script.new) (D.look depot) (D.look result.0.depot) old new result.0.history result.1 result.0.verdict.status }
+    ensures complete { (old new : ℕ) → IsComplete (evidence D.Stage.faults D.Fetch.faults S.Shard.faults T.Target.faults S.Shard.told T.Target.told)
+        (record { words = words.now; script = I.left script.old; faults = I.faults script.old; moment = moment }) (telling (S.told sources.now) (T.told targets.now)) (I.faults script.new)
+        (D.look depot) (D.look result.0.depot) old new result.0.history result.1 result.0.verdict.status }
     ensures reader { IsReadFor (wanted_of (job_of words.now)) (I.left script.old) (I.left script.new) (I.faults script.old) (I.faults script.new) }
     ensures counted { IsCounted (D.faults depot) (D.faults result.0.depot) result.0.history }
     ensures named { AreDeposedSo result.0.history }
-    ensures restored { HasRestored (record { stage = D.Stage.faults; fetch = D.Fetch.faults; shard = S.Shard.faults; target = T.Target.faults; made_for = λ h. (S.Shard.origin h).address; target_for = T.Target.made_for; held = T.Target.files; is_sure = T.Target.is_sure; begun = T.Target.begun }) (record { words = words.now; script = I.left script.old; faults = I.faults script.old; moment = moment }) (record { files = S.files sources.now; is_there = S.is_there sources.now; is_quiet = S.is_quiet sources.now; targets_quiet = T.is_quiet targets.now; targets_told = T.is_told targets.now }) (D.look depot) (D.look result.0.depot) result.0.history result.1 result.0.targets result.0.verdict.status }
+    ensures restored { HasRestored (evidence D.Stage.faults D.Fetch.faults S.Shard.faults T.Target.faults S.Shard.told T.Target.told)
+        (record { words = words.now; script = I.left script.old; faults = I.faults script.old; moment = moment }) (telling (S.told sources.now) (T.told targets.now)) (D.look depot)
+        (D.look result.0.depot) result.0.history result.1 result.0.targets result.0.verdict.status }
 {
     only_now(&depot);
     let asked = match asked_for(alloc, words, script) {
@@ -325,10 +318,8 @@ fn carry_out<D: Depot, S: Sources, T: Targets, G: Gate, I: Lines>(
 /// Carries out the script for which the words ask, or the one command, as a script of that line, on a container into which
 /// nothing was written, or one that an earlier run left, and prints what each line was answered. The script is read to its
 /// end where the words ask for one, and else not at all. `moment` is the time of the snapshots, in milliseconds. The files of
-/// restores go into `targets`; the shards that were restored come back in the result, by line, index and shard. `rt` is for
-/// workers that wait for one another, which come later.
-pub fn run<R: Wait, D: Depot, S: Sources, T: Targets, G: Gate, I: Lines, O: Out>(
-    _rt: &R,
+/// restores go into `targets`; the shards that were restored come back in the result, by line, index and shard.
+pub fn run<D: Depot, S: Sources, T: Targets, G: Gate, I: Lines, O: Out>(
     alloc: Global,
     words: &Words,
     script: &mut I,
@@ -339,16 +330,22 @@ pub fn run<R: Wait, D: Depot, S: Sources, T: Targets, G: Gate, I: Lines, O: Out>
     moment: u64,
     out: &mut O,
 ) -> Ended<D, S::Shard, T::Target>
-    ensures legal { IsRunOf (record { stage = D.Stage.faults; fetch = D.Fetch.faults; shard = S.Shard.faults; target = T.Target.faults; made_for = λ h. (S.Shard.origin h).address; target_for = T.Target.made_for; held = T.Target.files; is_sure = T.Target.is_sure; begun = T.Target.begun }) (record { words = words.now; script = I.left script.old; faults = I.faults script.old; moment = moment }) (record { files = S.files sources.now; is_there = S.is_there sources.now; is_quiet = S.is_quiet sources.now; targets_quiet = T.is_quiet targets.now; targets_told = T.is_told targets.now })
+    ensures legal { IsRunOf (evidence D.Stage.faults D.Fetch.faults S.Shard.faults T.Target.faults S.Shard.told T.Target.told)
+        (record { words = words.now; script = I.left script.old; faults = I.faults script.old; moment = moment }) (telling (S.told sources.now) (T.told targets.now))
         (D.look depot) (D.look result.depot) (D.faults depot) (D.faults result.depot) result.history result.faults }
     ensures end { IsEndOf result.status (O.contents out.old) (O.contents out.new) (O.faults out.old) (O.faults out.new)
-        (IsCauseOf (record { stage = D.Stage.faults; fetch = D.Fetch.faults; shard = S.Shard.faults; target = T.Target.faults; made_for = λ h. (S.Shard.origin h).address; target_for = T.Target.made_for; held = T.Target.files; is_sure = T.Target.is_sure; begun = T.Target.begun }) (record { words = words.now; script = I.left script.old; faults = I.faults script.old; moment = moment }) (record { files = S.files sources.now; is_there = S.is_there sources.now; is_quiet = S.is_quiet sources.now; targets_quiet = T.is_quiet targets.now; targets_told = T.is_told targets.now }) (I.faults script.new)
+        (IsCauseOf (evidence D.Stage.faults D.Fetch.faults S.Shard.faults T.Target.faults S.Shard.told T.Target.told)
+        (record { words = words.now; script = I.left script.old; faults = I.faults script.old; moment = moment }) (telling (S.told sources.now) (T.told targets.now)) (I.faults script.new)
         (D.look depot) (D.look result.depot) (D.faults depot) (D.faults result.depot) result.history result.faults) }
-    ensures complete { IsComplete (record { stage = D.Stage.faults; fetch = D.Fetch.faults; shard = S.Shard.faults; target = T.Target.faults; made_for = λ h. (S.Shard.origin h).address; target_for = T.Target.made_for; held = T.Target.files; is_sure = T.Target.is_sure; begun = T.Target.begun }) (record { words = words.now; script = I.left script.old; faults = I.faults script.old; moment = moment }) (record { files = S.files sources.now; is_there = S.is_there sources.now; is_quiet = S.is_quiet sources.now; targets_quiet = T.is_quiet targets.now; targets_told = T.is_told targets.now }) (I.faults script.new) (D.look depot) (D.look result.depot) (O.faults out.old) (O.faults out.new) result.history result.faults result.status }
+    ensures complete { IsComplete (evidence D.Stage.faults D.Fetch.faults S.Shard.faults T.Target.faults S.Shard.told T.Target.told)
+        (record { words = words.now; script = I.left script.old; faults = I.faults script.old; moment = moment }) (telling (S.told sources.now) (T.told targets.now)) (I.faults script.new)
+        (D.look depot) (D.look result.depot) (O.faults out.old) (O.faults out.new) result.history result.faults result.status }
     ensures reader { IsReadFor (wanted_of (job_of words.now)) (I.left script.old) (I.left script.new) (I.faults script.old) (I.faults script.new) }
     ensures counted { IsCounted (D.faults depot) (D.faults result.depot) result.history }
     ensures named { AreDeposedSo result.history }
-    ensures restored { HasRestored (record { stage = D.Stage.faults; fetch = D.Fetch.faults; shard = S.Shard.faults; target = T.Target.faults; made_for = λ h. (S.Shard.origin h).address; target_for = T.Target.made_for; held = T.Target.files; is_sure = T.Target.is_sure; begun = T.Target.begun }) (record { words = words.now; script = I.left script.old; faults = I.faults script.old; moment = moment }) (record { files = S.files sources.now; is_there = S.is_there sources.now; is_quiet = S.is_quiet sources.now; targets_quiet = T.is_quiet targets.now; targets_told = T.is_told targets.now }) (D.look depot) (D.look result.depot) result.history result.faults result.targets result.status }
+    ensures restored { HasRestored (evidence D.Stage.faults D.Fetch.faults S.Shard.faults T.Target.faults S.Shard.told T.Target.told)
+        (record { words = words.now; script = I.left script.old; faults = I.faults script.old; moment = moment }) (telling (S.told sources.now) (T.told targets.now)) (D.look depot)
+        (D.look result.depot) result.history result.faults result.targets result.status }
 {
     let (done, faults) = carry_out::<D, S, T, G, I>(
         alloc, words, script, depot, sources, targets, gate, moment,

@@ -1,5 +1,5 @@
 -- No blob is committed twice as the history goes on.
-use Rattle.std.proofs.Common.{◌≡◌, ℕ, List, [], ◌∷◌, ◌++◌, Result, Ok, Err, sym, ap, ◌∙◌, subst, ⊎_elim}
+use Rattle.std.proofs.Common.{◌≡◌, ℕ, List, [], ◌∷◌, ◌++◌, Result, Ok, Err, sym, ap, ◌∙◌, subst, ⊎_elim, refl}
 use Rattle.esr_model.specs.Names.{BlobName}
 use Rattle.esr_model.specs.Values.{Has}
 use Rattle.esr_core.specs.Entry.{Step, CommitStep, Reply, Refused, Moment}
@@ -11,6 +11,10 @@ use Rattle.esr_desk.specs.Start.{Start, ticket_of}
 use Rattle.esr_desk.specs.Once.{AreOnce}
 use Rattle.esr_repo.specs.Next.{Added, AddedOr, Did}
 use Rattle.esr_solo.proofs.Showing.{last_or, no_end}
+use Rattle.esr_depot.specs.declared.depot.Commit.{Commit}
+use Rattle.esr_depot.specs.declared.depot.Commit.TheVariants as commits
+use Rattle.esr_desk.specs.Outcome.{commit_reply}
+use Rattle.esr_solo.proofs.Listing.{IsNoRestoration}
 
 -- the ticket has not noted the name
 abbrev pub IsUnnoted : Start → List Moment → ℕ → BlobName → Type 0
@@ -56,7 +60,12 @@ same_name : (a b : BlobName) → CommitStep a ≡ CommitStep b → a ≡ b
 same_name a b e = cc
 
 -- a commit under a name that its ticket has not noted
-pub commit_new : (s : Start) (own log : List Moment) (who : ℕ) (name : BlobName) → own ≡ log → IsUnnoted s log who name → IsNew s own who (CommitStep name)
-commit_new s own log who name view unnoted other is =
+pub commit_fresh : (s : Start) (own log : List Moment) (who : ℕ) (name : BlobName) → own ≡ log → IsUnnoted s log who name → IsNew s own who (CommitStep name)
+commit_fresh s own log who name view unnoted other is =
     subst (λ (n : BlobName). IsUnnoted s own who n) (same_name name other is)
     (subst (λ (l : List Moment). IsUnnoted s l who name) (sym view) unnoted)
+
+-- a commit restores no shard
+pub no_end_of : (name : BlobName) (c : Commit) → IsNoRestoration (CommitStep name) (commit_reply c)
+no_end_of name commits.Done before who = refl
+no_end_of name commits.Exists before who = refl

@@ -1,9 +1,8 @@
 pub mod Showing
+pub mod Listing
 pub mod Committing
-pub mod Single
 pub mod Testing
 pub mod Removing
 pub mod Stepping
-pub mod Reading
-pub mod Alone
-pub mod Deletes
+pub mod Calls
+pub mod Taking

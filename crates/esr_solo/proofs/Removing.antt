@@ -1,12 +1,15 @@
 -- No ticket removes a name twice as the history goes on.
-use Rattle.std.proofs.Common.{◌≡◌, ℕ, List, [], ◌∷◌, ◌++◌, Result, Ok, Err, sym, ap, ◌∙◌, subst, ⊎_elim}
+use Rattle.std.proofs.Common.{◌≡◌, ℕ, ◌≤◌, List, [], ◌∷◌, ◌++◌, Result, Ok, Err, sym, ap, ◌∙◌, subst, ⊎_elim}
 use Rattle.esr_model.specs.Names.{BlobName}
 use Rattle.esr_core.specs.Entry.{Step, PruneStep, RemoveDoomed, Reply, Refused, Moment}
 use Rattle.esr_desk.specs.declared.refusal.StepRefusal.{StepRefusal}
 use Rattle.esr_desk.specs.declared.refusal.StepRefusal.TheVariants as steps
 use Rattle.esr_desk.specs.Refusals.{refusal_of}
-use Rattle.esr_desk.specs.Start.{Start}
-use Rattle.esr_deleting.specs.Once.{IsNewRemoval, AreRemovedOnce}
+use Rattle.esr_model.specs.Values.{Has}
+use Rattle.esr_core.specs.Past.{entries_by, ShareName, Repeats}
+use Rattle.esr_desk.specs.Start.{Start, formats_of, world_of}
+use Rattle.esr_desk.specs.Made.{made_there}
+use Rattle.esr_desk.specs.Once.{IsFresh, IsNewRemoval, AreRemovedOnce}
 use Rattle.esr_repo.specs.Next.{Added, AddedOr, Did}
 use Rattle.esr_solo.proofs.Showing.{last_or, no_end}
 
@@ -50,6 +53,17 @@ none_removed front back m names is = absurd (no_end front m back is)
 pub begins_removed : (log : List Moment) → log ≡ [] → AreRemovedOnce log
 begins_removed log none = subst (λ (l : List Moment). AreRemovedOnce l) (sym none) none_removed
 
+share : (was names : List BlobName) (name : BlobName) → Has was name → Has names name → ShareName was names
+share [] names name a b = absurd a
+share (x ∷ was) [] name a b = absurd b
+share (x ∷ was) (y ∷ names) name a b = (name, a, b)
+
 -- a removal, as the desk asks
-pub removal_new : (own log : List Moment) (who : ℕ) (names : List BlobName) → own ≡ log → IsNewRemoval log who names → IsNewRemoval own who names
-removal_new own log who names view new = subst (λ (l : List Moment). IsNewRemoval l who names) (sym view) new
+pub removal_new : (s : Start) (own log : List Moment) (who : ℕ) (names : List BlobName) → own ≡ log → 1 ≤ who → IsFresh s log who (PruneStep (RemoveDoomed names)) → IsNewRemoval own who names
+removal_new s own log who names view some fresh = subst (λ (l : List Moment). IsNewRemoval l who names) (sym view) new
+  where
+    new : IsNewRemoval log who names
+    new m has by made was step name in_names in_was =
+        fresh m.entry
+        (subst (λ (k : ℕ). Has (entries_by (world_of s log).entries k) m.entry) by (made_there (formats_of s) s.world log m (subst (λ (k : ℕ). 1 ≤ k) (sym by) some) made has))
+        (subst (λ (x : Step). Repeats x (PruneStep (RemoveDoomed names))) (sym step) (share was names name in_was in_names))

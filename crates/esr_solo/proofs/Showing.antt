@@ -1,7 +1,9 @@
 -- Failures stay shown as the history goes on.
-use Rattle.std.proofs.Common.{◌≡◌, ◌⊎◌, ℕ, ◌≤◌, List, [], ◌∷◌, ◌++◌, length, Option, Some, None, Result, Ok, Err, refl, sym, ap, ◌∙◌, subst, inl, inr, ⊎_elim, append_assoc, arith}
+use Rattle.std.proofs.Common.{◌≡◌, ◌⊎◌, ℕ, suc, ◌+◌, ◌≤◌, ◌<◌, List, [], ◌∷◌, ◌++◌, length, Option, Some, None, Result, Ok, Err, refl, sym, ap, ◌∙◌, subst, inl, inr, ⊎_elim, append_assoc, append-nil, length-append, arith}
 use Rattle.esr_model.specs.Values.{Has}
 use Rattle.esr_core.specs.Entry.{Step, Reply, Refused, Refusal, FailedStep, ReadStep, ReadFails, PruneStep, DeleteFails, HasEnded, Why, Moment}
+use Rattle.esr_desk.specs.declared.hand.Hand.{Hand}
+use Rattle.esr_desk.specs.declared.hand.Hand.TheVariants as hands
 use Rattle.esr_desk.specs.declared.fault.Fault.{Fault}
 use Rattle.esr_desk.specs.declared.fault.By.{By}
 use Rattle.esr_desk.specs.declared.fault.By.TheVariants as by
@@ -9,16 +11,11 @@ use Rattle.esr_desk.specs.declared.refusal.StepRefusal.{StepRefusal}
 use Rattle.esr_desk.specs.declared.refusal.StepRefusal.TheVariants as steps
 use Rattle.esr_desk.specs.Refusals.{refusal_of}
 use Rattle.esr_desk.specs.Start.{Start}
-use Rattle.esr_desk.specs.Shown.{Counts, IsShown, IsListed, IsReport, IsShownAt}
-use Rattle.esr_reading.specs.Shown as reading
-use Rattle.esr_reading.specs.Reports.{IsReadReport, IsReadShownAt}
-use Rattle.esr_deleting.specs.Shown.{IsDeleteShown}
-use Rattle.esr_deleting.specs.Reports.{IsDeleteReport, IsDeleteShownAt}
-use Rattle.esr_checking.specs.Shown as checking
-use Rattle.esr_checking.specs.Reports.{IsVerifyReport, IsEndShown, IsEndShownAt}
-use Rattle.esr_checking.specs.AllShown.{ShowsReport, OfUnit, OfRestore, OfDelete, OfVerification, AreAllShown}
+use Rattle.esr_desk.specs.Evidence.{Evidence}
+use Rattle.esr_desk.specs.Hands.{fail_step}
+use Rattle.esr_desk.specs.Shown.{IsShown, IsTeller, IsReport, IsListed, IsShownOf, IsShownAt, ShowsReport, AreRising, AreShown}
 use Rattle.esr_repo.specs.Next.{Added, AddedOr, Did}
-use Rattle.esr_solo.specs.Kept.{listed_at}
+use Rattle.esr_solo.specs.Kept.{listed_at, kept_by}
 
 pub no_end : {A : Type 0} (front : List A) (x : A) (back : List A) → [] ≡ front ++ x ∷ back → ⊥
 no_end [] x back e = cc
@@ -50,7 +47,7 @@ has_left [] ys y h = absurd h
 has_left (x ∷ xs) ys y (inl e) = inl e
 has_left (x ∷ xs) ys y (inr h) = inr (has_left xs ys y h)
 
-has_right : {A : Type 0} (xs ys : List A) (y : A) → Has ys y → Has (xs ++ ys) y
+pub has_right : {A : Type 0} (xs ys : List A) (y : A) → Has ys y → Has (xs ++ ys) y
 has_right [] ys y h = h
 has_right (x ∷ xs) ys y h = inr (has_right xs ys y h)
 
@@ -60,69 +57,19 @@ has_either (x ∷ xs) ys y (inl e) = inl (inl e)
 has_either (x ∷ xs) ys y (inr h) = ⊎_elim (λ a. inl (inr a)) (λ b. inr b) (has_either xs ys y h)
 
 -- a report stays one as the history goes on
-longer : (log : List Moment) (m : Moment) (place who : ℕ) (why : Why) → IsReport log place who why → IsReport (log ++ m ∷ []) place who why
-longer log m place who why r =
+longer : (hand : Hand) (log : List Moment) (m : Moment) (place who : ℕ) (why : Why) → IsReport hand log place who why → IsReport hand (log ++ m ∷ []) place who why
+longer hand log m place who why r =
     record {
       front = r.front;
       moment = r.moment;
       back = r.back ++ m ∷ [];
       is = ap (λ (l : List Moment). l ++ m ∷ []) r.is ∙ append_assoc r.front (r.moment ∷ r.back) (m ∷ []);
       place_is = r.place_is;
+      teller = r.teller;
       of = r.of;
       step = r.step;
       reply = r.reply;
     }
-
--- so does one of a restore
-longer_read : (log : List Moment) (m : Moment) (place who : ℕ) (why : Why) → IsReadReport log place who why → IsReadReport (log ++ m ∷ []) place who why
-longer_read log m place who why r =
-    record {
-      front = r.front;
-      moment = r.moment;
-      back = r.back ++ m ∷ [];
-      is = ap (λ (l : List Moment). l ++ m ∷ []) r.is ∙ append_assoc r.front (r.moment ∷ r.back) (m ∷ []);
-      place_is = r.place_is;
-      ticket = r.ticket;
-      of = r.of;
-      step = r.step;
-      reply = r.reply;
-    }
-
--- of a delete
-longer_delete : (log : List Moment) (m : Moment) (place who : ℕ) (why : Why) → IsDeleteReport log place who why → IsDeleteReport (log ++ m ∷ []) place who why
-longer_delete log m place who why r =
-    record {
-      front = r.front;
-      moment = r.moment;
-      back = r.back ++ m ∷ [];
-      is = ap (λ (l : List Moment). l ++ m ∷ []) r.is ∙ append_assoc r.front (r.moment ∷ r.back) (m ∷ []);
-      place_is = r.place_is;
-      of = r.of;
-      step = r.step;
-      reply = r.reply;
-    }
-
--- and of a verification
-longer_verify : (log : List Moment) (m : Moment) (place : ℕ) (why : Why) → IsVerifyReport log place why → IsVerifyReport (log ++ m ∷ []) place why
-longer_verify log m place why r =
-    record {
-      front = r.front;
-      moment = r.moment;
-      back = r.back ++ m ∷ [];
-      is = ap (λ (l : List Moment). l ++ m ∷ []) r.is ∙ append_assoc r.front (r.moment ∷ r.back) (m ∷ []);
-      place_is = r.place_is;
-      of = r.of;
-      step = r.step;
-      reply = r.reply;
-    }
-
--- and is shown as it was
-shows_longer : {S F H T : Type 0} (u : Counts S F H T) (r : reading.Counts F T) (v : checking.Counts S F) (s : Start) (log : List Moment) (m : Moment) (place : ℕ) (b : By S F H T) → ShowsReport u r v s log place b → ShowsReport u r v s (log ++ m ∷ []) place b
-unfolding longer longer_read longer_delete longer_verify
-shows_longer u r v s log m place b (OfUnit who why report shown) = OfUnit who why (longer log m place who why report) shown
-shows_longer u r v s log m place b (OfRestore who why report shown) = OfRestore who why (longer_read log m place who why report) shown
-shows_longer u r v s log m place b (OfDelete who why report shown) = OfDelete who why (longer_delete log m place who why report) shown
-shows_longer u r v s log m place b (OfVerification why report shown) = OfVerification why (longer_verify log m place why report) shown
 
 -- a longer list of objects shows as much
 more_listed : {S F H T : Type 0} (faults more : List (Fault S F H T)) (place : ℕ) (b : By S F H T) → IsListed faults place b → IsListed (faults ++ more) place b
@@ -135,18 +82,10 @@ own_listed faults place (by.Object object) = has_right faults (record { entry = 
 own_listed faults place by.Entry = tt
 own_listed faults place by.Nothing = tt
 
-entry_of : {S F H T : Type 0} (place : ℕ) (b : By S F H T) (fault : Fault S F H T) → Has (listed_at place b) fault → fault.entry ≡ Some place
-entry_of place (by.Object object) fault (inl e) = ap (λ (x : Fault _ _ _ _). x.entry) (sym e)
-entry_of place (by.Object object) fault (inr h) = absurd h
-entry_of place by.Entry fault h = absurd h
-entry_of place by.Nothing fault h = absurd h
-
--- the object that was listed is that which shows
-own_shows : {S F H T : Type 0} (Shows : By S F H T → Type 0) (place : ℕ) (b : By S F H T) (fault : Fault S F H T) → Has (listed_at place b) fault → Shows b → Shows (by.Object fault.object)
-own_shows {S} {F} {H} {T} Shows place (by.Object object) fault (inl e) h = subst (λ (x : Fault S F H T). Shows (by.Object x.object)) e h
-own_shows Shows place (by.Object object) fault (inr none) h = absurd none
-own_shows Shows place by.Entry fault none h = absurd none
-own_shows Shows place by.Nothing fault none h = absurd none
+-- so is what shows it
+shows_longer : {S F H T : Type 0} (e : Evidence S F H T) (s : Start) (log : List Moment) (m : Moment) (fault : Fault S F H T) → ShowsReport e s log fault → ShowsReport e s (log ++ m ∷ []) fault
+unfolding longer
+shows_longer e s log m fault h = record { place = h.place; entry_is = h.entry_is; hand = h.hand; who = h.who; why = h.why; report = longer h.hand log m h.place h.who h.why h.report; shown = h.shown }
 
 -- ---- which entries report a failure
 
@@ -161,282 +100,216 @@ why_told step = None
 abbrev pub IsNoReportOf : Step → Reply → Type 0
 IsNoReportOf step reply = (why : Why) → why_told step ≡ Some why → reply ≡ HasEnded → ⊥
 
-abbrev pub IsNoReport : Moment → Type 0
-IsNoReport m = IsNoReportOf m.entry.step m.entry.reply
+told_by : (hand : Hand) (why : Why) → why_told (fail_step hand why) ≡ Some why
+told_by hands.Unit why = refl
+told_by hands.Delete why = refl
+told_by hands.Restore why = refl
+told_by hands.Check why = refl
+told_by hands.Verify why = refl
 
--- of a unit, of a restore, whose ticket reports it, of a delete, or of a verification, which who 0 reports
-abbrev pub IsOfNoUnit : Moment → Type 0
-IsOfNoUnit m = (why : Why) → m.entry.step ≡ FailedStep why → m.entry.reply ≡ HasEnded → ⊥
+-- an earlier report, by the part of the history that it is in
+earlier : (hand : Hand) (log : List Moment) (m : Moment) (place who : ℕ) (why : Why) (r : IsReport hand (log ++ m ∷ []) place who why) → (rest : List Moment) → log ≡ r.front ++ r.moment ∷ rest → IsReport hand log place who why
+earlier hand log m place who why r rest is = record { front = r.front; moment = r.moment; back = rest; is = is; place_is = r.place_is; teller = r.teller; of = r.of; step = r.step; reply = r.reply }
 
-abbrev pub IsOfNoRestore : Moment → Type 0
-IsOfNoRestore m = (why : Why) → 1 ≤ m.entry.who → m.entry.step ≡ ReadStep (ReadFails why) → m.entry.reply ≡ HasEnded → ⊥
+-- ---- the places of the objects that are listed
 
-abbrev pub IsOfNoDelete : Moment → Type 0
-IsOfNoDelete m = (why : Why) → m.entry.step ≡ PruneStep (DeleteFails why) → m.entry.reply ≡ HasEnded → ⊥
+-- each is below the length of the history
+place_below : (hand : Hand) (log : List Moment) (place who : ℕ) (why : Why) → IsReport hand log place who why → place < length log
+place_below hand log place who why r = below (length r.front) (length r.back) place (length log) r.place_is (ap length r.is ∙ length-append r.front (r.moment ∷ r.back))
+  where
+    below : (front back place n : ℕ) → front ≡ place → n ≡ front + suc back → place < n
+    below front back place n at is = omega (arith, at, is)
 
-abbrev pub IsOfNoVerification : Moment → Type 0
-IsOfNoVerification m = (why : Why) → m.entry.who ≡ 0 → m.entry.step ≡ ReadStep (ReadFails why) → m.entry.reply ≡ HasEnded → ⊥
+rising_none : {S F H T : Type 0} → AreRising {S = S} {F = F} {H = H} {T = T} []
+rising_none front back one next is = absurd (no_end front one (next ∷ back) is)
 
-no_unit : (m : Moment) → IsNoReport m → IsOfNoUnit m
-no_unit m none why step = none why (ap why_told step)
-
-no_restore : (m : Moment) → IsNoReport m → IsOfNoRestore m
-no_restore m none why ticket step = none why (ap why_told step)
-
-no_delete : (m : Moment) → IsNoReport m → IsOfNoDelete m
-no_delete m none why step = none why (ap why_told step)
-
-no_verification : (m : Moment) → IsNoReport m → IsOfNoVerification m
-no_verification m none why alone step = none why (ap why_told step)
-
--- ---- the causes of units, of restores, of deletes and of verifications
-
-abbrev pub AreUnitsShown : {S F H T : Type 0} → Counts S F H T → Start → List Moment → List (Fault S F H T) → Type 0
-AreUnitsShown c s log faults = (place who : ℕ) (why : Why) (report : IsReport log place who why) → IsShownAt c s report.front place who why faults
-
-abbrev pub AreRestoresShown : {S F H T : Type 0} → reading.Counts F T → Start → List Moment → List (Fault S F H T) → Type 0
-AreRestoresShown r s log faults = (place who : ℕ) (why : Why) (report : IsReadReport log place who why) → IsReadShownAt r s report.front place who why faults
-
-abbrev pub AreDeletesShown : {S F H T : Type 0} → Counts S F H T → Start → List Moment → List (Fault S F H T) → Type 0
-AreDeletesShown c s log faults = (place who : ℕ) (why : Why) (report : IsDeleteReport log place who why) → IsDeleteShownAt c s report.front place who why faults
-
-abbrev pub AreVerificationsShown : {S F H T : Type 0} → checking.Counts S F → Start → List Moment → List (Fault S F H T) → Type 0
-AreVerificationsShown v s log faults = (place : ℕ) (why : Why) (report : IsVerifyReport log place why) → IsEndShownAt v s report.front place why faults
-
--- the object shows a failure that the history tells
-abbrev pub IsOfReport : {S F H T : Type 0} → Counts S F H T → reading.Counts F T → checking.Counts S F → Start → List Moment → Fault S F H T → Type 0
-IsOfReport u r v s log fault = (place : ℕ) × (fault.entry ≡ Some place) × ShowsReport u r v s log place (by.Object fault.object)
-
-still_of : {S F H T : Type 0} (u : Counts S F H T) (r : reading.Counts F T) (v : checking.Counts S F) (s : Start) (log : List Moment) (m : Moment) (fault : Fault S F H T) → IsOfReport u r v s log fault → IsOfReport u r v s (log ++ m ∷ []) fault
-still_of u r v s log m fault h = (h.0, h.1, shows_longer u r v s log m h.0 (by.Object fault.object) h.2)
-
--- what was listed is listed still
-abbrev pub AreListedStill : {S F H T : Type 0} → List (Fault S F H T) → List (Fault S F H T) → Type 0
-AreListedStill {S} {F} {H} {T} faults more = (place : ℕ) (b : By S F H T) → IsListed faults place b → IsListed more place b
-
--- one more entry, which reports no failure of a unit
-pub units_go_on : {S F H T : Type 0} (c : Counts S F H T) (s : Start) (log : List Moment) (m : Moment) (faults more : List (Fault S F H T)) → AreListedStill faults more → IsOfNoUnit m → AreUnitsShown c s log faults → AreUnitsShown c s (log ++ m ∷ []) more
-units_go_on c s log m faults more still none h place who why r =
+-- the one before the last
+last_of : {A : Type 0} (xs : List A) (x : A) (front back : List A) (one next : A) → xs ++ x ∷ [] ≡ front ++ one ∷ next ∷ back → (Has xs one × (x ≡ next)) ⊎ ((rest : List A) × (xs ≡ front ++ one ∷ next ∷ rest))
+last_of xs x front back one next is =
     ⊎_elim
-    (λ d. absurd (none why (ap (λ (x : Moment). x.entry.step) d.1 ∙ r.step) (ap (λ (x : Moment). x.entry.reply) d.1 ∙ r.reply)))
-    (λ d. let (b, shown, listed) = h place who why (record { front = r.front; moment = r.moment; back = d.0; is = d.1; place_is = r.place_is; of = r.of; step = r.step; reply = r.reply }) in (b, shown, still place b listed))
-    (last_or log m r.front r.moment r.back r.is)
+    (λ (last : (front ++ one ∷ [] ≡ xs) × (x ≡ next)). inl (subst (λ (l : List _). Has l one) last.0 (has_right front (one ∷ []) one (inl refl)), last.1))
+    (λ (more : (rest : List _) × (xs ≡ (front ++ one ∷ []) ++ next ∷ rest)). inr (more.0, more.1 ∙ append_assoc front (one ∷ []) (next ∷ more.0)))
+    (last_or xs x (front ++ one ∷ []) next back (is ∙ sym (append_assoc front (one ∷ []) (next ∷ back))))
 
--- or none of a restore
-restores_go_on : {S F H T : Type 0} (c : reading.Counts F T) (s : Start) (log : List Moment) (m : Moment) (faults more : List (Fault S F H T)) → AreListedStill faults more → IsOfNoRestore m → AreRestoresShown c s log faults → AreRestoresShown c s (log ++ m ∷ []) more
-restores_go_on c s log m faults more still none h place who why r =
+rising_more : {S F H T : Type 0} (faults : List (Fault S F H T)) (fault : Fault S F H T) (place : ℕ) → fault.entry ≡ Some place → ((one : Fault S F H T) (p : ℕ) → Has faults one → one.entry ≡ Some p → p < place) → AreRising faults → AreRising (faults ++ fault ∷ [])
+rising_more faults fault place at below h front back one next is p q one_is next_is =
     ⊎_elim
-    (λ d. absurd (none why (subst (λ (k : ℕ). 1 ≤ k) (sym (ap (λ (x : Moment). x.entry.who) d.1 ∙ r.of)) r.ticket) (ap (λ (x : Moment). x.entry.step) d.1 ∙ r.step) (ap (λ (x : Moment). x.entry.reply) d.1 ∙ r.reply)))
-    (λ d. let (b, shown, listed) = h place who why (record { front = r.front; moment = r.moment; back = d.0; is = d.1; place_is = r.place_is; ticket = r.ticket; of = r.of; step = r.step; reply = r.reply }) in (b, shown, still place b listed))
-    (last_or log m r.front r.moment r.back r.is)
+    (λ (last : Has faults one × (fault ≡ next)). subst (λ (n : ℕ). p < n) (some_same place q (sym at ∙ ap (λ (x : Fault _ _ _ _). x.entry) last.1 ∙ next_is)) (below one p last.0 one_is))
+    (λ (more : (rest : List _) × (faults ≡ front ++ one ∷ next ∷ rest)). h front more.0 one next more.1 p q one_is next_is)
+    (last_of faults fault front back one next is)
+  where
+    some_same : (a b : ℕ) → Some a ≡ Some b → a ≡ b
+    some_same a b e = cc
 
--- or none of a delete
-deletes_go_on : {S F H T : Type 0} (c : Counts S F H T) (s : Start) (log : List Moment) (m : Moment) (faults more : List (Fault S F H T)) → AreListedStill faults more → IsOfNoDelete m → AreDeletesShown c s log faults → AreDeletesShown c s (log ++ m ∷ []) more
-deletes_go_on c s log m faults more still none h place who why r =
-    ⊎_elim
-    (λ d. absurd (none why (ap (λ (x : Moment). x.entry.step) d.1 ∙ r.step) (ap (λ (x : Moment). x.entry.reply) d.1 ∙ r.reply)))
-    (λ d. let (b, shown, listed) = h place who why (record { front = r.front; moment = r.moment; back = d.0; is = d.1; place_is = r.place_is; of = r.of; step = r.step; reply = r.reply }) in (b, shown, still place b listed))
-    (last_or log m r.front r.moment r.back r.is)
+-- ---- one more entry
 
--- or none of a verification
-verifications_go_on : {S F H T : Type 0} (c : checking.Counts S F) (s : Start) (log : List Moment) (m : Moment) (faults more : List (Fault S F H T)) → AreListedStill faults more → IsOfNoVerification m → AreVerificationsShown c s log faults → AreVerificationsShown c s (log ++ m ∷ []) more
-verifications_go_on c s log m faults more still none h place why r =
-    ⊎_elim
-    (λ d. absurd (none why (ap (λ (x : Moment). x.entry.who) d.1 ∙ r.of) (ap (λ (x : Moment). x.entry.step) d.1 ∙ r.step) (ap (λ (x : Moment). x.entry.reply) d.1 ∙ r.reply)))
-    (λ d. let (b, shown, listed) = h place why (record { front = r.front; moment = r.moment; back = d.0; is = d.1; place_is = r.place_is; of = r.of; step = r.step; reply = r.reply }) in (b, shown, still place b listed))
-    (last_or log m r.front r.moment r.back r.is)
-
--- an entry that reports no failure
-pub goes_on : {S F H T : Type 0} {r : reading.Counts F T} {v : checking.Counts S F} (c : Counts S F H T) (s : Start) (log : List Moment) (m : Moment) (faults : List (Fault S F H T)) → IsNoReport m → AreAllShown c r v s log faults → AreAllShown c r v s (log ++ m ∷ []) faults
-goes_on {r = r} {v = v} c s log m faults none h =
+-- one that reports no failure
+goes_on : {S F H T : Type 0} (e : Evidence S F H T) (s : Start) (log : List Moment) (m : Moment) (faults : List (Fault S F H T)) → IsNoReportOf m.entry.step m.entry.reply → AreShown e s log faults → AreShown e s (log ++ m ∷ []) faults
+unfolding earlier
+goes_on e s log m faults none h =
     record {
-      units = units_go_on c s log m faults faults (λ place b listed. listed) (no_unit m none) h.units;
-      restores = restores_go_on r s log m faults faults (λ place b listed. listed) (no_restore m none) h.restores;
-      deletes = deletes_go_on c s log m faults faults (λ place b listed. listed) (no_delete m none) h.deletes;
-      verifications = verifications_go_on v s log m faults faults (λ place b listed. listed) (no_verification m none) h.verifications;
-      listed = λ fault there. still_of c r v s log m fault (h.listed fault there);
+      shown = λ hand place who why r. ⊎_elim
+          (λ (last : (r.front ≡ log) × (m ≡ r.moment)). absurd (none why (ap why_told (ap (λ (x : Moment). x.entry.step) last.1 ∙ r.step) ∙ told_by hand why) (ap (λ (x : Moment). x.entry.reply) last.1 ∙ r.reply)))
+          (λ (more : (rest : List Moment) × (log ≡ r.front ++ r.moment ∷ rest)). h.shown hand place who why (earlier hand log m place who why r more.0 more.1))
+          (last_or log m r.front r.moment r.back r.is);
+      listed = λ fault there. shows_longer e s log m fault (h.listed fault there);
+      rising = h.rising;
     }
 
 -- ---- a report whose cause is shown
 
-same_why : (a b : Why) → FailedStep a ≡ FailedStep b → a ≡ b
+same_why : (a b : Why) → Some a ≡ Some b → a ≡ b
 same_why a b e = cc
 
-same_read_why : (a b : Why) → ReadStep (ReadFails a) ≡ ReadStep (ReadFails b) → a ≡ b
-same_read_why a b e = cc
+-- the hands by whose step a failure is told: of a restore, a check or a verification by one
+abbrev IsOneStep : Hand → Hand → Type 0
+IsOneStep hands.Unit hands.Unit = Unit {0}
+IsOneStep hands.Delete hands.Delete = Unit {0}
+IsOneStep hands.Restore hands.Restore = Unit {0}
+IsOneStep hands.Check hands.Check = Unit {0}
+IsOneStep hands.Check hands.Verify = Unit {0}
+IsOneStep hands.Verify hands.Check = Unit {0}
+IsOneStep hands.Verify hands.Verify = Unit {0}
+IsOneStep a b = ⊥
 
-same_delete_why : (a b : Why) → PruneStep (DeleteFails a) ≡ PruneStep (DeleteFails b) → a ≡ b
-same_delete_why a b e = cc
+no_zero : (who : ℕ) → 1 ≤ who → who ≡ 0 → ⊥
+no_zero who some is = omega (arith, some, is)
 
--- what shows the report that is made now
-now_shown : {S F H T : Type 0} (c : Counts S F H T) (s : Start) (log : List Moment) (faults : List (Fault S F H T)) (who0 : ℕ) (why0 : Why) (b : By S F H T) → IsShown c s log who0 why0 b
-    → (front : List Moment) (place who : ℕ) (why : Why) → front ≡ log → length front ≡ place → who0 ≡ who → why0 ≡ why → IsShownAt c s front place who why (faults ++ listed_at (length log) b)
-now_shown {S} {F} {H} {T} c s log faults who0 why0 b shown front place who why is at of same =
-    subst (λ (l : List Moment). IsShownAt {S = S} {F = F} {H = H} {T = T} c s l place who why (faults ++ listed_at (length log) b)) (sym is)
-    (subst (λ (n : ℕ). IsShownAt {S = S} {F = F} {H = H} {T = T} c s log n who why (faults ++ listed_at (length log) b)) (sym (ap length is) ∙ at)
-    (subst (λ (k : ℕ). IsShownAt {S = S} {F = F} {H = H} {T = T} c s log (length log) k why (faults ++ listed_at (length log) b)) of
-    (subst (λ (y : Why). IsShownAt {S = S} {F = F} {H = H} {T = T} c s log (length log) who0 y (faults ++ listed_at (length log) b)) same
-    (b, shown, own_listed faults (length log) b))))
+one_step : (a b : Hand) (who : ℕ) (why other : Why) → IsTeller a who → IsTeller b who → fail_step a why ≡ fail_step b other → IsOneStep a b
+one_step hands.Unit hands.Unit who why other x y is = tt
+one_step hands.Delete hands.Delete who why other x y is = tt
+one_step hands.Restore hands.Restore who why other x y is = tt
+one_step hands.Check hands.Check who why other x y is = tt
+one_step hands.Check hands.Verify who why other x y is = tt
+one_step hands.Verify hands.Check who why other x y is = tt
+one_step hands.Verify hands.Verify who why other x y is = tt
+one_step hands.Restore hands.Check who why other x y is = absurd (no_zero who x y)
+one_step hands.Restore hands.Verify who why other x y is = absurd (no_zero who x y)
+one_step hands.Check hands.Restore who why other x y is = absurd (no_zero who y x)
+one_step hands.Verify hands.Restore who why other x y is = absurd (no_zero who y x)
+one_step a b who why other x y is = absurd cc
 
-now_read_shown : {S F H T : Type 0} (c : reading.Counts F T) (s : Start) (log : List Moment) (faults : List (Fault S F H T)) (who0 : ℕ) (why0 : Why) (b : By S F H T) → reading.IsShown c s log who0 why0 b
-    → (front : List Moment) (place who : ℕ) (why : Why) → front ≡ log → length front ≡ place → who0 ≡ who → why0 ≡ why → IsReadShownAt c s front place who why (faults ++ listed_at (length log) b)
-now_read_shown {S} {F} {H} {T} c s log faults who0 why0 b shown front place who why is at of same =
-    subst (λ (l : List Moment). IsReadShownAt {S = S} {F = F} {H = H} {T = T} c s l place who why (faults ++ listed_at (length log) b)) (sym is)
-    (subst (λ (n : ℕ). IsReadShownAt {S = S} {F = F} {H = H} {T = T} c s log n who why (faults ++ listed_at (length log) b)) (sym (ap length is) ∙ at)
-    (subst (λ (k : ℕ). IsReadShownAt {S = S} {F = F} {H = H} {T = T} c s log (length log) k why (faults ++ listed_at (length log) b)) of
-    (subst (λ (y : Why). IsReadShownAt {S = S} {F = F} {H = H} {T = T} c s log (length log) who0 y (faults ++ listed_at (length log) b)) same
-    (b, shown, own_listed faults (length log) b))))
+-- what shows the one shows the other
+shown_of : {S F H T : Type 0} (e : Evidence S F H T) (s : Start) (a b : Hand) (log : List Moment) (who : ℕ) (why : Why) (x : By S F H T) → IsOneStep a b → IsShown a e s log who why x → IsShownOf b e s log who why x
+shown_of e s hands.Unit hands.Unit log who why x one shown = shown
+shown_of e s hands.Delete hands.Delete log who why x one shown = shown
+shown_of e s hands.Restore hands.Restore log who why x one shown = shown
+shown_of e s hands.Check hands.Check log who why x one shown = inl shown
+shown_of e s hands.Check hands.Verify log who why x one shown = inl shown
+shown_of e s hands.Verify hands.Check log who why x one shown = inr shown
+shown_of e s hands.Verify hands.Verify log who why x one shown = inr shown
+shown_of e s a b log who why x one shown = absurd one
 
-now_delete_shown : {S F H T : Type 0} (c : Counts S F H T) (s : Start) (log : List Moment) (faults : List (Fault S F H T)) (who0 : ℕ) (why0 : Why) (b : By S F H T) → IsDeleteShown c s log who0 why0 b
-    → (front : List Moment) (place who : ℕ) (why : Why) → front ≡ log → length front ≡ place → who0 ≡ who → why0 ≡ why → IsDeleteShownAt c s front place who why (faults ++ listed_at (length log) b)
-now_delete_shown {S} {F} {H} {T} c s log faults who0 why0 b shown front place who why is at of same =
-    subst (λ (l : List Moment). IsDeleteShownAt {S = S} {F = F} {H = H} {T = T} c s l place who why (faults ++ listed_at (length log) b)) (sym is)
-    (subst (λ (n : ℕ). IsDeleteShownAt {S = S} {F = F} {H = H} {T = T} c s log n who why (faults ++ listed_at (length log) b)) (sym (ap length is) ∙ at)
-    (subst (λ (k : ℕ). IsDeleteShownAt {S = S} {F = F} {H = H} {T = T} c s log (length log) k why (faults ++ listed_at (length log) b)) of
-    (subst (λ (y : Why). IsDeleteShownAt {S = S} {F = F} {H = H} {T = T} c s log (length log) who0 y (faults ++ listed_at (length log) b)) same
-    (b, shown, own_listed faults (length log) b))))
+own_of_itself : (hand : Hand) → IsOneStep hand hand
+own_of_itself hands.Unit = tt
+own_of_itself hands.Delete = tt
+own_of_itself hands.Restore = tt
+own_of_itself hands.Check = tt
+own_of_itself hands.Verify = tt
 
-now_verify_shown : {S F H T : Type 0} (c : checking.Counts S F) (s : Start) (log : List Moment) (faults : List (Fault S F H T)) (why0 : Why) (b : By S F H T) → IsEndShown c s log why0 b
-    → (front : List Moment) (place : ℕ) (why : Why) → front ≡ log → length front ≡ place → why0 ≡ why → IsEndShownAt c s front place why (faults ++ listed_at (length log) b)
-now_verify_shown {S} {F} {H} {T} c s log faults why0 b shown front place why is at same =
-    subst (λ (l : List Moment). IsEndShownAt {S = S} {F = F} {H = H} {T = T} c s l place why (faults ++ listed_at (length log) b)) (sym is)
-    (subst (λ (n : ℕ). IsEndShownAt {S = S} {F = F} {H = H} {T = T} c s log n why (faults ++ listed_at (length log) b)) (sym (ap length is) ∙ at)
-    (subst (λ (y : Why). IsEndShownAt {S = S} {F = F} {H = H} {T = T} c s log (length log) y (faults ++ listed_at (length log) b)) same
-    (b, shown, own_listed faults (length log) b)))
+module _ {S F H T : Type 0} (e : Evidence S F H T) (s : Start) (hand : Hand) (log : List Moment) (m : Moment) (faults : List (Fault S F H T)) (why : Why) (b : By S F H T) (teller : IsTeller hand m.entry.who) (step : m.entry.step ≡ fail_step hand why) (reply : m.entry.reply ≡ HasEnded)
+    (shown : IsShown hand e s log m.entry.who why b) (h : AreShown e s log faults) where
+  -- by whichever hand it is read
+  now_shown : (other : Hand) (place who : ℕ) (told : Why) (r : IsReport other (log ++ m ∷ []) place who told) → (r.front ≡ log) × (m ≡ r.moment) → IsShownAt other e s r.front place who told (faults ++ listed_at (length log) b)
+  now_shown other place who told r last =
+      let of : m.entry.who ≡ who = ap (λ (x : Moment). x.entry.who) last.1 ∙ r.of in
+      let same : fail_step hand why ≡ fail_step other told = sym step ∙ ap (λ (x : Moment). x.entry.step) last.1 ∙ r.step in
+      let is : why ≡ told = same_why why told (sym (told_by hand why) ∙ ap why_told same ∙ told_by other told) in
+      let at : length log ≡ place = sym (ap length last.0) ∙ r.place_is in
+      let one : IsOneStep hand other = one_step hand other m.entry.who why told teller (subst (IsTeller other) (sym of) r.teller) same in
+      let now : IsShownOf other e s log m.entry.who why b = shown_of e s hand other log m.entry.who why b one shown in
+      record {
+        by = b;
+        shown = subst (λ (l : List Moment). IsShownOf other e s l who told b) (sym last.0) (subst (λ (w : Why). IsShownOf other e s log who w b) is (subst (λ (k : ℕ). IsShownOf other e s log k why b) of now));
+        listed = subst (λ (n : ℕ). IsListed (faults ++ listed_at (length log) b) n b) at (own_listed faults (length log) b);
+      }
 
--- the objects of before, and that of the report
-listed_with : {S F H T : Type 0} (u : Counts S F H T) (r : reading.Counts F T) (v : checking.Counts S F) (s : Start) (log : List Moment) (m : Moment) (faults : List (Fault S F H T)) (b : By S F H T) → ((fault : Fault S F H T) → Has faults fault → IsOfReport u r v s log fault)
-    → ShowsReport u r v s (log ++ m ∷ []) (length log) b → (fault : Fault S F H T) → Has (faults ++ listed_at (length log) b) fault → IsOfReport u r v s (log ++ m ∷ []) fault
-listed_with {S} {F} {H} {T} u r v s log m faults b h now fault there =
-    ⊎_elim
-    (λ (old : Has faults fault). still_of u r v s log m fault (h fault old))
-    (λ (new : Has (listed_at (length log) b) fault). (length log, entry_of (length log) b fault new, own_shows (λ (x : By S F H T). ShowsReport u r v s (log ++ m ∷ []) (length log) x) (length log) b fault new now))
-    (has_either faults (listed_at (length log) b) fault there)
+  now_report : IsReport hand (log ++ m ∷ []) (length log) m.entry.who why
+  now_report = record { front = log; moment = m; back = []; is = refl; place_is = refl; teller = teller; of = refl; step = step; reply = reply }
 
--- a report of a unit is none of a restore or a verification
-no_read_failed : (why other : Why) (m : Moment) → m.entry.step ≡ FailedStep why → m.entry.step ≡ ReadStep (ReadFails other) → ⊥
-no_read_failed why other m e d = never (sym e ∙ d)
-  where
-    never : FailedStep why ≡ ReadStep (ReadFails other) → ⊥
-    never x = cc
+  now_listed : (x : By S F H T) → x ≡ b → (fault : Fault S F H T) → Has (listed_at (length log) x) fault → ShowsReport e s (log ++ m ∷ []) fault
+  unfolding now_report
+  now_listed (by.Object object) is fault (inl same) =
+      subst (ShowsReport e s (log ++ m ∷ [])) same
+      (record {
+        place = length log;
+        entry_is = refl;
+        hand = hand;
+        who = m.entry.who;
+        why = why;
+        report = now_report;
+        shown = subst (λ (y : By S F H T). IsShownOf hand e s log m.entry.who why y) (sym is) (shown_of e s hand hand log m.entry.who why b (own_of_itself hand) shown);
+      })
+  now_listed (by.Object object) is fault (inr none) = absurd none
+  now_listed by.Entry is fault none = absurd none
+  now_listed by.Nothing is fault none = absurd none
 
--- nor one of a delete
-no_delete_failed : (why other : Why) (m : Moment) → m.entry.step ≡ FailedStep why → m.entry.step ≡ PruneStep (DeleteFails other) → ⊥
-no_delete_failed why other m e d = never (sym e ∙ d)
-  where
-    never : FailedStep why ≡ PruneStep (DeleteFails other) → ⊥
-    never x = cc
+  old_below : (one : Fault S F H T) (p : ℕ) → Has faults one → one.entry ≡ Some p → p < length log
+  old_below one p has at =
+      let told = h.listed one has in
+      subst (λ (n : ℕ). n < length log) (same told.place p (sym told.entry_is ∙ at)) (place_below told.hand log told.place told.who told.why told.report)
+    where
+      same : (a b : ℕ) → Some a ≡ Some b → a ≡ b
+      same a b e = cc
 
--- which isn't one of a restore or a verification
-no_delete_read : (why other : Why) (m : Moment) → m.entry.step ≡ ReadStep (ReadFails why) → m.entry.step ≡ PruneStep (DeleteFails other) → ⊥
-no_delete_read why other m e d = never (sym e ∙ d)
-  where
-    never : ReadStep (ReadFails why) ≡ PruneStep (DeleteFails other) → ⊥
-    never x = cc
+  now_rising : (x : By S F H T) → AreRising (faults ++ listed_at (length log) x)
+  now_rising (by.Object object) = rising_more faults (record { entry = Some (length log); object = object }) (length log) refl old_below h.rising
+  now_rising by.Entry = subst AreRising (sym (append-nil faults)) h.rising
+  now_rising by.Nothing = subst AreRising (sym (append-nil faults)) h.rising
 
--- tickets are numbered from 1 on
-no_ticket : (who : ℕ) → who ≡ 0 → 1 ≤ who → ⊥
-no_ticket who is some = omega (arith, is, some)
-
--- of a unit
-pub reports : {S F H T : Type 0} {r : reading.Counts F T} {v : checking.Counts S F} (c : Counts S F H T) (s : Start) (log : List Moment) (m : Moment) (faults : List (Fault S F H T)) (why : Why) (b : By S F H T) → m.entry.step ≡ FailedStep why → m.entry.reply ≡ HasEnded
-    → IsShown c s log m.entry.who why b → AreAllShown c r v s log faults → AreAllShown c r v s (log ++ m ∷ []) (faults ++ listed_at (length log) b)
-reports {r = r} {v = v} c s log m faults why b step reply shown h =
-    record {
-      units = λ place who why1 report. ⊎_elim
-          (λ d. now_shown c s log faults m.entry.who why b shown report.front place who why1 d.0 report.place_is (ap (λ (x : Moment). x.entry.who) d.1 ∙ report.of) (same_why why why1 (sym step ∙ ap (λ (x : Moment). x.entry.step) d.1 ∙ report.step)))
-          (λ d. let (b1, shown1, listed1) = h.units place who why1 (record { front = report.front; moment = report.moment; back = d.0; is = d.1; place_is = report.place_is; of = report.of; step = report.step; reply = report.reply }) in
-          (b1, shown1, more_listed faults (listed_at (length log) b) place b1 listed1))
-          (last_or log m report.front report.moment report.back report.is);
-      restores = restores_go_on r s log m faults (faults ++ listed_at (length log) b) (more_listed faults (listed_at (length log) b)) (λ other ticket is _. no_read_failed why other m step is) h.restores;
-      deletes = deletes_go_on c s log m faults (faults ++ listed_at (length log) b) (more_listed faults (listed_at (length log) b)) (λ other is _. no_delete_failed why other m step is) h.deletes;
-      verifications = verifications_go_on v s log m faults (faults ++ listed_at (length log) b) (more_listed faults (listed_at (length log) b)) (λ other alone is _. no_read_failed why other m step is) h.verifications;
-      listed = listed_with c r v s log m faults b h.listed (OfUnit m.entry.who why (record { front = log; moment = m; back = []; is = refl; place_is = refl; of = refl; step = step; reply = reply }) shown);
-    }
-
--- of a restore
-pub read_reports : {S F H T : Type 0} {u : Counts S F H T} {v : checking.Counts S F} (c : reading.Counts F T) (s : Start) (log : List Moment) (m : Moment) (faults : List (Fault S F H T)) (why : Why) (b : By S F H T) → 1 ≤ m.entry.who → m.entry.step ≡ ReadStep (ReadFails why) → m.entry.reply ≡ HasEnded
-    → reading.IsShown c s log m.entry.who why b → AreAllShown u c v s log faults → AreAllShown u c v s (log ++ m ∷ []) (faults ++ listed_at (length log) b)
-read_reports {u = u} {v = v} c s log m faults why b ticket step reply shown h =
-    record {
-      units = units_go_on u s log m faults (faults ++ listed_at (length log) b) (more_listed faults (listed_at (length log) b)) (λ other is _. no_read_failed other why m is step) h.units;
-      restores = λ place who why1 report. ⊎_elim
-          (λ d. now_read_shown c s log faults m.entry.who why b shown report.front place who why1 d.0 report.place_is (ap (λ (x : Moment). x.entry.who) d.1 ∙ report.of) (same_read_why why why1 (sym step ∙ ap (λ (x : Moment). x.entry.step) d.1 ∙ report.step)))
-          (λ d. let (b1, shown1, listed1) = h.restores place who why1 (record { front = report.front; moment = report.moment; back = d.0; is = d.1; place_is = report.place_is; ticket = report.ticket; of = report.of; step = report.step; reply = report.reply }) in
-          (b1, shown1, more_listed faults (listed_at (length log) b) place b1 listed1))
-          (last_or log m report.front report.moment report.back report.is);
-      deletes = deletes_go_on u s log m faults (faults ++ listed_at (length log) b) (more_listed faults (listed_at (length log) b)) (λ other is _. no_delete_read why other m step is) h.deletes;
-      verifications = verifications_go_on v s log m faults (faults ++ listed_at (length log) b) (more_listed faults (listed_at (length log) b)) (λ other alone is _. no_ticket m.entry.who alone ticket) h.verifications;
-      listed = listed_with u c v s log m faults b h.listed (OfRestore m.entry.who why (record { front = log; moment = m; back = []; is = refl; place_is = refl; ticket = ticket; of = refl; step = step; reply = reply }) shown);
-    }
-
--- of a delete
-pub delete_reports : {S F H T : Type 0} {r : reading.Counts F T} {v : checking.Counts S F} (c : Counts S F H T) (s : Start) (log : List Moment) (m : Moment) (faults : List (Fault S F H T)) (why : Why) (b : By S F H T) → m.entry.step ≡ PruneStep (DeleteFails why) → m.entry.reply ≡ HasEnded
-    → IsDeleteShown c s log m.entry.who why b → AreAllShown c r v s log faults → AreAllShown c r v s (log ++ m ∷ []) (faults ++ listed_at (length log) b)
-delete_reports {r = r} {v = v} c s log m faults why b step reply shown h =
-    record {
-      units = units_go_on c s log m faults (faults ++ listed_at (length log) b) (more_listed faults (listed_at (length log) b)) (λ other is _. no_delete_failed other why m is step) h.units;
-      restores = restores_go_on r s log m faults (faults ++ listed_at (length log) b) (more_listed faults (listed_at (length log) b)) (λ other ticket is _. no_delete_read other why m is step) h.restores;
-      deletes = λ place who why1 report. ⊎_elim
-          (λ d. now_delete_shown c s log faults m.entry.who why b shown report.front place who why1 d.0 report.place_is (ap (λ (x : Moment). x.entry.who) d.1 ∙ report.of) (same_delete_why why why1 (sym step ∙ ap (λ (x : Moment). x.entry.step) d.1 ∙ report.step)))
-          (λ d. let (b1, shown1, listed1) = h.deletes place who why1 (record { front = report.front; moment = report.moment; back = d.0; is = d.1; place_is = report.place_is; of = report.of; step = report.step; reply = report.reply }) in
-          (b1, shown1, more_listed faults (listed_at (length log) b) place b1 listed1))
-          (last_or log m report.front report.moment report.back report.is);
-      verifications = verifications_go_on v s log m faults (faults ++ listed_at (length log) b) (more_listed faults (listed_at (length log) b)) (λ other alone is _. no_delete_read other why m is step) h.verifications;
-      listed = listed_with c r v s log m faults b h.listed (OfDelete m.entry.who why (record { front = log; moment = m; back = []; is = refl; place_is = refl; of = refl; step = step; reply = reply }) shown);
-    }
-
--- of a verification or a check
-pub verify_reports : {S F H T : Type 0} {u : Counts S F H T} {r : reading.Counts F T} (c : checking.Counts S F) (s : Start) (log : List Moment) (m : Moment) (faults : List (Fault S F H T)) (why : Why) (b : By S F H T) → m.entry.who ≡ 0 → m.entry.step ≡ ReadStep (ReadFails why) → m.entry.reply ≡ HasEnded
-    → IsEndShown c s log why b → AreAllShown u r c s log faults → AreAllShown u r c s (log ++ m ∷ []) (faults ++ listed_at (length log) b)
-verify_reports {u = u} {r = r} c s log m faults why b alone step reply shown h =
-    record {
-      units = units_go_on u s log m faults (faults ++ listed_at (length log) b) (more_listed faults (listed_at (length log) b)) (λ other is _. no_read_failed other why m is step) h.units;
-      restores = restores_go_on r s log m faults (faults ++ listed_at (length log) b) (more_listed faults (listed_at (length log) b)) (λ other ticket is _. no_ticket m.entry.who alone ticket) h.restores;
-      deletes = deletes_go_on u s log m faults (faults ++ listed_at (length log) b) (more_listed faults (listed_at (length log) b)) (λ other is _. no_delete_read why other m step is) h.deletes;
-      verifications = λ place why1 report. ⊎_elim
-          (λ d. now_verify_shown c s log faults why b shown report.front place why1 d.0 report.place_is (same_read_why why why1 (sym step ∙ ap (λ (x : Moment). x.entry.step) d.1 ∙ report.step)))
-          (λ d. let (b1, shown1, listed1) = h.verifications place why1 (record { front = report.front; moment = report.moment; back = d.0; is = d.1; place_is = report.place_is; of = report.of; step = report.step; reply = report.reply }) in
-          (b1, shown1, more_listed faults (listed_at (length log) b) place b1 listed1))
-          (last_or log m report.front report.moment report.back report.is);
-      listed = listed_with u r c s log m faults b h.listed (OfVerification why (record { front = log; moment = m; back = []; is = refl; place_is = refl; of = alone; step = step; reply = reply }) shown);
-    }
+  pub reports : AreShown e s (log ++ m ∷ []) (faults ++ listed_at (length log) b)
+  unfolding earlier
+  reports =
+      record {
+        shown = λ other place who told r. ⊎_elim
+            (λ (last : (r.front ≡ log) × (m ≡ r.moment)). now_shown other place who told r last)
+            (λ (more : (rest : List Moment) × (log ≡ r.front ++ r.moment ∷ rest)).
+            let was = h.shown other place who told (earlier other log m place who told r more.0 more.1) in
+            record { by = was.by; shown = was.shown; listed = more_listed faults (listed_at (length log) b) place was.by was.listed })
+            (last_or log m r.front r.moment r.back r.is);
+        listed = λ fault there. ⊎_elim
+            (λ (old : Has faults fault). shows_longer e s log m fault (h.listed fault old))
+            (λ (new : Has (listed_at (length log) b) fault). now_listed b refl fault new)
+            (has_either faults (listed_at (length log) b) fault there);
+        rising = now_rising b;
+      }
 
 -- nothing was reported yet
-none_shown : {S F H T : Type 0} (c : Counts S F H T) (r : reading.Counts F T) (v : checking.Counts S F) (s : Start) → AreAllShown c r v s [] []
-none_shown c r v s =
-    record {
-      units = λ place who why report. absurd (no_end report.front report.moment report.back report.is);
-      restores = λ place who why report. absurd (no_end report.front report.moment report.back report.is);
-      deletes = λ place who why report. absurd (no_end report.front report.moment report.back report.is);
-      verifications = λ place why report. absurd (no_end report.front report.moment report.back report.is);
-      listed = λ fault there. absurd there;
-    }
+none_shown : {S F H T : Type 0} (e : Evidence S F H T) (s : Start) → AreShown e s [] []
+none_shown e s = record { shown = λ hand place who why r. absurd (no_end r.front r.moment r.back r.is); listed = λ fault there. absurd there; rising = rising_none }
 
-pub begins : {S F H T : Type 0} (c : Counts S F H T) (r : reading.Counts F T) (v : checking.Counts S F) (s : Start) (log : List Moment) (faults : List (Fault S F H T)) → log ≡ [] → faults ≡ [] → AreAllShown c r v s log faults
-begins {S} {F} {H} {T} c r v s log faults none empty =
-    subst (λ (l : List Moment). AreAllShown {S = S} {F = F} {H = H} {T = T} c r v s l faults) (sym none)
-    (subst (λ (f : List (Fault S F H T)). AreAllShown {S = S} {F = F} {H = H} {T = T} c r v s [] f) (sym empty) (none_shown c r v s))
+pub begins : {S F H T : Type 0} (e : Evidence S F H T) (s : Start) (log : List Moment) (faults : List (Fault S F H T)) → log ≡ [] → faults ≡ [] → AreShown e s log faults
+begins {S} {F} {H} {T} e s log faults none empty = subst (λ (l : List Moment). AreShown e s l faults) (sym none) (subst (λ (f : List (Fault S F H T)). AreShown e s [] f) (sym empty) (none_shown e s))
 
 -- ---- a step of the repository
 
-added : {S F H T : Type 0} {r : reading.Counts F T} {v : checking.Counts S F} (c : Counts S F H T) (s : Start) (old new : List Moment) (who : ℕ) (step : Step) (reply : Reply) (faults : List (Fault S F H T)) → IsNoReportOf step reply → Added s old new who step reply → AreAllShown c r v s old faults → AreAllShown c r v s new faults
-added {S} {F} {H} {T} {r} {v} c s old new who step reply faults none a h =
-    subst (λ (l : List Moment). AreAllShown {S = S} {F = F} {H = H} {T = T} c r v s l faults) (sym a.is) (goes_on c s old (record { entry = record { who = who; step = step; reply = reply }; image = a.image }) faults none h)
+added : {S F H T : Type 0} (e : Evidence S F H T) (s : Start) (old new : List Moment) (who : ℕ) (step : Step) (reply : Reply) (faults : List (Fault S F H T)) → IsNoReportOf step reply → Added s old new who step reply → AreShown e s old faults → AreShown e s new faults
+added e s old new who step reply faults none a h =
+    subst (λ (l : List Moment). AreShown e s l faults) (sym a.is) (goes_on e s old (record { entry = record { who = who; step = step; reply = reply }; image = a.image }) faults none h)
 
 refused_no : (step : Step) (refusal : Refusal) → IsNoReportOf step (Refused refusal)
-refused_no step refusal why e d = cc
+refused_no step refusal why told d = cc
 
-pub added_or : {S F H T : Type 0} {r : reading.Counts F T} {v : checking.Counts S F} (c : Counts S F H T) (s : Start) (old new : List Moment) (who : ℕ) (step : Step) (e : StepRefusal) (faults : List (Fault S F H T)) → AddedOr s old new who step e → AreAllShown c r v s old faults → AreAllShown c r v s new faults
-added_or {S} {F} {H} {T} {r} {v} c s old new who step steps.Memory faults same h = subst (λ (l : List Moment). AreAllShown {S = S} {F = F} {H = H} {T = T} c r v s l faults) (sym same) h
-added_or c s old new who step steps.TurnsSpent faults never h = absurd never
-added_or c s old new who step (steps.Refused refusal) faults a h = added c s old new who step (Refused (refusal_of refusal)) faults (refused_no step (refusal_of refusal)) a h
+added_or : {S F H T : Type 0} (e : Evidence S F H T) (s : Start) (old new : List Moment) (who : ℕ) (step : Step) (x : StepRefusal) (faults : List (Fault S F H T)) → AddedOr s old new who step x → AreShown e s old faults → AreShown e s new faults
+added_or e s old new who step steps.Memory faults same h = subst (λ (l : List Moment). AreShown e s l faults) (sym same) h
+added_or e s old new who step steps.TurnsSpent faults never h = absurd never
+added_or e s old new who step (steps.Refused refusal) faults a h = added e s old new who step (Refused (refusal_of refusal)) faults (refused_no step (refusal_of refusal)) a h
 
--- a step of a repository that isn't the report of a failure
-pub did : {X S F H T : Type 0} {r : reading.Counts F T} {v : checking.Counts S F} (c : Counts S F H T) (s : Start) (old new : List Moment) (who : ℕ) (step : Step) (ok : X → Reply) (result : Result X StepRefusal) (faults : List (Fault S F H T)) → ((x : X) → IsNoReportOf step (ok x)) → Did s old new who step ok result → AreAllShown c r v s old faults → AreAllShown c r v s new faults
-did c s old new who step ok (Ok x) faults none d h = added c s old new who step (ok x) faults (none x) d h
-did c s old new who step ok (Err e) faults none d h = added_or c s old new who step e faults d h
+-- that isn't the report of a failure
+pub did : {X S F H T : Type 0} (e : Evidence S F H T) (s : Start) (old new : List Moment) (who : ℕ) (step : Step) (ok : X → Reply) (result : Result X StepRefusal) (faults : List (Fault S F H T)) → ((x : X) → IsNoReportOf step (ok x)) → Did s old new who step ok result
+    → AreShown e s old faults → AreShown e s new faults
+did e s old new who step ok (Ok x) faults none d h = added e s old new who step (ok x) faults (none x) d h
+did e s old new who step ok (Err x) faults none d h = added_or e s old new who step x faults d h
+
+-- or is one, by its answer
+pub reported : {S F H T : Type 0} (e : Evidence S F H T) (s : Start) (hand : Hand) (old new : List Moment) (who : ℕ) (why : Why) (result : Result Unit StepRefusal) (faults : List (Fault S F H T)) (b : By S F H T) → IsTeller hand who → IsShown hand e s old who why b
+    → Did s old new who (fail_step hand why) (λ _. HasEnded) result → AreShown e s old faults → AreShown e s new (faults ++ kept_by (length old) b result)
+reported e s hand old new who why (Ok x) faults b teller shown d h =
+    subst (λ (l : List Moment). AreShown e s l (faults ++ listed_at (length old) b)) (sym d.is)
+    (reports e s hand old (record { entry = record { who = who; step = fail_step hand why; reply = HasEnded }; image = d.image }) faults why b teller refl refl shown h)
+reported {S} {F} {H} {T} e s hand old new who why (Err x) faults b teller shown d h =
+    subst (λ (l : List (Fault S F H T)). AreShown e s new l) (sym (append-nil faults)) (added_or e s old new who (fail_step hand why) x faults d h)
 
 -- the same objects
-pub same_objects : {S F H T : Type 0} {r : reading.Counts F T} {v : checking.Counts S F} (c : Counts S F H T) (s : Start) (log : List Moment) (faults same : List (Fault S F H T)) → same ≡ faults → AreAllShown c r v s log faults → AreAllShown c r v s log same
-same_objects {S} {F} {H} {T} {r} {v} c s log faults same e h = subst (λ (l : List (Fault S F H T)). AreAllShown {S = S} {F = F} {H = H} {T = T} c r v s log l) (sym e) h
+pub same_objects : {S F H T : Type 0} (e : Evidence S F H T) (s : Start) (log : List Moment) (faults same : List (Fault S F H T)) → same ≡ faults → AreShown e s log faults → AreShown e s log same
+same_objects {S} {F} {H} {T} e s log faults same is h = subst (λ (l : List (Fault S F H T)). AreShown e s log l) (sym is) h

@@ -1,35 +1,41 @@
 -- A step of the desk is that of its repository.
 use Rattle.std.proofs.Common.{◌≡◌, ◌<◌, ◌≤◌, ℕ, ◌+◌, ◌-◌, ◌^◌, List, [], ◌∷◌, ◌++◌, length, Option, Some, None, Bool, true, IfSome, Result, Ok, Err, IfOk, OnOk, refl, sym, ap, ◌∙◌, subst, append-nil, ◌≢◌, arith}
 use Rattle.std.proofs.lemmas.List.{length-append}
-use Rattle.esr_core.specs.Entry.{Why, Read, ReadStep, FailedStep, HasEnded, CommitStep, Step, Reply, Refused, Moment}
 use Rattle.esr_model.specs.Names.{BlobName}
+use Rattle.esr_core.specs.Entry.{Why, ReadStep, RestoredShard, HasEnded, Step, Reply, Refused, Moment}
+use Rattle.esr_desk.specs.declared.hand.Hand.{Hand}
+use Rattle.esr_desk.specs.declared.hand.Hand.TheVariants as hands
 use Rattle.esr_desk.specs.declared.fault.Fault.{Fault}
 use Rattle.esr_desk.specs.declared.fault.By.{By}
+use Rattle.esr_desk.specs.declared.target.RestoredTarget.{RestoredTarget}
+use Rattle.esr_desk.specs.declared.refusal.EntryRefusal.{EntryRefusal}
 use Rattle.esr_desk.specs.declared.refusal.StepRefusal.{StepRefusal}
 use Rattle.esr_desk.specs.declared.refusal.StepRefusal.TheVariants as steps
 use Rattle.esr_desk.specs.Refusals.{refusal_of}
 use Rattle.esr_desk.specs.Start.{Start, Legal}
-use Rattle.esr_desk.specs.Outcome.{Waited, Stepped, Spends, Outcome}
-use Rattle.esr_desk.specs.Once.{AreOnce, NoneTwice}
+use Rattle.esr_desk.specs.Own.{reader_of}
+use Rattle.esr_desk.specs.Calls.{Call, IsMine}
+use Rattle.esr_desk.specs.Hands.{fetch_step, fail_step}
+use Rattle.esr_desk.specs.Outcome.{Waited, Stepped, Grounds, Outcome, fetch_reply}
+use Rattle.esr_desk.specs.Last.{IsLast}
+use Rattle.esr_desk.specs.Once.{AreOnce, AreRemovedOnce}
 use Rattle.esr_desk.specs.Numbered.{Numbered}
-use Rattle.esr_desk.specs.Shown.{Counts, NeverFailed, IsShown}
-use Rattle.esr_reading.specs.Shown as reading
-use Rattle.esr_checking.specs.Shown as checking
-use Rattle.esr_deleting.specs.Once.{AreRemovedOnce}
-use Rattle.esr_checking.specs.Tested.{AreTested}
-use Rattle.esr_checking.specs.AllShown.{AreAllShown}
+use Rattle.esr_desk.specs.Evidence.{Evidence, NeverFailed}
+use Rattle.esr_desk.specs.Shown.{IsShown, IsTeller, AreShown}
+use Rattle.esr_desk.specs.Restore.Targets.{IsFilled, AreTargetsOf}
+use Rattle.esr_desk.specs.Verify.Tested.{AreTested}
 use Rattle.esr_repo.specs.Next.{Added, Did}
 use Rattle.esr_solo.specs.Turns.{turns_of}
-use Rattle.esr_solo.specs.Kept.{listed_at, kept_by}
-use Rattle.esr_solo.proofs.Showing.{IsNoReportOf, did, added_or, reports}
+use Rattle.esr_solo.specs.Kept.{kept_by, targets_by}
+use Rattle.esr_solo.proofs.Showing.{IsNoReportOf, did, reported}
+use Rattle.esr_solo.proofs.Listing.{IsNoRestoration, targets_did, target_listed}
 use Rattle.esr_solo.proofs.Committing.{IsNew, once_did}
-use Rattle.esr_solo.proofs.Single.{IsNewIf, single_did}
 use Rattle.esr_solo.proofs.Testing.{TestsBy, tested_did}
 use Rattle.esr_solo.proofs.Removing.{RemovesBy, removed_did}
 
 -- nothing was added
 pub waited : (s : Start) (own log : List Moment) (who : ℕ) → own ≡ log → Legal s own → Waited s log log who
-waited s own log who e l = record { others = []; grew = sym (append-nil log); alone = refl; besides = λ m other by made. other; nobody = λ alone. refl; legal = subst (Legal s) e l }
+waited s own log who e l = record { others = []; grew = sym (append-nil log); alone = refl; besides = λ some m other by made. other; nobody = λ alone. refl; legal = subst (Legal s) e l }
 
 pub waited_as : (s : Start) (own log : List Moment) (who : ℕ) → own ≡ log → Legal s own → Waited s log own who
 waited_as s own log who e l = subst (λ (x : List Moment). Waited s log x who) (sym e) (waited s own log who e l)
@@ -38,8 +44,8 @@ waited_as s own log who e l = subst (λ (x : List Moment). Waited s log x who) (
 all_taken : (n left all : ℕ) → n + left ≡ all → left ≡ 0 → all ≤ n
 all_taken n left all e none = omega (arith, e, none)
 
-pub spends : (s : Start) (own log : List Moment) (left : ℕ) → own ≡ log → length own + left ≡ 2 ^ 40 → left ≡ 0 → Spends s log steps.TurnsSpent
-spends s own log left view turns none alone = subst (λ (l : List Moment). 2 ^ 40 ≤ length l) view (all_taken (length own) left (2 ^ 40) turns none)
+pub spends : (s : Start) (own log : List Moment) (left : ℕ) → own ≡ log → length own + left ≡ 2 ^ 40 → left ≡ 0 → s.alone ≡ true → 2 ^ 40 ≤ length log
+spends s own log left view turns none = λ alone. subst (λ (l : List Moment). 2 ^ 40 ≤ length l) view (all_taken (length own) left (2 ^ 40) turns none)
 
 stepped : (s : Start) (own log new : List Moment) (who : ℕ) (step : Step) (reply : Reply) → own ≡ log → Legal s own → Added s own new who step reply → Stepped s log new who step reply
 stepped s own log new who step reply e l a =
@@ -50,13 +56,6 @@ stepped s own log new who step reply e l a =
       is = a.is ∙ ap (λ (x : List Moment). x ++ record { entry = record { who = who; step = step; reply = reply }; image = a.image } ∷ []) e;
       legal = a.legal;
     }
-
--- what the desk learns by a step of the repository, which counts no turns
-pub outcome : {X : Type 0} (s : Start) (own log new : List Moment) (who : ℕ) (step : Step) (ok : X → Reply) (result : Result X StepRefusal) → own ≡ log → Legal s own → Did s own new who step ok result → Outcome s log new who step ok result
-outcome s own log new who step ok (Ok x) e l d = stepped s own log new who step (ok x) e l d
-outcome s own log new who step ok (Err steps.Memory) e l d = (subst (λ (x : List Moment). Waited s log x who) (sym d) (waited_as s own log who e l), tt)
-outcome s own log new who step ok (Err steps.TurnsSpent) e l never = absurd never
-outcome s own log new who step ok (Err (steps.Refused refusal)) e l d = (stepped s own log new who step (Refused (refusal_of refusal)) e l d, tt)
 
 -- ---- while turns are left
 
@@ -83,7 +82,7 @@ never quiet own log left view turns none is_quiet = subst (λ (l : List Moment).
     below : (n : ℕ) → n + left ≡ 2 ^ 40 → n ≤ 2 ^ 41
     below n e = omega (arith, e)
 
--- ---- the invariant
+-- ---- the turns
 
 one_more : (log new : List Moment) (m : Moment) → new ≡ log ++ m ∷ [] → length new ≡ length log + 1
 one_more log new m e = ap length e ∙ length-append log (m ∷ [])
@@ -95,14 +94,6 @@ grown s own new who step ok (Err steps.Memory) d = ap length d ∙ omega arith
 grown s own new who step ok (Err steps.TurnsSpent) never = absurd never
 grown s own new who step ok (Err (steps.Refused refusal)) d = one_more own new (record { entry = record { who = who; step = step; reply = Refused (refusal_of refusal) }; image = d.image }) d.is
 
--- no history passes the turns
-pub is_few : {X : Type 0} (s : Start) (own new : List Moment) (read : Read) (ok : X → Reply) (result : Result X StepRefusal) (left : ℕ) → length own + left ≡ 2 ^ 40 → left ≢ 0 → Did s own new 0 (ReadStep read) ok result → OnOk result (length new ≤ 2 ^ 40)
-is_few s own new read ok (Ok x) left turns some d = let more = grown s own new 0 (ReadStep read) ok (Ok x) d in within (length own) (length new) left turns some more
-  where
-    within : (n m left : ℕ) → n + left ≡ 2 ^ 40 → left ≢ 0 → m ≡ n + 1 → m ≤ 2 ^ 40
-    within n m left turns some more = omega (arith, turns, some, more)
-is_few s own new read ok (Err e) left turns some d = tt
-
 pub at_most_one : {X : Type 0} (result : Result X StepRefusal) → turns_of result ≤ 1
 at_most_one (Ok x) = omega arith
 at_most_one (Err steps.Memory) = omega arith
@@ -112,52 +103,162 @@ at_most_one (Err (steps.Refused refusal)) = omega arith
 pub counted : (n k left took all : ℕ) → left ≢ 0 → took ≤ 1 → n + left ≡ all → k ≡ n + took → k + (left - took) ≡ all
 counted n k left took all some few e d = omega (arith, some, few, e, d)
 
--- the desk's invariant after a step that is no report of a failure
-pub keeps : {X S F H T : Type 0} {r : reading.Counts F T} {v : checking.Counts S F} (c : Counts S F H T) (s : Start) (own new : List Moment) (who : ℕ) (step : Step) (ok : X → Reply) (result : Result X StepRefusal) (faults : List (Fault S F H T)) (left took all : ℕ)
-    → (length own + left ≡ all) × AreAllShown c r v s own faults × AreOnce s own × NoneTwice own × Numbered 1 s.world × AreTested s own × AreRemovedOnce own → left ≢ 0 → took ≡ turns_of result → ((x : X) → IsNoReportOf step (ok x)) → IsNew s own who step → IsNewIf own who step → Did s own new who step ok result → TestsBy s own new step result → RemovesBy own who step
-    → (length new + (left - took) ≡ all) × AreAllShown c r v s new faults × AreOnce s new × NoneTwice new × Numbered 1 s.world × AreTested s new × AreRemovedOnce new
-keeps c s own new who step ok result faults left took all h some turns none unnoted fresh d tests removals = (
-  counted (length own) (length new) left took all some (subst (λ (n : ℕ). n ≤ 1) (sym turns) (at_most_one result)) h.0 (grown s own new who step ok result d ∙ ap (λ (n : ℕ). length own + n) (sym turns)),
-  did c s own new who step ok result faults none d h.1,
-  once_did s own new who step ok result unnoted d h.2,
-  single_did s own new who step ok result fresh d h.3,
-  h.4,
-  tested_did s own new who step ok result tests d h.5,
-  removed_did s own new who step ok result removals d h.6,
+-- why a step is refused, as the repository tells it
+abbrev pub HasGrounds : Start → List Moment → Type 0
+HasGrounds s log = (who : ℕ) (step : Step) (refusal : EntryRefusal) → length log ≤ 2 ^ 41 → IsLast log who step (Refused (refusal_of refusal)) → Grounds s log who (steps.Refused refusal)
+
+few_now : {X : Type 0} (s : Start) (own new : List Moment) (who : ℕ) (step : Step) (ok : X → Reply) (result : Result X StepRefusal) (left : ℕ) → length own + left ≡ 2 ^ 40 → left ≢ 0 → Did s own new who step ok result → length new ≤ 2 ^ 41
+few_now s own new who step ok result left turns some d = within (length own) (length new) left (turns_of result) turns some (at_most_one result) (grown s own new who step ok result d)
+  where
+    within : (n m left took : ℕ) → n + left ≡ 2 ^ 40 → left ≢ 0 → took ≤ 1 → m ≡ n + took → m ≤ 2 ^ 41
+    within n m left took turns some few more = omega (arith, turns, some, few, more)
+
+-- what the desk learns by a step of the repository, which counts no turns
+pub outcome : {X : Type 0} (s : Start) (own log new : List Moment) (who : ℕ) (step : Step) (ok : X → Reply) (result : Result X StepRefusal) (left : ℕ) → own ≡ log → Legal s own → length own + left ≡ 2 ^ 40 → left ≢ 0 → HasGrounds s new → Did s own new who step ok result
+    → Outcome s log new who step ok result
+outcome s own log new who step ok (Ok x) left e l turns some grounds d = stepped s own log new who step (ok x) e l d
+outcome s own log new who step ok (Err steps.Memory) left e l turns some grounds d = (subst (λ (x : List Moment). Waited s log x who) (sym d) (waited_as s own log who e l), tt)
+outcome s own log new who step ok (Err steps.TurnsSpent) left e l turns some grounds never = absurd never
+outcome s own log new who step ok (Err (steps.Refused refusal)) left e l turns some grounds d = (
+  stepped s own log new who step (Refused (refusal_of refusal)) e l d,
+  grounds who step refusal (few_now s own new who step ok (Err (steps.Refused refusal)) left turns some d) (record { front = own; image = d.image; is = d.is }),
 )
 
--- the report of a failure whose cause is shown, by its answer
-shown_by : {S F H T : Type 0} {r : reading.Counts F T} {v : checking.Counts S F} (c : Counts S F H T) (s : Start) (own new : List Moment) (who : ℕ) (why : Why) (result : Result Unit StepRefusal) (faults : List (Fault S F H T)) (b : By S F H T)
-    → AreAllShown c r v s own faults → IsShown c s own who why b → Did s own new who (FailedStep why) (λ _. HasEnded) result → AreAllShown c r v s new (faults ++ kept_by (length own) b result)
-shown_by {S} {F} {H} {T} {r} {v} c s own new who why (Ok x) faults b h shown d =
-    subst (λ (l : List Moment). AreAllShown {S = S} {F = F} {H = H} {T = T} c r v s l (faults ++ listed_at (length own) b)) (sym d.is)
-    (reports c s own (record { entry = record { who = who; step = FailedStep why; reply = HasEnded }; image = d.image }) faults why b refl refl shown h)
-shown_by {S} {F} {H} {T} {r} {v} c s own new who why (Err e) faults b h shown d =
-    subst (λ (l : List (Fault S F H T)). AreAllShown {S = S} {F = F} {H = H} {T = T} c r v s new l) (sym (append-nil faults)) (added_or c s own new who (FailedStep why) e faults d h)
-
-pub place_is : (n left all place : ℕ) → n + left ≡ all → place ≡ all - left → place ≡ n
-place_is n left all place e d = omega (arith, e, d)
-
--- a report commits nothing
-no_commit : (s : Start) (log : List Moment) (who : ℕ) (why : Why) → IsNew s log who (FailedStep why)
-no_commit s log who why name is no_metadata noted = absurd (never why name is)
+-- no history passes the turns
+pub is_few : {X : Type 0} (s : Start) (own new : List Moment) (who : ℕ) (step : Step) (ok : X → Reply) (result : Result X StepRefusal) (left : ℕ) → length own + left ≡ 2 ^ 40 → left ≢ 0 → Did s own new who step ok result → OnOk result (s.alone ≡ true → length new ≤ 2 ^ 40)
+is_few s own new who step ok (Ok x) left turns some d = λ alone. within (length own) (length new) left turns some (grown s own new who step ok (Ok x) d)
   where
-    never : (w : Why) (n : BlobName) → FailedStep w ≡ CommitStep n → ⊥
-    never w n e = cc
+    within : (n m left : ℕ) → n + left ≡ 2 ^ 40 → left ≢ 0 → m ≡ n + 1 → m ≤ 2 ^ 40
+    within n m left turns some more = omega (arith, turns, some, more)
+is_few s own new who step ok (Err e) left turns some d = tt
 
--- the desk's invariant after it
-pub keeps_report : {S F H T : Type 0} {r : reading.Counts F T} {v : checking.Counts S F} (c : Counts S F H T) (s : Start) (own log new : List Moment) (who : ℕ) (why : Why) (result : Result Unit StepRefusal) (faults roomy after : List (Fault S F H T)) (left took all : ℕ) (b : By S F H T)
-    → (length own + left ≡ all) × AreAllShown c r v s own faults × AreOnce s own × NoneTwice own × Numbered 1 s.world × AreTested s own × AreRemovedOnce own → left ≢ 0 → took ≡ turns_of result → own ≡ log → IsShown c s log who why b → roomy ≡ faults → after ≡ roomy ++ kept_by (all - left) b result → Did s own new who (FailedStep why) (λ _. HasEnded) result
-    → (length new + (left - took) ≡ all) × AreAllShown c r v s new after × AreOnce s new × NoneTwice new × Numbered 1 s.world × AreTested s new × AreRemovedOnce new
-keeps_report {S} {F} {H} {T} {r} {v} c s own log new who why result faults roomy after left took all b h some turns view shown same is d =
-    let n : all - left ≡ length own = place_is (length own) left all (all - left) h.0 refl in
-    let e : after ≡ faults ++ kept_by (length own) b result = is ∙ ap (λ (l : List (Fault S F H T)). l ++ kept_by (all - left) b result) same ∙ ap (λ (k : ℕ). faults ++ kept_by k b result) n in (
-      counted (length own) (length new) left took all some (subst (λ (k : ℕ). k ≤ 1) (sym turns) (at_most_one result)) h.0 (grown s own new who (FailedStep why) (λ _. HasEnded) result d ∙ ap (λ (k : ℕ). length own + k) (sym turns)),
-      subst (λ (l : List (Fault S F H T)). AreAllShown {S = S} {F = F} {H = H} {T = T} c r v s new l) (sym e)
-          (shown_by c s own new who why result faults b h.1 (subst (λ (l : List Moment). IsShown {S = S} {F = F} {H = H} {T = T} c s l who why b) (sym view) shown) d),
-      once_did s own new who (FailedStep why) (λ _. HasEnded) result (no_commit s own who why) d h.2,
-      single_did s own new who (FailedStep why) (λ _. HasEnded) result (λ single. absurd single) d h.3,
-      h.4,
-      tested_did s own new who (FailedStep why) (λ _. HasEnded) result tt d h.5,
-      removed_did s own new who (FailedStep why) (λ _. HasEnded) result tt d h.6,
-    )
+-- ---- the steps of each hand
+
+fail_restores : (hand : Hand) (why : Why) → IsNoRestoration (fail_step hand why) HasEnded
+fail_restores hands.Unit why before who = refl
+fail_restores hands.Delete why before who = refl
+fail_restores hands.Restore why before who = refl
+fail_restores hands.Check why before who = refl
+fail_restores hands.Verify why before who = refl
+
+fail_commits : (hand : Hand) (s : Start) (log : List Moment) (who : ℕ) (why : Why) → IsNew s log who (fail_step hand why)
+fail_commits hands.Unit s log who why name is no_metadata noted = cc
+fail_commits hands.Delete s log who why name is no_metadata noted = cc
+fail_commits hands.Restore s log who why name is no_metadata noted = cc
+fail_commits hands.Check s log who why name is no_metadata noted = cc
+fail_commits hands.Verify s log who why name is no_metadata noted = cc
+
+fail_tests : (hand : Hand) (s : Start) (own new : List Moment) (why : Why) (result : Result Unit StepRefusal) → TestsBy s own new (fail_step hand why) result
+fail_tests hands.Unit s own new why result = tt
+fail_tests hands.Delete s own new why result = tt
+fail_tests hands.Restore s own new why result = tt
+fail_tests hands.Check s own new why result = tt
+fail_tests hands.Verify s own new why result = tt
+
+fail_removes : (hand : Hand) (own : List Moment) (who : ℕ) (why : Why) → RemovesBy own who (fail_step hand why)
+fail_removes hands.Unit own who why = tt
+fail_removes hands.Delete own who why = tt
+fail_removes hands.Restore own who why = tt
+fail_removes hands.Check own who why = tt
+fail_removes hands.Verify own who why = tt
+
+pub fetch_reports : (hand : Hand) (name : BlobName) (reply : Reply) → IsNoReportOf (fetch_step hand name) reply
+fetch_reports hands.Unit name reply why told ended = cc
+fetch_reports hands.Delete name reply why told ended = cc
+fetch_reports hands.Restore name reply why told ended = cc
+fetch_reports hands.Check name reply why told ended = cc
+fetch_reports hands.Verify name reply why told ended = cc
+
+pub fetch_restores : (hand : Hand) (name : BlobName) {F : Type 0} (o : Option F) → IsNoRestoration (fetch_step hand name) (fetch_reply o)
+fetch_restores hands.Unit name None before who = refl
+fetch_restores hands.Unit name (Some f) before who = refl
+fetch_restores hands.Delete name None before who = refl
+fetch_restores hands.Delete name (Some f) before who = refl
+fetch_restores hands.Restore name None before who = refl
+fetch_restores hands.Restore name (Some f) before who = refl
+fetch_restores hands.Check name None before who = refl
+fetch_restores hands.Check name (Some f) before who = refl
+fetch_restores hands.Verify name None before who = refl
+fetch_restores hands.Verify name (Some f) before who = refl
+
+pub fetch_commits : (hand : Hand) (s : Start) (log : List Moment) (who : ℕ) (name : BlobName) → IsNew s log who (fetch_step hand name)
+fetch_commits hands.Unit s log who name other is no_metadata noted = cc
+fetch_commits hands.Delete s log who name other is no_metadata noted = cc
+fetch_commits hands.Restore s log who name other is no_metadata noted = cc
+fetch_commits hands.Check s log who name other is no_metadata noted = cc
+fetch_commits hands.Verify s log who name other is no_metadata noted = cc
+
+pub fetch_tests : (hand : Hand) {X : Type 0} (s : Start) (own new : List Moment) (name : BlobName) (result : Result X StepRefusal) → TestsBy s own new (fetch_step hand name) result
+fetch_tests hands.Unit s own new name result = tt
+fetch_tests hands.Delete s own new name result = tt
+fetch_tests hands.Restore s own new name result = tt
+fetch_tests hands.Check s own new name result = tt
+fetch_tests hands.Verify s own new name result = tt
+
+pub fetch_removes : (hand : Hand) (own : List Moment) (who : ℕ) (name : BlobName) → RemovesBy own who (fetch_step hand name)
+fetch_removes hands.Unit own who name = tt
+fetch_removes hands.Delete own who name = tt
+fetch_removes hands.Restore own who name = tt
+fetch_removes hands.Check own who name = tt
+fetch_removes hands.Verify own who name = tt
+
+-- a restore's ticket is numbered from 1 on
+pub teller_is : (hand : Hand) (calls : List Call) (who : ℕ) → IsMine hand calls who → IsTeller hand who
+teller_is hands.Unit calls who mine = tt
+teller_is hands.Delete calls who mine = tt
+teller_is hands.Restore calls who mine = mine.some
+teller_is hands.Check calls who mine = mine
+teller_is hands.Verify calls who mine = mine
+
+-- ---- the invariant
+
+module _ {S F H T : Type 0} (e : Evidence S F H T) (s : Start) (own new : List Moment) (who : ℕ) (faults : List (Fault S F H T)) (targets : List (RestoredTarget T)) (left took all : ℕ)
+    (h : (length own + left ≡ all) × AreShown e s own faults × AreTargetsOf e s own targets × AreOnce s own × Numbered 1 s.world × (s.world.entries ≡ []) × AreTested s own × AreRemovedOnce own) (some : left ≢ 0) where
+  -- after a step that neither reports a failure nor restores a shard
+  pub keeps : {X : Type 0} (step : Step) (ok : X → Reply) (result : Result X StepRefusal) → took ≡ turns_of result → ((x : X) → IsNoReportOf step (ok x)) → ((x : X) → IsNoRestoration step (ok x)) → IsNew s own who step → Did s own new who step ok result
+      → TestsBy s own new step result → RemovesBy own who step → (length new + (left - took) ≡ all) × AreShown e s new faults × AreTargetsOf e s new targets × AreOnce s new × Numbered 1 s.world × (s.world.entries ≡ []) × AreTested s new × AreRemovedOnce new
+  keeps step ok result turns none unrestored unnoted d tests removals = (
+    counted (length own) (length new) left took all some (subst (λ (n : ℕ). n ≤ 1) (sym turns) (at_most_one result)) h.0 (grown s own new who step ok result d ∙ ap (λ (n : ℕ). length own + n) (sym turns)),
+    did e s own new who step ok result faults none d h.1,
+    targets_did e s own new who step ok result targets unrestored d h.2,
+    once_did s own new who step ok result unnoted d h.3,
+    h.4,
+    h.5,
+    tested_did s own new who step ok result tests d h.6,
+    removed_did s own new who step ok result removals d h.7,
+  )
+
+  -- after the report of a failure whose cause is shown
+  pub keeps_report : (hand : Hand) (log : List Moment) (why : Why) (result : Result Unit StepRefusal) (roomy after : List (Fault S F H T)) (b : By S F H T) → took ≡ turns_of result → own ≡ log → IsTeller hand who → IsShown hand e s log who why b → roomy ≡ faults
+      → after ≡ roomy ++ kept_by (all - left) b result → Did s own new who (fail_step hand why) (λ _. HasEnded) result → (length new + (left - took) ≡ all) × AreShown e s new after × AreTargetsOf e s new targets × AreOnce s new × Numbered 1 s.world × (s.world.entries ≡ []) × AreTested s new × AreRemovedOnce new
+  keeps_report hand log why result roomy after b turns view teller shown same is d =
+      let n : all - left ≡ length own = place_is (length own) left all (all - left) h.0 refl in
+      let at : after ≡ faults ++ kept_by (length own) b result = is ∙ ap (λ (l : List (Fault S F H T)). l ++ kept_by (all - left) b result) same ∙ ap (λ (k : ℕ). faults ++ kept_by k b result) n in (
+        counted (length own) (length new) left took all some (subst (λ (k : ℕ). k ≤ 1) (sym turns) (at_most_one result)) h.0 (grown s own new who (fail_step hand why) (λ _. HasEnded) result d ∙ ap (λ (k : ℕ). length own + k) (sym turns)),
+        subst (λ (l : List (Fault S F H T)). AreShown e s new l) (sym at)
+            (reported e s hand own new who why result faults b teller (subst (λ (l : List Moment). IsShown hand e s l who why b) (sym view) shown) d h.1),
+        targets_did e s own new who (fail_step hand why) (λ _. HasEnded) result targets (λ x. fail_restores hand why) d h.2,
+        once_did s own new who (fail_step hand why) (λ _. HasEnded) result (fail_commits hand s own who why) d h.3,
+        h.4,
+        h.5,
+        tested_did s own new who (fail_step hand why) (λ _. HasEnded) result (fail_tests hand s own new why result) d h.6,
+        removed_did s own new who (fail_step hand why) (λ _. HasEnded) result (fail_removes hand own who why) d h.7,
+      )
+    where
+      place_is : (n left all place : ℕ) → n + left ≡ all → place ≡ all - left → place ≡ n
+      place_is n left all place e d = omega (arith, e, d)
+
+  -- after the end of a restore, which hands its target over
+  pub keeps_target : (log : List Moment) (files bytes : ℕ) (result : Result Unit StepRefusal) (roomy after : List (RestoredTarget T)) (target : RestoredTarget T) → took ≡ turns_of result → own ≡ log → IsFilled e s (reader_of s log who) files bytes target → roomy ≡ targets
+      → after ≡ roomy ++ targets_by target result → Did s own new who (ReadStep (RestoredShard files bytes)) (λ _. HasEnded) result → (length new + (left - took) ≡ all) × AreShown e s new faults × AreTargetsOf e s new after × AreOnce s new × Numbered 1 s.world × (s.world.entries ≡ []) × AreTested s new × AreRemovedOnce new
+  keeps_target log files bytes result roomy after target turns view filled same is d = (
+    counted (length own) (length new) left took all some (subst (λ (n : ℕ). n ≤ 1) (sym turns) (at_most_one result)) h.0 (grown s own new who (ReadStep (RestoredShard files bytes)) (λ _. HasEnded) result d ∙ ap (λ (n : ℕ). length own + n) (sym turns)),
+    did e s own new who (ReadStep (RestoredShard files bytes)) (λ _. HasEnded) result faults (λ x why told ended. cc) d h.1,
+    subst (λ (l : List (RestoredTarget T)). AreTargetsOf e s new l) (sym (is ∙ ap (λ (l : List (RestoredTarget T)). l ++ targets_by target result) same))
+        (target_listed e s own new who files bytes result targets target (subst (λ (l : List Moment). IsFilled e s (reader_of s l who) files bytes target) (sym view) filled) d h.2),
+    once_did s own new who (ReadStep (RestoredShard files bytes)) (λ _. HasEnded) result (λ name commit no_metadata noted. cc) d h.3,
+    h.4,
+    h.5,
+    tested_did s own new who (ReadStep (RestoredShard files bytes)) (λ _. HasEnded) result tt d h.6,
+    removed_did s own new who (ReadStep (RestoredShard files bytes)) (λ _. HasEnded) result tt d h.7,
+  )

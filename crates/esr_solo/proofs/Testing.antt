@@ -9,9 +9,9 @@ use Rattle.esr_desk.specs.declared.refusal.StepRefusal.{StepRefusal}
 use Rattle.esr_desk.specs.declared.refusal.StepRefusal.TheVariants as steps
 use Rattle.esr_desk.specs.Refusals.{refusal_of}
 use Rattle.esr_desk.specs.Start.{Start, told_bytes}
-use Rattle.esr_checking.specs.Caller.{caller_of}
-use Rattle.esr_checking.specs.Conditions.{HoldsText, CanCommit}
-use Rattle.esr_checking.specs.Tested.{IsTested, AreTested}
+use Rattle.esr_desk.specs.Own.{caller_of}
+use Rattle.esr_desk.specs.Verify.Conditions.{HoldsText, CanCommitTest}
+use Rattle.esr_desk.specs.Verify.Tested.{IsTested, AreTested}
 use Rattle.esr_repo.specs.Next.{Added, Did}
 use Rattle.esr_solo.proofs.Showing.{last_or, no_end}
 
@@ -78,7 +78,7 @@ pub begins_tested : (s : Start) (log : List Moment) → log ≡ [] → AreTested
 begins_tested s log none = subst (λ (l : List Moment). AreTested s l) (sym none) (none_tested s)
 
 -- a commit of a test blob, as the desk asks
-pub test_new : {X : Type 0} (s : Start) (own log new : List Moment) (name : BlobName) (contents : Option Bytes) (result : Result X StepRefusal) → own ≡ log → HoldsText s (caller_of s log) contents → CanCommit (caller_of s log) name
+pub test_new : {X : Type 0} (s : Start) (own log new : List Moment) (name : BlobName) (contents : Option Bytes) (result : Result X StepRefusal) → own ≡ log → HoldsText s (caller_of s log) contents → CanCommitTest (caller_of s log) name
     → OnOk result (caller_of s new ≡ caller_wrote (caller_of s own) name contents) → Tests s own new name result
 test_new s own log new name contents result view holds may wrote = record {
   once = λ there. may.once (subst (λ (l : List Moment). Has (caller_of s l).committed name) view there);

@@ -1,13 +1,9 @@
 //! The desk of one thread.
 #![tactic(auto)]
 
-mod check;
-mod checking;
-mod cloning;
-mod deleting;
+mod client;
 mod desk;
-mod faults;
-mod restoring;
+mod kept;
 mod solo;
 
 pub use solo::Solo;

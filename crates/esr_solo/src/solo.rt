@@ -1,13 +1,14 @@
-//! A repository with a count of turns, and the objects that failed.
-ghost use Rattle.std.specs.Prelude.{◌≡◌, ◌+◌, ◌≤◌, ◌^◌, [], length};
-ghost use Rattle.esr_desk.specs.Once.{AreOnce, NoneTwice};
-ghost use Rattle.esr_deleting.specs.Once.{AreRemovedOnce};
-ghost use Rattle.esr_checking.specs.Tested.{AreTested};
-ghost use Rattle.esr_checking.specs.AllShown.{AreAllShown};
+//! A repository with a count of turns, the objects that failed, and the targets of restores.
+ghost use Rattle.std.specs.Prelude.{◌≡◌, ◌+◌, ◌^◌, [], length};
+ghost use Rattle.esr_desk.specs.Evidence.{evidence};
+ghost use Rattle.esr_desk.specs.Once.{AreOnce, AreRemovedOnce};
+ghost use Rattle.esr_desk.specs.Restore.Targets.{AreTargetsOf};
+ghost use Rattle.esr_desk.specs.Verify.Tested.{AreTested};
+ghost use Rattle.esr_desk.specs.Shown.{AreShown};
 ghost use Rattle.esr_solo.specs.Turns.{turns_of};
 
 use esr_depot::Depot;
-use esr_desk::{Fault, Faults, StepRefusal};
+use esr_desk::{Fault, Faults, RestoredTarget, RestoredTargets, StepRefusal};
 use esr_repo::{Repo, Told};
 use esr_seq::Seq;
 use esr_source::{Shard, Target};
@@ -18,11 +19,12 @@ use std::marker::Model;
 pub(crate) const TURNS: u64 = 1 << 40;
 
 /// A repository as the desk of one thread: it has a count of turns, of which each entry of the history takes one, and keeps
-/// the objects that failed. `H` is the type of the sources' shards, `T` that of the targets.
+/// the objects that failed, and the targets that restores have filled. `H` is the type of the sources' shards, `T` that of the targets.
 pub struct Solo<D: Depot, K: Told, H: Shard, T: Target> {
     pub(crate) repo: Repo<D, K>,
     pub(crate) left: u64,
     pub(crate) faults: Vec<Fault<D::Stage, D::Fetch, H, T>>,
+    pub(crate) targets: Vec<RestoredTarget<T>>,
 }
 
 impl<D: Depot, K: Told, H: Shard, T: Target> Model for Solo<D, K, H, T> {
@@ -35,21 +37,22 @@ impl<D: Depot, K: Told, H: Shard, T: Target> Model for Solo<D, K, H, T> {
 
     ghost coded = { Prim.hlevel (codes, blobs_code) };
 
-    ghost use Rattle.std.specs.Prelude.{◌≡◌, ◌+◌, ◌^◌, length};
-    ghost use Rattle.esr_desk.specs.Once.{AreOnce, NoneTwice};
+    ghost use Rattle.std.specs.Prelude.{◌≡◌, ◌+◌, ◌^◌, [], length};
+    ghost use Rattle.esr_desk.specs.Evidence.{evidence};
+    ghost use Rattle.esr_desk.specs.Once.{AreOnce, AreRemovedOnce};
     ghost use Rattle.esr_desk.specs.Numbered.{Numbered};
-    ghost use Rattle.esr_deleting.specs.Once.{AreRemovedOnce};
-    ghost use Rattle.esr_checking.specs.Tested.{AreTested};
-    ghost use Rattle.esr_checking.specs.AllShown.{AreAllShown};
+    ghost use Rattle.esr_desk.specs.Restore.Targets.{AreTargetsOf};
+    ghost use Rattle.esr_desk.specs.Shown.{AreShown};
+    ghost use Rattle.esr_desk.specs.Verify.Tested.{AreTested};
 
     ghost view = { λ s. s.repo };
 
     ghost invariant = { λ s. (length s.repo + s.left ≡ 2 ^ 40)
-        × AreAllShown (record { stage = D.Stage.faults; fetch = D.Fetch.faults; shard = H.faults; target = T.faults; made_for = λ h. (H.origin h).address })
-        (record { fetch = D.Fetch.faults; target = T.faults; made_for = T.made_for; files = T.files }) (record { stage = D.Stage.faults; fetch = D.Fetch.faults }) K.start s.repo s.faults.items
+        × AreShown (evidence D.Stage.faults D.Fetch.faults H.faults T.faults H.told T.told) K.start s.repo s.faults.items
+        × AreTargetsOf (evidence D.Stage.faults D.Fetch.faults H.faults T.faults H.told T.told) K.start s.repo s.targets.items
         × AreOnce K.start s.repo
-        × NoneTwice s.repo
         × Numbered 1 K.start.world
+        × (K.start.world.entries ≡ [])
         × AreTested K.start s.repo
         × AreRemovedOnce s.repo };
 }
@@ -65,6 +68,7 @@ impl<D: Depot, K: Told, H: Shard, T: Target> Solo<D, K, H, T> {
             repo,
             left: TURNS,
             faults: Vec::new(alloc),
+            targets: Vec::new(alloc),
         }
     }
 
@@ -75,13 +79,18 @@ impl<D: Depot, K: Told, H: Shard, T: Target> Solo<D, K, H, T> {
         self.left
     }
 
-    /// The repository, and the objects that failed.
-    pub fn into_parts(self) -> (Repo<D, K>, Faults<D::Stage, D::Fetch, H, T>)
+    /// The repository, the objects that failed, and the targets that restores have filled.
+    pub fn into_parts(
+        self,
+    ) -> (
+        Repo<D, K>,
+        Faults<D::Stage, D::Fetch, H, T>,
+        RestoredTargets<T>,
+    )
         ensures repo { result.0 ≡ self }
-        ensures shown { AreAllShown (record { stage = D.Stage.faults; fetch = D.Fetch.faults; shard = H.faults; target = T.faults; made_for = λ h. (H.origin h).address })
-            (record { fetch = D.Fetch.faults; target = T.faults; made_for = T.made_for; files = T.files }) (record { stage = D.Stage.faults; fetch = D.Fetch.faults }) K.start result.0 result.1 }
+        ensures shown { AreShown (evidence D.Stage.faults D.Fetch.faults H.faults T.faults H.told T.told) K.start result.0 result.1 }
+        ensures targets { AreTargetsOf (evidence D.Stage.faults D.Fetch.faults H.faults T.faults H.told T.told) K.start result.0 result.2 }
         ensures once { AreOnce K.start result.0 }
-        ensures single { NoneTwice result.0 }
         ensures tested { AreTested K.start result.0 }
         ensures removed { AreRemovedOnce result.0 }
     {
@@ -89,8 +98,9 @@ impl<D: Depot, K: Told, H: Shard, T: Target> Solo<D, K, H, T> {
             repo,
             left: _,
             faults,
+            targets,
         } = self;
-        (repo, Seq::from_vec(faults))
+        (repo, Seq::from_vec(faults), Seq::from_vec(targets))
     }
 }
 

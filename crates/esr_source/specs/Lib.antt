@@ -2,6 +2,6 @@ pub mod Address
 pub mod Begun
 pub mod Files
 pub mod MemSources
-pub mod Origin
 pub mod Plan
 pub mod Sure
+pub mod Told

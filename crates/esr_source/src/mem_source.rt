@@ -95,16 +95,14 @@ impl MemShard {
 }
 
 impl Shard for MemShard {
-    ghost origin = { λ s. record {
+    ghost told = { λ s. record {
       address = s.address;
       files = told_files s.files;
       is_there = Some (is_some s.files);
       is_sure = is_some s.files && is_unplanned s.meter.failing.items;
+      listed = if s.is_listed then option_map listing s.files else None;
+      left = Some s.unread;
     } };
-
-    ghost listed = { λ s. if s.is_listed then option_map listing s.files else None };
-
-    ghost left = { λ s. Some s.unread };
 
     fn list(&mut self, alloc: Global) -> Result<Files, CallError> {
         let listed = self.listed(alloc)?;
@@ -142,11 +140,11 @@ impl Shard for MemShard {
 impl Sources for MemSources {
     type Shard = MemShard;
 
-    ghost files = { λ s place index number. told_files (files_at (address place index number) s.sources) };
-
-    ghost is_there = { λ s place index number. Some (is_some (files_at (address place index number) s.sources)) };
-
-    ghost is_quiet = { λ s. is_unplanned s.plan };
+    ghost told = { λ s. record {
+      files = λ place index number. told_files (files_at (address place index number) s.sources);
+      is_there = λ place index number. Some (is_some (files_at (address place index number) s.sources));
+      is_quiet = is_unplanned s.plan;
+    } };
 
     ghost may_be_listed = { λ s place index number. files_at-listing (address place index number) s.sources };
 

@@ -48,7 +48,7 @@ impl MemTargets {
 impl MemTarget {
     /// The files that were ended, in the order in which they were.
     pub fn files(&self) -> &[MemFile]
-        ensures { ⟦<MemTarget as Target>⟧.files self.now ≡ Some (map told_file result.now) }
+        ensures { (⟦<MemTarget as Target>⟧.told self.now).files ≡ Some (map told_file result.now) }
     {
         self.files.as_slice()
     }
@@ -63,13 +63,12 @@ impl Counted for MemTarget {
 }
 
 impl Target for MemTarget {
-    ghost made_for = { λ t. t.address };
-
-    ghost files = { λ t. Some (map told_file t.files.items) };
-
-    ghost begun = { λ t. option_map (λ b. record { name = b.name; bytes = Some b.bytes.items; room = b.room }) t.begun };
-
-    ghost is_sure = { λ t. is_unplanned t.meter.failing.items };
+    ghost told = { λ t. record {
+      made_for = t.address;
+      files = Some (map told_file t.files.items);
+      begun = option_map (λ b. record { name = b.name; bytes = Some b.bytes.items; room = b.room }) t.begun;
+      is_sure = is_unplanned t.meter.failing.items;
+    } };
 
     fn create(&mut self, alloc: Global, name: &str, room: u64) -> Result<(), CallError> {
         let begun = MemBegun {
@@ -132,9 +131,7 @@ impl MemBegun {
 impl Targets for MemTargets {
     type Target = MemTarget;
 
-    ghost is_told = { λ _. true };
-
-    ghost is_quiet = { λ t. is_unplanned t.plan };
+    ghost told = { λ t. record { tells = true; is_quiet = is_unplanned t.plan } };
 
     fn target(
         &self,

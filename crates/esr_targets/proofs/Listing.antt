@@ -4,7 +4,7 @@ use Rattle.esr_model.specs.Values.{Has}
 use Rattle.esr_model.specs.Places.{put_by, sorted_by}
 use Rattle.esr_core.proofs.Ordered.{Has-put_by, Has-sorted}
 use Rattle.esr_core.proofs.Reading.{Has-left, Has-right, Has-either}
-use Rattle.esr_drive.specs.declared.restored.RestoredTarget.{RestoredTarget}
+use Rattle.esr_desk.specs.declared.target.RestoredTarget.{RestoredTarget}
 use Rattle.esr_targets.specs.declared.target.Restored.{Restored}
 use Rattle.esr_targets.specs.Listed.{line_of, listed_at, listed}
 use Rattle.esr_targets.specs.Targets.{AreSingle}

@@ -4,7 +4,7 @@ use Rattle.esr_model.specs.Values.{Has}
 use Rattle.esr_core.specs.Entry.{RestoredShard, Step, ReadStep, Reply, HasEnded, Entry, Moment}
 use Rattle.esr_core.proofs.Reading.{Has-left, Has-right, Has-either}
 use Rattle.esr_readers.specs.Readers.{RestoresIn}
-use Rattle.esr_drive.specs.Restored.{Restoration, restorations_by, restorations_in}
+use Rattle.esr_desk.specs.Restore.Targets.{Restoration, restorations_by, restorations_in}
 use Rattle.esr_targets.proofs.Splits.{AreInOrder, order_append}
 
 -- the restoration is this place of the history

@@ -19,7 +19,7 @@ use Rattle.esr_core.proofs.Histories.{told_parts}
 use Rattle.esr_core.proofs.AskedShelf.{honest_front, known_front}
 use Rattle.esr_script.specs.declared.item.ScriptLine.{ScriptLine}
 use Rattle.esr_desk.specs.Start.{Start, formats_of, world_of, Legal}
-use Rattle.esr_restore.specs.Restored.{AreRestored}
+use Rattle.esr_desk.specs.Restore.Targets.{AreRestored}
 use Rattle.esr_targets.specs.Lines.{AcceptedLine}
 use Rattle.esr_targets.specs.Targets.{HasShelf, shelf_at, IsOnShelfAs}
 use Rattle.esr_targets.proofs.Splits.{heads, IsBefore}

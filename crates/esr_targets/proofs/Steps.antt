@@ -4,15 +4,15 @@ use Rattle.esr_model.specs.Values.{Bytes, IndexRef, Formats}
 use Rattle.esr_model.specs.Image.{Image}
 use Rattle.esr_core.specs.World.{World, Reader}
 use Rattle.esr_core.specs.Restores.{IsReading}
-use Rattle.esr_core.specs.Entry.{Restore, Given, GivenRestore, RestoredShard, Step, AskStep, ReadStep, DeposedAt, Reply, Gave, HasEnded, Refused, AcceptedRestore, Entry, Moment}
+use Rattle.esr_core.specs.Entry.{Restore, Given, GivenRestore, RestoredShard, Step, AskStep, ReadStep, Refusal, Reply, Gave, HasEnded, Refused, AcceptedRestore, Entry, Moment}
 use Rattle.esr_core.specs.Allowed as allowed
 use Rattle.esr_core.specs.Allowed.{RestoreAllows, OpeningRestore, NotListed, NamedByDelete, FullOfRestores, ReadAllows, RestoringShard, Allows, Allowed}
 use Rattle.esr_readers.specs.Readers.{RestoresIn}
 
-alive_allows : (f : Formats) (size : ℕ) (w : World) (m : Moment) (reply : Reply) → ((place : ℕ) → reply ≡ Refused (DeposedAt place) → ⊥) → Allowed f size w m → m.entry.reply ≡ reply → Allows f size w m.entry.who m.entry.step reply m.image
+alive_allows : (f : Formats) (size : ℕ) (w : World) (m : Moment) (reply : Reply) → ((refusal : Refusal) → reply ≡ Refused refusal → ⊥) → Allowed f size w m → m.entry.reply ≡ reply → Allows f size w m.entry.who m.entry.step reply m.image
 alive_allows f size w m reply not a is = elim a.answered [
   | inl alive ↦ subst (λ x. Allows f size w m.entry.who m.entry.step x m.image) is alive.1
-  | inr dead ↦ absurd (not dead.place (sym is ∙ dead.refused))
+  | inr blocked ↦ absurd (not blocked.refusal (sym is ∙ blocked.refused))
 ]
 
 -- ---- a shard is restored: its ticket is out
@@ -24,8 +24,8 @@ restores_by : (f : Formats) (size : ℕ) (w : World) (k files bytes : ℕ) (imag
 restores_by f size w k files bytes image (allowed.Reading j read rep im h same) = reader_restores h
 restores_by f size w k files bytes image (allowed.Verifying read rep im h) = elim h [ ]
 
-not_ended : (place : ℕ) → HasEnded ≡ Refused (DeposedAt place) → ⊥
-not_ended place e = cc
+not_ended : (refusal : Refusal) → HasEnded ≡ Refused refusal → ⊥
+not_ended refusal e = cc
 
 pub restores_out : (f : Formats) (size : ℕ) (w : World) (m : Moment) (k files bytes : ℕ) → Allowed f size w m → RestoresIn m k files bytes → (q : Reader) × IsReading w k q
 restores_out f size w m k files bytes a is =
@@ -49,8 +49,8 @@ gives_next f size w who step k o index number uuid image (allowed.Verifying read
 gives_next f size w who step k o index number uuid image (allowed.Pruning j prune rep im h) = elim h [ ]
 gives_next f size w who step k o index number uuid image (allowed.Reading j read rep im h same) = elim h [ ]
 
-no_refusal : {k o : ℕ} {unit : Given} (place : ℕ) → Gave k o unit ≡ Refused (DeposedAt place) → ⊥
-no_refusal place e = cc
+no_refusal : {k o : ℕ} {unit : Given} (refusal : Refusal) → Gave k o unit ≡ Refused refusal → ⊥
+no_refusal refusal e = cc
 
 pub given_next : (f : Formats) (size : ℕ) (w : World) (m : Moment) (k o index number uuid : ℕ) → Allowed f size w m → m.entry.reply ≡ Gave k o (GivenRestore index number uuid) → k ≡ w.next_ticket
 given_next f size w m k o index number uuid a e = gives_next f size w m.entry.who m.entry.step k o index number uuid m.image (alive_allows f size w m (Gave k o (GivenRestore index number uuid)) no_refusal a e)
@@ -70,8 +70,8 @@ accepted_by f size w who step o uuid indices image (allowed.Verifying read rep i
 accepted_by f size w who step o uuid indices image (allowed.Pruning j prune rep im h) = elim h [ ]
 accepted_by f size w who step o uuid indices image (allowed.Reading j read rep im h same) = elim h [ ]
 
-not_accepted : {o uuid : ℕ} {indices : List IndexRef} (place : ℕ) → AcceptedRestore o uuid indices ≡ Refused (DeposedAt place) → ⊥
-not_accepted place e = cc
+not_accepted : {o uuid : ℕ} {indices : List IndexRef} (refusal : Refusal) → AcceptedRestore o uuid indices ≡ Refused refusal → ⊥
+not_accepted refusal e = cc
 
 pub accepted_asked : (f : Formats) (size : ℕ) (w : World) (m : Moment) (o uuid : ℕ) (indices : List IndexRef) → Allowed f size w m → m.entry.reply ≡ AcceptedRestore o uuid indices → AsksRestore m.entry.step
 accepted_asked f size w m o uuid indices a e = accepted_by f size w m.entry.who m.entry.step o uuid indices m.image (alive_allows f size w m (AcceptedRestore o uuid indices) not_accepted a e)

@@ -13,13 +13,13 @@ use Rattle.esr_core.proofs.Ordered.{Has-sorted, sorted-Has, in_places}
 use Rattle.esr_readers.specs.Readers.{RestoresIn, IsReaderOf}
 use Rattle.esr_script.specs.declared.item.ScriptLine.{ScriptLine}
 use Rattle.esr_desk.specs.Start.{Start, formats_of, world_of, Legal}
-use Rattle.esr_desk.specs.Readers.{or_no_reader, reader_of}
+use Rattle.esr_desk.specs.Own.{or_no_reader, reader_of}
+use Rattle.esr_desk.specs.Evidence.{Evidence}
+use Rattle.esr_desk.specs.Restore.Targets.{AreRestored, Restoration, restorations_in, IsTargetOf}
+use Rattle.esr_desk.specs.declared.target.RestoredTarget.{RestoredTarget}
 use Rattle.esr_quiet.specs.Asked.{asked_steps}
 use Rattle.esr_complete.specs.Lines.{steps_of, entries_of}
 use Rattle.esr_report.specs.Replies.{read_shard}
-use Rattle.esr_restore.specs.Restored.{AreRestored}
-use Rattle.esr_drive.specs.Restored.{Restoration, restorations_in, Telling, IsTargetOf}
-use Rattle.esr_drive.specs.declared.restored.RestoredTarget.{RestoredTarget}
 use Rattle.esr_targets.specs.declared.target.Restored.{Restored}
 use Rattle.esr_targets.specs.Lines.{AreNumbered, ops_of_lines, AcceptedLine}
 use Rattle.esr_targets.specs.Listed.{target_first, line_of, listed}
@@ -57,7 +57,7 @@ module _ (laws : ReaderLaws) (shelf_laws : ShelfLaws) (s : Start) (t : Tracked s
       let r = restored_at [] log e h in
       restores_here e r.back r.m (r.is ∙ ap (λ (x : List Moment). x ++ r.m ∷ r.back) (sym r.before_is)) r.restores
 
-  module _ {T : Type 0} (c : Telling T) (moment : ℕ) (lines : List ScriptLine) where
+  module _ {S F H T : Type 0} (c : Evidence S F H T) (moment : ℕ) (lines : List ScriptLine) where
     -- ---- the target of a shard
 
     module _ (a : AcceptedLine moment lines log) (e : Restoration) (x : Restores s log e) (op : x.q.op ≡ a.op) (r : RestoredTarget T) (of : IsTargetOf c s e r) where
@@ -75,7 +75,7 @@ module _ (laws : ReaderLaws) (shelf_laws : ShelfLaws) (s : Start) (t : Tracked s
             line_is = line;
             index_is = of.index_is ∙ q_name;
             shard_is = of.shard_is ∙ q_number;
-            address = record { place_is = of.of.place ∙ ap (λ (q : Reader). q.place) reader_same ∙ of_line.place_is; index_is = of.of.index ∙ q_name; number_is = of.of.number ∙ q_number };
+            address = record { place_is = of.for_it.place ∙ ap (λ (q : Reader). q.place) reader_same ∙ of_line.place_is; index_is = of.for_it.index ∙ q_name; number_is = of.for_it.number ∙ q_number };
             told = of.told;
             none_begun = of.none_begun;
             none_failed = of.none_failed;
@@ -100,7 +100,28 @@ module _ (laws : ReaderLaws) (shelf_laws : ShelfLaws) (s : Start) (t : Tracked s
           let line : IsLineOf moment lines log r.op n = accepted_line laws s t l log legal moment lines rest same r.op n found in
           let op : x.q.op ≡ line.a.op = ap (λ (q : Reader). q.op) (sym (is_reader s e x.q x.reading)) ∙ sym of.op_is ∙ sym line.op_is in
           let reader = of_line line.a e x op r of in
-          record { a = line.a; p = reader.shard; there = reader.there; files = e.files; bytes = e.bytes; target = of_shard line.a e x op r of reader.shard n (sym line.number_is) (sym reader.name_is) (sym reader.number_is) }
+          record {
+            a = line.a;
+            p = reader.shard;
+            there = reader.there;
+            files = e.files;
+            bytes = e.bytes;
+            restored = record {
+              before = e.before;
+              end = x.m;
+              after = x.back;
+              log_is = x.is;
+              ticket = e.ticket;
+              ends = x.restores;
+              q = x.q;
+              reading = x.reading;
+              op_is = op;
+              uuid_is = reader.uuid_is;
+              index_is = sym reader.index_is;
+              number_is = sym reader.number_is;
+            };
+            target = of_shard line.a e x op r of reader.shard n (sym line.number_is) (sym reader.name_is) (sym reader.number_is);
+          }
 
       each_of : (u : Restored T) → Has targets u → IsTargetOfLine c s moment lines log u
       each_of u h =

@@ -6,7 +6,7 @@ use Rattle.esr_script.specs.declared.item.Item.{Item}
 use Rattle.esr_script.specs.declared.item.Item.TheVariants as items
 use Rattle.esr_script.specs.declared.item.ScriptLine.{ScriptLine}
 use Rattle.esr_quiet.specs.Asked.{is_asked, asked_steps}
-use Rattle.esr_complete.specs.Lines.{steps_of_item, steps_of}
+use Rattle.esr_complete.specs.Lines.{steps_of}
 
 -- the numbers of lines rise
 abbrev pub AreNumbered : List ScriptLine → Type 0

@@ -3,7 +3,7 @@ use Rattle.std.specs.Prelude.{ℕ, leb, Bool, if◌then◌else◌, List, [], ◌
 use Rattle.std.specs.Ordering.{nat_cmp}
 use Rattle.std.specs.Cmp.Lexicographic.{slice_cmp}
 use Rattle.esr_model.specs.Places.{by_order}
-use Rattle.esr_drive.specs.declared.restored.RestoredTarget.{RestoredTarget}
+use Rattle.esr_desk.specs.declared.target.RestoredTarget.{RestoredTarget}
 use Rattle.esr_targets.specs.declared.target.Restored.{Restored}
 
 -- by line, then the index's name in byte order, then shard

@@ -9,8 +9,7 @@ ghost use Rattle.esr_targets.specs.Lines.{asked_entries, op_of_reply, ops_by, op
 ghost use Rattle.esr_targets.specs.Listed.{target_first, line_of, listed_at, listed};
 
 use crate::target::{Restored, TargetList};
-use esr_desk::{Answer, Entry, Read, Step};
-use esr_drive::{RestoredTarget, RestoredTargets};
+use esr_desk::{Answer, Entry, Read, RestoredTarget, RestoredTargets, Step};
 use esr_script::{Item, ScriptLine};
 use esr_seq::Seq;
 use std::alloc::{AllocError, Global};

@@ -11,18 +11,16 @@ use esr_seq::{Seq, Text};
 use esr_source::{NoGate, StdLines, StdOut};
 use std::alloc::AllocError;
 use std::process::ExitCode;
-use std::sync::Wait;
 
 /// The exit status where there is no memory.
 const WANTING: u8 = 8;
 
 /// Carries out the script of standard input over a new container, and answers the exit status.
-fn status_of(rt: &HostRuntime, waits: &impl Wait) -> Result<u8, AllocError> {
+fn status_of(rt: &HostRuntime) -> Result<u8, AllocError> {
     let alloc = rt.alloc();
     let mut words = Seq::new(alloc);
     words.push(Text::from_str(alloc, "run")?)?;
     let ended = run(
-        waits,
         alloc,
         &words,
         &mut StdLines::new(rt.stdin()),
@@ -37,5 +35,5 @@ fn status_of(rt: &HostRuntime, waits: &impl Wait) -> Result<u8, AllocError> {
 }
 
 fn main(rt: HostRuntime) -> ExitCode {
-    ExitCode::from(status_of(&rt, &rt).unwrap_or(WANTING))
+    ExitCode::from(status_of(&rt).unwrap_or(WANTING))
 }

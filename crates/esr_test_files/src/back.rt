@@ -67,7 +67,7 @@ fn blob_of(text: &str, is_broken: bool) -> Blob<'_> {
 
 /// A target in which a file of that many bytes is begun. The second call of that kind fails.
 fn target_of(alloc: Global, call: Call, size: u64) -> Result<MemTarget, CallError>
-    ensures { IfOk result (λ t. IsSomeAnd (⟦<MemTarget as Target>⟧.begun t) (λ b. size ≤ b.room)) }
+    ensures { IfOk result (λ t. IsSomeAnd (⟦<MemTarget as Target>⟧.told t).begun (λ b. size ≤ b.room)) }
 {
     let mut plan = Seq::new(alloc);
     let address = Address::new(alloc, "out", "logs", 0)?;
@@ -92,7 +92,7 @@ fn say_extent(line: &mut String, extent: Extent) {
 
 /// Ends the file, and says what its target has.
 fn say_written(mut target: MemTarget, line: &mut String)
-    requires { IsSomeAnd (⟦<MemTarget as Target>⟧.begun target) (λ _. ⊤) }
+    requires { IsSomeAnd (⟦<MemTarget as Target>⟧.told target).begun (λ _. ⊤) }
 {
     if target.end().is_err() {
         return say(line, " not ended");

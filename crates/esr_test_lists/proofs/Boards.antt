@@ -50,7 +50,7 @@ never : {A : Type 0} → true ≡ false → A
 never e = absurd (true≢false e)
 
 any_formats : Formats
-any_formats = formats (λ _ _ _. false) (λ _ _ _. None)
+any_formats = formats (λ _ _ _. false) (λ _ _ _. [])
 
 -- ---- an opened list
 

@@ -40,7 +40,10 @@ fn blob_why(kind: &str, words: &mut Words) -> Result<Why, Trouble> {
             name,
             reason: Reason::Unlisted,
         }),
-        "ahead" => Ok(Why::Ahead { name }),
+        "ahead" => Ok(Why::Ahead {
+            name,
+            id: words.id()?,
+        }),
         "name-taken" => Ok(Why::NameTaken { name }),
         "misprinted" => Ok(Why::Misprinted {
             name,

@@ -67,28 +67,55 @@ fn take(alloc: Global, board: &mut Board) -> Result<String, Trouble> {
     }
 }
 
+/// How a ticket ends.
+fn end(alloc: Global, board: &mut Board, what: &str, ticket: u64) -> Result<(), AllocError> {
+    match what {
+        "failed" => board.unit_failed(alloc, ticket),
+        "delete-failed" => board.delete_failed(alloc, ticket),
+        "ended" => board.ended(alloc, ticket),
+        "dropped" => board.dropped(alloc, ticket),
+        _ => board.shard_read(alloc, ticket),
+    }
+}
+
+/// What is done with the list that has no answer.
+fn tell(alloc: Global, board: &mut Board, what: &str, words: &mut Words) -> Result<(), Trouble> {
+    match what {
+        "skip-to" => board.skip_to(words.id()?),
+        "elect" => board.elect(),
+        "done" => board.shard_done(alloc, words.number()?, words.id()?),
+        "raised" => Ok(board.raised(alloc, words.number()?, words.number()?)?),
+        "settled" => board.settled(alloc, words.number()?),
+        "delete-settled" => board.delete_settled(alloc, words.number()?),
+        _ => Ok(end(alloc, board, what, words.number()?)?),
+    }
+}
+
 /// What a line is answered that the list of ops is asked or told.
 fn list_answer(alloc: Global, board: &mut Board, line: &str) -> Result<String, Trouble> {
     let mut words = Words::new(line);
-    match words.word() {
-        "snapshot" | "clone" | "delete" | "restore" => return asked(alloc, board, line),
-        "would" => return would(alloc, board, words.rest()),
-        "many" => return many(alloc, board, &mut words),
-        "take" => return take(alloc, board),
-        "skip-to" => board.skip_to(words.id()?)?,
-        "elect" => board.elect()?,
-        "done" => board.shard_done(alloc, words.number()?, words.id()?)?,
-        "failed" => board.unit_failed(alloc, words.number()?)?,
-        "delete-failed" => board.delete_failed(alloc, words.number()?)?,
-        "raised" => board.raised(alloc, words.number()?, words.number()?)?,
-        "settled" => board.settled(alloc, words.number()?)?,
-        "delete-settled" => board.delete_settled(alloc, words.number()?)?,
-        "ended" => board.ended(alloc, words.number()?)?,
-        "dropped" => board.dropped(alloc, words.number()?)?,
-        "shard-read" => board.shard_read(alloc, words.number()?)?,
-        what => return Ok(question(alloc, board, what)?),
+    let what = words.word();
+    match what {
+        "snapshot" | "clone" | "delete" | "restore" => asked(alloc, board, line),
+        "would" => would(alloc, board, words.rest()),
+        "many" => many(alloc, board, &mut words),
+        "take" => take(alloc, board),
+        "skip-to"
+        | "elect"
+        | "done"
+        | "raised"
+        | "failed"
+        | "delete-failed"
+        | "settled"
+        | "delete-settled"
+        | "ended"
+        | "dropped"
+        | "shard-read" => {
+            tell(alloc, board, what, &mut words)?;
+            Ok(String::new(alloc))
+        }
+        _ => Ok(question(alloc, board, what)?),
     }
-    Ok(String::new(alloc))
 }
 
 impl Listing {

@@ -22,22 +22,35 @@ mod told;
 mod trouble;
 mod words;
 
-use crate::cases::Player;
+use crate::cases::{Player, Tally};
 use std::io;
 use std::process::ExitCode;
 
-fn main(rt: HostRuntime) -> io::Result<ExitCode> {
-    let mut player = Player::new(rt.alloc());
+/// Plays the cases of standard input, and prints what is answered otherwise than they say.
+fn play_all(rt: &HostRuntime, player: &mut Player) -> io::Result<()> {
     for line in rt.lines(rt.alloc()) {
         let line = line?;
         if let Some(failure) = player.play(rt.alloc(), line.as_str())? {
             println!(rt; "{failure}")?;
         }
     }
-    let tally = player.tally();
+    Ok(())
+}
+
+/// Prints how many cases and answers there were.
+fn print_tally(rt: &HostRuntime, tally: Tally) -> io::Result<ExitCode> {
     println!(rt;
         "{} cases, {} answers, {} wrong",
         tally.cases, tally.answers, tally.failures
     )?;
     Ok(ExitCode::from(u8::from(tally.failures > 0)))
+}
+
+fn main(rt: HostRuntime) -> io::Result<ExitCode> {
+    let mut player = Player::new(rt.alloc());
+    let played = play_all(&rt, &mut player);
+    let tally = player.tally();
+    drop(player);
+    played?;
+    print_tally(&rt, tally)
 }

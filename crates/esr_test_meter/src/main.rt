@@ -43,8 +43,8 @@ fn sources_of(alloc: Global) -> Result<MemSources, AllocError> {
 
 /// Starts a file of the list, and reads three times.
 fn read_file<S: Shard>(alloc: Global, shard: &mut S, file: usize, buf: &mut [u8])
-    requires { IsSomeAnd (S.listed shard.old) (λ fs. file < length fs) }
-    ensures { S.listed shard.new ≡ S.listed shard.old }
+    requires { IsSomeAnd (S.told shard.old).listed (λ fs. file < length fs) }
+    ensures { (S.told shard.new).listed ≡ (S.told shard.old).listed }
 {
     let _ = shard.start(alloc, file);
     let _ = shard.read(buf);
@@ -73,16 +73,16 @@ fn read_shard<S: Sources>(alloc: Global, sources: &S, buf: &mut [u8]) -> Result<
 
 /// Writes the bytes, for which there is room.
 fn write<T: Target>(target: &mut T, bytes: &[u8])
-    requires { IsSomeAnd (T.begun target.old) (λ b. length bytes.now ≤ b.room) }
-    ensures { IsSome (T.begun target.new) }
+    requires { IsSomeAnd (T.told target.old).begun (λ b. length bytes.now ≤ b.room) }
+    ensures { IsSome (T.told target.new).begun }
 {
     let _ = target.write(bytes);
 }
 
 /// Makes a file of the bytes.
 fn write_file<T: Target>(alloc: Global, target: &mut T, name: &str, bytes: &[u8])
-    requires none_begun { T.begun target.old ≡ None }
-    requires free { IfSome (T.files target.old) (λ fs. Contains (map (λ f. f.0) fs) name.now → ⊥) }
+    requires none_begun { (T.told target.old).begun ≡ None }
+    requires free { IfSome (T.told target.old).files (λ fs. Contains (map (λ f. f.0) fs) name.now → ⊥) }
 {
     let room = bytes.len() as u64;
     if target.create(alloc, name, room).is_ok() {

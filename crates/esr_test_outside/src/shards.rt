@@ -7,7 +7,7 @@ use std::alloc::Global;
 
 /// Says what a shard lists, or that this fails. Answers how many files there are.
 fn say_list<S: Shard>(alloc: Global, shard: &mut S, line: &mut String) -> Option<usize>
-    ensures { IfSome result (λ n. IsSomeAnd (S.listed shard.new) (λ fs. length fs ≡ n)) }
+    ensures { IfSome result (λ n. IsSomeAnd (S.told shard.new).listed (λ fs. length fs ≡ n)) }
 {
     let Ok(files) = shard.list(alloc) else {
         say(line, "failed ");

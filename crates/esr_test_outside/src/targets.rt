@@ -7,11 +7,11 @@ use std::alloc::Global;
 
 /// Begins a file of three bytes, and says what that answers.
 fn create<T: Target>(alloc: Global, target: &mut T, name: &str, line: &mut String) -> bool
-    requires none_begun { T.begun target.old ≡ None }
-    requires free { IfSome (T.files target.old) (λ fs. Contains (map (λ f. f.0) fs) name.now → ⊥) }
-    ensures begun { result ≡ true → IsSomeAnd (T.begun target.new) (λ b. b.room ≡ 3) }
-    ensures none_begun { result ≡ false → T.begun target.new ≡ None }
-    ensures files { T.files target.new ≡ T.files target.old }
+    requires none_begun { (T.told target.old).begun ≡ None }
+    requires free { IfSome (T.told target.old).files (λ fs. Contains (map (λ f. f.0) fs) name.now → ⊥) }
+    ensures begun { result ≡ true → IsSomeAnd (T.told target.new).begun (λ b. b.room ≡ 3) }
+    ensures none_begun { result ≡ false → (T.told target.new).begun ≡ None }
+    ensures files { (T.told target.new).files ≡ (T.told target.old).files }
 {
     let is_ok = target.create(alloc, name, 3).is_ok();
     say_success(line, is_ok);
@@ -20,8 +20,8 @@ fn create<T: Target>(alloc: Global, target: &mut T, name: &str, line: &mut Strin
 
 /// Writes `ab`, or in its place two other bytes if that fails, and says what the writes answer.
 fn write<T: Target>(target: &mut T, again: &[u8; 2], line: &mut String)
-    requires { IsSomeAnd (T.begun target.old) (λ b. b.room ≡ 3) }
-    ensures { IsSomeAnd (T.begun target.new) (λ b. 1 ≤ b.room) }
+    requires { IsSomeAnd (T.told target.old).begun (λ b. b.room ≡ 3) }
+    ensures { IsSomeAnd (T.told target.new).begun (λ b. 1 ≤ b.room) }
 {
     let is_ok = target.write(b"ab").is_ok();
     say_success(line, is_ok);
@@ -33,8 +33,8 @@ fn write<T: Target>(target: &mut T, again: &[u8; 2], line: &mut String)
 
 /// Writes `c`, and says what that answers.
 fn write_rest<T: Target>(target: &mut T, line: &mut String)
-    requires { IsSomeAnd (T.begun target.old) (λ b. 1 ≤ b.room) }
-    ensures { IsSome (T.begun target.new) }
+    requires { IsSomeAnd (T.told target.old).begun (λ b. 1 ≤ b.room) }
+    ensures { IsSome (T.told target.new).begun }
 {
     let is_ok = target.write(b"c").is_ok();
     say_success(line, is_ok);
@@ -42,7 +42,7 @@ fn write_rest<T: Target>(target: &mut T, line: &mut String)
 
 /// Ends the file, and once more if that fails, and says what that answers.
 fn end<T: Target>(target: &mut T, line: &mut String)
-    requires { IsSome (T.begun target.old) }
+    requires { IsSome (T.told target.old).begun }
 {
     let is_ok = target.end().is_ok();
     say_success(line, is_ok);
@@ -61,8 +61,8 @@ fn fill<T: Target>(
     pieces: (&[u8; 2], bool),
     line: &mut String,
 )
-    requires none_begun { T.begun target.old ≡ None }
-    requires free { IfSome (T.files target.old) (λ fs. Contains (map (λ f. f.0) fs) name.now → ⊥) }
+    requires none_begun { (T.told target.old).begun ≡ None }
+    requires free { IfSome (T.told target.old).files (λ fs. Contains (map (λ f. f.0) fs) name.now → ⊥) }
 {
     if create(alloc, target, name, line) || create(alloc, target, name, line) {
         write(target, pieces.0, line);
@@ -88,8 +88,8 @@ pub(crate) fn say_target<T: Target>(
     name: &str,
     line: &mut String,
 )
-    requires none_begun { T.begun target.old ≡ None }
-    requires free { IfSome (T.files target.old) (λ fs. Contains (map (λ f. f.0) fs) name.now → ⊥) }
+    requires none_begun { (T.told target.old).begun ≡ None }
+    requires free { IfSome (T.told target.old).files (λ fs. Contains (map (λ f. f.0) fs) name.now → ⊥) }
 {
     match verb {
         "create" => {

@@ -5,7 +5,6 @@ use crate::ground::{clear, in_folders, in_memory};
 use crate::scene::{Scene, begun};
 use crate::text::line_behind;
 use std::fs;
-use std::sync::Wait;
 
 /// More rounds than a scene has.
 const ROUNDS: u64 = 10_000;
@@ -52,20 +51,14 @@ struct Went {
 }
 
 /// Plays these lines, the first of which has that number.
-fn play_lines(
-    waits: &impl Wait,
-    scene: &mut Scene,
-    text: &str,
-    at: u64,
-    row: &str,
-) -> Result<(), Trouble> {
+fn play_lines(scene: &mut Scene, text: &str, at: u64, row: &str) -> Result<(), Trouble> {
     for (place, line) in text.lines().enumerate() {
         if scene.is_over || !scene.complaint.is_empty() {
             return Ok(());
         }
         scene.number = at.saturating_add(place as u64);
         let line = line.replace(scene.alloc, "<row>", row)?;
-        if let Err(Trouble(why)) = scene.step(waits, line.as_str()) {
+        if let Err(Trouble(why)) = scene.step(line.as_str()) {
             scene.complain("a line that can be played", why)?;
         }
     }
@@ -95,14 +88,9 @@ fn note(played: &mut Played, lines: &Lines, turn: &Turn, scene: &Scene) -> Resul
 }
 
 /// Plays the lines that stand before a scene, and its own.
-fn play_whole(
-    waits: &impl Wait,
-    scene: &mut Scene,
-    lines: &Lines,
-    row: &str,
-) -> Result<(), Trouble> {
-    play_lines(waits, scene, lines.front, lines.front_at, row)?;
-    play_lines(waits, scene, lines.text, lines.at, row)?;
+fn play_whole(scene: &mut Scene, lines: &Lines, row: &str) -> Result<(), Trouble> {
+    play_lines(scene, lines.front, lines.front_at, row)?;
+    play_lines(scene, lines.text, lines.at, row)?;
     if !scene.is_over && scene.complaint.is_empty() {
         scene.end_shown()?;
     }
@@ -110,20 +98,14 @@ fn play_whole(
 }
 
 /// Plays a round of a scene.
-fn play_round(
-    waits: &impl Wait,
-    played: &mut Played,
-    lines: &Lines,
-    turn: &Turn,
-    nth: u64,
-) -> Result<Went, Trouble> {
+fn play_round(played: &mut Played, lines: &Lines, turn: &Turn, nth: u64) -> Result<Went, Trouble> {
     let ground = if turn.is_memory {
         in_memory(turn.rt.alloc())
     } else {
         in_folders(turn.rt)?
     };
     let mut scene = begun(turn.rt.alloc(), ground, turn.way, nth);
-    let ended = play_whole(waits, &mut scene, lines, turn.row);
+    let ended = play_whole(&mut scene, lines, turn.row);
     clear(&scene.ground);
     match ended {
         Ok(()) => note(played, lines, turn, &scene),
@@ -132,15 +114,10 @@ fn play_round(
 }
 
 /// Plays the rounds of a scene in one way, up to the first in which nothing goes wrong.
-fn play_rounds(
-    waits: &impl Wait,
-    played: &mut Played,
-    lines: &Lines,
-    turn: &Turn,
-) -> Result<Went, Trouble> {
+fn play_rounds(played: &mut Played, lines: &Lines, turn: &Turn) -> Result<Went, Trouble> {
     let mut met = 0;
     for nth in 1..ROUNDS {
-        let went = play_round(waits, played, lines, turn, nth)?;
+        let went = play_round(played, lines, turn, nth)?;
         met |= went.met;
         if went.fails || !went.was_hit {
             return Ok(Went { met, ..went });
@@ -150,21 +127,16 @@ fn play_rounds(
 }
 
 /// Plays a scene with a row in each of its ways, and tells whether it fails.
-fn play_ways(
-    waits: &impl Wait,
-    played: &mut Played,
-    lines: &Lines,
-    turn: &Turn,
-) -> Result<bool, Trouble> {
+fn play_ways(played: &mut Played, lines: &Lines, turn: &Turn) -> Result<bool, Trouble> {
     let Some(names) = line_behind(lines.text, "each ") else {
-        let went = play_round(waits, played, lines, turn, 0)?;
+        let went = play_round(played, lines, turn, 0)?;
         return Ok(went.fails);
     };
     let mut met = 0;
     let mut blocks = 0;
     for name in names.split_whitespace() {
         let way = way_of(name)?;
-        let went = play_rounds(waits, played, lines, &Turn { way, name, ..*turn })?;
+        let went = play_rounds(played, lines, &Turn { way, name, ..*turn })?;
         if went.fails {
             return Ok(true);
         }
@@ -183,22 +155,17 @@ fn play_ways(
 }
 
 /// Plays a scene with each of its rows, and tells whether it fails.
-fn play_rows(
-    waits: &impl Wait,
-    played: &mut Played,
-    lines: &Lines,
-    turn: &Turn,
-) -> Result<bool, Trouble> {
+fn play_rows(played: &mut Played, lines: &Lines, turn: &Turn) -> Result<bool, Trouble> {
     let mut has_rows = false;
     let mut fails = false;
     for line in lines.text.lines() {
         if let Some(row) = line.strip_prefix("row ") {
             has_rows = true;
-            fails |= play_ways(waits, played, lines, &Turn { row, ..*turn })?;
+            fails |= play_ways(played, lines, &Turn { row, ..*turn })?;
         }
     }
     if !has_rows {
-        fails = play_ways(waits, played, lines, turn)?;
+        fails = play_ways(played, lines, turn)?;
     }
     Ok(fails)
 }
@@ -212,12 +179,7 @@ fn holds_over(lines: &Lines, place: &str) -> bool {
 }
 
 /// Plays a scene over memory and over folders.
-fn play_scene(
-    rt: &HostRuntime,
-    waits: &impl Wait,
-    played: &mut Played,
-    lines: &Lines,
-) -> Result<(), Trouble> {
+fn play_scene(rt: &HostRuntime, played: &mut Played, lines: &Lines) -> Result<(), Trouble> {
     for is_memory in [true, false] {
         let place = if is_memory { "memory" } else { "folders" };
         if !holds_over(lines, place) {
@@ -230,7 +192,7 @@ fn play_scene(
             way: Way::Once,
             name: "once",
         };
-        let fails = play_rows(waits, played, lines, &turn)?;
+        let fails = play_rows(played, lines, &turn)?;
         played.failed = played.failed.saturating_add(fails as u64);
         played.in_memory = played.in_memory.saturating_add(is_memory as u64);
         played.in_folders = played.in_folders.saturating_add(!is_memory as u64);
@@ -240,7 +202,7 @@ fn play_scene(
 
 /// Plays the scenes of a file. They stand apart by empty lines. One whose title is `front` has the lines that stand before each
 /// scene after it, and one whose title begins with `#` is a remark.
-pub fn play_file(rt: &HostRuntime, waits: &impl Wait, path: &str) -> Result<Played, Trouble> {
+pub fn play_file(rt: &HostRuntime, path: &str) -> Result<Played, Trouble> {
     let text = fs::read_to_string(rt, path)?;
     let mut played = Played {
         in_memory: 0,
@@ -267,7 +229,7 @@ pub fn play_file(rt: &HostRuntime, waits: &impl Wait, path: &str) -> Result<Play
                 text,
                 at: below,
             };
-            play_scene(rt, waits, &mut played, &lines)?;
+            play_scene(rt, &mut played, &lines)?;
         }
         at = below.saturating_add(scene.lines().count() as u64);
     }

@@ -7,7 +7,6 @@ use crate::setting::{Job, Mishaps, calm};
 use crate::shown::Shown;
 use crate::text::{front_of, plain};
 use std::alloc::{AllocError, Global};
-use std::sync::Wait;
 
 /// What a scene has come to.
 #[derive(Drop)]
@@ -226,7 +225,7 @@ impl Scene<'_> {
     }
 
     /// Runs the script by these words.
-    fn run_words(&mut self, waits: &impl Wait, words: &str) -> Result<Shown, Trouble> {
+    fn run_words(&mut self, words: &str) -> Result<Shown, Trouble> {
         if self.is_armed {
             set_round(&mut self.mishaps, self.way, self.nth);
         }
@@ -237,7 +236,7 @@ impl Scene<'_> {
             mishaps: self.mishaps,
             last: self.last.as_str(),
         };
-        let shown = run_there(waits, self.alloc, &mut self.ground, &job)?;
+        let shown = run_there(self.alloc, &mut self.ground, &job)?;
         self.runs = self.runs.saturating_add(1);
         self.script.clear();
         self.last.clear();
@@ -281,10 +280,10 @@ impl Scene<'_> {
     }
 
     /// Runs, and lets nothing go wrong in the next run. A run that tells more failures of the container than it had is a difference.
-    fn run(&mut self, waits: &impl Wait, mark: &str, words: &str) -> Result<(), Trouble> {
+    fn run(&mut self, mark: &str, words: &str) -> Result<(), Trouble> {
         self.end_shown()?;
         let words = plain(self.alloc, words)?;
-        let shown = self.run_words(waits, words.as_str())?;
+        let shown = self.run_words(words.as_str())?;
         self.keep(mark, shown)?;
         if self.told > self.faults {
             self.complain("no more failures than the container had", "more")?;
@@ -332,15 +331,9 @@ impl Scene<'_> {
     }
 
     /// Plays a line that isn't of a block that doesn't count.
-    fn act(
-        &mut self,
-        waits: &impl Wait,
-        mark: &str,
-        rest: &str,
-        line: &str,
-    ) -> Result<(), Trouble> {
+    fn act(&mut self, mark: &str, rest: &str, line: &str) -> Result<(), Trouble> {
         match mark {
-            "$" | "~" => return self.run(waits, mark, rest),
+            "$" | "~" => return self.run(mark, rest),
             "!" => return self.set(rest),
             "?" => return self.ask(rest),
             "=" => return self.add_source(rest),
@@ -356,7 +349,7 @@ impl Scene<'_> {
     }
 
     /// Plays a line.
-    pub fn step(&mut self, waits: &impl Wait, line: &str) -> Result<(), Trouble> {
+    pub fn step(&mut self, line: &str) -> Result<(), Trouble> {
         let (mark, rest) = line.split_once(' ').unwrap_or((line, ""));
         match mark {
             "when" => {
@@ -369,7 +362,7 @@ impl Scene<'_> {
                 Ok(())
             }
             _ if self.skips => Ok(()),
-            _ => self.act(waits, mark, rest, line),
+            _ => self.act(mark, rest, line),
         }
     }
 }

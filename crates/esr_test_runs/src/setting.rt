@@ -9,7 +9,6 @@ use esr_source::{
     Plan, Sources, Targets,
 };
 use std::alloc::{AllocError, Global};
-use std::sync::Wait;
 
 /// Which call of the container, of the source `src`, of the target of `logs` below `out`, which read of the script and which write
 /// of the output fails, each counted from 1, and how many bytes the output takes.
@@ -151,7 +150,6 @@ fn container_of<D: Drop>(alloc: Global, depot: D, job: &Job) -> Result<Faulty<D>
 
 /// Runs over that container.
 pub fn run_on<D: Depot, S: Sources, T: Targets>(
-    waits: &impl Wait,
     alloc: Global,
     job: &Job,
     depot: D,
@@ -164,6 +162,6 @@ pub fn run_on<D: Depot, S: Sources, T: Targets>(
     let mut lines = MemLines::new(bytes, plan_of(alloc, Call::Read, job.mishaps.read)?);
     let depot = container_of(alloc, depot, job)?;
     Ok(run(
-        waits, alloc, &words, &mut lines, depot, sources, targets, &NoGate, 0, out,
+        alloc, &words, &mut lines, depot, sources, targets, &NoGate, 0, out,
     ))
 }

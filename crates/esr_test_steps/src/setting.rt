@@ -4,7 +4,7 @@ ghost use Rattle.esr_progress.specs.Asked.{asked_of, IsAskable};
 
 use crate::errors::Trouble;
 use esr_depot::{Depot, Fetch};
-use esr_desk::{CloneDesk, Desk};
+use esr_desk::Client;
 use esr_names::{IndexName, IndexNames, SnapName};
 use esr_progress::{AskedIndex, Command};
 use esr_seq::{Seq, Text};
@@ -92,7 +92,7 @@ fn snapshot_of_two(
 }
 
 /// Asks for a snapshot of one index or of two, by words such as `NAME INDEX/PLACE INDEX/PLACE`.
-pub(crate) fn ask_snapshot<Q: Desk>(
+pub(crate) fn ask_snapshot<Q: Client>(
     alloc: Global,
     desk: &mut Q,
     words: &str,
@@ -110,7 +110,7 @@ pub(crate) fn ask_snapshot<Q: Desk>(
 }
 
 /// Asks for a clone of all indices of a snapshot, by words such as `SOURCE NAME`.
-pub(crate) fn ask_clone<Q: CloneDesk>(
+pub(crate) fn ask_clone<Q: Client>(
     alloc: Global,
     desk: &mut Q,
     words: &str,

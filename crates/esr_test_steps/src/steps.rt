@@ -7,7 +7,7 @@ ghost use Rattle.esr_repo.specs.Begun.{IsBegun};
 
 use crate::errors::Trouble;
 use crate::setting::{ask_clone, ask_snapshot};
-use crate::units::{PART_SIZE, take, work_beside, work_next, work_unit};
+use crate::units::{PART_SIZE, elect_beside, end_late, take, work_beside, work_next, work_unit};
 use esr_depot::Depot;
 use esr_opening::{Opening, open_container};
 use esr_repo::{Repo, Told};
@@ -24,7 +24,7 @@ fn work_around<D: Depot, K: Told, S: Sources>(
     sources: &S,
     words: &str,
 ) -> Result<(), Trouble>
-    requires sources { AreSources K.start (S.files sources.now) (S.is_there sources.now) (S.is_quiet sources.now) }
+    requires sources { AreSources K.start (S.told sources.now) }
     requires size { PART_SIZE ≡ K.start.part_size }
     requires alone { K.start.alone ≡ true }
 {
@@ -36,6 +36,19 @@ fn work_around<D: Depot, K: Told, S: Sources>(
     work_unit(alloc, desk, &held, sources)
 }
 
+/// Takes a unit, begins the next term, and works it then. The word says what it does.
+fn work_late<D: Depot, K: Told, S: Sources>(
+    alloc: Global,
+    desk: &mut Solo<D, K, S::Shard, MemTarget>,
+    word: &str,
+) -> Result<(), Trouble>
+    requires alone { K.start.alone ≡ true }
+{
+    let held = take::<D, K, S>(alloc, desk, word)?;
+    elect_beside::<D, K, S>(alloc, desk, &held)?;
+    end_late::<D, K, S>(alloc, desk, &held)
+}
+
 /// Makes a step.
 fn step<D: Depot, K: Told, S: Sources>(
     alloc: Global,
@@ -43,7 +56,7 @@ fn step<D: Depot, K: Told, S: Sources>(
     sources: &S,
     line: &str,
 ) -> Result<(), Trouble>
-    requires sources { AreSources K.start (S.files sources.now) (S.is_there sources.now) (S.is_quiet sources.now) }
+    requires sources { AreSources K.start (S.told sources.now) }
     requires size { PART_SIZE ≡ K.start.part_size }
     requires alone { K.start.alone ≡ true }
 {
@@ -53,6 +66,7 @@ fn step<D: Depot, K: Told, S: Sources>(
         "clone" => ask_clone(alloc, desk, words),
         "work" => work_next(alloc, desk, sources, words),
         "around" => work_around(alloc, desk, sources, words),
+        "late" => work_late::<D, K, S>(alloc, desk, words),
         _ => Err(Trouble("a step that there is")),
     }
 }
@@ -64,7 +78,7 @@ fn steps<D: Depot, K: Told, S: Sources>(
     sources: &S,
     lines: &str,
 ) -> Result<(), Trouble>
-    requires sources { AreSources K.start (S.files sources.now) (S.is_there sources.now) (S.is_quiet sources.now) }
+    requires sources { AreSources K.start (S.told sources.now) }
     requires size { PART_SIZE ≡ K.start.part_size }
     requires alone { K.start.alone ≡ true }
 {
@@ -87,14 +101,14 @@ fn made<D: Depot, K: Told, S: Sources>(
         (record { cluster = opening.cluster; root = opening.root; infos = opening.infos; plan = opening.progress; next = opening.next.number }) }
     requires counted { K.faults ≤ D.faults opening.depot }
     requires calm { K.start.quiet ≡ true → 2 ^ 41 ≤ (D.look opening.depot).sure }
-    requires sources { AreSources K.start (S.files sources.now) (S.is_there sources.now) (S.is_quiet sources.now) }
+    requires sources { AreSources K.start (S.told sources.now) }
     requires size { PART_SIZE ≡ K.start.part_size }
     requires alone { K.start.alone ≡ true }
 {
     let repo = Repo::<D, K>::from_opening(alloc, opening);
     let mut desk = Solo::<D, K, S::Shard, MemTarget>::new(alloc, repo);
     let stepped = steps(alloc, &mut desk, sources, lines.as_str());
-    let (repo, _faults) = desk.into_parts();
+    let (repo, _faults, _targets) = desk.into_parts();
     let (depot, _history) = repo.into_parts();
     stepped?;
     Ok(depot)

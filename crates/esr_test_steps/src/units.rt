@@ -1,15 +1,16 @@
 //! Units that are taken and worked by hand, on the desk of one thread.
-ghost use Rattle.std.specs.Prelude.{◌≡◌, true, Some, IfOk, OnOk};
+ghost use Rattle.std.specs.Prelude.{◌≡◌, ℕ, [], true, Some, IfOk, OnOk};
 ghost use Rattle.esr_core.specs.Entry.{TakeStep};
+ghost use Rattle.esr_desk.specs.Calls.{HasTaken, calls_at};
 ghost use Rattle.esr_desk.specs.Grew.{GrewBy};
-ghost use Rattle.esr_desk.specs.Once.{HasMadeNone};
+ghost use Rattle.esr_desk.specs.Own.{made_of};
 ghost use Rattle.esr_desk.specs.Outcome.{Stepped, take_reply};
 ghost use Rattle.esr_desk.specs.Sources.{AreSources};
 ghost use Rattle.esr_desk.specs.Taken.{Took};
 
 use crate::errors::Trouble;
 use esr_depot::Depot;
-use esr_desk::{Desk, Unit};
+use esr_desk::{Desk, Unit, UnitRefusal};
 use esr_progress::Work;
 use esr_repo::Told;
 use esr_solo::Solo;
@@ -36,7 +37,9 @@ pub(crate) fn take<D: Depot, K: Told, S: Sources>(
     word: &str,
 ) -> Result<Unit, Trouble>
     ensures took { IfOk result (λ u. Took K.start desk.new u) }
-    ensures new { IfOk result (λ u. HasMadeNone desk.new u.ready.ticket) }
+    ensures new { IfOk result (λ u. made_of K.start desk.new u.ready.ticket ≡ []) }
+    ensures mine { IfOk result (λ u. HasTaken (calls_at 0 desk.new) u.ready.ticket) }
+    ensures more { IfOk result (λ u. (ticket : ℕ) → HasTaken (calls_at 0 desk.old) ticket → HasTaken (calls_at 0 desk.new) ticket) }
     ensures gave { IfOk result (λ u. Stepped K.start desk.old desk.new 0 TakeStep (take_reply (Some u))) }
 {
     let Some(unit) = desk.take(alloc)? else {
@@ -58,11 +61,13 @@ pub(crate) fn work_unit<D: Depot, K: Told, S: Sources>(
     unit: &Unit,
     sources: &S,
 ) -> Result<(), Trouble>
+    requires mine { HasTaken (calls_at 0 desk.old) unit.now.ready.ticket }
     requires fresh { Took K.start desk.old unit.now }
-    requires new { HasMadeNone desk.old unit.now.ready.ticket }
-    requires sources { AreSources K.start (S.files sources.now) (S.is_there sources.now) (S.is_quiet sources.now) }
+    requires new { made_of K.start desk.old unit.now.ready.ticket ≡ [] }
+    requires sources { AreSources K.start (S.told sources.now) }
     requires size { PART_SIZE ≡ K.start.part_size }
-    ensures { OnOk result (GrewBy K.start unit.now.ready.ticket desk.old desk.new) }
+    ensures grew { OnOk result (GrewBy K.start unit.now.ready.ticket desk.old desk.new) }
+    ensures calls { OnOk result (calls_at 0 desk.new ≡ calls_at 0 desk.old) }
 {
     match &unit.ready.work {
         Work::Shard { .. } => {
@@ -89,7 +94,7 @@ pub(crate) fn work_next<D: Depot, K: Told, S: Sources>(
     sources: &S,
     word: &str,
 ) -> Result<(), Trouble>
-    requires sources { AreSources K.start (S.files sources.now) (S.is_there sources.now) (S.is_quiet sources.now) }
+    requires sources { AreSources K.start (S.told sources.now) }
     requires size { PART_SIZE ≡ K.start.part_size }
 {
     let unit = take::<D, K, S>(alloc, desk, word)?;
@@ -104,24 +109,60 @@ pub(crate) fn work_beside<D: Depot, K: Told, S: Sources>(
     sources: &S,
     word: &str,
 ) -> Result<(), Trouble>
+    requires mine { HasTaken (calls_at 0 desk.old) held.now.ready.ticket }
     requires held { Took K.start desk.old held.now }
-    requires new { HasMadeNone desk.old held.now.ready.ticket }
-    requires sources { AreSources K.start (S.files sources.now) (S.is_there sources.now) (S.is_quiet sources.now) }
+    requires new { made_of K.start desk.old held.now.ready.ticket ≡ [] }
+    requires sources { AreSources K.start (S.told sources.now) }
     requires size { PART_SIZE ≡ K.start.part_size }
     requires alone { K.start.alone ≡ true }
+    ensures mine { OnOk result (HasTaken (calls_at 0 desk.new) held.now.ready.ticket) }
     ensures held { OnOk result (Took K.start desk.new held.now) }
-    ensures new { OnOk result (HasMadeNone desk.new held.now.ready.ticket) }
+    ensures new { OnOk result (made_of K.start desk.new held.now.ready.ticket ≡ []) }
 {
     esr_quiet::other_tickets_stay();
     let unit = take::<D, K, S>(alloc, desk, word)?;
-    if unit.ready.ticket == 0 {
-        return Err(Trouble("a ticket that has a number"));
-    }
-    if held.ready.ticket == 0 {
-        return Err(Trouble("a ticket that has a number"));
-    }
     if unit.ready.ticket == held.ready.ticket {
         return Err(Trouble("a ticket of its own"));
     }
     work_unit(alloc, desk, &unit, sources)
+}
+
+/// Begins the next term. The ticket of a unit that was taken before stays as it is.
+pub(crate) fn elect_beside<D: Depot, K: Told, S: Sources>(
+    alloc: Global,
+    desk: &mut Solo<D, K, S::Shard, MemTarget>,
+    held: &Unit,
+) -> Result<(), Trouble>
+    requires mine { HasTaken (calls_at 0 desk.old) held.now.ready.ticket }
+    requires held { Took K.start desk.old held.now }
+    requires new { made_of K.start desk.old held.now.ready.ticket ≡ [] }
+    requires alone { K.start.alone ≡ true }
+    ensures mine { OnOk result (HasTaken (calls_at 0 desk.new) held.now.ready.ticket) }
+    ensures held { OnOk result (Took K.start desk.new held.now) }
+    ensures new { OnOk result (made_of K.start desk.new held.now.ready.ticket ≡ []) }
+{
+    esr_quiet::other_tickets_stay();
+    desk.elect(alloc)?;
+    Ok(())
+}
+
+/// Works a finalization whose term is over: its ticket ends, and its snapshot is still to be finalized.
+pub(crate) fn end_late<D: Depot, K: Told, S: Sources>(
+    alloc: Global,
+    desk: &mut Solo<D, K, S::Shard, MemTarget>,
+    unit: &Unit,
+) -> Result<(), Trouble>
+    requires mine { HasTaken (calls_at 0 desk.old) unit.now.ready.ticket }
+    requires fresh { Took K.start desk.old unit.now }
+    requires new { made_of K.start desk.old unit.now.ready.ticket ≡ [] }
+{
+    let Work::Finalize { .. } = &unit.ready.work else {
+        return Err(Trouble("a unit that finalizes"));
+    };
+    match esr_finish::run_unit(alloc, desk, unit) {
+        Ok(()) => Err(Trouble("a unit whose term is over")),
+        Err(UnitRefusal::Failed(_)) => Err(Trouble("a unit that does not fail")),
+        Err(UnitRefusal::Stale) => Ok(()),
+        Err(UnitRefusal::Stopped(_)) => Err(Trouble("a step that is not refused")),
+    }
 }

@@ -1,5 +1,6 @@
 -- What a shard's ticket has done when its last two blobs are written.
-use Rattle.std.proofs.Common.{◌≡◌, inl, inr, ℕ, suc, ◌+◌, ◌-◌, ◌^◌, ◌<◌, ◌≤◌, min, length, true, false, List, [], ◌∷◌, ◌++◌, map, find, Option, Some, None, refl, sym, ap, ◌∙◌, subst, arith}
+use Rattle.std.proofs.Common.{◌≡◌, inl, inr, ℕ, suc, ◌+◌, ◌-◌, ◌^◌, ◌<◌, ◌≤◌, min, length, true, false, List, [], ◌∷◌, ◌++◌, map, find, Option, Some, None, IsSome, option_map, refl, sym, ap, ◌∙◌, subst, arith}
+use Rattle.std.proofs.lemmas.Bool.{cases_Bool, leb-true, leb-false}
 use Rattle.std.specs.List.{AllByRecursion}
 use Rattle.esr_names.specs.declared.ids.Id.{Id}
 use Rattle.esr_names.specs.declared.blob.ShardId.{ShardId}
@@ -8,13 +9,13 @@ use Rattle.esr_model.specs.Values.{Bytes, Has, FileEntry, ShardFiles, Formats, R
 use Rattle.esr_model.specs.Uploads.{entries_from, id_after, shard_blobs, with_snap}
 use Rattle.esr_core.specs.World.{Ticket}
 use Rattle.esr_core.specs.Steps.{Drew}
-use Rattle.esr_core.specs.Entry.{Moment}
+use Rattle.esr_core.specs.Entry.{WasFetched, Moment}
 use Rattle.esr_core.specs.Allowed.{Based, DoneBy, DoneAs}
 use Rattle.esr_source.specs.declared.files.ListedFile.{ListedFile}
 use Rattle.esr_shardidx.specs.declared.entry.FileEntry.{FileEntry as CodeEntry}
 use Rattle.esr_shardidx.specs.Snapshots.{SnapValue, are_snap_files}
 use Rattle.esr_shardidx.specs.Indices.{IndexValue, IsShardIndex, has_uuid, with_snap_of}
-use Rattle.esr_formats.specs.Ids.{id_of}
+use Rattle.esr_formats.specs.Ids.{id_of, number_of}
 use Rattle.esr_formats.specs.Formats.{formats}
 use Rattle.esr_formats.specs.Shards.{entry_of, shard_snap_of, shard_snap_kind, shard_index_of, shard_index_kind}
 use Rattle.esr_results.specs.Results.{result_of}
@@ -25,16 +26,45 @@ use Rattle.esr_desk.specs.Conditions.{CanEnd}
 use Rattle.esr_desk.specs.Taken.{after_writes}
 use Rattle.esr_upload.specs.Surveyed.{printed, TellsAll}
 use Rattle.esr_upload.specs.Stored.{IsAt, AreBelow}
-use Rattle.esr_desk.specs.Damage.{IsAhead}
-use Rattle.esr_upload.specs.declared.trouble.Flaw.TheVariants as flaws
-use Rattle.esr_upload.specs.Trouble.{BadBase}
+use Rattle.esr_desk.specs.declared.hand.Hand.TheVariants as hands
+use Rattle.esr_desk.specs.Evidence.{HadFetch}
+use Rattle.esr_desk.specs.Unit.Shown.{HasDrawn as HasDrawnId, WasAhead}
+use Rattle.esr_upload.specs.Base.{is_from, HasFetched, IsBaseAhead}
 use Rattle.esr_upload.specs.Entries.{new_count, entries_at, all_blobs, StoredAll}
 use Rattle.esr_upload.specs.Published.{HasDrawn, snap_blob, index_blob, last_blobs, sum_planned, outcome_of}
 use Rattle.esr_upload.proofs.Writing.{writes_on, writes_keep, writes_at, all_wrote, wrote_only, all_noted}
 use Rattle.esr_upload.proofs.Modelled.{entries_model, id_model, blobs_model, as_many, sum_model}
 use Rattle.esr_upload.proofs.Adding.{with_snap_is}
 use Rattle.esr_upload.proofs.Snapped.{snap_ahead}
-use Rattle.esr_upload.proofs.Faults.{bad_base, has_file}
+use Rattle.esr_upload.proofs.Faults.{was_ahead, has_file}
+
+-- the first entry from an id on
+some_from : (first : ℕ) (es : List CodeEntry) (e : CodeEntry) → Has es e → first ≤ e.name.number → IsSome (find (is_from first) es)
+some_from first [] e has late = absurd has
+some_from first (x ∷ es) e (inl same) late = elim (cases_Bool (is_from first x)) [
+  | inl here ↦ rw here refl
+  | inr other ↦
+      let low : x.name.number < first = leb-false first x.name.number other in
+      let name : x.name.number ≡ e.name.number = ap (λ (y : CodeEntry). y.name.number) same in
+      absurd (omega (arith, low, name, late))
+]
+some_from first (x ∷ es) e (inr has) late = elim (cases_Bool (is_from first x)) [
+  | inl here ↦ rw here refl
+  | inr other ↦ rw other (some_from first es e has late)
+]
+
+found_from : (first : ℕ) (es : List CodeEntry) (e : CodeEntry) → find (is_from first) es ≡ Some e → Has es e × (first ≤ e.name.number)
+found_from first [] e is = absurd cc
+found_from first (x ∷ es) e is = elim (cases_Bool (is_from first x)) [
+  | inl here ↦
+      let some : ◌≡◌ {A = Option CodeEntry} (Some x) (Some e) = rw here at is in
+      let same : x ≡ e = cc in
+      (inl same, subst (λ (y : CodeEntry). first ≤ y.name.number) same (leb-true first x.name.number here))
+  | inr other ↦ let later = found_from first es e (rw other at is) in (inr later.0, later.1)
+]
+
+given : (g h : Id) → ◌≡◌ {A = Option Id} (Some g) (Some h) → g ≡ h
+given g h same = cc
 
 -- a ticket that has committed nothing
 pub none_below : (t : Ticket) (id : ℕ) → t.noted ≡ [] → AreBelow t id
@@ -234,22 +264,33 @@ module _ (s : Start) (told : Option (List (Bytes × Bytes))) (listed : Option (L
   drew_last n count = let a = up_first in let b = up_drawn in record { from = omega (arith, a, count); below = omega (arith, a, b, count) }
 
   -- entries that are no snapshot show that the base is ahead
-  pub bad_end : (log : List Moment) (who : ℕ) → up ≡ ticket_of s log who → size ≤ 2 ^ 30 → are_snap_files [] es ≡ false → BadBase s log who flaws.Ahead
-  bad_end log who is most refused = by_base old.base refl
-    where
-      ahead : (e : CodeEntry) × Has base.files e × (first ≤ e.name.number)
-      ahead = snap_ahead base size first ps drawn.planned.files drawn.whole least most drawn.planned.named drawn.planned.short drawn.planned.each drawn.planned.rising
-          (subst (λ (l : List CodeEntry). are_snap_files [] l ≡ false) stored.entries refused)
+  module _ (log : List Moment) (who : ℕ) (is : up ≡ ticket_of s log who) (most : size ≤ 2 ^ 30) (refused : are_snap_files [] es ≡ false) where
+    late : (e : CodeEntry) × Has base.files e × (first ≤ e.name.number)
+    late = snap_ahead base size first ps drawn.planned.files drawn.whole least most drawn.planned.named drawn.planned.short drawn.planned.each drawn.planned.rising
+        (subst (λ (l : List CodeEntry). are_snap_files [] l ≡ false) stored.entries refused)
 
-      is_ahead : IsAhead up (shard_index_of base)
-      is_ahead = let a = up_first in let b = up_drawn in let over = ahead.2 in
-          inr (entry_of ahead.0, has_file base.files ahead.0 ahead.1, omega (arith, b), omega (arith, a, over))
+    at_up : IsAt (ticket_of s log who) at.index.number at.number
+    at_up = subst (λ (t : Ticket). IsAt t at.index.number at.number) is (writes_at s (all_blobs at.index.number at.number size first ps stored.files) old up at.index.number at.number stored.is drawn.at)
 
-      at_up : IsAt up at.index.number at.number
-      at_up = writes_at s (all_blobs at.index.number at.number size first ps stored.files) old up at.index.number at.number stored.is drawn.at
+    drawn_id : (e : CodeEntry) → Has base.files e → first ≤ e.name.number → HasDrawnId (ticket_of s log who) (shard_index_of base) e.name.number
+    drawn_id e has over =
+        let a = up_first in
+        let b = up_drawn in
+        subst (λ (t : Ticket). HasDrawnId t (shard_index_of base) e.name.number) is (entry_of e, has_file base.files e has, refl, omega (arith, b), omega (arith, a, over))
 
-      by_base : (b : Option ℕ) → old.base ≡ b → BadBase s log who flaws.Ahead
-      by_base None none = absurd (subst (λ (v : IndexValue). Has v.files ahead.0) (drawn.none none) ahead.1)
-      by_base (Some g) some =
-          bad_base s log who at.index.number at.number g base (subst (λ (t : Ticket). IsAt t at.index.number at.number) is at_up) (ap (λ (t : Ticket). t.base) (sym is) ∙ up_base ∙ some)
-          (subst (λ (t : Ticket). s.tells ≡ true → Based (formats_of s) t at.index.number at.number t.base (shard_index_of base)) is up_based) drawn.whole (subst (λ (t : Ticket). IsAhead t (shard_index_of base)) is is_ahead)
+    one_ahead : (g : Id) → old.base ≡ Some g.number → HadFetch hands.Unit log who (ShardIndex at.index.number at.number g.number) WasFetched → (e : CodeEntry) → find (is_from first) base.files ≡ Some e
+        → WasAhead s log who (ShardIndex at.index.number at.number g.number) e.name.number
+    one_ahead g some had e found =
+        let has = found_from first base.files e found in
+        was_ahead s log who at.index.number at.number g.number e.name.number base at_up (ap (λ (t : Ticket). t.base) (sym is) ∙ up_base ∙ some) had
+        (subst (λ (t : Ticket). s.tells ≡ true → Based (formats_of s) t at.index.number at.number t.base (shard_index_of base)) is up_based) drawn.whole (inr (drawn_id e has.0 has.1))
+
+    pub base_ahead : (generation : Option Id) → old.base ≡ option_map number_of generation → HasFetched log who at.index.number at.number generation → IsBaseAhead s log who at generation base first
+    base_ahead None none fetched = absurd (subst (λ (v : IndexValue). Has v.files late.0) (drawn.none none) late.1)
+    base_ahead (Some g) some fetched = record {
+      some = refl;
+      there = some_from first base.files late.0 late.1 late.2;
+      shown = λ h e same found.
+          let one : g ≡ h = given g h same in
+          subst (λ (x : Id). WasAhead s log who (ShardIndex at.index.number at.number x.number) e.name.number) one (one_ahead g some fetched e found);
+    }

@@ -9,7 +9,7 @@ use Rattle.esr_core.specs.Steps.{MostDrawn}
 use Rattle.esr_core.specs.Entry.{Moment}
 use Rattle.esr_core.specs.Allowed.{Based}
 use Rattle.esr_source.specs.declared.files.ListedFile.{ListedFile}
-use Rattle.esr_source.specs.Origin.{Origin}
+use Rattle.esr_source.specs.Told.{SourcesTold}
 use Rattle.esr_source.specs.declared.address.Address.{Address}
 use Rattle.esr_source.specs.Address.{address}
 use Rattle.esr_shardidx.specs.Indices.{IndexValue}
@@ -26,7 +26,7 @@ use Rattle.esr_desk.specs.Conditions.{CanDraw, CanFail}
 use Rattle.esr_desk.specs.Taken.{TookWork}
 use Rattle.esr_desk.specs.Grew.{GrewBy}
 use Rattle.esr_desk.specs.Sources.{TellSame, AreSources}
-use Rattle.esr_desk.specs.Shown.{IsOf}
+use Rattle.esr_desk.specs.Unit.Shown.{IsOf}
 use Rattle.esr_upload.specs.Surveyed.{TellsAll}
 use Rattle.esr_upload.specs.Stored.{IsAt}
 use Rattle.esr_upload.specs.Worked.{Worked, Went}
@@ -116,17 +116,10 @@ module _ (s : Start) (told : Option (List (Bytes × Bytes))) (is_there : Option 
       based_in (Some g) based = based
 
 -- for a shard as it is after it was read
-pub drawn_for : (s : Start) (listed : Option (List ListedFile)) (index number : ℕ) (uuid : Id) (base : IndexValue) (ps qs : List Planned) (first : ℕ) (t : Ticket) (o q : Origin) → q ≡ o → qs ≡ ps
-    → HasDrawn s o.files listed index number uuid base ps first t → HasDrawn s q.files listed index number uuid base qs first t
+pub drawn_for : (s : Start) (listed : Option (List ListedFile)) (index number : ℕ) (uuid : Id) (base : IndexValue) (ps qs : List Planned) (first : ℕ) (t : Ticket) (o q : Option (List (Bytes × Bytes))) → q ≡ o → qs ≡ ps
+    → HasDrawn s o listed index number uuid base ps first t → HasDrawn s q listed index number uuid base qs first t
 drawn_for s listed index number uuid base ps qs first t o q same list drawn =
-    subst (λ (x : Origin). HasDrawn s x.files listed index number uuid base qs first t) (sym same) (subst (λ (l : List Planned). HasDrawn s o.files listed index number uuid base l first t) (sym list) drawn)
-
--- what a shard's unit was given
-pub took_shard : (work : CodeWork) (root : Option Root) (op : ℕ) (copy : Copied) (t : Ticket) (uuid : Id) (at : ShardId) (name place : Bytes) → work ≡ works.Shard uuid at name place → TookWork work root op copy t
-    → (t.work ≡ Shard at.index.number at.number) × (t.base ≡ option_map number_of copy.base)
-took_shard work root op copy t uuid at name place is took =
-    let took_it = subst (λ (w : CodeWork). TookWork w root op copy t) is took in
-    (ap (λ (x : Ticket). x.work) took_it.1, ap (λ (x : Ticket). x.base) took_it.1)
+    subst (λ (x : Option (List (Bytes × Bytes))). HasDrawn s x listed index number uuid base qs first t) (sym same) (subst (λ (l : List Planned). HasDrawn s o listed index number uuid base l first t) (sym list) drawn)
 
 -- it may fail, however far it went
 pub shard_fails : (work : CodeWork) (root : Option Root) (op : ℕ) (copy : Copied) (old new : Ticket) (uuid : Id) (at : ShardId) (name place : Bytes) → work ≡ works.Shard uuid at name place → TookWork work root op copy old → Worked old new
@@ -142,11 +135,11 @@ shard_fails work root op copy old new uuid at name place is took worked =
     }
 
 -- a shard's unit that was taken, with what is told of its shard
-pub took_unit : (s : Start) (files : Bytes → Bytes → ℕ → Option (List (Bytes × Bytes))) (is_there : Bytes → Bytes → ℕ → Option Bool) (is_quiet : Bool) (work : CodeWork) (root : Option Root) (op : ℕ) (copy : Copied) (t : Ticket) (uuid : Id) (at : ShardId) (name place : Bytes)
-    → AreSources s files is_there is_quiet → work ≡ works.Shard uuid at name place → TookWork work root op copy t
-    → (told : Option (List (Bytes × Bytes))) (there : Option Bool) → told ≡ files place name at.number → there ≡ is_there place name at.number
+pub took_unit : (s : Start) (c : SourcesTold) (work : CodeWork) (root : Option Root) (op : ℕ) (copy : Copied) (t : Ticket) (uuid : Id) (at : ShardId) (name place : Bytes)
+    → AreSources s c → work ≡ works.Shard uuid at name place → TookWork work root op copy t
+    → (told : Option (List (Bytes × Bytes))) (there : Option Bool) → told ≡ c.files place name at.number → there ≡ c.is_there place name at.number
     → IsUnit s told there at.index.number at.number uuid.number (option_map number_of copy.base) t
-took_unit s files is_there is_quiet work root op copy t uuid at name place sources is took told there told_is there_is =
+took_unit s c work root op copy t uuid at name place sources is took told there told_is there_is =
     let took_it = subst (λ (w : CodeWork). TookWork w root op copy t) is took in
     subst (λ (x : Ticket). IsUnit s told there at.index.number at.number uuid.number (option_map number_of copy.base) x) (sym took_it.1) (record {
       at = record { out = refl; unsettled = refl; work = refl };
@@ -158,7 +151,7 @@ took_unit s files is_there is_quiet work root op copy t uuid at name place sourc
       source_is = refl;
       tells = λ known. elim (sources.told place name at.number known) [
         | inl same ↦ inl (same.0, told_is ∙ same.1, same.2)
-        | inr absent ↦ inr (there_is ∙ absent)
+        | inr absent ↦ inr (there_is ∙ absent.0)
       ];
     })
 

@@ -1,23 +1,26 @@
 -- The last steps of a ticket.
-use Rattle.std.proofs.Common.{◌≡◌, ℕ, List, false, Result, Ok, Err, IfErr, sym, subst}
+use Rattle.std.proofs.Common.{◌≡◌, ◌↔◌, ℕ, Bool, List, true, false, Option, Some, None, IsSome, Result, Ok, Err, IfErr, refl}
 use Rattle.esr_model.specs.Values.{ShardResult}
-use Rattle.esr_core.specs.World.{Ticket}
 use Rattle.esr_core.specs.Entry.{Step, DoneStep, HasEnded, Reply, Moment}
 use Rattle.esr_desk.specs.Start.{Start, ticket_of}
 use Rattle.esr_desk.specs.Outcome.{Stepped}
 use Rattle.esr_desk.specs.Last.{IsLast}
-use Rattle.esr_desk.specs.Grew.{GrewBy}
 use Rattle.esr_upload.specs.Refused.{HasDone}
-use Rattle.esr_upload.specs.Worked.{Worked, Went}
-use Rattle.esr_upload.proofs.Going.{worked_none, worked_on}
+use Rattle.esr_upload.specs.Worked.{Went}
+use Rattle.esr_upload.proofs.Going.{worked_on}
 
 pub if_err : {T E : Type 0} {P : Type 0} (r : Result T E) → P → IfErr r (λ e. P)
 if_err (Ok x) h = tt
 if_err (Err e) h = h
 
--- a step that left the ticket
-pub went_same : (s : Start) (old new : List Moment) (who : ℕ) → GrewBy s who old new → ticket_of s new who ≡ ticket_of s old who → Went s old new who
-went_same s old new who grew same = record { grew = grew; worked = subst (λ (t : Ticket). Worked (ticket_of s old who) t) (sym same) (worked_none (ticket_of s old who)) }
+no_some : {A : Type 0} (o : Option A) → o ≡ None → IsSome o → ⊥
+no_some (Some x) none is = cc
+no_some None none is = cc
+
+-- what is none isn't so
+pub no_files : {A : Type 0} (o : Option A) (b : Bool) → (IsSome o ↔ (b ≡ true)) → o ≡ None → b ≡ false
+no_files o true exact none = absurd (no_some o none (exact.1 refl))
+no_files o false exact none = refl
 
 pub last_of : (s : Start) (old new : List Moment) (who : ℕ) (step : Step) (reply : Reply) → Stepped s old new who step reply → IsLast new who step reply
 last_of s old new who step reply h = record { front = h.front; image = h.image; is = h.is }

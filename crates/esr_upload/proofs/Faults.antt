@@ -1,26 +1,24 @@
 -- A base that is at fault, and one that isn't.
-use Rattle.std.proofs.Common.{◌≡◌, inl, inr, ℕ, Bool, true, false, List, [], ◌∷◌, map, find, Option, Some, None, option_map, refl, sym, ap, ◌∙◌, subst}
+use Rattle.std.proofs.Common.{◌≡◌, ◌⊎◌, inl, inr, ℕ, Bool, true, false, List, [], ◌∷◌, map, find, Option, Some, None, refl, sym, ap, ◌∙◌, subst}
 use Rattle.std.proofs.lemmas.Bool.{cases_Bool, eqb-true}
-use Rattle.std.specs.Option.{is_some}
 use Rattle.esr_names.specs.declared.ids.Id.{Id}
 use Rattle.esr_model.specs.Names.{ShardIndex}
-use Rattle.esr_model.specs.Values.{Has, ShardFiles, ReadsBack}
+use Rattle.esr_model.specs.Values.{Bytes, Has, ShardFiles}
 use Rattle.esr_core.specs.World.{Ticket}
-use Rattle.esr_core.specs.Entry.{Moment}
+use Rattle.esr_core.specs.Entry.{WasFetched, Moment}
 use Rattle.esr_core.specs.Allowed.{Based}
 use Rattle.esr_shardidx.specs.declared.entry.FileEntry.{FileEntry as CodeEntry}
 use Rattle.esr_shardidx.specs.declared.index.SnapList.{SnapList as CodeList}
 use Rattle.esr_shardidx.specs.Indices.{IndexValue, IsShardIndex, has_uuid}
-use Rattle.esr_formats.specs.Ids.{number_of}
 use Rattle.esr_formats.specs.Formats.{formats}
 use Rattle.esr_formats.specs.Shards.{entry_of, snap_list_of, shard_index_of, shard_index_kind}
 use Rattle.esr_formats.proofs.ShardTexts.{shard_index_reads_back}
 use Rattle.esr_desk.specs.Start.{Start, formats_of, ticket_of}
-use Rattle.esr_desk.specs.Damage.{IsAhead, WasAhead}
+use Rattle.esr_desk.specs.declared.hand.Hand.TheVariants as hands
+use Rattle.esr_desk.specs.Evidence.{HadFetch}
+use Rattle.esr_desk.specs.Unit.Shown.{HasSnapshot, HasDrawn, WasAhead}
 use Rattle.esr_upload.specs.Base.{HasBase}
 use Rattle.esr_upload.specs.Stored.{IsAt}
-use Rattle.esr_upload.specs.declared.trouble.Flaw.TheVariants as flaws
-use Rattle.esr_upload.specs.Trouble.{BadBase}
 use Rattle.esr_upload.specs.Published.{HasIndex}
 
 -- ---- what is ahead
@@ -35,8 +33,8 @@ has_list u (x ∷ ls) l is = elim (cases_Bool (has_uuid u x)) [
   | inr other ↦ let later = has_list u ls l (rw other at is) in (inr later.0, later.1)
 ]
 
-pub list_ahead : (t : Ticket) (u : Id) (base : IndexValue) (l : CodeList) → t.uuid ≡ u.number → find (has_uuid u) base.snapshots ≡ Some l → IsAhead t (shard_index_of base)
-list_ahead t u base l own is = let has = has_list u base.snapshots l is in inl (snap_list_of l, has.0, has.1 ∙ sym own)
+pub list_ahead : (t : Ticket) (u : Id) (base : IndexValue) (l : CodeList) → t.uuid ≡ u.number → find (has_uuid u) base.snapshots ≡ Some l → HasSnapshot t (shard_index_of base) u.number
+list_ahead t u base l own is = let has = has_list u base.snapshots l is in (snap_list_of l, has.0, has.1, sym own)
 
 pub has_file : (es : List CodeEntry) (e : CodeEntry) → Has es e → Has (map entry_of es) (entry_of e)
 has_file [] e has = absurd has
@@ -45,29 +43,33 @@ has_file (x ∷ es) e (inr has) = inr (has_file es e has)
 
 -- ---- the fault
 
-read_fault : (s : Start) (t : Ticket) (index number g : ℕ) (value : ShardFiles) → Based (formats_of s) t index number (Some g) value → IsAhead t value → WasAhead s t (ShardIndex index number g)
+-- the bytes of the base: those that were read, where the container tells, else its own text
+base_bytes : (s : Start) (log : List Moment) (who index number g : ℕ) (base : IndexValue)
+    → (s.tells ≡ true → Based (formats_of s) (ticket_of s log who) index number (Some g) (shard_index_of base)) → IsShardIndex base
+    → (bytes : Bytes) × (s.tells ≡ true → Has (ticket_of s log who).read (ShardIndex index number g, bytes)) × (shard_index_kind.read bytes ≡ Some (shard_index_of base))
 unfolding formats
-read_fault s t index number g value based ahead = (based.0, λ tells. based.1, value, based.2, ahead)
-
-text_fault : (s : Start) (t : Ticket) (index number g : ℕ) (value : ShardFiles) → s.tells ≡ false → ReadsBack shard_index_kind value → IsAhead t value → WasAhead s t (ShardIndex index number g)
-text_fault s t index number g value untold back ahead = (shard_index_kind.text value, λ tells. absurd (contra s.tells tells untold), value, back, ahead)
+base_bytes s log who index number g base based whole = elim (cases_Bool s.tells) [
+  | inl tells ↦ let read = based tells in (read.0, λ yes_tells. read.1, read.2)
+  | inr untold ↦ (shard_index_kind.text (shard_index_of base), λ tells. absurd (contra s.tells tells untold), shard_index_reads_back base whole)
+]
   where
     contra : (b : Bool) → b ≡ true → b ≡ false → ⊥
     contra b x y = cc (x, y)
 
-pub bad_base : (s : Start) (log : List Moment) (who index number g : ℕ) (base : IndexValue) → IsAt (ticket_of s log who) index number → (ticket_of s log who).base ≡ Some g
-    → (s.tells ≡ true → Based (formats_of s) (ticket_of s log who) index number (ticket_of s log who).base (shard_index_of base)) → IsShardIndex base → IsAhead (ticket_of s log who) (shard_index_of base) → BadBase s log who flaws.Ahead
-bad_base s log who index number g base at is based whole ahead = record {
-  index = index;
-  number = number;
-  base = g;
-  work = at.work;
-  base_is = is;
-  fault = elim (cases_Bool s.tells) [
-    | inl tells ↦ read_fault s (ticket_of s log who) index number g (shard_index_of base) (subst (λ (b : Option ℕ). Based (formats_of s) (ticket_of s log who) index number b (shard_index_of base)) is (based tells)) ahead
-    | inr untold ↦ text_fault s (ticket_of s log who) index number g (shard_index_of base) untold (shard_index_reads_back base whole) ahead
-  ];
-}
+-- the base has this id, which it can't have yet
+pub was_ahead : (s : Start) (log : List Moment) (who index number g id : ℕ) (base : IndexValue) → IsAt (ticket_of s log who) index number → (ticket_of s log who).base ≡ Some g → HadFetch hands.Unit log who (ShardIndex index number g) WasFetched
+    → (s.tells ≡ true → Based (formats_of s) (ticket_of s log who) index number (ticket_of s log who).base (shard_index_of base)) → IsShardIndex base
+    → HasSnapshot (ticket_of s log who) (shard_index_of base) id ⊎ HasDrawn (ticket_of s log who) (shard_index_of base) id → WasAhead s log who (ShardIndex index number g) id
+was_ahead s log who index number g id base at is had based whole ahead =
+    let bytes = base_bytes s log who index number g base (λ tells. subst (λ (b : Option ℕ). Based (formats_of s) (ticket_of s log who) index number b (shard_index_of base)) is (based tells)) whole in
+    record {
+      base = record { index = index; number = number; base = g; work = at.work; base_is = is; name_is = refl };
+      bytes = bytes.0;
+      read = record { had = had; read = bytes.1 };
+      v = shard_index_of base;
+      reads = bytes.2;
+      ahead = ahead;
+    }
 
 -- ---- no base
 
@@ -84,14 +86,6 @@ no_index s index number u t base none empty = record {
   whole = empty_whole base empty;
   unlisted = ap (λ (v : IndexValue). find (has_uuid u) v.snapshots) empty;
 }
-
-pub some_from : (o : Option Id) → is_some o ≡ true → (b : Id) × (o ≡ Some b)
-some_from None h = cc
-some_from (Some b) h = (b, refl)
-
-pub none_from : (o : Option Id) → is_some o ≡ false → option_map number_of o ≡ None
-none_from None h = refl
-none_from (Some b) h = cc
 
 pub read_at : (s : Start) (old new : Ticket) (index number : ℕ) (value : ShardFiles) → HasBase s old new index number value → IsAt old index number → IsAt new index number
 read_at s old new index number value has at = record {

@@ -1,5 +1,5 @@
 -- One part of a file.
-use Rattle.std.proofs.Common.{◌≡◌, ◌≢◌, ℕ, Bool, true, false, List, [], ◌∷◌, Option, Some, None, Result, Ok, Err, IfErr, IsErrAnd, refl, sym, ap, ◌∙◌, subst, if◌then◌else◌}
+use Rattle.std.proofs.Common.{◌≡◌, ◌≢◌, ℕ, Bool, true, false, List, [], ◌∷◌, Option, Some, None, Result, Ok, Err, refl, sym, ap, ◌∙◌, subst, if◌then◌else◌}
 use Rattle.std.specs.Io.KnownBytes.{append_known}
 use Rattle.esr_names.specs.declared.blob.BlobName.{BlobName as CodeName}
 use Rattle.esr_model.specs.Names.{BlobName, Latest}
@@ -22,11 +22,7 @@ use Rattle.esr_desk.specs.Taken.{begun_by, committed_by, tried}
 use Rattle.esr_desk.specs.Grew.{GrewBy, grew_by_on}
 use Rattle.esr_upload.specs.Pieces.{CanStore, PutPart}
 use Rattle.esr_upload.specs.Worked.{Worked, Went}
-use Rattle.esr_upload.proofs.Going.{worked_none}
-
-pub err_passed : {T E : Type 0} (r : Result T E) (P : E → Type 0) (e : E) → IsErrAnd r (λ y. y ≡ e) → P e → IfErr r P
-err_passed (Ok x) P e h k = absurd h
-err_passed (Err y) P e h k = subst P (sym h) k
+use Rattle.esr_upload.proofs.Going.{went_same}
 
 -- ---- what the steps make of the ticket
 
@@ -64,9 +60,6 @@ committed_whole s name contents piece c old mid new same holds fresh is =
 worked_committing : (name : BlobName) (o : Option Bytes) (t : Ticket) → Worked t (committing name o t)
 worked_committing name None t = record { first = t.first; drawn = t.drawn; noted = name ∷ t.noted; wrote = t.wrote; read = t.read; is = refl }
 worked_committing name (Some bytes) t = record { first = t.first; drawn = t.drawn; noted = name ∷ t.noted; wrote = (name, bytes) ∷ t.wrote; read = t.read; is = refl }
-
-pub went_same : (s : Start) (old new : List Moment) (who : ℕ) → GrewBy s who old new → ticket_of s new who ≡ ticket_of s old who → Went s old new who
-went_same s old new who grew same = record { grew = grew; worked = subst (λ (t : Ticket). Worked (ticket_of s old who) t) (sym same) (worked_none (ticket_of s old who)) }
 
 -- a part that was begun is refused
 pub went_refused : (s : Start) (old mid new : List Moment) (who : ℕ) → GrewBy s who old mid → GrewBy s who mid new → ticket_of s mid who ≡ ticket_of s old who → ticket_of s new who ≡ ticket_of s mid who → Went s old new who

@@ -1,20 +1,18 @@
--- Histories and tickets that go on.
-use Rattle.std.proofs.Common.{◌≡◌, ℕ, true, List, Option, Some, None, IfSome, refl, ap, ◌∙◌}
+-- Histories, tickets and shards that go on.
+use Rattle.std.proofs.Common.{◌≡◌, ℕ, true, List, [], ◌∷◌, ◌++◌, Option, Some, None, Result, Ok, Err, OnOk, OnErr, IfOk, inl, inr, refl, sym, ap, ◌∙◌, subst}
+use Rattle.esr_names.specs.declared.ids.Id.{Id}
+use Rattle.esr_model.specs.Names.{ShardIndex}
+use Rattle.esr_model.specs.Values.{Has}
 use Rattle.esr_core.specs.World.{Ticket}
-use Rattle.esr_core.specs.Entry.{Step, Refusal, Refused, Moment}
-use Rattle.esr_source.specs.Origin.{Origin}
-use Rattle.esr_desk.specs.declared.refusal.StepRefusal.{StepRefusal}
-use Rattle.esr_desk.specs.declared.refusal.StepRefusal.TheVariants as steps
-use Rattle.esr_desk.specs.declared.refusal.EntryRefusal.{EntryRefusal}
-use Rattle.esr_desk.specs.declared.refusal.EntryRefusal.TheVariants as refusals
-use Rattle.esr_desk.specs.Refusals.{refusal_of, told_refusal}
-use Rattle.esr_desk.specs.Halts.{Halts}
+use Rattle.esr_core.specs.Entry.{Step, FetchStep, Reply, WasFetched, Moment}
+use Rattle.esr_source.specs.declared.files.ListedFile.{ListedFile}
+use Rattle.esr_source.specs.Told.{ShardTold}
 use Rattle.esr_desk.specs.Start.{Start, ticket_of}
-use Rattle.esr_desk.specs.Outcome.{Stepped, Refusing, Spends}
-use Rattle.esr_desk.specs.Last.{IsLast, WasRefused}
-use Rattle.esr_desk.specs.Grew.{grew_by_none, grew_by_on}
-use Rattle.esr_upload.specs.Refusable.{MayRefuseFailed, MayRefuseWork}
-use Rattle.esr_upload.specs.Trouble.{IsWorkRefusal}
+use Rattle.esr_desk.specs.Evidence.{HadReply}
+use Rattle.esr_desk.specs.Grew.{GrewBy, grew_by_none, grew_by_on}
+use Rattle.esr_parts.specs.Reads.{ReadOn}
+use Rattle.esr_upload.specs.Base.{HasFetched}
+use Rattle.esr_upload.specs.Surveyed.{SameShard}
 use Rattle.esr_upload.specs.Worked.{Worked, Went}
 
 pub worked_none : (t : Ticket) → Worked t t
@@ -39,34 +37,51 @@ went_on s old mid new who first second = record {
   worked = worked_on (ticket_of s old who) (ticket_of s mid who) (ticket_of s new who) first.worked second.worked;
 }
 
--- ---- what a step says
+-- a history that went on, without the ticket
+pub went_same : (s : Start) (old new : List Moment) (who : ℕ) → GrewBy s who old new → ticket_of s new who ≡ ticket_of s old who → Went s old new who
+went_same s old new who grew same = record { grew = grew; worked = subst (λ (t : Ticket). Worked (ticket_of s old who) t) (sym same) (worked_none (ticket_of s old who)) }
 
--- a step that was refused is the last entry
-refusing_last : (s : Start) (old new : List Moment) (who : ℕ) (step : Step) (refusal : Option Refusal) → Refusing s old new who step refusal → WasRefused new who refusal
-refusing_last s old new who step None h = tt
-refusing_last s old new who step (Some refusal) h = (step, record { front = h.front; image = h.image; is = h.is })
+-- ---- what the history has it keeps
 
-refusing_may : (s : Start) (old new : List Moment) (who : ℕ) (step : Step) (refusal : Option Refusal) → ((r : Refusal) → Stepped s old new who step (Refused r) → MayRefuseWork r) → Refusing s old new who step refusal → IfSome refusal MayRefuseWork
-refusing_may s old new who step None may h = tt
-refusing_may s old new who step (Some refusal) may h = may refusal h
+has_front : (old others : List Moment) (m : Moment) → Has old m → Has (old ++ others) m
+has_front [] others m h = absurd h
+has_front (x ∷ old) others m (inl same) = inl same
+has_front (x ∷ old) others m (inr h) = inr (has_front old others m h)
 
-pub refusal_last : (s : Start) (old new : List Moment) (who : ℕ) (step : Step) (e : StepRefusal) → ((r : Refusal) → Stepped s old new who step (Refused r) → MayRefuseWork r) → Refusing s old new who step (told_refusal e) × Spends s new e → IsWorkRefusal s new who e
-refusal_last s old new who step e may h = ((refusing_last s old new who step (told_refusal e) h.0, h.1), refusing_may s old new who step (told_refusal e) may h.0)
+had_later : (s : Start) (old new : List Moment) (who : ℕ) (step : Step) (reply : Reply) → GrewBy s who old new → HadReply old who step reply → HadReply new who step reply
+had_later s old new who step reply grew had =
+    let m : Moment = record { entry = record { who = who; step = step; reply = reply }; image = had.image } in
+    record { image = had.image; there = subst (λ (log : List Moment). Has log m) (sym grew.is) (has_front old grew.more m had.there) }
 
--- ---- what stops a unit
-
-failed_halts : (s : Start) (log : List Moment) (who : ℕ) (step : Step) (e : EntryRefusal) → IsLast log who step (Refused (refusal_of e)) → MayRefuseFailed (refusal_of e) → Halts s log who (steps.Refused e)
-failed_halts s log who step (refusals.Deposed entry) last may = (step, last)
-failed_halts s log who step e last may = absurd may
-
--- a report that was refused stops the unit
-pub failed_refusal : (s : Start) (old new : List Moment) (who : ℕ) (step : Step) (e : StepRefusal) → ((r : Refusal) → Stepped s old new who step (Refused r) → MayRefuseFailed r) → Refusing s old new who step (told_refusal e) × Spends s new e → Halts s new who e
-failed_refusal s old new who step steps.Memory may h = tt
-failed_refusal s old new who step steps.TurnsSpent may h = h.1
-failed_refusal s old new who step (steps.Refused e) may h = failed_halts s new who step e (record { front = h.0.front; image = h.0.image; is = h.0.is }) (may (refusal_of e) h.0)
+pub fetched_later : (s : Start) (old new : List Moment) (who index number : ℕ) (base : Option Id) → GrewBy s who old new → HasFetched old who index number base → HasFetched new who index number base
+fetched_later s old new who index number None grew had = tt
+fetched_later s old new who index number (Some g) grew had = had_later s old new who (FetchStep (ShardIndex index number g.number)) WasFetched grew had
 
 -- ---- what a shard says
 
+-- a shard that was read, and once more
+pub read_on : (a b c : ShardTold) → ReadOn a b → ReadOn b c → ReadOn a c
+read_on a b c first second = second ∙ ap (λ (t : ShardTold). record t { left = c.left }) first
+
+pub same_on : (a b c : ShardTold) → SameShard a b → SameShard b c → SameShard a c
+same_on a b c first second = second ∙ ap (λ (t : ShardTold). record t { listed = c.listed; left = c.left }) first
+
+-- one that was read is the same
+pub same_read : (a b : ShardTold) → ReadOn a b → SameShard a b
+same_read a b is = is ∙ ap (λ (l : Option (List ListedFile)). record a { listed = l; left = b.left }) (sym (ap (λ (t : ShardTold). t.listed) is))
+
+-- so is one that was listed, or wasn't
+pub same_listed : {E : Type 0} (r : Result (List ListedFile) E) (a b : ShardTold) → IfOk r (λ fs. b ≡ record a { listed = Some fs }) → OnErr r (b ≡ a) → SameShard a b
+same_listed (Ok fs) a b ok err =
+    ok ∙ ap (λ (l : Option (List ListedFile)). record a { listed = l }) (sym (ap (λ (t : ShardTold). t.listed) ok))
+    ∙ ap (λ (l : Option (List ℕ)). record a { listed = b.listed; left = l }) (sym (ap (λ (t : ShardTold). t.left) ok))
+same_listed (Err e) a b ok err = subst (λ (t : ShardTold). SameShard a t) (sym err) refl
+
+-- a start of a file reads on, whatever it is answered
+pub read_start : {E : Type 0} {T : Type 0} (r : Result T E) (a b : ShardTold) (o : Option (List ℕ)) → OnOk r (b ≡ record a { left = o }) → OnErr r (b ≡ a) → ReadOn a b
+read_start (Ok x) a b o ok err = ok ∙ ap (λ (p : Option (List ℕ)). record a { left = p }) (sym (ap (λ (t : ShardTold). t.left) ok))
+read_start (Err e) a b o ok err = subst (λ (t : ShardTold). ReadOn a t) (sym err) refl
+
 -- a shard that is sure stays without a fault, one call after another
-pub steady_on : (a b : Origin) (x y z : ℕ) → b ≡ a → (a.is_sure ≡ true → y ≡ x) → (b.is_sure ≡ true → z ≡ y) → a.is_sure ≡ true → z ≡ x
-steady_on a b x y z same first second sure = second (ap (λ (o : Origin). o.is_sure) same ∙ sure) ∙ first sure
+pub steady_on : (a b : ShardTold) (x y z : ℕ) → SameShard a b → (a.is_sure ≡ true → y ≡ x) → (b.is_sure ≡ true → z ≡ y) → a.is_sure ≡ true → z ≡ x
+steady_on a b x y z same first second sure = second (ap (λ (t : ShardTold). t.is_sure) same ∙ sure) ∙ first sure

@@ -1,4 +1,3 @@
-pub mod StepRefusals
 pub mod Going
 pub mod Noting
 pub mod Pieces
@@ -18,5 +17,4 @@ pub mod Faults
 pub mod Closing
 pub mod Drawing
 pub mod Refusing
-pub mod Shown
 pub mod Untold

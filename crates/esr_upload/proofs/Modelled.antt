@@ -1,5 +1,5 @@
 -- Planned files as the definitions see them.
-use Rattle.std.proofs.Common.{◌≡◌, ℕ, ◌+◌, ◌<◌, IfSome, List, [], ◌∷◌, ◌++◌, length, map, sum_by, Option, Some, None, option_map, refl, sym, ◌∙◌, ap, subst, arith}
+use Rattle.std.proofs.Common.{◌≡◌, ℕ, ◌+◌, ◌<◌, IfSome, IsSomeAnd, List, [], ◌∷◌, ◌++◌, length, map, sum_by, Option, Some, None, option_map, refl, sym, ◌∙◌, ap, subst, arith}
 use Rattle.std.specs.List.{AllByRecursion}
 use Rattle.std.proofs.lemmas.List.{length-map}
 use Rattle.std.proofs.lemmas.List.Sums.{sum_by-cons}
@@ -78,6 +78,13 @@ pub as_many : (ps : List Planned) (fs : List (Bytes × Bytes)) → map file_plan
 as_many ps fs named = sym (length-map ps file_planned) ∙ ap (λ (l : List (Bytes × Print)). length l) named ∙ length-map fs printed
 
 -- a planned file is one of those that are told
+pub reads_listed : (told : Option (List (Bytes × Bytes))) (listed : Option (List ListedFile)) (ps : List Planned) (i : ℕ) → Reads told listed ps → i < length ps → IsSomeAnd listed (λ fs. i < length fs)
+reads_listed told None ps i reads less = absurd reads.many
+reads_listed told (Some fs) ps i reads less =
+    let many : length fs ≡ length reads.files = reads.many in
+    let all : length ps ≡ length reads.files = as_many ps reads.files reads.named in
+    omega (arith, many, all, less)
+
 pub reads_place : (told : Option (List (Bytes × Bytes))) (listed : Option (List ListedFile)) (ps : List Planned) (i : ℕ) → Reads told listed ps → i < length ps → IfSome told (λ fs. i < length fs)
 reads_place None listed ps i reads lt = tt
 reads_place (Some fs) listed ps i reads lt =

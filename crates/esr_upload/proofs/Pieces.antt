@@ -1,5 +1,5 @@
 -- The parts of a file, one after another.
-use Rattle.std.proofs.Common.{◌≡◌, ◌⊎◌, inl, inr, ℕ, zero, suc, ◌+◌, ◌-◌, ◌*◌, ◌/◌, ◌%◌, ◌<◌, ◌≤◌, ◌^◌, min, nat_le, Bool, true, false, List, [], ◌∷◌, ◌++◌, length, take, drop, Option, Some, None, refl, sym, ap, ◌∙◌, subst, arith, add-one, append_assoc, length-append, if◌then◌else◌}
+use Rattle.std.proofs.Common.{◌≡◌, ◌⊎◌, inl, inr, ℕ, zero, suc, ◌+◌, ◌-◌, ◌*◌, ◌/◌, ◌%◌, ◌<◌, ◌≤◌, ◌^◌, min, nat_le, Bool, true, false, List, [], ◌∷◌, ◌++◌, length, take, drop, Option, Some, None, option_map, slice_get, IfSome, refl, sym, ap, ◌∙◌, subst, arith, add-one, append_assoc, length-append, if◌then◌else◌}
 use Rattle.std.proofs.lemmas.Bool.{cases_Bool, leb-true, leb-false}
 use Rattle.std.proofs.lemmas.List.{length-drop, take_all, take-append-le, drop-append-le}
 use Rattle.std.proofs.Math.Nat.{le-mul_of_pos_right}
@@ -10,7 +10,7 @@ use Rattle.esr_names.specs.declared.blob.BlobName.{BlobName as CodeName}
 use Rattle.esr_names.specs.declared.blob.BlobName.TheVariants as code
 use Rattle.esr_names.specs.Layout.{IsName}
 use Rattle.esr_model.specs.Names.{BlobName, File, Part}
-use Rattle.esr_model.specs.Values.{Bytes, Has}
+use Rattle.esr_model.specs.Values.{Bytes, Has, Formats, files_told, or_no_files}
 use Rattle.esr_model.specs.Parts.{part_count, parts_from}
 use Rattle.esr_model.specs.Uploads.{pieces, pairs, file_blobs}
 use Rattle.esr_core.specs.World.{Ticket, Work, Shard, Swap, swap_of}
@@ -18,16 +18,21 @@ use Rattle.esr_core.specs.Steps.{Drew}
 use Rattle.esr_core.specs.Ready.{IsShard}
 use Rattle.esr_core.specs.After.{committing}
 use Rattle.esr_core.specs.Texts.{IsMetaOf}
+use Rattle.esr_core.specs.Allowed.{IsNumbered, IsPartOfOne}
 use Rattle.esr_hash.specs.declared.hasher.Hasher.{Hasher}
+use Rattle.esr_hash.specs.declared.print.Print.{Print}
+use Rattle.esr_source.specs.Files.{bytes_at}
 use Rattle.esr_hash.specs.Fed.{HasFed}
 use Rattle.esr_shardidx.specs.declared.entry.FileEntry.{FileEntry as CodeEntry}
 use Rattle.esr_shardidx.specs.Parts.{part_name, part_count as code_count}
 use Rattle.esr_formats.specs.Names.{name_of}
+use Rattle.esr_formats.specs.Formats.{formats}
 use Rattle.esr_formats.specs.Shards.{entry_of}
 use Rattle.esr_desk.specs.Start.{Start, formats_of, told_bytes}
+use Rattle.esr_desk.specs.Sources.{TellSame}
 use Rattle.esr_desk.specs.Taken.{after_writes}
-use Rattle.esr_upload.specs.Stored.{MayStore, IsAt, IsFileBelow, AreBelow}
-use Rattle.esr_upload.specs.Pieces.{CanStore, blob_name, cut, PutParts}
+use Rattle.esr_upload.specs.Stored.{MayStore, IsAt, IsToldBy, HasPrint, IsFileBelow, AreBelow}
+use Rattle.esr_upload.specs.Pieces.{CanStore, AreNumbered, blob_name, cut, PutParts}
 use Rattle.esr_upload.proofs.Writing.{writes_on, writes_keep, writes_at}
 use Rattle.esr_upload.proofs.Noting.{noted_all}
 
@@ -44,19 +49,32 @@ no_part_meta i k x p u (inr (inl is)) = cc
 no_part_meta i k x p u (inr (inr is)) = let e = is.1 in cc
 
 -- the unit of a shard swaps nothing
-no_swap : (s : Start) (t : Ticket) (i k : ℕ) → t.work ≡ Shard i k → ◌≡◌ {A = Option Swap} (swap_of (formats_of s) t.work t.root) None
+pub no_swap : (s : Start) (t : Ticket) (i k : ℕ) → t.work ≡ Shard i k → ◌≡◌ {A = Option Swap} (swap_of (formats_of s) t.work t.root) None
 no_swap s t i k is = subst (λ (w : Work). ◌≡◌ {A = Option Swap} (swap_of (formats_of s) w t.root) None) (sym is) refl
 
-of_shard : (t : Ticket) (i k : ℕ) → t.work ≡ Shard i k → IsShard t.work
+pub of_shard : (t : Ticket) (i k : ℕ) → t.work ≡ Shard i k → IsShard t.work
 of_shard t i k is = subst IsShard (sym is) tt
 
 -- the name of the next part of a file isn't noted
 abbrev IsFresh : Ticket → CodeName → Type 0
 IsFresh t name = Has t.noted (name_of name) → ⊥
 
-whole_can : (s : Start) (t : Ticket) (at : ShardId) (e : CodeEntry) → IsAt t at.index.number at.number → Drew t e.name.number → at.number < 1024 → IsFresh t (code.Whole at e.name) → CanStore s t (code.Whole at e.name)
+-- a part has the number that it is to have
+abbrev HasNumber : Start → Ticket → ShardId → CodeName → Type 0
+HasNumber s t at name = IsNumbered (formats_of s) s.part_size t at.number (name_of name) t.source
+
+own_number : (s : Start) (t : Ticket) (at : ShardId) (name : CodeName) → t.work ≡ Shard at.index.number at.number → HasNumber s t at name → (i k : ℕ) → t.work ≡ Shard i k → IsNumbered (formats_of s) s.part_size t k (name_of name) t.source
+own_number s t at name work has i k is =
+    let both : Shard at.index.number at.number ≡ Shard i k = sym work ∙ is in
+    let same : at.number ≡ k = cc in
+    subst (λ (n : ℕ). IsNumbered (formats_of s) s.part_size t n (name_of name) t.source) same has
+
+whole_can : (s : Start) (t : Ticket) (at : ShardId) (e : CodeEntry) → IsAt t at.index.number at.number → Drew t e.name.number → at.number < 1024 → HasNumber s t at (code.Whole at e.name) → IsFresh t (code.Whole at e.name) → CanStore s t (code.Whole at e.name)
 unfolding IsName
-whole_can s t at e is drew few fresh = record {
+whole_can s t at e is drew few part fresh = record {
+  index = at.index.number;
+  number = at.number;
+  work = is.work;
   layout = few;
   own = λ meta. no_file_meta at.index.number at.number e.name.number meta.0 meta.1;
   may = λ bytes. record {
@@ -65,12 +83,16 @@ whole_can s t at e is drew few fresh = record {
     may = inr (no_swap s t at.index.number at.number is.work, (is.work, drew), of_shard t at.index.number at.number is.work);
     stored = λ same. cc;
     once = λ other noted. fresh noted;
+    numbered = own_number s t at (code.Whole at e.name) is.work part;
   };
 }
 
-part_can : (s : Start) (t : Ticket) (at : ShardId) (e : CodeEntry) (k : ℕ) → IsAt t at.index.number at.number → Drew t e.name.number → at.number < 1024 → k < 2 ^ 61 → IsFresh t (code.Part at e.name k) → CanStore s t (code.Part at e.name k)
+part_can : (s : Start) (t : Ticket) (at : ShardId) (e : CodeEntry) (k : ℕ) → IsAt t at.index.number at.number → Drew t e.name.number → at.number < 1024 → k < 2 ^ 61 → HasNumber s t at (code.Part at e.name k) → IsFresh t (code.Part at e.name k) → CanStore s t (code.Part at e.name k)
 unfolding IsName
-part_can s t at e k is drew few low fresh = record {
+part_can s t at e k is drew few low part fresh = record {
+  index = at.index.number;
+  number = at.number;
+  work = is.work;
   layout = (few, low);
   own = λ meta. no_part_meta at.index.number at.number e.name.number k meta.0 meta.1;
   may = λ bytes. record {
@@ -79,12 +101,13 @@ part_can s t at e k is drew few low fresh = record {
     may = inr (no_swap s t at.index.number at.number is.work, (is.work, drew), of_shard t at.index.number at.number is.work);
     stored = λ same. cc;
     once = λ other noted. fresh noted;
+    numbered = own_number s t at (code.Part at e.name k) is.work part;
   };
 }
 
-can_store : (s : Start) (t : Ticket) (at : ShardId) (e : CodeEntry) (k : ℕ) → IsAt t at.index.number at.number → Drew t e.name.number → at.number < 1024 → k < 2 ^ 61 → IsFresh t (part_name at e k) → CanStore s t (part_name at e k)
+can_store : (s : Start) (t : Ticket) (at : ShardId) (e : CodeEntry) (k : ℕ) → IsAt t at.index.number at.number → Drew t e.name.number → at.number < 1024 → k < 2 ^ 61 → HasNumber s t at (part_name at e k) → IsFresh t (part_name at e k) → CanStore s t (part_name at e k)
 can_store s t at e k is drew few low =
-    elim (nat_le e.print.len e.part_size) as (λ b. IsFresh t (if b then code.Whole at e.name else code.Part at e.name k) → CanStore s t (if b then code.Whole at e.name else code.Part at e.name k)) [
+    elim (nat_le e.print.len e.part_size) as (λ b. HasNumber s t at (if b then code.Whole at e.name else code.Part at e.name k) → IsFresh t (if b then code.Whole at e.name else code.Part at e.name k) → CanStore s t (if b then code.Whole at e.name else code.Part at e.name k)) [
       | true ↦ whole_can s t at e is drew few
       | false ↦ part_can s t at e k is drew few low
     ]
@@ -133,10 +156,18 @@ next_fresh s old bytes at e k below within noted =
       | inr part ↦ parts_differ at e part.0 k part.1 within part.2
     ]
 
+-- what the blobs of the ticket leave of its address
+number_on : (f : Formats) (size : ℕ) (a b : Ticket) (n : ℕ) (name : BlobName) → b.place ≡ a.place → b.name ≡ a.name → (o : Option ℕ) → IsNumbered f size a n name o → IsNumbered f size b n name o
+number_on f size a b n name place same None has = λ known.
+    let of_place : f.known a.place b.name n ≡ true = subst (λ (p : Bytes). f.known p b.name n ≡ true) place known in
+    let of_name : f.known a.place a.name n ≡ true = subst (λ (x : Bytes). f.known a.place x n ≡ true) same of_place in
+    subst (λ (p : Bytes). IsPartOfOne size (files_told f p b.name n) name) (sym place) (subst (λ (x : Bytes). IsPartOfOne size (files_told f a.place x n) name) (sym same) (has of_name))
+number_on f size a b n name place same (Some source) has = has
+
 -- the next part may be stored
-pub can_store_next : (s : Start) (old now : Ticket) (bytes : Bytes) (at : ShardId) (e : CodeEntry) (k : ℕ) (name : CodeName) → MayStore old at.index.number at.number e.name.number → at.number < 1024 → 1 ≤ e.part_size → k * e.part_size < 2 ^ 61
+pub can_store_next : (s : Start) (old now : Ticket) (bytes : Bytes) (at : ShardId) (e : CodeEntry) (k : ℕ) (name : CodeName) → MayStore old at.index.number at.number e.name.number → at.number < 1024 → AreNumbered s old at e → 1 ≤ e.part_size → k * e.part_size < 2 ^ 61
     → k < code_count e.print.len e.part_size → now ≡ after_writes s (cut (blob_name at e) e.part_size 0 k bytes) old → name ≡ part_name at e k → CanStore s now name
-can_store_next s old now bytes at e k name may few some low within is named =
+can_store_next s old now bytes at e k name may few numbered some low within is named =
     let ws : List (BlobName × Bytes) = cut (blob_name at e) e.part_size 0 k bytes in
     let less : k ≤ k * e.part_size = le-mul_of_pos_right k some in
     let number : k < 2 ^ 61 = omega (arith, less, low) in
@@ -147,7 +178,12 @@ can_store_next s old now bytes at e k name may few some low within is named =
     let out = writes_at s ws old now at.index.number at.number is (record { out = may.out; unsettled = may.unsettled; work = may.work }) in
     let drew : Drew now e.name.number = record { from = omega (arith, first, from); below = omega (arith, first, drawn, end) } in
     let fresh : IsFresh now (part_name at e k) = subst (λ (t : Ticket). IsFresh t (part_name at e k)) (sym is) (next_fresh s old bytes at e k may.below within) in
-    subst (λ (n : CodeName). CanStore s now n) (sym named) (can_store s now at e k out drew few number fresh)
+    let place : now.place ≡ old.place = writes_keep (λ (t : Ticket). t.place) (λ t n w. refl) s ws old now is in
+    let same : now.name ≡ old.name = writes_keep (λ (t : Ticket). t.name) (λ t n w. refl) s ws old now is in
+    let source : now.source ≡ old.source = writes_keep (λ (t : Ticket). t.source) (λ t n w. refl) s ws old now is in
+    let has : HasNumber s now at (part_name at e k) =
+    subst (λ (o : Option ℕ). IsNumbered (formats_of s) s.part_size now at.number (blob_name at e k) o) (sym source) (number_on (formats_of s) s.part_size old now at.number (blob_name at e k) place same old.source (numbered k within)) in
+    subst (λ (n : CodeName). CanStore s now n) (sym named) (can_store s now at e k out drew few number has fresh)
 
 -- ---- one part more
 
@@ -248,6 +284,47 @@ same_count : (len size : ℕ) → 1 ≤ size → code_count len size ≡ part_co
 same_count len size some =
     let sum : len + size - 1 ≡ len + (size - 1) = omega (arith, some) in
     ap (λ (n : ℕ). if nat_le len size then 1 else n / size) sum
+
+-- ---- the numbers of a told file's parts
+
+-- the file at a place within the list has the length of its entry
+told_length : (fs : List (Bytes × Bytes)) (i : ℕ) (e : CodeEntry) → i < length fs → HasPrint (option_map (λ (f : Bytes × Bytes). f.1) (slice_get fs i)) e → (f : Bytes × Bytes) × Has fs f × (length f.1 ≡ e.print.len)
+told_length [] i e within print = absurd (omega (arith, within))
+told_length (f ∷ fs) zero e within print = (f, inl refl, ap (λ (p : Print). p.len) print)
+told_length (f ∷ fs) (suc i) e within print = let rest = told_length fs i e (omega (arith, within)) print in (rest.0, inr rest.1, rest.2)
+
+one_of : (at : ShardId) (e : CodeEntry) (k size : ℕ) (files : List (Bytes × Bytes)) (f : Bytes × Bytes) → Has files f → length f.1 ≡ e.print.len → e.part_size ≡ size → 1 ≤ e.part_size → k < code_count e.print.len e.part_size → IsPartOfOne size files (blob_name at e k)
+one_of at e k size files f has len cut some less = by_fit (nat_le e.print.len e.part_size) refl
+  where
+    by_fit : (b : Bool) → nat_le e.print.len e.part_size ≡ b → IsPartOfOne size files (name_of (if b then code.Whole at e.name else code.Part at e.name k))
+    by_fit true fits =
+        let short : e.print.len ≤ e.part_size = leb-true e.print.len e.part_size fits in
+        let within : length f.1 ≤ size = omega (arith, short, len, cut) in
+        (f, has, within)
+    by_fit false longer =
+        let long : e.part_size < e.print.len = leb-false e.print.len e.part_size longer in
+        let over : size < length f.1 = omega (arith, long, len, cut) in
+        let number : k < part_count e.print.len e.part_size = subst (λ (n : ℕ). k < n) (same_count e.print.len e.part_size some) less in
+        let of_size : k < part_count e.print.len size = subst (λ (n : ℕ). k < part_count e.print.len n) cut number in
+        (f, has, over, subst (λ (n : ℕ). k < part_count n size) (sym len) of_size)
+
+none_told : (fs : List (Bytes × Bytes)) → ◌≡◌ {A = Option (List (Bytes × Bytes))} None (Some fs) → ⊥
+none_told fs is = cc
+
+-- the parts of a file of the list have the numbers of its parts
+pub all_numbered : (s : Start) (told : Option (List (Bytes × Bytes))) (file : ℕ) (at : ShardId) (e : CodeEntry) (t : Ticket) → IsToldBy s told at.number t → IfSome told (λ fs. file < length fs) → HasPrint (bytes_at told file) e → e.part_size ≡ s.part_size → 1 ≤ e.part_size
+    → AreNumbered s t at e
+unfolding formats
+all_numbered s told file at e t by within print whole some = λ k less.
+    subst (λ (o : Option ℕ). IsNumbered (formats_of s) s.part_size t at.number (blob_name at e k) o) (sym by.source_is) (λ known. by_told told within print k less (by.tells known))
+  where
+    by_told : (o : Option (List (Bytes × Bytes))) → IfSome o (λ fs. file < length fs) → HasPrint (bytes_at o file) e → (k : ℕ) → k < code_count e.print.len e.part_size → TellSame o (s.told t.place t.name at.number)
+        → IsPartOfOne s.part_size (or_no_files (s.told t.place t.name at.number)) (blob_name at e k)
+    by_told None within print k less same = absurd (none_told same.0 same.1)
+    by_told (Some fs) within print k less same =
+        let one = told_length fs file e within print in
+        let here : ◌≡◌ {A = Option (List (Bytes × Bytes))} (s.told t.place t.name at.number) (Some fs) = same.2 ∙ sym same.1 in
+        subst (λ (o : Option (List (Bytes × Bytes))). IsPartOfOne s.part_size (or_no_files o) (blob_name at e k)) (sym here) (one_of at e k s.part_size fs one.0 one.1 one.2 whole some less)
 
 pub all_put : (s : Start) (left_old left_new : Option Bytes) (hasher : Hasher) (at : ShardId) (e : CodeEntry) (old new : Ticket) (n end : ℕ) (bytes : Bytes) → 1 ≤ e.part_size → n ≡ end → end ≡ code_count e.print.len e.part_size
     → Consumes left_old left_new bytes → HasFed hasher bytes → length bytes ≡ min (n * e.part_size) e.print.len → new ≡ after_writes s (cut (blob_name at e) e.part_size 0 n bytes) old

@@ -6,7 +6,7 @@ use Rattle.esr_core.specs.World.{Ticket}
 use Rattle.esr_core.specs.After.{committing}
 use Rattle.esr_desk.specs.Start.{Start, told_bytes}
 use Rattle.esr_desk.specs.Taken.{after_writes}
-use Rattle.esr_upload.specs.Stored.{IsAt}
+use Rattle.esr_upload.specs.Stored.{IsAt, IsToldBy}
 
 pub writes_on : (s : Start) (ws us : List (BlobName × Bytes)) (t : Ticket) → after_writes s (ws ++ us) t ≡ after_writes s us (after_writes s ws t)
 writes_on s [] us t = refl
@@ -47,6 +47,17 @@ writes_at s ws old new index number is at = record {
   out = writes_keep (λ (t : Ticket). t.out) (λ t n w. refl) s ws old new is ∙ at.out;
   unsettled = writes_keep (λ (t : Ticket). t.settled) (λ t n w. refl) s ws old new is ∙ at.unsettled;
   work = writes_keep (λ (t : Ticket). t.work) (λ t n w. refl) s ws old new is ∙ at.work;
+}
+
+pub told_on : (s : Start) (told : Option (List (Bytes × Bytes))) (number : ℕ) (ws : List (BlobName × Bytes)) (old new : Ticket) → new ≡ after_writes s ws old → IsToldBy s told number old → IsToldBy s told number new
+told_on s told number ws old new is by = record {
+  source_is = writes_keep (λ (t : Ticket). t.source) (λ t n w. refl) s ws old new is ∙ by.source_is;
+  tells = λ known.
+      let place : new.place ≡ old.place = writes_keep (λ (t : Ticket). t.place) (λ t n w. refl) s ws old new is in
+      let name : new.name ≡ old.name = writes_keep (λ (t : Ticket). t.name) (λ t n w. refl) s ws old new is in
+      let known_old = subst (λ (n : Bytes). s.known old.place n number ≡ true) name (subst (λ (p : Bytes). s.known p new.name number ≡ true) place known) in
+      let same = by.tells known_old in
+      (same.0, same.1, ap (λ (n : Bytes). s.told new.place n number) name ∙ ap (λ (p : Bytes). s.told p old.name number) place ∙ same.2);
 }
 
 -- ---- what was written

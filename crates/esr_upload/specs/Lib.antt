@@ -1,11 +1,10 @@
 pub mod Worked
-pub mod Refusable
 pub mod Trouble
 pub mod Base
 pub mod Surveyed
 pub mod Stored
 pub mod Pieces
-pub mod Cause
+pub mod Ended
 pub mod Refused
 pub mod Entries
 pub mod Published

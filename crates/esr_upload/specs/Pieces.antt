@@ -7,36 +7,36 @@ use Rattle.esr_names.specs.Layout.{IsName}
 use Rattle.esr_model.specs.Names.{BlobName}
 use Rattle.esr_model.specs.Values.{Bytes}
 use Rattle.esr_model.specs.Uploads.{file_blobs}
-use Rattle.esr_core.specs.World.{Ticket}
+use Rattle.esr_core.specs.World.{Ticket, Shard}
 use Rattle.esr_core.specs.Entry.{Moment}
 use Rattle.esr_core.specs.After.{committing}
-use Rattle.esr_core.specs.Allowed.{IsMetadata}
+use Rattle.esr_core.specs.Allowed.{IsMetadata, IsNumbered}
 use Rattle.esr_hash.specs.declared.hasher.Hasher.{Hasher}
 use Rattle.esr_hash.specs.Fed.{HasFed}
 use Rattle.esr_parts.specs.Reads.{Fed}
 use Rattle.esr_shardidx.specs.declared.entry.FileEntry.{FileEntry as CodeEntry}
-use Rattle.esr_shardidx.specs.Parts.{part_name}
+use Rattle.esr_shardidx.specs.Parts.{part_name, part_count as code_count}
 use Rattle.esr_formats.specs.Names.{name_of}
 use Rattle.esr_formats.specs.Shards.{entry_of}
 use Rattle.esr_desk.specs.declared.refusal.StepRefusal.TheVariants.{Memory}
-use Rattle.esr_desk.specs.Start.{Start, told_bytes}
+use Rattle.esr_desk.specs.Start.{Start, formats_of, told_bytes}
 use Rattle.esr_desk.specs.Conditions.{CanCommit}
 use Rattle.esr_desk.specs.Taken.{after_writes}
 use Rattle.esr_desk.specs.Told.{TellsAll}
-use Rattle.esr_upload.specs.declared.trouble.Trouble.{Trouble}
-use Rattle.esr_upload.specs.declared.trouble.Trouble.TheVariants as troubles
+use Rattle.esr_unit.specs.declared.trouble.Trouble.{Trouble}
+use Rattle.esr_unit.specs.declared.trouble.Trouble.TheVariants as troubles
 
 -- there was no memory to start a file, or its source failed
 abbrev pub IsOfStart : {S F : Type 0} → ℕ → Trouble S F → Type 0
 IsOfStart faults (troubles.Step refusal) = refusal ≡ Memory
-IsOfStart faults troubles.Source = 0 < faults
-IsOfStart faults (troubles.Stage stage) = ⊥
-IsOfStart faults (troubles.Fetch fetch) = ⊥
-IsOfStart faults (troubles.Changed first second) = ⊥
-IsOfStart faults (troubles.Base flaw) = ⊥
+IsOfStart faults troubles.Own = 0 < faults
+IsOfStart faults trouble = ⊥
 
--- a blob of the name may be stored, whatever its bytes
+-- the ticket is of a shard, and a blob of the name may be stored, whatever its bytes
 pub record CanStore (s : Start) (t : Ticket) (name : CodeName) : Type 0 where
+  pub index : ℕ
+  pub number : ℕ
+  pub work : t.work ≡ Shard index number
   pub layout : IsName name
   pub own : IsMetadata (name_of name) → ⊥
   pub may : (bytes : Bytes) → CanCommit s t (name_of name) bytes
@@ -52,6 +52,10 @@ pub record PutPart (s : Start) (left_old left_new : Option Bytes) (hasher_old ha
 -- the name of the part of that number
 abbrev pub blob_name : ShardId → CodeEntry → ℕ → BlobName
 blob_name at e k = name_of (part_name at e k)
+
+-- where the files of the ticket's shard are known, each part of the entry has the number of one of the parts of one of them
+abbrev pub AreNumbered : Start → Ticket → ShardId → CodeEntry → Type 0
+AreNumbered s t at e = (k : ℕ) → k < code_count e.print.len e.part_size → IsNumbered (formats_of s) s.part_size t at.number (blob_name at e k) t.source
 
 -- n pieces of the size, under the names from number j on
 unfoldable pub cut : (ℕ → BlobName) → ℕ → ℕ → ℕ → Bytes → List (BlobName × Bytes)

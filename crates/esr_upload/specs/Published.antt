@@ -19,8 +19,8 @@ use Rattle.esr_reuse.specs.Plans.{file_planned, Reuses}
 use Rattle.esr_desk.specs.declared.refusal.StepRefusal.TheVariants as steps
 use Rattle.esr_desk.specs.Start.{Start, formats_of}
 use Rattle.esr_desk.specs.Sources.{TellSame}
-use Rattle.esr_upload.specs.declared.trouble.Trouble.{Trouble}
-use Rattle.esr_upload.specs.declared.trouble.Trouble.TheVariants as troubles
+use Rattle.esr_unit.specs.declared.trouble.Trouble.{Trouble}
+use Rattle.esr_unit.specs.declared.trouble.Trouble.TheVariants as troubles
 use Rattle.esr_upload.specs.Base.{HasBase}
 use Rattle.esr_upload.specs.Entries.{new_count, len_planned}
 use Rattle.esr_upload.specs.Stored.{IsAt}
@@ -61,13 +61,8 @@ last_blobs at generation snap index = snap_blob at snap ∷ index_blob at genera
 -- what shows the trouble of a first reading
 abbrev pub ReadShown : {S F : Type 0} → ℕ → Trouble S F → Type 0
 ReadShown faults (troubles.Step steps.Memory) = Unit {0}
-ReadShown faults (troubles.Step steps.TurnsSpent) = ⊥
-ReadShown faults (troubles.Step (steps.Refused refusal)) = ⊥
-ReadShown faults troubles.Source = 0 < faults
-ReadShown faults (troubles.Stage stage) = ⊥
-ReadShown faults (troubles.Fetch fetch) = ⊥
-ReadShown faults (troubles.Changed first second) = ⊥
-ReadShown faults (troubles.Base flaw) = ⊥
+ReadShown faults troubles.Own = 0 < faults
+ReadShown faults trouble = ⊥
 
 -- the base was read, without a list of the snapshot; it is empty where there is none
 pub record HasIndex (s : Start) (index number : ℕ) (uuid : Id) (old new : Ticket) (base : IndexValue) : Type 0 where

@@ -1,21 +1,20 @@
 -- How the unit of a shard ends.
-use Rattle.std.specs.Prelude.{◌≡◌, ℕ, false, List, [], ◌∷◌, ◌++◌, Option, None}
-use Rattle.esr_model.specs.Image.{Image}
+use Rattle.std.specs.Prelude.{◌≡◌, ℕ, false, List, Option, None}
 use Rattle.esr_model.specs.Values.{Bytes, ShardResult}
 use Rattle.esr_core.specs.World.{Ticket}
-use Rattle.esr_core.specs.Entry.{DoneStep, FailedStep, HasEnded, Moment}
+use Rattle.esr_core.specs.Entry.{DoneStep, HasEnded, Moment}
 use Rattle.esr_progress.specs.declared.unit.Work.{Work}
 use Rattle.esr_progress.specs.declared.unit.Work.TheVariants as works
+use Rattle.esr_desk.specs.declared.hand.Hand.TheVariants as hands
 use Rattle.esr_desk.specs.declared.entry.Why.{Why}
 use Rattle.esr_desk.specs.declared.entry.Why.TheVariants as whys
-use Rattle.esr_desk.specs.declared.fault.By.{By}
 use Rattle.esr_desk.specs.declared.unit.UnitRefusal.{UnitRefusal}
 use Rattle.esr_desk.specs.declared.unit.UnitRefusal.TheVariants as units
-use Rattle.esr_desk.specs.Entries.{why_of}
 use Rattle.esr_desk.specs.Start.{Start, ticket_of}
 use Rattle.esr_desk.specs.Last.{IsLast}
 use Rattle.esr_desk.specs.Halts.{Halts}
-use Rattle.esr_desk.specs.Shown.{Counts, IsShown}
+use Rattle.esr_desk.specs.Evidence.{Evidence}
+use Rattle.esr_unit.specs.Fail.{HasFailed}
 use Rattle.esr_upload.specs.Worked.{Worked}
 
 -- the unit is of a shard
@@ -38,30 +37,12 @@ pub record HasDone (s : Start) (old new : List Moment) (who : ℕ) : Type 0 wher
 
 -- the files of which two prints differ aren't told
 abbrev pub IsChangeOfUntold : Option (List (Bytes × Bytes)) → Why → Type 0
-IsChangeOfUntold files whys.Depot = Unit {0}
-IsChangeOfUntold files whys.Source = Unit {0}
 IsChangeOfUntold files (whys.Changed first second) = files ≡ None
-IsChangeOfUntold files (whys.Absent name) = Unit {0}
-IsChangeOfUntold files (whys.Unreadable name reason) = Unit {0}
-IsChangeOfUntold files (whys.Ahead name) = Unit {0}
-IsChangeOfUntold files (whys.NameTaken name) = Unit {0}
-IsChangeOfUntold files (whys.IdsSpent next) = Unit {0}
-IsChangeOfUntold files (whys.GenerationsSpent number) = Unit {0}
-IsChangeOfUntold files whys.Target = Unit {0}
-IsChangeOfUntold files (whys.Misprinted name stated found) = Unit {0}
-IsChangeOfUntold files (whys.Disagreeing name other) = Unit {0}
-
--- the last entry tells that the unit failed, with a cause that was shown before it
-pub record HasFailed {S F H T : Type 0} (c : Counts S F H T) (files : Option (List (Bytes × Bytes))) (s : Start) (log : List Moment) (who : ℕ) (why : Why) : Type 0 where
-  pub front : List Moment
-  pub image : Option Image
-  pub is : log ≡ front ++ record { entry = record { who = who; step = FailedStep (why_of why); reply = HasEnded }; image = image } ∷ []
-  pub by : By S F H T
-  pub shown : IsShown c s front who (why_of why) by
-  pub untold : IsChangeOfUntold files why
+IsChangeOfUntold files why = Unit {0}
 
 -- it has failed and its ticket has ended, with the cause; or it was stopped with its ticket out, for no failure of its own
-abbrev pub IsUnitRefused : {S F H T : Type 0} → Counts S F H T → Option (List (Bytes × Bytes)) → Start → List Moment → List Moment → ℕ → UnitRefusal → Type 0
-IsUnitRefused c files s old new who (units.Failed why) =
-    ((worked : Ticket) × Worked (ticket_of s old who) worked × (ticket_of s new who ≡ record worked { out = false })) × HasFailed c files s new who why
-IsUnitRefused c files s old new who (units.Stopped refusal) = Worked (ticket_of s old who) (ticket_of s new who) × Halts s new who refusal
+abbrev pub IsUnitRefused : {S F H T : Type 0} → Evidence S F H T → Option (List (Bytes × Bytes)) → Start → List Moment → List Moment → ℕ → UnitRefusal → Type 0
+IsUnitRefused e files s old new who (units.Failed why) =
+    ((worked : Ticket) × Worked (ticket_of s old who) worked × (ticket_of s new who ≡ record worked { out = false })) × HasFailed hands.Unit e s new who why × IsChangeOfUntold files why
+IsUnitRefused e files s old new who (units.Stopped refusal) = Worked (ticket_of s old who) (ticket_of s new who) × Halts s new who refusal
+IsUnitRefused e files s old new who units.Stale = ⊥

@@ -1,5 +1,5 @@
 -- A file that is stored under an id.
-use Rattle.std.specs.Prelude.{◌≡◌, ℕ, ◌<◌, false, true, Option, Some, None}
+use Rattle.std.specs.Prelude.{◌≡◌, ℕ, ◌<◌, false, true, List, Option, Some, None}
 use Rattle.esr_model.specs.Names.{BlobName, File, Part}
 use Rattle.esr_model.specs.Values.{Bytes, Has}
 use Rattle.esr_model.specs.Uploads.{file_blobs}
@@ -10,6 +10,7 @@ use Rattle.esr_parts.specs.Reads.{Tells}
 use Rattle.esr_shardidx.specs.declared.entry.FileEntry.{FileEntry as CodeEntry}
 use Rattle.esr_formats.specs.Shards.{entry_of}
 use Rattle.esr_desk.specs.Start.{Start}
+use Rattle.esr_desk.specs.Sources.{TellSame}
 use Rattle.esr_desk.specs.Taken.{after_writes}
 
 -- the name is of a file with an id below this one
@@ -35,6 +36,11 @@ pub record IsAt (t : Ticket) (index number : ℕ) : Type 0 where
   pub out : t.out ≡ true
   pub unsettled : t.settled ≡ false
   pub work : t.work ≡ Shard index number
+
+-- the ticket copies nothing, and where the files of its address are known the shard tells the same
+pub record IsToldBy (s : Start) (told : Option (List (Bytes × Bytes))) (number : ℕ) (t : Ticket) : Type 0 where
+  pub source_is : t.source ≡ None
+  pub tells : s.known t.place t.name number ≡ true → TellSame told (s.told t.place t.name number)
 
 -- the entry has the print of the file, where that is told
 abbrev pub HasPrint : Option Bytes → CodeEntry → Type 0

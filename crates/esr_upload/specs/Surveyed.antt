@@ -6,8 +6,13 @@ use Rattle.esr_hash.specs.Prints.{print_of}
 use Rattle.esr_model.specs.Values.{Bytes}
 use Rattle.esr_source.specs.declared.files.ListedFile.{ListedFile}
 use Rattle.esr_source.specs.Files.{is_rising}
+use Rattle.esr_source.specs.Told.{ShardTold}
 use Rattle.esr_reuse.specs.declared.reuse.ReadFile.{ReadFile}
 use Rattle.esr_reuse.specs.Plans.{file_read}
+
+-- the shard may have been listed and read, and is as it was else
+abbrev pub SameShard : ShardTold → ShardTold → Type 0
+SameShard old new = new ≡ record old { listed = new.listed; left = new.left }
 
 -- a file's name, and the print of what was read
 abbrev pub printed : Bytes × Bytes → Bytes × Print

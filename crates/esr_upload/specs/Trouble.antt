@@ -1,56 +1,51 @@
 -- What shows a trouble.
-use Rattle.std.specs.Prelude.{◌≡◌, ◌≢◌, ℕ, ◌<◌, List, Option, Some, None, IfSome}
-use Rattle.esr_model.specs.Names.{BlobName, ShardIndex}
+use Rattle.std.specs.Prelude.{◌≡◌, ◌<◌, ℕ, List, [], Option, Some, None}
+use Rattle.std.proofs.Common.{arith}
 use Rattle.esr_model.specs.Values.{Bytes}
-use Rattle.esr_core.specs.Entry.{WasAbsent, Moment}
-use Rattle.esr_core.specs.World.{Ticket, Shard}
-use Rattle.esr_formats.specs.Reasons.{reason_of}
-use Rattle.esr_desk.specs.declared.refusal.StepRefusal.{StepRefusal}
-use Rattle.esr_desk.specs.Refusals.{told_refusal}
-use Rattle.esr_desk.specs.Start.{Start, ticket_of}
-use Rattle.esr_desk.specs.Last.{IsRefusal}
-use Rattle.esr_desk.specs.Damage.{HadFetch, WasUnreadable, WasAhead}
-use Rattle.esr_desk.specs.Shown.{IsUntold, Faulty}
-use Rattle.esr_upload.specs.Refusable.{MayRefuseWork}
-use Rattle.esr_upload.specs.declared.trouble.Flaw.{Flaw}
-use Rattle.esr_upload.specs.declared.trouble.Flaw.TheVariants as flaws
-use Rattle.esr_upload.specs.declared.trouble.Trouble.{Trouble}
-use Rattle.esr_upload.specs.declared.trouble.Trouble.TheVariants as troubles
+use Rattle.esr_core.specs.Entry.{Moment}
+use Rattle.esr_desk.specs.declared.hand.Hand.TheVariants as hands
+use Rattle.esr_desk.specs.declared.entry.Why.TheVariants as whys
+use Rattle.esr_desk.specs.Start.{Start}
+use Rattle.esr_desk.specs.Evidence.{Evidence}
+use Rattle.esr_unit.specs.declared.trouble.Trouble.{Trouble}
+use Rattle.esr_unit.specs.declared.trouble.Trouble.TheVariants as troubles
+use Rattle.esr_unit.specs.declared.ending.Ending.{Ending}
+use Rattle.esr_unit.specs.declared.ending.Ending.TheVariants as endings
+use Rattle.esr_unit.specs.Ending.{ending_by}
+use Rattle.esr_unit.specs.Shown.{EndingShown}
+use Rattle.esr_unit.specs.Shown as unit
 
--- what is wrong with a base of this name
-abbrev pub HasFlaw : Start → List Moment → ℕ → BlobName → Flaw → Type 0
-HasFlaw s log who name flaws.Absent = HadFetch log who name WasAbsent
-HasFlaw s log who name (flaws.Unreadable reason) = WasUnreadable s log who name (reason_of reason)
-HasFlaw s log who name flaws.Ahead = WasAhead s (ticket_of s log who) name
+-- the files of which two prints differ aren't told
+abbrev pub IsUntoldChange : {S F : Type 0} → Option (List (Bytes × Bytes)) → Trouble S F → Type 0
+IsUntoldChange files (troubles.Found (whys.Changed first second)) = files ≡ None
+IsUntoldChange files trouble = Unit {0}
 
--- the base of a shard's ticket has this flaw
-pub record BadBase (s : Start) (log : List Moment) (who : ℕ) (flaw : Flaw) : Type 0 where
-  pub index : ℕ
-  pub number : ℕ
-  pub base : ℕ
-  pub work : (ticket_of s log who).work ≡ Shard index number
-  pub base_is : (ticket_of s log who).base ≡ Some base
-  pub fault : HasFlaw s log who (ShardIndex index number base) flaw
+-- It is shown, of a shard with this count of faults, which tells these files. One that has no fault and tells that it has no file has
+-- neither failed nor changed.
+abbrev pub Shown : {S F H T : Type 0} → Evidence S F H T → ℕ → Option (List (Bytes × Bytes)) → Start → List Moment → ℕ → Trouble S F → Type 0
+Shown {S} {F} {H} {T} e faults files s log who trouble = unit.Shown {S = S} {F = F} {H = H} {T = T} hands.Unit e (0 < faults) s log who trouble × IsUntoldChange files trouble
 
--- the ticket's last step was refused so, as it may be; or memory was wanting, or turns were spent
-abbrev pub IsWorkRefusal : Start → List Moment → ℕ → StepRefusal → Type 0
-IsWorkRefusal s log who e = IsRefusal s log who e × IfSome (told_refusal e) MayRefuseWork
+-- ---- of a unit that reads no file
 
--- The last step was refused; or the object failed, with its count of faults above 0, and the container isn't quiet; or two prints of a file differ, which
--- the sources don't tell; or the base has the flaw.
-abbrev pub Shown : {St F : Type 0} → (St → ℕ) → (F → ℕ) → ℕ → Option (List (Bytes × Bytes)) → Start → List Moment → ℕ → Trouble St F → Type 0
-Shown stage_faults fetch_faults shard_faults files s log who (troubles.Step refusal) = IsWorkRefusal s log who refusal
-Shown stage_faults fetch_faults shard_faults files s log who troubles.Source = 0 < shard_faults
-Shown stage_faults fetch_faults shard_faults files s log who (troubles.Stage stage) = Faulty s (stage_faults stage)
-Shown stage_faults fetch_faults shard_faults files s log who (troubles.Fetch fetch) = Faulty s (fetch_faults fetch)
-Shown stage_faults fetch_faults shard_faults files s log who (troubles.Changed first second) = (first ≢ second) × (files ≡ None)
-Shown stage_faults fetch_faults shard_faults files s log who (troubles.Base flaw) = BadBase s log who flaw
+ending_own : {S F H T : Type 0} (e : Evidence S F H T) (own more : Type 0) (s : Start) (log : List Moment) (who : ℕ) (ending : Ending S F H T) → (own → more) → EndingShown hands.Unit e own s log who ending → EndingShown hands.Unit e more s log who ending
+ending_own e own more s log who (endings.Failed why b) wider h = h
+ending_own e own more s log who endings.Own wider h = wider h
+ending_own e own more s log who endings.Stale wider h = h
+ending_own e own more s log who (endings.Stopped refusal) wider h = h
 
--- where prints of a file differ, the sources don't tell the files of the ticket's shard
-abbrev pub IsChangeUntold : {St F : Type 0} → Start → Ticket → Trouble St F → Type 0
-IsChangeUntold s t (troubles.Step refusal) = Unit {0}
-IsChangeUntold s t troubles.Source = Unit {0}
-IsChangeUntold s t (troubles.Stage stage) = Unit {0}
-IsChangeUntold s t (troubles.Fetch fetch) = Unit {0}
-IsChangeUntold s t (troubles.Changed first second) = IsUntold s t
-IsChangeUntold s t (troubles.Base flaw) = Unit {0}
+some_none : (files : List (Bytes × Bytes)) → Some files ≡ None → ⊥
+some_none files e = cc
+
+no_change : {S F : Type 0} (files : Option (List (Bytes × Bytes))) (trouble : Trouble S F) → IsUntoldChange (Some []) trouble → IsUntoldChange files trouble
+no_change files (troubles.Found (whys.Changed first second)) h = absurd (some_none [] h)
+no_change files trouble h = tt
+
+-- its trouble is shown whatever the shard's faults and files are
+pub shown_any : {S F H T : Type 0} (e : Evidence S F H T) (n : ℕ) (files : Option (List (Bytes × Bytes))) (s : Start) (log : List Moment) (who : ℕ) (trouble : Trouble S F) → Shown e 0 (Some []) s log who trouble → Shown e n files s log who trouble
+shown_any {S} {F} {H} {T} e n files s log who trouble h =
+    (ending_own e (0 < 0) (0 < n) s log who (ending_by {S = S} {F = F} {H = H} {T = T} trouble) (λ (none : 0 < 0). absurd (omega (arith, none))) h.0, no_change files trouble h.1)
+
+-- nor is there one of its own
+pub shown_other : {S F H T : Type 0} (e : Evidence S F H T) (s : Start) (log : List Moment) (who : ℕ) (trouble : Trouble S F) → Shown e 0 (Some []) s log who trouble → unit.Shown {S = S} {F = F} {H = H} {T = T} hands.Unit e ⊥ s log who trouble
+shown_other {S} {F} {H} {T} e s log who trouble h =
+    ending_own e (0 < 0) ⊥ s log who (ending_by {S = S} {F = F} {H = H} {T = T} trouble) (λ (none : 0 < 0). omega (arith, none)) h.0

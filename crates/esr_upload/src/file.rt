@@ -3,22 +3,24 @@ ghost use Rattle.std.specs.Prelude.{◌≡◌, ◌+◌, ◌<◌, ◌≤◌, ◌^
 ghost use Rattle.esr_formats.specs.Names.{name_of};
 ghost use Rattle.esr_hash.specs.Fed.{fed_count, HasFed};
 ghost use Rattle.esr_source.specs.Files.{bytes_at};
+ghost use Rattle.esr_parts.specs.Reads.{ReadOn};
+ghost use Rattle.esr_desk.specs.Calls.{HasTaken};
 ghost use Rattle.esr_desk.specs.Start.{ticket_of};
+ghost use Rattle.esr_desk.specs.Evidence.{evidence};
 ghost use Rattle.esr_desk.specs.Told.{TellsAll};
-ghost use Rattle.esr_upload.specs.Pieces.{IsOfStart, CanStore, PutPart, PutParts, PartsTold};
-ghost use Rattle.esr_upload.specs.Stored.{MayStore, HasPrint, Stored};
+ghost use Rattle.esr_upload.specs.Pieces.{IsOfStart, CanStore, AreNumbered, PutPart, PutParts, PartsTold};
+ghost use Rattle.esr_upload.specs.Stored.{MayStore, IsToldBy, HasPrint, Stored};
 ghost use Rattle.esr_upload.specs.Trouble.{Shown};
 ghost use Rattle.esr_upload.specs.Worked.{Went};
 
-use crate::law::refusals;
-use crate::trouble::Trouble;
 use esr_depot::CallError;
-use esr_desk::{Desk, Named, StepRefusal};
+use esr_desk::{Desk, Named, StepRefusal, Why};
 use esr_hash::Hasher;
 use esr_names::{BlobName, ShardId};
 use esr_parts::{CopyError, copy_part, part_plan};
 use esr_shardidx::{FileEntry, part_count, part_name};
 use esr_source::{Gate, Shard};
+use esr_unit::Trouble;
 use std::alloc::Global;
 
 /// Goes to the first byte of a file.
@@ -27,18 +29,18 @@ fn start_file<Q: Desk, S: Shard>(
     shard: &mut S,
     file: usize,
 ) -> Result<(), Trouble<Q::Stage, Q::Fetch>>
-    requires listed { IsSomeAnd (S.listed shard.old) (λ fs. file < length fs) }
-    ensures started { OnOk result (S.left shard.new ≡ bytes_at (S.origin shard.old).files file) }
-    ensures listed { S.listed shard.new ≡ S.listed shard.old }
-    ensures origin { S.origin shard.new ≡ S.origin shard.old }
-    ensures steady { (S.origin shard.old).is_sure ≡ true → S.faults shard.new ≡ S.faults shard.old }
+    requires listed { IsSomeAnd (S.told shard.old).listed (λ fs. file < length fs) }
+    ensures started { OnOk result ((S.told shard.new).left ≡ bytes_at (S.told shard.old).files file) }
+    ensures kept { ReadOn (S.told shard.old) (S.told shard.new) }
+    ensures steady { (S.told shard.old).is_sure ≡ true → S.faults shard.new ≡ S.faults shard.old }
     ensures faults { S.faults shard.old ≤ S.faults shard.new }
     ensures trouble { IfErr result (IsOfStart (S.faults shard.new)) }
 {
-    shard.start(alloc, file).map_err(|error| match error {
-        CallError::Memory => Trouble::Step(StepRefusal::Memory),
-        CallError::Failed => Trouble::Source,
-    })
+    match shard.start(alloc, file) {
+        Ok(()) => Ok(()),
+        Err(CallError::Memory) => Err(Trouble::Step(StepRefusal::Memory)),
+        Err(CallError::Failed) => Err(Trouble::Own),
+    }
 }
 
 /// Stores the next `size` bytes of the file that was started as a blob, and hashes them. It answers whether the file had
@@ -54,28 +56,27 @@ fn put_part<Q: Desk, S: Shard, G: Gate>(
     gate: &G,
     buf: &mut [u8],
 ) -> Result<bool, Trouble<Q::Stage, Q::Fetch>>
-    requires mine { Q.holds desk.old ticket }
+    requires mine { HasTaken (Q.calls desk.old) ticket }
     requires may { CanStore Q.start (ticket_of Q.start (Q.seen desk.old) ticket) name }
     requires bound { fed_count hasher.old + size < 2 ^ 61 }
     requires buffer { 0 < length buf.old }
     requires tells { TellsAll Q.start (Q.seen desk.old) ticket }
-    ensures listed { S.listed shard.new ≡ S.listed shard.old }
-    ensures origin { S.origin shard.new ≡ S.origin shard.old }
-    ensures steady { (S.origin shard.old).is_sure ≡ true → S.faults shard.new ≡ S.faults shard.old }
+    ensures kept { ReadOn (S.told shard.old) (S.told shard.new) }
+    ensures steady { (S.told shard.old).is_sure ≡ true → S.faults shard.new ≡ S.faults shard.old }
     ensures buffer { length buf.new ≡ length buf.old }
-    ensures put { IfOk result (PutPart Q.start (S.left shard.old) (S.left shard.new) hasher.old hasher.new (ticket_of Q.start (Q.seen desk.old) ticket) (ticket_of Q.start (Q.seen desk.new) ticket) (name_of name) size) }
+    ensures put { IfOk result (PutPart Q.start (S.told shard.old).left (S.told shard.new).left hasher.old hasher.new (ticket_of Q.start (Q.seen desk.old) ticket) (ticket_of Q.start (Q.seen desk.new) ticket) (name_of name) size) }
     ensures faults { S.faults shard.old ≤ S.faults shard.new }
     ensures tells { IfOk result (λ full. full ≡ true → TellsAll Q.start (Q.seen desk.new) ticket) }
-    ensures trouble { IfErr result (Shown Q.Stage.faults Q.Fetch.faults (S.faults shard.new) (S.origin shard.old).files Q.start (Q.seen desk.new) ticket) }
+    ensures trouble { IfErr result (Shown (evidence Q.Stage.faults Q.Fetch.faults Q.Shard.faults Q.Target.faults Q.Shard.told Q.Target.told) (S.faults shard.new) (S.told shard.old).files Q.start (Q.seen desk.new) ticket) }
     ensures went { Went Q.start (Q.seen desk.old) (Q.seen desk.new) ticket }
-    ensures holds { Q.holds desk.new ticket }
+    ensures calls { Q.calls desk.new ≡ Q.calls desk.old }
 {
-    refusals();
+    esr_core::refusals_are_of_their_steps();
     let mut named = desk.begin(alloc, ticket, name, size as usize)?;
     match copy_part(shard, &mut named.stage, hasher, size, gate, ticket, buf) {
         Ok(true) => {}
         Ok(false) => return Ok(false),
-        Err(CopyError::Source) => return Err(Trouble::Source),
+        Err(CopyError::Source) => return Err(Trouble::Own),
         Err(CopyError::Stage) => return Err(Trouble::Stage { stage: named.stage }),
     }
     let Named { name, stage } = named;
@@ -96,24 +97,24 @@ fn put_parts<Q: Desk, S: Shard, G: Gate>(
     gate: &G,
     buf: &mut [u8],
 ) -> Result<(), Trouble<Q::Stage, Q::Fetch>>
-    requires mine { Q.holds desk.old ticket }
+    requires mine { HasTaken (Q.calls desk.old) ticket }
     requires may { MayStore (ticket_of Q.start (Q.seen desk.old) ticket) at.index.number at.number entry.now.name.number }
     requires few { at.number < 1024 }
     requires size { (1 ≤ entry.now.part_size) × (entry.now.part_size ≤ 2 ^ 30) }
+    requires numbered { AreNumbered Q.start (ticket_of Q.start (Q.seen desk.old) ticket) at entry.now }
     requires short { entry.now.print.len < 2 ^ 60 }
     requires fresh { HasFed hasher.old [] }
     requires buffer { 0 < length buf.old }
     requires tells { TellsAll Q.start (Q.seen desk.old) ticket }
-    ensures listed { S.listed shard.new ≡ S.listed shard.old }
-    ensures origin { S.origin shard.new ≡ S.origin shard.old }
-    ensures steady { (S.origin shard.old).is_sure ≡ true → S.faults shard.new ≡ S.faults shard.old }
+    ensures kept { ReadOn (S.told shard.old) (S.told shard.new) }
+    ensures steady { (S.told shard.old).is_sure ≡ true → S.faults shard.new ≡ S.faults shard.old }
     ensures buffer { length buf.new ≡ length buf.old }
-    ensures put { OnOk result (PutParts Q.start (S.left shard.old) (S.left shard.new) hasher.new at entry.now (ticket_of Q.start (Q.seen desk.old) ticket) (ticket_of Q.start (Q.seen desk.new) ticket)) }
+    ensures put { OnOk result (PutParts Q.start (S.told shard.old).left (S.told shard.new).left hasher.new at entry.now (ticket_of Q.start (Q.seen desk.old) ticket) (ticket_of Q.start (Q.seen desk.new) ticket)) }
     ensures faults { S.faults shard.old ≤ S.faults shard.new }
     ensures tells { OnOk result (PartsTold Q.start (Q.seen desk.new) ticket hasher.new entry.now.print.len) }
-    ensures trouble { IfErr result (Shown Q.Stage.faults Q.Fetch.faults (S.faults shard.new) (S.origin shard.old).files Q.start (Q.seen desk.new) ticket) }
+    ensures trouble { IfErr result (Shown (evidence Q.Stage.faults Q.Fetch.faults Q.Shard.faults Q.Target.faults Q.Shard.told Q.Target.told) (S.faults shard.new) (S.told shard.old).files Q.start (Q.seen desk.new) ticket) }
     ensures went { Went Q.start (Q.seen desk.old) (Q.seen desk.new) ticket }
-    ensures holds { Q.holds desk.new ticket }
+    ensures calls { Q.calls desk.new ≡ Q.calls desk.old }
 {
     for number in 0..part_count(entry.print.len, entry.part_size) {
         let (_, size) = part_plan(entry.print.len, entry.part_size, number);
@@ -137,26 +138,27 @@ pub fn store_file<Q: Desk, S: Shard, G: Gate>(
     gate: &G,
     buf: &mut [u8],
 ) -> Result<(), Trouble<Q::Stage, Q::Fetch>>
-    requires mine { Q.holds desk.old ticket }
+    requires mine { HasTaken (Q.calls desk.old) ticket }
     requires may { MayStore (ticket_of Q.start (Q.seen desk.old) ticket) at.index.number at.number entry.now.name.number }
     requires few { at.number < 1024 }
     requires size { (1 ≤ entry.now.part_size) × (entry.now.part_size ≤ 2 ^ 30) }
+    requires cut { entry.now.part_size ≡ Q.start.part_size }
+    requires told { IsToldBy Q.start (S.told shard.old).files at.number (ticket_of Q.start (Q.seen desk.old) ticket) }
     requires short { entry.now.print.len < 2 ^ 60 }
-    requires listed { IsSomeAnd (S.listed shard.old) (λ fs. file < length fs) }
-    requires place { IfSome (S.origin shard.old).files (λ fs. file < length fs) }
-    requires print { HasPrint (bytes_at (S.origin shard.old).files file) entry.now }
+    requires listed { IsSomeAnd (S.told shard.old).listed (λ fs. file < length fs) }
+    requires place { IfSome (S.told shard.old).files (λ fs. file < length fs) }
+    requires print { HasPrint (bytes_at (S.told shard.old).files file) entry.now }
     requires buffer { 0 < length buf.old }
     requires tells { TellsAll Q.start (Q.seen desk.old) ticket }
-    ensures listed { S.listed shard.new ≡ S.listed shard.old }
-    ensures origin { S.origin shard.new ≡ S.origin shard.old }
-    ensures steady { (S.origin shard.old).is_sure ≡ true → S.faults shard.new ≡ S.faults shard.old }
+    ensures kept { ReadOn (S.told shard.old) (S.told shard.new) }
+    ensures steady { (S.told shard.old).is_sure ≡ true → S.faults shard.new ≡ S.faults shard.old }
     ensures buffer { length buf.new ≡ length buf.old }
-    ensures stored { OnOk result (Stored Q.start (bytes_at (S.origin shard.old).files file) at.index.number at.number entry.now (ticket_of Q.start (Q.seen desk.old) ticket) (ticket_of Q.start (Q.seen desk.new) ticket)) }
+    ensures stored { OnOk result (Stored Q.start (bytes_at (S.told shard.old).files file) at.index.number at.number entry.now (ticket_of Q.start (Q.seen desk.old) ticket) (ticket_of Q.start (Q.seen desk.new) ticket)) }
     ensures faults { S.faults shard.old ≤ S.faults shard.new }
     ensures tells { OnOk result (TellsAll Q.start (Q.seen desk.new) ticket) }
-    ensures trouble { IfErr result (Shown Q.Stage.faults Q.Fetch.faults (S.faults shard.new) (S.origin shard.old).files Q.start (Q.seen desk.new) ticket) }
+    ensures trouble { IfErr result (Shown (evidence Q.Stage.faults Q.Fetch.faults Q.Shard.faults Q.Target.faults Q.Shard.told Q.Target.told) (S.faults shard.new) (S.told shard.old).files Q.start (Q.seen desk.new) ticket) }
     ensures went { Went Q.start (Q.seen desk.old) (Q.seen desk.new) ticket }
-    ensures holds { Q.holds desk.new ticket }
+    ensures calls { Q.calls desk.new ≡ Q.calls desk.old }
 {
     start_file::<Q, S>(alloc, shard, file)?;
     let mut hasher = Hasher::start();
@@ -174,7 +176,8 @@ pub fn store_file<Q: Desk, S: Shard, G: Gate>(
     let first = entry.print;
     let second = hasher.end();
     if first != second {
-        return Err(Trouble::Changed { first, second });
+        let why = Why::Changed { first, second };
+        return Err(Trouble::Found { why });
     }
     Ok(())
 }

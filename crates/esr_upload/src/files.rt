@@ -2,21 +2,24 @@
 ghost use Rattle.std.specs.Prelude.{◌≡◌, ◌+◌, ◌-◌, ◌<◌, ◌≤◌, ◌^◌, true, min, sum_by, length, IfErr, IfOk, IsSomeAnd, IfSome};
 ghost use Rattle.esr_core.specs.Steps.{Drew};
 ghost use Rattle.esr_source.specs.Files.{bytes_at};
+ghost use Rattle.esr_parts.specs.Reads.{ReadOn};
+ghost use Rattle.esr_desk.specs.Calls.{HasTaken};
 ghost use Rattle.esr_desk.specs.Start.{ticket_of};
+ghost use Rattle.esr_desk.specs.Evidence.{evidence};
 ghost use Rattle.esr_desk.specs.Told.{TellsAll};
 ghost use Rattle.esr_upload.specs.Entries.{is_new, new_count, len_planned, entry_at, ReadOnce, Reads, StoredOne, StoredAll};
-ghost use Rattle.esr_upload.specs.Stored.{IsAt, AreBelow};
+ghost use Rattle.esr_upload.specs.Stored.{IsAt, IsToldBy, AreBelow};
 ghost use Rattle.esr_upload.specs.Trouble.{Shown};
 ghost use Rattle.esr_upload.specs.Worked.{Went};
 
 use crate::file::store_file;
-use crate::trouble::Trouble;
 use esr_desk::Desk;
 use esr_names::{Id, ShardId};
 use esr_reuse::Planned;
 use esr_seq::Seq;
 use esr_shardidx::{FileEntries, FileEntry};
 use esr_source::{Gate, Shard};
+use esr_unit::Trouble;
 use std::alloc::{AllocError, Global};
 
 /// One for a file that reuses nothing.
@@ -83,30 +86,31 @@ fn store_one<Q: Desk, S: Shard, G: Gate>(
     gate: &G,
     buf: &mut [u8],
 ) -> Result<FileEntry, Trouble<Q::Stage, Q::Fetch>>
-    requires mine { Q.holds desk.old ticket }
+    requires mine { HasTaken (Q.calls desk.old) ticket }
     requires work { IsAt (ticket_of Q.start (Q.seen desk.old) ticket) at.index.number at.number }
     requires drew { is_new plan.now.reused ≡ 1 → Drew (ticket_of Q.start (Q.seen desk.old) ticket) name.number }
     requires below { AreBelow (ticket_of Q.start (Q.seen desk.old) ticket) name.number }
     requires few { at.number < 1024 }
     requires size { (1 ≤ part_size) × (part_size ≤ 2 ^ 30) }
+    requires cut { part_size ≡ Q.start.part_size }
+    requires told { IsToldBy Q.start (S.told shard.old).files at.number (ticket_of Q.start (Q.seen desk.old) ticket) }
     requires short { plan.now.print.len < 2 ^ 60 }
-    requires listed { IsSomeAnd (S.listed shard.old) (λ fs. file < length fs) }
-    requires place { IfSome (S.origin shard.old).files (λ fs. file < length fs) }
-    requires read { ReadOnce (bytes_at (S.origin shard.old).files file) plan.now.print }
+    requires listed { IsSomeAnd (S.told shard.old).listed (λ fs. file < length fs) }
+    requires place { IfSome (S.told shard.old).files (λ fs. file < length fs) }
+    requires read { ReadOnce (bytes_at (S.told shard.old).files file) plan.now.print }
     requires buffer { 0 < length buf.old }
     requires tells { TellsAll Q.start (Q.seen desk.old) ticket }
-    ensures listed { S.listed shard.new ≡ S.listed shard.old }
-    ensures origin { S.origin shard.new ≡ S.origin shard.old }
-    ensures steady { (S.origin shard.old).is_sure ≡ true → S.faults shard.new ≡ S.faults shard.old }
+    ensures kept { ReadOn (S.told shard.old) (S.told shard.new) }
+    ensures steady { (S.told shard.old).is_sure ≡ true → S.faults shard.new ≡ S.faults shard.old }
     ensures buffer { length buf.new ≡ length buf.old }
     ensures entry { IfOk result (λ e. e ≡ entry_at part_size name.number plan.now plan.now.reused) }
     ensures below { IfOk result (λ e. AreBelow (ticket_of Q.start (Q.seen desk.new) ticket) (name.number + is_new plan.now.reused)) }
-    ensures stored { IfOk result (λ e. StoredOne Q.start (bytes_at (S.origin shard.old).files file) at.index.number at.number plan.now e (ticket_of Q.start (Q.seen desk.old) ticket) (ticket_of Q.start (Q.seen desk.new) ticket)) }
+    ensures stored { IfOk result (λ e. StoredOne Q.start (bytes_at (S.told shard.old).files file) at.index.number at.number plan.now e (ticket_of Q.start (Q.seen desk.old) ticket) (ticket_of Q.start (Q.seen desk.new) ticket)) }
     ensures faults { S.faults shard.old ≤ S.faults shard.new }
     ensures tells { IfOk result (λ e. TellsAll Q.start (Q.seen desk.new) ticket) }
-    ensures trouble { IfErr result (Shown Q.Stage.faults Q.Fetch.faults (S.faults shard.new) (S.origin shard.old).files Q.start (Q.seen desk.new) ticket) }
+    ensures trouble { IfErr result (Shown (evidence Q.Stage.faults Q.Fetch.faults Q.Shard.faults Q.Target.faults Q.Shard.told Q.Target.told) (S.faults shard.new) (S.told shard.old).files Q.start (Q.seen desk.new) ticket) }
     ensures went { Went Q.start (Q.seen desk.old) (Q.seen desk.new) ticket }
-    ensures holds { Q.holds desk.new ticket }
+    ensures calls { Q.calls desk.new ≡ Q.calls desk.old }
 {
     match &plan.reused {
         Some(entry) => Ok(entry.try_clone(alloc)?),
@@ -131,7 +135,7 @@ pub fn store_files<Q: Desk, S: Shard, G: Gate>(
     gate: &G,
     buf: &mut [u8],
 ) -> Result<FileEntries, Trouble<Q::Stage, Q::Fetch>>
-    requires mine { Q.holds desk.old ticket }
+    requires mine { HasTaken (Q.calls desk.old) ticket }
     requires work { IsAt (ticket_of Q.start (Q.seen desk.old) ticket) at.index.number at.number }
     requires from { (ticket_of Q.start (Q.seen desk.old) ticket).first ≡ first.number }
     requires drawn { (ticket_of Q.start (Q.seen desk.old) ticket).drawn ≡ new_count plans.now + 1 }
@@ -139,19 +143,20 @@ pub fn store_files<Q: Desk, S: Shard, G: Gate>(
     requires room { first.number + (new_count plans.now + 1) < 2 ^ 128 }
     requires few { at.number < 1024 }
     requires size { (1 ≤ part_size) × (part_size ≤ 2 ^ 30) }
-    requires reads { Reads (S.origin shard.old).files (S.listed shard.old) plans.now }
+    requires cut { part_size ≡ Q.start.part_size }
+    requires told { IsToldBy Q.start (S.told shard.old).files at.number (ticket_of Q.start (Q.seen desk.old) ticket) }
+    requires reads { Reads (S.told shard.old).files (S.told shard.old).listed plans.now }
     requires buffer { 0 < length buf.old }
     requires tells { TellsAll Q.start (Q.seen desk.old) ticket }
-    ensures listed { S.listed shard.new ≡ S.listed shard.old }
-    ensures origin { S.origin shard.new ≡ S.origin shard.old }
-    ensures steady { (S.origin shard.old).is_sure ≡ true → S.faults shard.new ≡ S.faults shard.old }
+    ensures kept { ReadOn (S.told shard.old) (S.told shard.new) }
+    ensures steady { (S.told shard.old).is_sure ≡ true → S.faults shard.new ≡ S.faults shard.old }
     ensures buffer { length buf.new ≡ length buf.old }
     ensures below { IfOk result (λ es. AreBelow (ticket_of Q.start (Q.seen desk.new) ticket) (first.number + new_count plans.now)) }
-    ensures stored { IfOk result (λ es. StoredAll Q.start (S.origin shard.old).files at.index.number at.number part_size first.number plans.now es (ticket_of Q.start (Q.seen desk.old) ticket) (ticket_of Q.start (Q.seen desk.new) ticket)) }
+    ensures stored { IfOk result (λ es. StoredAll Q.start (S.told shard.old).files at.index.number at.number part_size first.number plans.now es (ticket_of Q.start (Q.seen desk.old) ticket) (ticket_of Q.start (Q.seen desk.new) ticket)) }
     ensures tells { IfOk result (λ es. TellsAll Q.start (Q.seen desk.new) ticket) }
-    ensures trouble { IfErr result (Shown Q.Stage.faults Q.Fetch.faults (S.faults shard.new) (S.origin shard.old).files Q.start (Q.seen desk.new) ticket) }
+    ensures trouble { IfErr result (Shown (evidence Q.Stage.faults Q.Fetch.faults Q.Shard.faults Q.Target.faults Q.Shard.told Q.Target.told) (S.faults shard.new) (S.told shard.old).files Q.start (Q.seen desk.new) ticket) }
     ensures went { Went Q.start (Q.seen desk.old) (Q.seen desk.new) ticket }
-    ensures holds { Q.holds desk.new ticket }
+    ensures calls { Q.calls desk.new ≡ Q.calls desk.old }
 {
     let mut entries = Seq::new(alloc);
     let mut next = first;

@@ -1,9 +1,9 @@
 //! The first reading of a shard's files.
 ghost use Rattle.std.specs.Prelude.{◌≡◌, ◌<◌, ◌^◌, false, true, Some, IfOk, IfSome, IsErr, IsSomeAnd, length};
 ghost use Rattle.esr_depot.specs.Calls.{HasCause, has_failed};
-ghost use Rattle.esr_parts.specs.Reads.{Hashed};
+ghost use Rattle.esr_parts.specs.Reads.{Hashed, ReadOn};
 ghost use Rattle.esr_source.specs.Files.{bytes_at, is_file_name};
-ghost use Rattle.esr_upload.specs.Surveyed.{Surveyed};
+ghost use Rattle.esr_upload.specs.Surveyed.{SameShard, Surveyed};
 
 use esr_depot::CallError;
 use esr_parts::hash_file;
@@ -21,17 +21,16 @@ fn read_file<S: Shard>(
     file: &ListedFile,
     buf: &mut [u8],
 ) -> Result<ReadFile, CallError>
-    requires listed { IsSomeAnd (S.listed shard.old) (λ fs. place < length fs) }
-    requires told { IfSome (bytes_at (S.origin shard.old).files place) (λ b. length b ≡ file.now.length) }
+    requires listed { IsSomeAnd (S.told shard.old).listed (λ fs. place < length fs) }
+    requires told { IfSome (bytes_at (S.told shard.old).files place) (λ b. length b ≡ file.now.length) }
     requires short { file.now.length < 2 ^ 60 }
     requires named { is_file_name file.now.name ≡ true }
     requires buffer { 0 < length buf.old }
-    ensures listed { S.listed shard.new ≡ S.listed shard.old }
-    ensures origin { S.origin shard.new ≡ S.origin shard.old }
-    ensures steady { (S.origin shard.old).is_sure ≡ true → S.faults shard.new ≡ S.faults shard.old }
+    ensures kept { ReadOn (S.told shard.old) (S.told shard.new) }
+    ensures steady { (S.told shard.old).is_sure ≡ true → S.faults shard.new ≡ S.faults shard.old }
     ensures buffer { length buf.new ≡ length buf.old }
     ensures name { IfOk result (λ f. f.physical ≡ file.now.name) }
-    ensures hashed { IfOk result (λ f. Hashed (bytes_at (S.origin shard.old).files place) file.now.length f.print) }
+    ensures hashed { IfOk result (λ f. Hashed (bytes_at (S.told shard.old).files place) file.now.length f.print) }
     ensures cause { HasCause (S.faults shard.old) (S.faults shard.new) (has_failed result) }
 {
     let print = hash_file(alloc, shard, place, file.length, buf)?;
@@ -50,10 +49,10 @@ pub fn survey<S: Shard>(
 ) -> Result<ReadFiles, CallError>
     requires buffer { 0 < length buf.old }
     ensures buffer { length buf.new ≡ length buf.old }
-    ensures origin { S.origin shard.new ≡ S.origin shard.old }
-    ensures steady { (S.origin shard.old).is_sure ≡ true → S.faults shard.new ≡ S.faults shard.old }
-    ensures surveyed { IfOk result (λ fs. Surveyed (S.origin shard.old).files (S.listed shard.new) fs) }
-    ensures absent { (S.origin shard.old).is_there ≡ Some false → IsErr result }
+    ensures same { SameShard (S.told shard.old) (S.told shard.new) }
+    ensures steady { (S.told shard.old).is_sure ≡ true → S.faults shard.new ≡ S.faults shard.old }
+    ensures surveyed { IfOk result (λ fs. Surveyed (S.told shard.old).files (S.told shard.new).listed fs) }
+    ensures absent { (S.told shard.old).is_there ≡ Some false → IsErr result }
     ensures cause { HasCause (S.faults shard.old) (S.faults shard.new) (has_failed result) }
 {
     let listed = shard.list(alloc)?;

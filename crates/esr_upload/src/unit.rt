@@ -1,38 +1,41 @@
 //! The unit of a shard.
-ghost use Rattle.std.specs.Prelude.{◌≡◌, ◌+◌, ◌<◌, ◌≤◌, ◌^◌, ℕ, List, Option, None, Some, find, false, true, length, option_map, IfErr, IfOk, IsErr, OnOk};
+ghost use Rattle.std.specs.Prelude.{◌≡◌, ◌+◌, ◌<◌, ◌≤◌, ◌^◌, ℕ, [], Option, None, Some, false, true, length, option_map, IfErr, IfOk, IsErr, OnOk};
 ghost use Rattle.esr_formats.specs.Ids.{number_of};
-ghost use Rattle.esr_formats.specs.Shards.{shard_index_of};
-ghost use Rattle.esr_shardidx.specs.Indices.{has_uuid};
+ghost use Rattle.esr_desk.specs.Evidence.{evidence};
+ghost use Rattle.esr_desk.specs.Own.{made_of};
+ghost use Rattle.esr_desk.specs.Calls.{HasTaken};
+ghost use Rattle.esr_desk.specs.Once.{IsFresh};
 ghost use Rattle.esr_desk.specs.Start.{ticket_of};
 ghost use Rattle.esr_model.specs.Names.{ShardIndex as IndexName};
 ghost use Rattle.esr_core.specs.Entry.{FetchStep};
-ghost use Rattle.esr_desk.specs.Once.{IsNew, HasMadeNone};
 ghost use Rattle.esr_desk.specs.Told.{TellsAll};
 ghost use Rattle.esr_desk.specs.Taken.{Took};
 ghost use Rattle.esr_desk.specs.Sources.{AreSources};
 ghost use Rattle.esr_desk.specs.Grew.{GrewBy};
+ghost use Rattle.esr_parts.specs.Reads.{ReadOn};
 ghost use Rattle.esr_upload.specs.Entries.{new_count};
 ghost use Rattle.esr_upload.specs.Published.{IsUnit, IsPlanned, HasIndex, HasDrawn, ReadShown};
 ghost use Rattle.esr_upload.specs.Refused.{IsOfShard, told_of, HasDone, IsUnitRefused};
 ghost use Rattle.esr_upload.specs.Stored.{IsAt};
-ghost use Rattle.esr_upload.specs.Trouble.{Shown, IsChangeUntold};
+ghost use Rattle.esr_upload.specs.Base.{HasFetched};
+ghost use Rattle.esr_upload.specs.Surveyed.{SameShard};
+ghost use Rattle.esr_upload.specs.Trouble.{Shown};
 ghost use Rattle.esr_upload.specs.Worked.{Went};
 
 use crate::base::read_base;
-use crate::cause::cause_of;
+use crate::fault::with_shard;
 use crate::files::{count_new, store_files, sum_of};
-use crate::law::refusals;
 use crate::publish::finish;
 use crate::survey::survey;
-use crate::trouble::{Flaw, Trouble};
 use esr_depot::CallError;
-use esr_desk::{Desk, StepRefusal, Unit, UnitRefusal};
-use esr_names::{Id, ShardId};
+use esr_desk::{Desk, Hand, StepRefusal, Unit, UnitRefusal, Why};
+use esr_names::{BlobName, Id, ShardId};
 use esr_progress::Work;
 use esr_results::ShardResult;
 use esr_reuse::{Planned, Plans, plan};
 use esr_shardidx::ShardIndex;
 use esr_source::{Gate, Shard, Sources};
+use esr_unit::{Trouble, ending_of, give_up};
 use std::alloc::Global;
 
 /// The index of the base, which doesn't list the snapshot; an empty one where there is no base.
@@ -44,28 +47,31 @@ pub fn base_of<Q: Desk>(
     uuid: Id,
     base: Option<Id>,
 ) -> Result<ShardIndex, Trouble<Q::Stage, Q::Fetch>>
-    requires mine { Q.holds desk.old ticket }
+    requires mine { HasTaken (Q.calls desk.old) ticket }
     requires at { IsAt (ticket_of Q.start (Q.seen desk.old) ticket) at.index.number at.number }
     requires undrawn { (ticket_of Q.start (Q.seen desk.old) ticket).drawn ≡ 0 }
     requires uuid { (ticket_of Q.start (Q.seen desk.old) ticket).uuid ≡ uuid.number }
     requires base { (ticket_of Q.start (Q.seen desk.old) ticket).base ≡ option_map number_of base }
     requires few { at.number < 1024 }
-    requires new { (generation : ℕ) → IsNew (Q.seen desk.old) ticket (FetchStep (IndexName at.index.number at.number generation)) }
+    requires new { (generation : ℕ) → IsFresh Q.start (Q.seen desk.old) ticket (FetchStep (IndexName at.index.number at.number generation)) }
     requires tells { TellsAll Q.start (Q.seen desk.old) ticket }
     ensures based { IfOk result (HasIndex Q.start at.index.number at.number uuid (ticket_of Q.start (Q.seen desk.old) ticket) (ticket_of Q.start (Q.seen desk.new) ticket)) }
     ensures tells { IfOk result (λ v. TellsAll Q.start (Q.seen desk.new) ticket) }
-    ensures trouble { IfErr result (λ e. (n : ℕ) (files : Option (List (List ℕ × List ℕ))) → Shown Q.Stage.faults Q.Fetch.faults n files Q.start (Q.seen desk.new) ticket e) }
+    ensures fetched { IfOk result (λ v. HasFetched (Q.seen desk.new) ticket at.index.number at.number base) }
+    ensures trouble { IfErr result (Shown (evidence Q.Stage.faults Q.Fetch.faults Q.Shard.faults Q.Target.faults Q.Shard.told Q.Target.told) 0 (Some []) Q.start (Q.seen desk.new) ticket) }
     ensures went { Went Q.start (Q.seen desk.old) (Q.seen desk.new) ticket }
-    ensures holds { Q.holds desk.new ticket }
+    ensures calls { Q.calls desk.new ≡ Q.calls desk.old }
 {
-    if base.is_none() {
-        return Ok(ShardIndex::new(alloc));
-    }
-    let index = read_base(alloc, desk, ticket, at, base)?;
+    let generation = match base {
+        Some(generation) => generation,
+        None => return Ok(ShardIndex::new(alloc)),
+    };
+    let index = read_base(alloc, desk, ticket, at, generation)?;
     match index.list(uuid) {
         Some(_) => {
-            let flaw = Flaw::Ahead;
-            Err(Trouble::Base { flaw })
+            let name = BlobName::ShardIndex(at, generation);
+            let why = Why::Ahead { name, id: uuid };
+            Err(Trouble::Found { why })
         }
         None => Ok(index),
     }
@@ -80,16 +86,16 @@ fn plan_files<Q: Desk, S: Shard>(
 ) -> Result<Plans, Trouble<Q::Stage, Q::Fetch>>
     requires buffer { 0 < length buf.old }
     ensures buffer { length buf.new ≡ length buf.old }
-    ensures origin { S.origin shard.new ≡ S.origin shard.old }
-    ensures steady { (S.origin shard.old).is_sure ≡ true → S.faults shard.new ≡ S.faults shard.old }
-    ensures planned { IfOk result (IsPlanned (S.origin shard.old).files (S.listed shard.new) base.now) }
-    ensures absent { (S.origin shard.old).is_there ≡ Some false → IsErr result }
+    ensures same { SameShard (S.told shard.old) (S.told shard.new) }
+    ensures steady { (S.told shard.old).is_sure ≡ true → S.faults shard.new ≡ S.faults shard.old }
+    ensures planned { IfOk result (IsPlanned (S.told shard.old).files (S.told shard.new).listed base.now) }
+    ensures absent { (S.told shard.old).is_there ≡ Some false → IsErr result }
     ensures trouble { IfErr result (ReadShown (S.faults shard.new)) }
 {
     match survey(alloc, shard, buf) {
         Ok(files) => Ok(plan(alloc, base, files.as_slice())?),
         Err(CallError::Memory) => Err(Trouble::Step(StepRefusal::Memory)),
-        Err(CallError::Failed) => Err(Trouble::Source),
+        Err(CallError::Failed) => Err(Trouble::Own),
     }
 }
 
@@ -100,6 +106,7 @@ fn store<Q: Desk, S: Shard, G: Gate>(
     ticket: u64,
     at: ShardId,
     uuid: Id,
+    generation: Option<Id>,
     base: &ShardIndex,
     shard: &mut S,
     plans: &[Planned],
@@ -108,8 +115,10 @@ fn store<Q: Desk, S: Shard, G: Gate>(
     gate: &G,
     buf: &mut [u8],
 ) -> Result<(), Trouble<Q::Stage, Q::Fetch>>
-    requires mine { Q.holds desk.old ticket }
-    requires drawn { HasDrawn Q.start (S.origin shard.old).files (S.listed shard.old) at.index.number at.number uuid base.now plans.now first.number (ticket_of Q.start (Q.seen desk.old) ticket) }
+    requires mine { HasTaken (Q.calls desk.old) ticket }
+    requires drawn { HasDrawn Q.start (S.told shard.old).files (S.told shard.old).listed at.index.number at.number uuid base.now plans.now first.number (ticket_of Q.start (Q.seen desk.old) ticket) }
+    requires base { (ticket_of Q.start (Q.seen desk.old) ticket).base ≡ option_map number_of generation }
+    requires fetched { HasFetched (Q.seen desk.old) ticket at.index.number at.number generation }
     requires room { first.number + (new_count plans.now + 1) < 2 ^ 128 }
     requires few { at.number < 1024 }
     requires size { part_size ≡ Q.start.part_size }
@@ -117,13 +126,12 @@ fn store<Q: Desk, S: Shard, G: Gate>(
     requires buffer { 0 < length buf.old }
     requires tells { TellsAll Q.start (Q.seen desk.old) ticket }
     ensures ok { OnOk result (HasDone Q.start (Q.seen desk.old) (Q.seen desk.new) ticket) }
-    ensures trouble { IfErr result (Shown Q.Stage.faults Q.Fetch.faults (S.faults shard.new) (S.origin shard.old).files Q.start (Q.seen desk.new) ticket) }
-    ensures untold { IfErr result (IsChangeUntold Q.start (ticket_of Q.start (Q.seen desk.new) ticket)) }
-    ensures origin { S.origin shard.new ≡ S.origin shard.old }
-    ensures steady { (S.origin shard.old).is_sure ≡ true → S.faults shard.new ≡ S.faults shard.old }
+    ensures trouble { IfErr result (Shown (evidence Q.Stage.faults Q.Fetch.faults Q.Shard.faults Q.Target.faults Q.Shard.told Q.Target.told) (S.faults shard.new) (S.told shard.old).files Q.start (Q.seen desk.new) ticket) }
+    ensures kept { ReadOn (S.told shard.old) (S.told shard.new) }
+    ensures steady { (S.told shard.old).is_sure ≡ true → S.faults shard.new ≡ S.faults shard.old }
     ensures went { IfErr result (λ e. Went Q.start (Q.seen desk.old) (Q.seen desk.new) ticket) }
     ensures grew { GrewBy Q.start ticket (Q.seen desk.old) (Q.seen desk.new) }
-    ensures holds { Q.holds desk.new ticket }
+    ensures calls { Q.calls desk.new ≡ Q.calls desk.old }
 {
     let entries = store_files(
         alloc, desk, ticket, at, shard, plans, first, part_size, gate, buf,
@@ -136,7 +144,9 @@ fn store<Q: Desk, S: Shard, G: Gate>(
         files: plans.len() as u64,
         bytes: sum_of(plans),
     };
-    finish(alloc, desk, ticket, base, entries, uuid, &outcome)
+    finish(
+        alloc, desk, ticket, base, entries, uuid, &outcome, generation, first,
+    )
 }
 
 /// What the unit does until its ticket ends as done, or a trouble.
@@ -151,22 +161,21 @@ fn work<Q: Desk, S: Shard, G: Gate>(
     part_size: u64,
     gate: &G,
 ) -> Result<(), Trouble<Q::Stage, Q::Fetch>>
-    requires mine { Q.holds desk.old ticket }
-    requires unit { IsUnit Q.start (S.origin shard.old).files (S.origin shard.old).is_there at.index.number at.number uuid.number (option_map number_of base) (ticket_of Q.start (Q.seen desk.old) ticket) }
+    requires mine { HasTaken (Q.calls desk.old) ticket }
+    requires unit { IsUnit Q.start (S.told shard.old).files (S.told shard.old).is_there at.index.number at.number uuid.number (option_map number_of base) (ticket_of Q.start (Q.seen desk.old) ticket) }
     requires few { at.number < 1024 }
     requires size { part_size ≡ Q.start.part_size }
     requires sized { (1 ≤ part_size) × (part_size ≤ 2 ^ 30) }
-    requires new { HasMadeNone (Q.seen desk.old) ticket }
+    requires new { made_of Q.start (Q.seen desk.old) ticket ≡ [] }
     ensures ok { OnOk result (HasDone Q.start (Q.seen desk.old) (Q.seen desk.new) ticket) }
-    ensures trouble { IfErr result (Shown Q.Stage.faults Q.Fetch.faults (S.faults shard.new) (S.origin shard.old).files Q.start (Q.seen desk.new) ticket) }
-    ensures untold { IfErr result (IsChangeUntold Q.start (ticket_of Q.start (Q.seen desk.new) ticket)) }
-    ensures origin { S.origin shard.new ≡ S.origin shard.old }
-    ensures steady { (S.origin shard.old).is_sure ≡ true → S.faults shard.new ≡ S.faults shard.old }
+    ensures trouble { IfErr result (Shown (evidence Q.Stage.faults Q.Fetch.faults Q.Shard.faults Q.Target.faults Q.Shard.told Q.Target.told) (S.faults shard.new) (S.told shard.old).files Q.start (Q.seen desk.new) ticket) }
+    ensures same { SameShard (S.told shard.old) (S.told shard.new) }
+    ensures steady { (S.told shard.old).is_sure ≡ true → S.faults shard.new ≡ S.faults shard.old }
     ensures went { IfErr result (λ e. Went Q.start (Q.seen desk.old) (Q.seen desk.new) ticket) }
     ensures grew { GrewBy Q.start ticket (Q.seen desk.old) (Q.seen desk.new) }
-    ensures holds { Q.holds desk.new ticket }
+    ensures calls { Q.calls desk.new ≡ Q.calls desk.old }
 {
-    refusals();
+    esr_core::refusals_are_of_their_steps();
     let mut buf = [0; 65536];
     let index = base_of(alloc, desk, ticket, at, uuid, base)?;
     let plans = plan_files::<Q, S>(alloc, shard, &index, &mut buf)?;
@@ -177,6 +186,7 @@ fn work<Q: Desk, S: Shard, G: Gate>(
         ticket,
         at,
         uuid,
+        base,
         &index,
         shard,
         plans.as_slice(),
@@ -188,8 +198,8 @@ fn work<Q: Desk, S: Shard, G: Gate>(
 }
 
 /// Stores the files of a shard that its base doesn't have, the snapshot of the shard and its next index, and ends the ticket.
-/// Where an object failed, a file changed, the base is absent, doesn't read or is ahead, a name is taken or too few ids are left, the ticket ends as
-/// failed, and the object is handed over.
+/// Where an object failed, a file changed, the base is absent, doesn't read or is ahead, a name is taken, too few ids are left or a delete
+/// aborted the op, the ticket ends as failed, and the object is handed over.
 pub fn run_unit<Q: Desk<Shard = S::Shard>, S: Sources, G: Gate>(
     alloc: Global,
     desk: &mut Q,
@@ -198,20 +208,19 @@ pub fn run_unit<Q: Desk<Shard = S::Shard>, S: Sources, G: Gate>(
     gate: &G,
     part_size: u64,
 ) -> Result<(), UnitRefusal>
-    requires mine { Q.holds desk.old unit.now.ready.ticket }
+    requires mine { HasTaken (Q.calls desk.old) unit.now.ready.ticket }
     requires fresh { Took Q.start (Q.seen desk.old) unit.now }
-    requires new { HasMadeNone (Q.seen desk.old) unit.now.ready.ticket }
+    requires new { made_of Q.start (Q.seen desk.old) unit.now.ready.ticket ≡ [] }
     requires work { IsOfShard unit.now.ready.work }
-    requires sources { AreSources Q.start (S.files sources.now) (S.is_there sources.now) (S.is_quiet sources.now) }
+    requires sources { AreSources Q.start (S.told sources.now) }
     requires size { part_size ≡ Q.start.part_size }
     requires sized { (1 ≤ part_size) × (part_size ≤ 2 ^ 30) }
     ensures ok { OnOk result (HasDone Q.start (Q.seen desk.old) (Q.seen desk.new) unit.now.ready.ticket) }
-    ensures refused { IfErr result (IsUnitRefused (record { stage = Q.Stage.faults; fetch = Q.Fetch.faults; shard = S.Shard.faults; target = Q.Target.faults; made_for = λ h. (S.Shard.origin h).address })
-        (told_of (S.files sources.now) unit.now.ready.work) Q.start (Q.seen desk.old) (Q.seen desk.new) unit.now.ready.ticket) }
+    ensures refused { IfErr result (IsUnitRefused (evidence Q.Stage.faults Q.Fetch.faults S.Shard.faults Q.Target.faults S.Shard.told Q.Target.told)
+        (told_of (S.told sources.now).files unit.now.ready.work) Q.start (Q.seen desk.old) (Q.seen desk.new) unit.now.ready.ticket) }
     ensures grew { GrewBy Q.start unit.now.ready.ticket (Q.seen desk.old) (Q.seen desk.new) }
-    ensures holds { Q.holds desk.new unit.now.ready.ticket }
+    ensures calls { Q.calls desk.new ≡ Q.calls desk.old }
 {
-    refusals();
     let ticket = unit.ready.ticket;
     let base = unit.ready.copy.base;
     let Work::Shard {
@@ -231,14 +240,12 @@ pub fn run_unit<Q: Desk<Shard = S::Shard>, S: Sources, G: Gate>(
         alloc, desk, ticket, *at, *uuid, base, &mut shard, part_size, gate,
     ) {
         Ok(()) => Ok(()),
-        Err(trouble) => match cause_of(*at, base, shard, trouble) {
-            Ok(cause) => {
-                let why = cause.why;
-                desk.never_fails();
-                desk.failed(alloc, ticket, why, cause.by)?;
-                Err(UnitRefusal::Failed(why))
-            }
-            Err(refusal) => Err(UnitRefusal::Stopped(refusal)),
-        },
+        Err(trouble) => Err(give_up(
+            alloc,
+            desk,
+            Hand::Unit,
+            ticket,
+            with_shard(shard, ending_of(trouble)),
+        )),
     }
 }

@@ -10,12 +10,13 @@ use Rattle.esr_core.specs.World.{Caller, no_caller}
 use Rattle.esr_core.specs.Restores.{IsTestOf, WasRead}
 use Rattle.esr_core.specs.After.{caller_told, caller_wrote}
 use Rattle.esr_core.specs.Entry.{Moment, ReadStep, BeginTest, CommitTest, WasBegun, WasDone}
-use Rattle.esr_depot.specs.Told.{Tells}
 use Rattle.esr_desk.specs.Conditions.{Holds}
 use Rattle.esr_desk.specs.Start.{Start, told_bytes}
 use Rattle.esr_desk.specs.Outcome.{Stepped}
-use Rattle.esr_checking.specs.Caller.{caller_of, drawn_by}
-use Rattle.esr_checking.specs.Conditions.{CanDraw, IsOwn, HoldsText, CanCommit, CanFetch}
+use Rattle.esr_desk.specs.Own.{caller_of, made_of}
+use Rattle.esr_desk.specs.Made.{client_made}
+use Rattle.esr_desk.specs.Caller.{drawn_by, removed_more}
+use Rattle.esr_desk.specs.Verify.Conditions.{CanDrawTest, IsOwn, HoldsText, CanCommitTest, CanFetchTest}
 use Rattle.esr_verify.specs.Idle.{IsIdle}
 use Rattle.esr_verify.specs.Went.{Drew}
 use Rattle.esr_verify.specs.Done.{HasDone, Wrote}
@@ -27,10 +28,10 @@ use Rattle.esr_verify.proofs.Going.{stepped_went, went_on}
 pub is_own : (s : Start) (log : List Moment) (id : ℕ) (name : BlobName) → Drew s log id → IsTestOf id name → IsOwn (caller_of s log) name
 is_own s log id name drew own = record { id = id; drawn = drew.is_open; test = own }
 
-pub can_commit : (s : Start) (old mid : List Moment) (id : ℕ) (name at : BlobName) → Drew s old id → IsTestOf id name → (Has (caller_of s old).committed name → ⊥) → caller_of s mid ≡ caller_of s old → at ≡ name → CanCommit (caller_of s mid) at
+pub can_commit : (s : Start) (old mid : List Moment) (id : ℕ) (name at : BlobName) → Drew s old id → IsTestOf id name → (Has (caller_of s old).committed name → ⊥) → caller_of s mid ≡ caller_of s old → at ≡ name → CanCommitTest (caller_of s mid) at
 can_commit s old mid id name at drew own once same is =
-    subst (λ (n : BlobName). CanCommit (caller_of s mid) n) (sym is)
-    (subst (λ (c : Caller). CanCommit c name) (sym same) (record { own = is_own s old id name drew own; once = once }))
+    subst (λ (n : BlobName). CanCommitTest (caller_of s mid) n) (sym is)
+    (subst (λ (c : Caller). CanCommitTest c name) (sym same) (record { own = is_own s old id name drew own; once = once }))
 
 not_none : (drawn : Option ℕ) (id : ℕ) → drawn ≡ Some id → drawn ≡ None → ⊥
 not_none drawn id some none = cc
@@ -41,7 +42,7 @@ is_open s log id drew none = not_none (caller_of s log).drawn id drew.is_open no
 pub none_removed : (removed : List BlobName) (name : BlobName) → removed ≡ [] → Has removed name → ⊥
 none_removed removed name is has = subst (λ (l : List BlobName). Has l name) is has
 
-pub can_fetch : (s : Start) (log : List Moment) (id : ℕ) (name : BlobName) → Drew s log id → Has (caller_of s log).committed name → (caller_of s log).removed ≡ [] → (Has (caller_of s log).fetched name → ⊥) → CanFetch (caller_of s log) name
+pub can_fetch : (s : Start) (log : List Moment) (id : ℕ) (name : BlobName) → Drew s log id → Has (caller_of s log).committed name → (caller_of s log).removed ≡ [] → (Has (caller_of s log).fetched name → ⊥) → CanFetchTest (caller_of s log) name
 can_fetch s log id name drew committed unremoved once = record {
   drawn = is_open s log id drew;
   committed = committed;
@@ -51,7 +52,7 @@ can_fetch s log id name drew committed unremoved once = record {
 
 -- ---- the id is drawn
 
-pub can_draw : (c : Caller) → IsIdle c → CanDraw c
+pub can_draw : (c : Caller) → IsIdle c → CanDrawTest c
 can_draw c idle = record { undrawn = ap (λ (d : Caller). d.drawn) idle; unspent = ap (λ (d : Caller). d.spent) idle }
 
 nothing_done : (s : Start) (id : ℕ) (looked : Bool) → HasDone s (record no_caller { looked = looked; drawn = Some id }) id [] []
@@ -82,7 +83,7 @@ wrote_drawn c name (Some bytes) = refl
 pub committed_drawn : (old new : Caller) (name : BlobName) (contents : Option Bytes) → new ≡ caller_wrote old name contents → new.drawn ≡ old.drawn
 committed_drawn old new name contents is = ap (λ (c : Caller). c.drawn) is ∙ wrote_drawn old name contents
 
-pub removed_drawn : (old new : Caller) (names : List BlobName) → new ≡ record old { removed = names ++ old.removed } → new.drawn ≡ old.drawn
+pub removed_drawn : (old new : Caller) (names : List BlobName) → new ≡ removed_more names old → new.drawn ≡ old.drawn
 removed_drawn old new names is = ap (λ (c : Caller). c.drawn) is
 
 -- ---- a test blob is written
@@ -109,6 +110,13 @@ wrote_one s old mid new name at contents bytes alone is holds begun kept done ow
       (stepped_went s old mid (ReadStep (BeginTest name)) WasBegun alone begun)
       (stepped_went s mid new (ReadStep (CommitTest name)) WasDone alone (subst (λ (n : BlobName). Stepped s mid new 0 (ReadStep (CommitTest n)) WasDone) is done));
   own = own ∙ ap (λ (n : BlobName). caller_wrote (caller_of s mid) n contents) is ∙ ap (caller_wrote (caller_of s mid) name) holds ∙ ap (λ (c : Caller). caller_wrote c name (told_bytes s bytes)) kept;
+  made = λ e has. ⊎_elim
+      (λ (before : Has (made_of s mid 0) e). ⊎_elim
+      (λ (was : Has (made_of s old 0) e). inl was)
+      (λ (here : e.step ≡ ReadStep (BeginTest name)). inr (inl here))
+      (client_made s old mid (ReadStep (BeginTest name)) WasBegun alone begun e before))
+      (λ (here : e.step ≡ ReadStep (CommitTest at)). inr (inr (here ∙ ap (λ (n : BlobName). ReadStep (CommitTest n)) is)))
+      (client_made s mid new (ReadStep (CommitTest at)) WasDone alone done e has);
 }
 
 wrote_more : (s : Start) (old : Caller) (id : ℕ) (written : List BlobName) (name : BlobName) → HasDone s old id written [] → HasDone s (record old { committed = name ∷ old.committed }) id (written ++ name ∷ []) []
@@ -132,14 +140,6 @@ wrote_done s old new id written name contents h is =
     subst (λ (c : Caller). HasDone s c id (written ++ name ∷ []) []) (sym is) (done_beside s old id (written ++ name ∷ []) name contents (wrote_more s old id written name h))
 
 -- ---- a test blob is read
-
--- what is told of a blob that was read to its end
-pub told_same : (s : Start) (left : Option Bytes) (bytes : Bytes) → (held : Bytes) × Holds s left held → Tells left bytes → left ≡ told_bytes s bytes
-told_same s left bytes (held, holds) tells = by_tells s.tells left held bytes holds tells
-  where
-    by_tells : (told : Bool) (left : Option Bytes) (held bytes : Bytes) → left ≡ (if told then Some held else None) → Tells left bytes → left ≡ (if told then Some bytes else None)
-    by_tells true left held bytes is tells = is ∙ ap (λ (b : Bytes). Some b) (subst (λ (o : Option Bytes). Tells o bytes) is tells)
-    by_tells false left held bytes is tells = is
 
 module _ (s : Start) (id : ℕ) (written fetched : List BlobName) (name : BlobName) (old : Caller) (h : HasDone s old id written fetched) where
   fetched_once : (n : BlobName) → Has (name ∷ old.fetched) n → Has (fetched ++ name ∷ []) n

@@ -11,8 +11,8 @@ use Rattle.esr_formats.specs.Names.{name_of}
 use Rattle.esr_desk.specs.Start.{Start}
 use Rattle.esr_desk.specs.declared.refusal.StepRefusal.{StepRefusal}
 use Rattle.esr_desk.specs.Outcome.{Stepped, Outcome}
-use Rattle.esr_checking.specs.Caller.{caller_of}
-use Rattle.esr_checking.specs.Conditions.{CanRemove, CanEnd}
+use Rattle.esr_desk.specs.Own.{caller_of}
+use Rattle.esr_desk.specs.Verify.Conditions.{CanRemoveTests, CanEndVerification}
 use Rattle.esr_verify.specs.Steps.{Answered, test_names, writing, reading}
 use Rattle.esr_verify.specs.Tests.{AreTests}
 use Rattle.esr_verify.specs.Verified.{HasVerified}
@@ -26,13 +26,13 @@ use Rattle.esr_verify.proofs.Doing.{is_open}
 
 -- ---- what the last steps need
 
-pub can_remove : (s : Start) (c : Caller) (id : ℕ) (names : List CodeName) → AreTests id names → HasDone s c id (map name_of names) (map name_of names) → CanRemove c (map name_of names)
+pub can_remove : (s : Start) (c : Caller) (id : ℕ) (names : List CodeName) → AreTests id names → HasDone s c id (map name_of names) (map name_of names) → CanRemoveTests c (map name_of names)
 can_remove s c id names tests h = record { few = few_names id names tests; committed = h.committed }
 
 one_id : (a b : ℕ) → ◌≡◌ {A = Option ℕ} (Some a) (Some b) → a ≡ b
 one_id a b e = cc
 
-pub can_end : (s : Start) (log : List Moment) (c : Caller) (id : ℕ) (names : List BlobName) → Drew s log id → HasDone s c id names names → caller_of s log ≡ record c { removed = names ++ c.removed } → Has names (TestMaster id) → CanEnd (caller_of s log)
+pub can_end : (s : Start) (log : List Moment) (c : Caller) (id : ℕ) (names : List BlobName) → Drew s log id → HasDone s c id names names → caller_of s log ≡ record c { removed = names ++ c.removed } → Has names (TestMaster id) → CanEndVerification (caller_of s log)
 can_end s log c id names drew h is master = record {
   drawn = is_open s log id drew;
   master = λ other drawn.

@@ -1,242 +1,156 @@
 -- How a verification ends that went wrong.
-use Rattle.std.proofs.Common.{◌≡◌, ℕ, true, List, [], ◌∷◌, ◌++◌, Result, Ok, Err, IfOk, inl, inr, refl, sym, ap, ◌∙◌, subst}
+use Rattle.std.proofs.Common.{◌≡◌, ⊎_elim, true, List, Err, inr, refl, sym, ap, subst}
 use Rattle.esr_core.specs.World.{Caller}
-use Rattle.esr_core.specs.Entry.{BadId, Why, OfDepot, OfSource, OfChange, OfAbsence, OfUnreadable, OfAhead, OfTaken, OfIdsSpent, OfGenerationsSpent, OfTarget, OfPrint, OfDisagreement, Step, ReadStep, DrawTest, ReadFails, HasEnded, Refused, DeposedAt, IdsSpent, NameTaken, Moment}
-use Rattle.esr_desk.specs.declared.entry.Why.{Why as CodeWhy}
-use Rattle.esr_desk.specs.declared.entry.Why.TheVariants as whys
+use Rattle.esr_core.specs.Entry.{ReadFails, ReadStep, DrawTest, Refused, IdsSpent, Moment}
+use Rattle.esr_desk.specs.declared.hand.Hand.TheVariants as hands
+use Rattle.esr_desk.specs.declared.refusal.EntryRefusal.{EntryRefusal}
+use Rattle.esr_desk.specs.declared.refusal.EntryRefusal.TheVariants as refusals
 use Rattle.esr_desk.specs.declared.refusal.StepRefusal.{StepRefusal}
 use Rattle.esr_desk.specs.declared.refusal.StepRefusal.TheVariants as steps
-use Rattle.esr_desk.specs.declared.refusal.EntryRefusal.TheVariants as refusals
-use Rattle.esr_desk.specs.declared.fault.FailedObject.TheVariants as objects
+use Rattle.esr_desk.specs.declared.unit.UnitRefusal.{UnitRefusal}
+use Rattle.esr_desk.specs.declared.unit.UnitRefusal.TheVariants as units
+use Rattle.esr_desk.specs.declared.entry.Why.{Why}
+use Rattle.esr_desk.specs.declared.entry.Why.TheVariants as whys
 use Rattle.esr_desk.specs.declared.fault.By.{By}
 use Rattle.esr_desk.specs.declared.fault.By.TheVariants as shows
 use Rattle.esr_desk.specs.Entries.{why_of}
-use Rattle.esr_desk.specs.Start.{Start}
-use Rattle.esr_desk.specs.declared.unit.UnitRefusal.{UnitRefusal}
-use Rattle.esr_desk.specs.declared.unit.UnitRefusal.TheVariants as units
-use Rattle.esr_desk.specs.declared.refusal.EntryRefusal.{EntryRefusal}
-use Rattle.esr_desk.specs.Refusals.{refusal_of, told_refusal}
-use Rattle.esr_desk.specs.Outcome.{Stepped, Refusing, Spends}
-use Rattle.esr_desk.specs.Shown.{NeverFailed, ReadShown, StepShown}
-use Rattle.esr_desk.specs.Unquiet.{unquiet}
-use Rattle.esr_checking.specs.Caller.{caller_of, drawn_by}
-use Rattle.esr_checking.specs.Shown.{Counts, HadReply, HadNoId, DepotShown, IsAbsent, IsOther, IsMisprinted, IsShown}
-use Rattle.esr_verify.specs.declared.cause.Cause.{Cause}
-use Rattle.esr_verify.specs.declared.trouble.Trouble.{Trouble}
-use Rattle.esr_verify.specs.declared.trouble.Trouble.TheVariants as troubles
-use Rattle.esr_verify.specs.Cause.{cause_refused, cause_by}
-use Rattle.esr_verify.specs.Law.{RefusesSo, DeposesSo}
-use Rattle.esr_verify.specs.Went.{IsAlive, Drew}
-use Rattle.esr_verify.specs.Refused.{HasFailed, IsVerifyRefused}
-use Rattle.esr_verify.specs.Fails.{MayFail, FailsBy}
-use Rattle.esr_verify.specs.Trouble.{IsFound, IsStepRefusal, Shown}
-use Rattle.esr_verify.proofs.Living.{stepped_alive}
-use Rattle.esr_verify.proofs.Going.{front_is}
-use Rattle.esr_verify.proofs.Doing.{is_open}
-use Rattle.esr_verify.proofs.Refusing.{other_refusal, refused_so, live_refusal}
+use Rattle.esr_desk.specs.Refusals.{refusal_of}
+use Rattle.esr_desk.specs.Start.{Start, Legal}
+use Rattle.esr_desk.specs.Own.{Own, caller_of}
+use Rattle.esr_desk.specs.Outcome.{Stepped}
+use Rattle.esr_desk.specs.Halts.{Halts}
+use Rattle.esr_desk.specs.Caller.{drawn_by}
+use Rattle.esr_desk.specs.Evidence.{Evidence}
+use Rattle.esr_desk.specs.Verify.Conditions.{IsOpen}
+use Rattle.esr_unit.specs.declared.trouble.Trouble.{Trouble}
+use Rattle.esr_unit.specs.declared.trouble.Trouble.TheVariants as troubles
+use Rattle.esr_unit.specs.declared.ending.Ending.{Ending}
+use Rattle.esr_unit.specs.declared.ending.Ending.TheVariants as endings
+use Rattle.esr_unit.specs.Ending.{ending_by}
+use Rattle.esr_unit.specs.Shown.{EndingShown, MayEnd, Shown}
+use Rattle.esr_unit.specs.Fetch.{IsRefusedBy}
+use Rattle.esr_unit.specs.Fail.{HasFailed, GivenUp, IsReported}
+use Rattle.esr_unit.specs.Refusals.{RefusesSo, stepped_had}
+use Rattle.esr_verify.specs.Law.{DeposesSo}
+use Rattle.esr_verify.specs.Went.{IsAlive}
+use Rattle.esr_verify.specs.Refused.{StopsVerify, IsVerifyRefused}
+use Rattle.esr_verify.proofs.Living.{stepped_alive, last_alive}
+use Rattle.esr_verify.proofs.Refusing.{IsAbort, IsDrawRefusal, HowRefused, live_refusal, draw_refused}
 
--- ---- what shows a cause
+-- ---- what the report asks
 
-found_shown : (H T : Type 0) {S F : Type 0} (c : Counts S F) (s : Start) (log : List Moment) (why : CodeWhy) → IsFound s log why → IsShown {S = S} {F = F} {H = H} {T = T} c s log (caller_of s log) (why_of why) shows.Nothing
-found_shown H T c s log whys.Depot h = h
-found_shown H T c s log whys.Source h = h
-found_shown H T c s log (whys.Changed first second) h = h
-found_shown H T c s log (whys.Absent name) h = h
-found_shown H T c s log (whys.Unreadable name reason) h = h
-found_shown H T c s log (whys.Ahead name) h = h
-found_shown H T c s log (whys.NameTaken name) h = h
-found_shown H T c s log (whys.IdsSpent next) h = h
-found_shown H T c s log (whys.GenerationsSpent number) h = h
-found_shown H T c s log whys.Target h = h
-found_shown H T c s log (whys.Misprinted name stated found) h = h
-found_shown H T c s log (whys.Disagreeing name other) h = h
+-- that the verification is open
+pub may_end : {S F H T : Type 0} (s : Start) (log : List Moment) (ending : Ending S F H T) → s.alone ≡ true → IsOpen (caller_of s log) → MayEnd hands.Verify s log 0 ending
+may_end s log (endings.Failed why b) alone is_open = (record { alone = alone; client = refl }, is_open)
+may_end s log endings.Own alone is_open = tt
+may_end s log endings.Stale alone is_open = tt
+may_end s log (endings.Stopped refusal) alone is_open = tt
 
-module _ {S F H T : Type 0} (c : Counts S F) (s : Start) (log : List Moment) where
-  abbrev IsShownCause : Cause S F H T → Type 0
-  IsShownCause cause = IsShown c s log (caller_of s log) (why_of cause.why) cause.by
+-- a verification has no term
+pub never_stale : {S F H T : Type 0} (e : Evidence S F H T) (s : Start) (log : List Moment) (ending : Ending S F H T) → EndingShown hands.Verify e ⊥ s log 0 ending → ending ≡ endings.Stale → ⊥
+never_stale {S} {F} {H} {T} e s log ending shown is = subst (λ (x : Ending S F H T). EndingShown hands.Verify e ⊥ s log 0 x) is shown
 
-  refused_shown : (e : StepRefusal) (cause : Cause S F H T) → (s.quiet ≡ true → NeverFailed log) → IsStepRefusal s log e → cause_refused e ≡ Ok cause → IsShownCause cause
-  refused_shown steps.Memory cause never h is = absurd cc
-  refused_shown steps.TurnsSpent cause never h is = absurd cc
-  refused_shown (steps.Refused refusals.DepotFault) cause never h is =
-      let same : ◌≡◌ {A = Cause S F H T} (record { why = whys.Depot; by = shows.Entry }) cause = cc in
-      let was = h.1 in
-      subst IsShownCause same
-      (h, unquiet s.quiet log (was.before ++ was.draw ∷ was.between) was.moment was.back never was.is was.reply_is)
-  refused_shown (steps.Refused (refusals.NameTaken name)) cause never h is =
-      let same : ◌≡◌ {A = Cause S F H T} (record { why = whys.NameTaken name; by = shows.Entry }) cause = cc in
-      subst IsShownCause same h
-  refused_shown (steps.Refused (refusals.IdsSpent next)) cause never h is = absurd h
-  refused_shown (steps.Refused (refusals.CleanupRunning op)) cause never h is = absurd cc
-  refused_shown (steps.Refused (refusals.NameInUse uuid)) cause never h is = absurd cc
-  refused_shown (steps.Refused (refusals.TooMany limit)) cause never h is = absurd cc
-  refused_shown (steps.Refused (refusals.Deposed entry)) cause never h is = absurd cc
-  refused_shown (steps.Refused (refusals.Aborted by)) cause never h is = absurd cc
-  refused_shown (steps.Refused (refusals.StaleTerm own now)) cause never h is = absurd cc
-  refused_shown (steps.Refused (refusals.GenerationsSpent spent)) cause never h is = absurd cc
-  refused_shown (steps.Refused (refusals.TermsSpent spent)) cause never h is = absurd cc
-  refused_shown (steps.Refused (refusals.NoSnapshot at)) cause never h is = absurd cc
-  refused_shown (steps.Refused (refusals.BeingDeleted op)) cause never h is = absurd cc
-  refused_shown (steps.Refused (refusals.NoIndex place)) cause never h is = absurd cc
-  refused_shown (steps.Refused (refusals.CloneRunning op)) cause never h is = absurd cc
-  refused_shown (steps.Refused (refusals.RestoreRunning op)) cause never h is = absurd cc
-  refused_shown (steps.Refused (refusals.BusyOp op)) cause never h is = absurd cc
-  refused_shown (steps.Refused (refusals.BusyTicket ticket)) cause never h is = absurd cc
-
-  pub cause_shown : (trouble : Trouble S F) (cause : Cause S F H T) → (s.quiet ≡ true → NeverFailed log) → Shown c.stage c.fetch s log trouble → cause_by trouble ≡ Ok cause → IsShown c s log (caller_of s log) (why_of cause.why) cause.by
-  cause_shown (troubles.Step e) cause never h is = refused_shown e cause never h is
-  cause_shown (troubles.Stage stage) cause never h is =
-      let same : ◌≡◌ {A = Cause S F H T} (record { why = whys.Depot; by = shows.Object (objects.Stage stage) }) cause = cc in
-      subst IsShownCause same h
-  cause_shown (troubles.Fetch fetch) cause never h is =
-      let same : ◌≡◌ {A = Cause S F H T} (record { why = whys.Depot; by = shows.Object (objects.Fetch fetch) }) cause = cc in
-      subst IsShownCause same h
-  cause_shown (troubles.Found why) cause never h is =
-      let same : ◌≡◌ {A = Cause S F H T} (record { why = why; by = shows.Nothing }) cause = cc in
-      subst IsShownCause same (found_shown H T c s log why h)
-
--- ---- where a verification may be ended as failed
-
-pub if_ok : {X E : Type 0} (result : Result X E) (P : X → Type 0) → ((x : X) → result ≡ Ok x → P x) → IfOk result P
-if_ok (Ok x) P h = h x refl
-if_ok (Err e) P h = tt
-
-pub ok_if : {X E : Type 0} (result : Result X E) (x : X) (P : X → Type 0) → result ≡ Ok x → IfOk result P → P x
-ok_if {X} (Ok y) x P is h = let same : ◌≡◌ {A = X} y x = cc in subst P same h
-ok_if (Err e) x P is h = absurd cc
-
--- after the draw
-pub may_fail : (H T : Type 0) {S F : Type 0} (c : Counts S F) (s : Start) (log : List Moment) (id : ℕ) (trouble : Trouble S F) → (s.quiet ≡ true → NeverFailed log) → Drew s log id → Shown c.stage c.fetch s log trouble → IfOk (cause_by {S = S} {F = F} {H = H} {T = T} trouble) (MayFail c s log)
-may_fail H T {S} {F} c s log id trouble never drew shown =
-    if_ok (cause_by {S = S} {F = F} {H = H} {T = T} trouble) (MayFail c s log)
-    (λ (cause : Cause S F H T) (is : cause_by {S = S} {F = F} {H = H} {T = T} trouble ≡ Ok cause). record { is_open = inl (is_open s log id drew); alive = drew.alive; shown = cause_shown c s log trouble cause never shown is })
-
--- and by the draw, which is refused as no id is left, or in a deposed world
-draw_other : RefusesSo → (s : Start) (old new : List Moment) (x : EntryRefusal) → Stepped s old new 0 (ReadStep DrawTest) (Refused (refusal_of x)) → ((place : ℕ) → refusal_of x ≡ DeposedAt place → ⊥) → ((next : ℕ) → refusal_of x ≡ IdsSpent next → ⊥) → ⊥
-draw_other law s old new x h live ids = other_refusal (refusal_of x) ((next : ℕ) × (refusal_of x ≡ IdsSpent next)) live (λ spent. ids spent.0 spent.1) (refused_so law s old new DrawTest (refusal_of x) h)
-
-pub draw_may : RefusesSo → DeposesSo → (H T : Type 0) {S F : Type 0} (c : Counts S F) (s : Start) (old new : List Moment) (e : StepRefusal) → Refusing s old new 0 (ReadStep DrawTest) (told_refusal e) × Spends s new e → caller_of s new ≡ drawn_by (Err e) (caller_of s old)
-    → IfOk (cause_refused {S = S} {F = F} {H = H} {T = T} e) (MayFail c s new)
-draw_may law deposes H T c s old new (steps.Refused (refusals.IdsSpent next)) h own = record {
-  is_open = inr (ap (λ (d : Caller). d.spent) own);
-  alive = stepped_alive deposes s old new DrawTest (Refused (IdsSpent next.number)) (λ place e. cc) h.0;
-  shown = record {
-    front = h.0.front;
-    draw = record { entry = record { who = 0; step = ReadStep DrawTest; reply = Refused (IdsSpent next.number) }; image = h.0.image };
-    back = [];
-    is = h.0.is;
-    drawer = refl;
-    drew = refl;
-    refused = refl;
-    is_open = ap (λ (d : Caller). d.spent) own;
-  };
-}
-draw_may law deposes H T c s old new (steps.Refused refusals.DepotFault) h own = absurd (draw_other law s old new refusals.DepotFault h.0 (λ place e. cc) (λ next e. cc))
-draw_may law deposes H T c s old new (steps.Refused (refusals.NameTaken name)) h own = absurd (draw_other law s old new (refusals.NameTaken name) h.0 (λ place e. cc) (λ next e. cc))
-draw_may law deposes H T c s old new e h own = tt
+-- what a trouble shows, its ending does
+pub ending_shown : {S F H T : Type 0} (e : Evidence S F H T) (s : Start) (log : List Moment) (trouble : Trouble S F) (ending : Ending S F H T) → ending ≡ ending_by trouble → Shown {S = S} {F = F} {H = H} {T = T} hands.Verify e ⊥ s log 0 trouble
+    → EndingShown hands.Verify e ⊥ s log 0 ending
+ending_shown {S} {F} {H} {T} e s log trouble ending is shown = subst (λ (x : Ending S F H T). EndingShown hands.Verify e ⊥ s log 0 x) (sym is) shown
 
 -- ---- how it ends then
 
-pub fails_as : {S F H T : Type 0} (c : Counts S F) (s : Start) (old new : List Moment) (one two : Result (Cause S F H T) StepRefusal) (result : UnitRefusal) → one ≡ two → FailsBy c s old new two result → FailsBy c s old new one result
-fails_as {S} {F} {H} {T} c s old new one two result is h = subst (λ (r : Result (Cause S F H T) StepRefusal). FailsBy c s old new r result) (sym is) h
+-- the report isn't refused, but where memory is wanting or turns are spent
+unreported : RefusesSo → (s : Start) (old mid new : List Moment) (why : Why) (x : EntryRefusal) → s.alone ≡ true → IsAlive s mid → Stepped s mid new 0 (ReadStep (ReadFails (why_of why))) (Refused (refusal_of x)) → Halts s new 0 (steps.Refused x) → ⊥
+unreported law s old mid new why (refusals.Deposed entry) alone alive h halts = ⊎_elim
+    (λ (abort : IsAbort (refusal_of (refusals.Deposed entry))). abort)
+    (λ (how : HowRefused (ReadFails (why_of why)) (refusal_of (refusals.Deposed entry))). how)
+    (live_refusal law s mid new (ReadFails (why_of why)) (refusal_of (refusals.Deposed entry)) alone alive h)
+unreported law s old mid new why x alone alive h halts = halts
 
--- an end isn't refused
-pub end_refused : RefusesSo → {S F H T : Type 0} (c : Counts S F) (s : Start) (old new : List Moment) (cause : Cause S F H T) (e : StepRefusal) → s.alone ≡ true → IsAlive s old → Refusing s old new 0 (ReadStep (ReadFails (why_of cause.why))) (told_refusal e) × Spends s new e
-    → FailsBy c s old new (Ok cause) (units.Stopped e)
-end_refused law c s old new cause steps.Memory alone alive h = tt
-end_refused law c s old new cause steps.TurnsSpent alone alive h = h.1
-end_refused law c s old new cause (steps.Refused x) alone alive h = absurd (live_refusal law s old new (ReadFails (why_of cause.why)) (refusal_of x) alone alive h.0)
+module _ {S F H T : Type 0} (e : Evidence S F H T) (law : RefusesSo) (s : Start) (old mid new : List Moment) (alone : s.alone ≡ true) where
+  failed : (why told : Why) (b : By S F H T) → GivenUp hands.Verify e s mid new 0 (endings.Failed why b) (units.Failed told) → IsVerifyRefused e s old new (units.Failed told)
+  failed why told b h = (ap (λ (o : Own). o.caller) h.1, subst (λ (w : Why). HasFailed hands.Verify e s new 0 w) (sym h.0) h.2)
 
-module _ (H T : Type 0) {S F : Type 0} (c : Counts S F) (s : Start) (old mid new : List Moment) where
-  for_cause : (cause : Cause S F H T) (result : UnitRefusal) → FailsBy c s mid new (Ok cause) result → IsVerifyRefused c s old new result
-  for_cause cause (units.Failed why) h = h
-  for_cause cause (units.Stopped steps.Memory) h = tt
-  for_cause cause (units.Stopped steps.TurnsSpent) h = h
-  for_cause cause (units.Stopped (steps.Refused x)) h = absurd h
+  for_cause : (why : Why) (b : By S F H T) (refusal : StepRefusal) → IsAlive s mid → GivenUp hands.Verify e s mid new 0 (endings.Failed why b) (units.Stopped refusal) → IsReported hands.Verify s mid new 0 (endings.Failed why b) (units.Stopped refusal)
+      → IsVerifyRefused e s old new (units.Stopped refusal)
+  for_cause why b steps.Memory alive h report = tt
+  for_cause why b steps.TurnsSpent alive h report = h.halts
+  for_cause why b (steps.Refused x) alive h report = absurd (unreported law s old mid new why x alone alive report h.halts)
 
-  for_memory : (result : UnitRefusal) → FailsBy {H = H} {T = T} c s mid new (Err steps.Memory) result → IsVerifyRefused c s old new result
-  for_memory result h = subst (λ (r : UnitRefusal). IsVerifyRefused c s old new r) (sym h.0) tt
+  -- after the draw
+  stopped : (refusal : StepRefusal) → Legal s mid → IsAlive s mid → Halts s mid 0 refusal → StopsVerify s old mid refusal
+  stopped steps.Memory legal alive halts = tt
+  stopped steps.TurnsSpent legal alive halts = halts
+  stopped (steps.Refused (refusals.Deposed entry)) legal alive halts = absurd (last_alive law s mid 0 halts.0 entry legal alive halts.1)
+  stopped (steps.Refused x) legal alive halts = absurd halts
 
-  for_turns : (result : UnitRefusal) → Spends s mid steps.TurnsSpent → FailsBy {H = H} {T = T} c s mid new (Err steps.TurnsSpent) result → IsVerifyRefused c s old new result
-  for_turns result spends h = subst (λ (r : UnitRefusal). IsVerifyRefused c s old new r) (sym h.0) (subst (λ (log : List Moment). Spends s log steps.TurnsSpent) (sym h.1) spends)
+  as_stopped : (refusal told : StepRefusal) → StopsVerify s old mid refusal → (told ≡ refusal) × (new ≡ mid) → IsVerifyRefused e s old new (units.Stopped told)
+  as_stopped refusal told stops h =
+      subst (λ (log : List Moment). StopsVerify s old log told) (sym h.1) (subst (λ (r : StepRefusal). StopsVerify s old mid r) (sym h.0) stops)
 
-  -- a step after the draw was refused
-  refused_ends : (e : StepRefusal) (result : UnitRefusal) → IsStepRefusal s mid e → FailsBy {H = H} {T = T} c s mid new (cause_refused e) result → IsVerifyRefused c s old new result
-  refused_ends steps.Memory result shown h = for_memory result h
-  refused_ends steps.TurnsSpent result shown h = for_turns result shown h
-  refused_ends (steps.Refused refusals.DepotFault) result shown h = for_cause (record { why = whys.Depot; by = shows.Entry }) result h
-  refused_ends (steps.Refused (refusals.NameTaken name)) result shown h = for_cause (record { why = whys.NameTaken name; by = shows.Entry }) result h
-  refused_ends (steps.Refused x) result shown h = absurd shown
+  pub ends : (ending : Ending S F H T) (result : UnitRefusal) → Legal s mid → IsAlive s mid → EndingShown hands.Verify e ⊥ s mid 0 ending → GivenUp hands.Verify e s mid new 0 ending result → IsReported hands.Verify s mid new 0 ending result
+      → IsVerifyRefused e s old new result
+  ends (endings.Failed why b) (units.Failed told) legal alive shown h report = failed why told b h
+  ends (endings.Failed why b) (units.Stopped refusal) legal alive shown h report = for_cause why b refusal alive h report
+  ends (endings.Stopped refusal) (units.Stopped told) legal alive shown h report = as_stopped refusal told (stopped refusal legal alive shown) h
+  ends ending result legal alive shown h report = absurd h
 
-  pub trouble_ends : (trouble : Trouble S F) (result : UnitRefusal) → Shown c.stage c.fetch s mid trouble → FailsBy {H = H} {T = T} c s mid new (cause_by trouble) result → IsVerifyRefused c s old new result
-  trouble_ends (troubles.Step e) result shown h = refused_ends e result shown h
-  trouble_ends (troubles.Stage stage) result shown h = for_cause (record { why = whys.Depot; by = shows.Object (objects.Stage stage) }) result h
-  trouble_ends (troubles.Fetch fetch) result shown h = for_cause (record { why = whys.Depot; by = shows.Object (objects.Fetch fetch) }) result h
-  trouble_ends (troubles.Found why) result shown h = for_cause (record { why = why; by = shows.Nothing }) result h
+-- ---- by the draw
 
-  -- the draw was refused
-  pub draw_ends : RefusesSo → (e : StepRefusal) (result : UnitRefusal) → Refusing s old mid 0 (ReadStep DrawTest) (told_refusal e) × Spends s mid e → caller_of s mid ≡ drawn_by (Err e) (caller_of s old)
-      → FailsBy {H = H} {T = T} c s mid new (cause_refused e) result → IsVerifyRefused c s old new result
-  draw_ends law steps.Memory result step own h = for_memory result h
-  draw_ends law steps.TurnsSpent result step own h = for_turns result step.1 h
-  draw_ends law (steps.Refused refusals.DepotFault) result step own h = for_cause (record { why = whys.Depot; by = shows.Entry }) result h
-  draw_ends law (steps.Refused (refusals.NameTaken name)) result step own h = for_cause (record { why = whys.NameTaken name; by = shows.Entry }) result h
-  draw_ends law (steps.Refused (refusals.IdsSpent next)) result step own h = for_cause (record { why = whys.IdsSpent next; by = shows.Entry }) result h
-  draw_ends law (steps.Refused (refusals.Deposed entry)) result step own h =
-      subst (λ (r : UnitRefusal). IsVerifyRefused c s old new r) (sym h.0)
-      (record { front = step.0.front; image = step.0.image; is = h.1 ∙ step.0.is }, ap (λ (log : List Moment). caller_of s log) h.1 ∙ own)
-  draw_ends law (steps.Refused x) result step own h = absurd (draw_other law s old mid x step.0 (λ place e. cc) (λ next e. cc))
+module _ {S F H T : Type 0} (e : Evidence S F H T) (law : RefusesSo) (s : Start) (old mid : List Moment) (alone : s.alone ≡ true) where
+  draw_entry : (x : EntryRefusal) → IsDrawRefusal (refusal_of x) → Stepped s old mid 0 (ReadStep DrawTest) (Refused (refusal_of x)) → caller_of s mid ≡ drawn_by (Err (steps.Refused x)) (caller_of s old)
+      → Shown {S = S} {F = F} {H = H} {T = T} hands.Verify e ⊥ s mid 0 (troubles.Step (steps.Refused x))
+  draw_entry (refusals.Deposed entry) is h own = (ReadStep DrawTest, record { front = h.front; image = h.image; is = h.is })
+  draw_entry (refusals.IdsSpent next) is h own = record {
+    client = refl;
+    shown = record { is_open = ap (λ (d : Caller). d.spent) own; had = stepped_had s old mid 0 (ReadStep DrawTest) (Refused (IdsSpent next.number)) h };
+  }
+  draw_entry x is h own = absurd is
 
--- ---- no shard and no target shows it
+  pub draw_shown : (refusal : StepRefusal) → IsRefusedBy s old mid 0 (ReadStep DrawTest) refusal → caller_of s mid ≡ drawn_by (Err refusal) (caller_of s old) → Shown {S = S} {F = F} {H = H} {T = T} hands.Verify e ⊥ s mid 0 (troubles.Step refusal)
+  draw_shown steps.Memory h own = tt
+  draw_shown steps.TurnsSpent h own = h.1
+  draw_shown (steps.Refused x) h own = draw_entry x (draw_refused law s old mid x h.0 h.1) h.0 own
 
-abbrev pub plain : {S F H T : Type 0} → By S F H T → By S F ⊥ ⊥
-plain (shows.Object (objects.Stage stage)) = shows.Object (objects.Stage stage)
-plain (shows.Object (objects.Fetch fetch)) = shows.Object (objects.Fetch fetch)
-plain (shows.Object (objects.Shard shard)) = shows.Nothing
-plain (shows.Object (objects.Target target)) = shows.Nothing
-plain shows.Entry = shows.Entry
-plain shows.Nothing = shows.Nothing
+  may_entry : (x : EntryRefusal) → IsDrawRefusal (refusal_of x) → caller_of s mid ≡ drawn_by (Err (steps.Refused x)) (caller_of s old) → MayEnd {S = S} {F = F} {H = H} {T = T} hands.Verify s mid 0 (ending_by {S = S} {F = F} {H = H} {T = T} (troubles.Step (steps.Refused x)))
+  may_entry (refusals.Deposed entry) is own = tt
+  may_entry (refusals.IdsSpent next) is own = (record { alone = alone; client = refl }, inr (ap (λ (d : Caller). d.spent) own))
+  may_entry x is own = absurd is
 
-module _ {S F H T : Type 0} (c : Counts S F) (s : Start) (log : List Moment) where
-  plain_depot : (b : By S F H T) → DepotShown c s log (caller_of s log) b → DepotShown c s log (caller_of s log) (plain b)
-  plain_depot (shows.Object (objects.Stage stage)) h = h
-  plain_depot (shows.Object (objects.Fetch fetch)) h = h
-  plain_depot (shows.Object (objects.Shard shard)) h = absurd h
-  plain_depot (shows.Object (objects.Target target)) h = absurd h
-  plain_depot shows.Entry h = h
-  plain_depot shows.Nothing h = h
+  draw_may : (refusal : StepRefusal) → IsRefusedBy s old mid 0 (ReadStep DrawTest) refusal → caller_of s mid ≡ drawn_by (Err refusal) (caller_of s old) → MayEnd {S = S} {F = F} {H = H} {T = T} hands.Verify s mid 0 (ending_by {S = S} {F = F} {H = H} {T = T} (troubles.Step refusal))
+  draw_may steps.Memory h own = tt
+  draw_may steps.TurnsSpent h own = tt
+  draw_may (steps.Refused x) h own = may_entry x (draw_refused law s old mid x h.0 h.1) own
 
-  plain_read : (b : By S F H T) (shown : Type 0) → ReadShown b shown → ReadShown (plain b) shown
-  plain_read (shows.Object object) shown h = absurd h
-  plain_read shows.Entry shown h = h
-  plain_read shows.Nothing shown h = h
+  pub draw_may_end : (refusal : StepRefusal) (ending : Ending S F H T) → ending ≡ ending_by (troubles.Step refusal) → IsRefusedBy s old mid 0 (ReadStep DrawTest) refusal → caller_of s mid ≡ drawn_by (Err refusal) (caller_of s old) → MayEnd hands.Verify s mid 0 ending
+  draw_may_end refusal ending is h own = subst (λ (x : Ending S F H T). MayEnd hands.Verify s mid 0 x) (sym is) (draw_may refusal h own)
 
-  plain_step : (b : By S F H T) (shown : Type 0) → StepShown b shown → StepShown (plain b) shown
-  plain_step (shows.Object object) shown h = absurd h
-  plain_step shows.Entry shown h = h
-  plain_step shows.Nothing shown h = h
+module _ {S F H T : Type 0} (e : Evidence S F H T) (law : RefusesSo) (deposes : DeposesSo) (s : Start) (old mid new : List Moment) (alone : s.alone ≡ true) where
+  -- no id was left
+  spent_ends : (why : Why) (b : By S F H T) (result : UnitRefusal) → IsAlive s mid → GivenUp hands.Verify e s mid new 0 (endings.Failed why b) result → IsReported hands.Verify s mid new 0 (endings.Failed why b) result → IsVerifyRefused e s old new result
+  spent_ends why b (units.Failed told) alive h report = failed e law s old mid new alone why told b h
+  spent_ends why b (units.Stopped refusal) alive h report = for_cause e law s old mid new alone why b refusal alive h report
+  spent_ends why b units.Stale alive h report = absurd h
 
-  plain_shown : (why : Why) (b : By S F H T) → IsShown c s log (caller_of s log) why b → IsShown c s log (caller_of s log) why (plain b)
-  plain_shown OfDepot b h = plain_depot b h
-  plain_shown (OfAbsence name) b h = plain_read b (IsAbsent log (caller_of s log) name) h
-  plain_shown (OfUnreadable name reason) b h = plain_read b (IsOther s (caller_of s log) name × (reason ≡ BadId)) h
-  plain_shown (OfPrint name stated_len stated_digest found_len found_digest) b h = plain_read b (IsMisprinted s (caller_of s log) name stated_len stated_digest found_len found_digest) h
-  plain_shown (OfTaken name) b h = plain_step b ((step : Step) × HadReply log (caller_of s log) step (Refused (NameTaken name))) h
-  plain_shown OfSource b h = absurd h
-  plain_shown (OfChange first_len first_digest second_len second_digest) b h = absurd h
-  plain_shown (OfIdsSpent next) b h = plain_step b (HadNoId log (caller_of s log) next) h
-  plain_shown (OfGenerationsSpent pending) b h = absurd h
-  plain_shown OfTarget b h = absurd h
-  plain_shown (OfAhead name) b h = absurd h
-  plain_shown (OfDisagreement name other) b h = absurd h
+  stop_ends : (refusal : StepRefusal) (result : UnitRefusal) → StopsVerify s old mid refusal → GivenUp hands.Verify e s mid new 0 (endings.Stopped refusal) result → IsVerifyRefused e s old new result
+  stop_ends refusal (units.Stopped told) stops h = as_stopped e law s old mid new alone refusal told stops h
+  stop_ends refusal (units.Failed why) stops h = absurd h
+  stop_ends refusal units.Stale stops h = absurd h
 
--- the last entry tells it
-pub has_failed : {S F H T : Type 0} (c : Counts S F) (s : Start) (old new : List Moment) (why : CodeWhy) (b : By S F H T) → s.alone ≡ true → IsShown c s old (caller_of s old) (why_of why) b
-    → Stepped s old new 0 (ReadStep (ReadFails (why_of why))) HasEnded → HasFailed c s new why
-has_failed c s old new why b alone shown step = record {
-  front = step.front;
-  image = step.image;
-  is = step.is;
-  by = plain b;
-  shown = subst (λ (log : List Moment). IsShown c s log (caller_of s log) (why_of why) (plain b)) (sym (front_is s old step.front 0 alone step.waited)) (plain_shown c s old (why_of why) b shown);
-}
+  entry_ends : (x : EntryRefusal) (result : UnitRefusal) → IsDrawRefusal (refusal_of x) → Stepped s old mid 0 (ReadStep DrawTest) (Refused (refusal_of x)) → caller_of s mid ≡ drawn_by (Err (steps.Refused x)) (caller_of s old)
+      → GivenUp hands.Verify e s mid new 0 (ending_by {S = S} {F = F} {H = H} {T = T} (troubles.Step (steps.Refused x))) result → IsReported {S = S} {F = F} {H = H} {T = T} hands.Verify s mid new 0 (ending_by {S = S} {F = F} {H = H} {T = T} (troubles.Step (steps.Refused x))) result
+      → IsVerifyRefused e s old new result
+  entry_ends (refusals.Deposed entry) result is h own given report = stop_ends (steps.Refused (refusals.Deposed entry)) result (record { front = h.front; image = h.image; is = h.is }, own) given
+  entry_ends (refusals.IdsSpent next) result is h own given report =
+      spent_ends (whys.IdsSpent next) shows.Entry result (stepped_alive deposes s old mid DrawTest (Refused (IdsSpent next.number)) (λ place e. cc) h) given report
+  entry_ends x result is h own given report = absurd is
+
+  draw_ending : (refusal : StepRefusal) (result : UnitRefusal) → IsRefusedBy s old mid 0 (ReadStep DrawTest) refusal → caller_of s mid ≡ drawn_by (Err refusal) (caller_of s old)
+      → GivenUp hands.Verify e s mid new 0 (ending_by {S = S} {F = F} {H = H} {T = T} (troubles.Step refusal)) result → IsReported {S = S} {F = F} {H = H} {T = T} hands.Verify s mid new 0 (ending_by {S = S} {F = F} {H = H} {T = T} (troubles.Step refusal)) result
+      → IsVerifyRefused e s old new result
+  draw_ending steps.Memory result h own given report = stop_ends steps.Memory result tt given
+  draw_ending steps.TurnsSpent result h own given report = stop_ends steps.TurnsSpent result h.1 given
+  draw_ending (steps.Refused x) result h own given report = entry_ends x result (draw_refused law s old mid x h.0 h.1) h.0 own given report
+
+  pub draw_ends : (refusal : StepRefusal) (ending : Ending S F H T) (result : UnitRefusal) → ending ≡ ending_by (troubles.Step refusal) → IsRefusedBy s old mid 0 (ReadStep DrawTest) refusal → caller_of s mid ≡ drawn_by (Err refusal) (caller_of s old)
+      → GivenUp hands.Verify e s mid new 0 ending result → IsReported hands.Verify s mid new 0 ending result → IsVerifyRefused e s old new result
+  draw_ends refusal ending result is h own given report =
+      draw_ending refusal result h own (subst (λ (x : Ending S F H T). GivenUp hands.Verify e s mid new 0 x result) is given) (subst (λ (x : Ending S F H T). IsReported hands.Verify s mid new 0 x result) is report)

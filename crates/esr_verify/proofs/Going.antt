@@ -1,14 +1,23 @@
 -- Histories of a verification that go on.
 use Rattle.std.proofs.Common.{◌≡◌, ⊎_elim, ℕ, true, List, [], ◌∷◌, ◌++◌, append-nil, append_assoc, Option, Some, None, Result, Ok, Err, refl, sym, ap, ◌∙◌, subst}
 use Rattle.esr_core.specs.World.{Caller}
+use Rattle.esr_model.specs.Names.{BlobName}
 use Rattle.esr_model.specs.Values.{Has}
-use Rattle.esr_core.specs.Entry.{Read, Step, Reply, Refusal, Refused, ReadStep, DrawTest, VerifiedAll, DrawnFrom, HasEnded, Moment}
+use Rattle.esr_core.specs.Entry.{Read, ReadBlob, ReadFails, Step, Reply, Refusal, Refused, ReadStep, DrawTest, VerifiedAll, DrawnFrom, HasEnded, Moment}
 use Rattle.esr_desk.specs.declared.refusal.StepRefusal.{StepRefusal}
+use Rattle.esr_desk.specs.declared.hand.Hand.TheVariants as hands
+use Rattle.esr_desk.specs.declared.unit.UnitRefusal.{UnitRefusal}
+use Rattle.esr_desk.specs.declared.unit.UnitRefusal.TheVariants as units
+use Rattle.esr_desk.specs.Entries.{why_of}
 use Rattle.esr_desk.specs.Refusals.{told_refusal}
 use Rattle.esr_desk.specs.Start.{Start}
 use Rattle.esr_desk.specs.Outcome.{Waited, Stepped, Refusing, Outcome}
 use Rattle.esr_desk.specs.Grew.{GrewBy, AllOf}
-use Rattle.esr_checking.specs.Caller.{caller_of}
+use Rattle.esr_desk.specs.Own.{caller_of}
+use Rattle.esr_unit.specs.declared.ending.Ending.{Ending}
+use Rattle.esr_unit.specs.declared.ending.Ending.TheVariants as endings
+use Rattle.esr_unit.specs.Fetch.{IsAsked}
+use Rattle.esr_unit.specs.Fail.{IsReported}
 use Rattle.esr_verify.specs.Steps.{Answered}
 use Rattle.esr_verify.specs.Verified.{Are}
 use Rattle.esr_verify.specs.Law.{DeposesSo}
@@ -94,6 +103,25 @@ pub outcome_further : {X : Type 0} (s : Start) (old new : List Moment) (read : R
 outcome_further s old new read ok (Ok x) alone further h = stepped_further s old new read (ok x) alone further h
 outcome_further s old new read ok (Err e) alone further h = refusing_further s old new read (told_refusal e) alone further h.0
 
+-- by a fetch, whatever it was answered
+asked_further : (s : Start) (old new : List Moment) (name : BlobName) → s.alone ≡ true → IsAsked s old new 0 (ReadStep (ReadBlob name)) → GrewFurther s old new
+asked_further s old new name alone h = ⊎_elim
+    (λ (w : Waited s old new 0). refusing_further s old new (ReadBlob name) None alone tt w)
+    (λ (made : (reply : Reply) × Stepped s old new 0 (ReadStep (ReadBlob name)) reply). stepped_further s old new (ReadBlob name) made.0 alone tt made.1)
+    h
+
+same_further : (s : Start) (old new : List Moment) → new ≡ old → GrewFurther s old new
+same_further s old new same = subst (λ (log : List Moment). GrewFurther s old log) (sym same) (further_none s old)
+
+-- by the report that it failed
+pub report_further : {S F H T : Type 0} (s : Start) (old new : List Moment) (ending : Ending S F H T) (result : UnitRefusal) → s.alone ≡ true → IsReported hands.Verify s old new 0 ending result → GrewFurther s old new
+report_further s old new (endings.Failed why b) (units.Failed told) alone h = stepped_further s old new (ReadFails (why_of why)) HasEnded alone tt h
+report_further s old new (endings.Failed why b) (units.Stopped refusal) alone h = refusing_further s old new (ReadFails (why_of why)) (told_refusal refusal) alone tt h
+report_further s old new (endings.Failed why b) units.Stale alone h = same_further s old new h
+report_further s old new endings.Own result alone h = same_further s old new h
+report_further s old new endings.Stale result alone h = same_further s old new h
+report_further s old new (endings.Stopped refusal) result alone h = same_further s old new h
+
 -- ---- no verification ended well
 
 pub unverified_none : (log : List Moment) → NoneVerified log log
@@ -130,6 +158,23 @@ refusing_unverified s old new read (Some refusal) alone h = stepped_unverified s
 pub outcome_unverified : {X : Type 0} (s : Start) (old new : List Moment) (read : Read) (ok : X → Reply) (result : Result X StepRefusal) → s.alone ≡ true → (read ≡ VerifiedAll → ⊥) → Outcome s old new 0 (ReadStep read) ok result → NoneVerified old new
 outcome_unverified s old new read ok (Ok x) alone other h = stepped_unverified s old new read (ok x) alone (λ at ended. other at) h
 outcome_unverified s old new read ok (Err e) alone other h = refusing_unverified s old new read (told_refusal e) alone h.0
+
+asked_unverified : (s : Start) (old new : List Moment) (name : BlobName) → s.alone ≡ true → IsAsked s old new 0 (ReadStep (ReadBlob name)) → NoneVerified old new
+asked_unverified s old new name alone h = ⊎_elim
+    (λ (w : Waited s old new 0). refusing_unverified s old new (ReadBlob name) None alone w)
+    (λ (made : (reply : Reply) × Stepped s old new 0 (ReadStep (ReadBlob name)) reply). stepped_unverified s old new (ReadBlob name) made.0 alone (λ at ended. cc) made.1)
+    h
+
+same_unverified : (old new : List Moment) → new ≡ old → NoneVerified old new
+same_unverified old new same = subst (λ (log : List Moment). NoneVerified old log) (sym same) (unverified_none old)
+
+pub report_unverified : {S F H T : Type 0} (s : Start) (old new : List Moment) (ending : Ending S F H T) (result : UnitRefusal) → s.alone ≡ true → IsReported hands.Verify s old new 0 ending result → NoneVerified old new
+report_unverified s old new (endings.Failed why b) (units.Failed told) alone h = stepped_unverified s old new (ReadFails (why_of why)) HasEnded alone (λ at ended. cc) h
+report_unverified s old new (endings.Failed why b) (units.Stopped refusal) alone h = refusing_unverified s old new (ReadFails (why_of why)) (told_refusal refusal) alone h
+report_unverified s old new (endings.Failed why b) units.Stale alone h = same_unverified old new h
+report_unverified s old new endings.Own result alone h = same_unverified old new h
+report_unverified s old new endings.Stale result alone h = same_unverified old new h
+report_unverified s old new (endings.Stopped refusal) result alone h = same_unverified old new h
 
 -- ---- the id that was drawn
 
@@ -173,6 +218,12 @@ pub kept_by : {X : Type 0} → DeposesSo → (s : Start) (old new : List Moment)
 kept_by law s old new id read ok result alone further other step drew same =
     let grew = outcome_further s old new read ok result alone further step in
     record { grew = grew; drew = drew_on law s old new id grew drew same; unverified = outcome_unverified s old new read ok result alone other step }
+
+-- by a fetch
+pub kept_asked : DeposesSo → (s : Start) (old new : List Moment) (id : ℕ) (name : BlobName) → s.alone ≡ true → IsAsked s old new 0 (ReadStep (ReadBlob name)) → Drew s old id → (caller_of s new).drawn ≡ (caller_of s old).drawn → Kept s old new id
+kept_asked law s old new id name alone asked drew same =
+    let grew = asked_further s old new name alone asked in
+    record { grew = grew; drew = drew_on law s old new id grew drew same; unverified = asked_unverified s old new name alone asked }
 
 pub drawn_same : (old new : Caller) → new ≡ old → new.drawn ≡ old.drawn
 drawn_same old new same = ap (λ (c : Caller). c.drawn) same

@@ -1,5 +1,5 @@
 -- Test blobs that are absent, or hold something else than the text of their id.
-use Rattle.std.proofs.Common.{◌≡◌, ◌⊎◌, ◌≤◌, ◌^◌, length, inl, inr, ℕ, Bool, true, false, List, [], ◌∷◌, Option, Some, None, Result, Ok, Err, IfErr, refl, sym, ap, ◌∙◌, subst}
+use Rattle.std.proofs.Common.{◌≡◌, ◌⊎◌, ◌≤◌, ◌^◌, length, inl, inr, ⊎_elim, ℕ, Bool, true, false, List, [], ◌∷◌, Option, Some, None, Result, Ok, Err, IfErr, refl, sym, ap, ◌∙◌, subst}
 use Rattle.std.specs.Prelude.{if◌then◌else◌}
 use Rattle.esr_names.specs.declared.blob.BlobName.{BlobName as CodeName}
 use Rattle.esr_names.specs.IdText.{id_text}
@@ -14,17 +14,22 @@ use Rattle.esr_hash.specs.Prints.{print_of}
 use Rattle.esr_formats.specs.Formats.{formats}
 use Rattle.esr_formats.specs.Names.{name_of}
 use Rattle.esr_desk.specs.declared.entry.Why.{Why}
-use Rattle.esr_desk.specs.declared.refusal.StepRefusal.{StepRefusal}
-use Rattle.esr_desk.specs.declared.refusal.StepRefusal.TheVariants.{Memory}
+use Rattle.esr_desk.specs.declared.entry.Why.TheVariants as whys
+use Rattle.esr_desk.specs.declared.hand.Hand.TheVariants as hands
 use Rattle.esr_desk.specs.Start.{Start, told_bytes}
+use Rattle.esr_desk.specs.Own.{Own, own_of, caller_of}
+use Rattle.esr_desk.specs.Hands.{own_fetched}
 use Rattle.esr_desk.specs.Outcome.{Stepped, fetch_reply}
-use Rattle.esr_checking.specs.Caller.{caller_of, fetched_by}
-use Rattle.esr_checking.specs.Shown.{IsAbsent, IsOther, IsMisprinted}
+use Rattle.esr_desk.specs.Caller.{found_by}
+use Rattle.esr_desk.specs.Evidence.{Evidence}
+use Rattle.esr_desk.specs.Verify.Shown.{IsAbsent, IsOther, IsMisprinted}
+use Rattle.esr_unit.specs.declared.trouble.Trouble.{Trouble}
+use Rattle.esr_unit.specs.declared.trouble.Trouble.TheVariants as troubles
+use Rattle.esr_unit.specs.Fetch.{IsFetched, MadeOne}
+use Rattle.esr_unit.specs.Shown.{Shown}
 use Rattle.esr_verify.specs.Went.{Drew}
 use Rattle.esr_verify.specs.Done.{Fetched}
-use Rattle.esr_verify.specs.Trouble.{IsStepRefusal, IsFound, HasOtherPrint, IsNoText, Judged, Shown}
-use Rattle.esr_verify.specs.declared.trouble.Trouble.{Trouble}
-use Rattle.esr_verify.specs.declared.trouble.Trouble.TheVariants as troubles
+use Rattle.esr_verify.specs.Judged.{HasOtherPrint, IsNoText, Judged}
 use Rattle.esr_verify.proofs.Going.{stepped_went}
 use Rattle.esr_verify.proofs.Refusing.{had_reply}
 use Rattle.esr_verify.proofs.Doing.{none_removed}
@@ -43,35 +48,48 @@ told_found : (c : Caller) (name : BlobName) (left : Option Bytes) → (caller_to
 told_found c name None = refl
 told_found c name (Some bytes) = refl
 
-pub fetched_drawn : {F : Type 0} (left : F → Option Bytes) (name : BlobName) (o : Option F) (old new : Caller) → new ≡ fetched_by left name o old → new.drawn ≡ old.drawn
-fetched_drawn left name None old new is = ap (λ (c : Caller). c.drawn) is
-fetched_drawn left name (Some f) old new is = ap (λ (c : Caller). c.drawn) is ∙ told_drawn old name (left f)
+found_drawn : (c : Caller) (s : Start) (name : BlobName) (o : Option Bytes) → (found_by (told_bytes s) name o c).drawn ≡ c.drawn
+found_drawn c s name None = refl
+found_drawn c s name (Some bytes) = told_drawn c name (told_bytes s bytes)
+
+-- the id stays drawn
+pub fetched_drawn : (s : Start) (old new : List Moment) (name : BlobName) (o : Option Bytes) → own_of s new 0 ≡ own_fetched hands.Verify (told_bytes s) name o (own_of s old 0) → (caller_of s new).drawn ≡ (caller_of s old).drawn
+fetched_drawn s old new name o own = ap (λ (o : Own). o.caller.drawn) own ∙ found_drawn (caller_of s old) s name o
+
+-- also where it was refused, or failed
+pub left_drawn : (s : Start) (old new : List Moment) (name : BlobName) → IsFetched hands.Verify s name (own_of s old 0) (own_of s new 0) → (caller_of s new).drawn ≡ (caller_of s old).drawn
+left_drawn s old new name left = ⊎_elim
+    (λ (same : own_of s new 0 ≡ own_of s old 0). ap (λ (o : Own). o.caller.drawn) same)
+    (λ (here : (bytes : Bytes) × (own_of s new 0 ≡ own_fetched hands.Verify (told_bytes s) name (Some bytes) (own_of s old 0))). fetched_drawn s old new name (Some here.0) here.1)
+    left
 
 -- ---- none is there
 
-absent_so : (s : Start) (old new : List Moment) (id : ℕ) (name : BlobName) → s.alone ≡ true → Drew s old id → Has (caller_of s old).committed name → (caller_of s old).removed ≡ []
-    → Stepped s old new 0 (ReadStep (ReadBlob name)) WasAbsent → caller_of s new ≡ record (caller_of s old) { fetched = name ∷ (caller_of s old).fetched } → IsAbsent new (caller_of s new) name
-absent_so s old new id name alone drew committed unremoved step own = record {
-  committed = subst (λ (l : List BlobName). Has l name) (sym (ap (λ (c : Caller). c.committed) own)) committed;
-  unremoved = none_removed (caller_of s new).removed name (ap (λ (c : Caller). c.removed) own ∙ unremoved);
-  missing = had_reply s old new id (ReadStep (ReadBlob name)) WasAbsent alone drew step (ap (λ (c : Caller). c.drawn) own);
-}
+module _ (s : Start) (old new : List Moment) (name : BlobName) (own : own_of s new 0 ≡ own_fetched hands.Verify (told_bytes s) name None (own_of s old 0)) where
+  pub absent : (id : ℕ) → s.alone ≡ true → Drew s old id → Has (caller_of s old).committed name → (caller_of s old).removed ≡ [] → Stepped s old new 0 (ReadStep (ReadBlob name)) WasAbsent → IsAbsent new (caller_of s new) name
+  absent id alone drew committed unremoved step = record {
+    committed = subst (λ (l : List BlobName). Has l name) (sym (ap (λ (o : Own). o.caller.committed) own)) committed;
+    unremoved = none_removed (caller_of s new).removed name (ap (λ (o : Own). o.caller.removed) own ∙ unremoved);
+    missing = had_reply s old new id (ReadStep (ReadBlob name)) WasAbsent alone drew step (ap (λ (o : Own). o.caller.drawn) own);
+  }
 
-pub absent : {F : Type 0} (left : F → Option Bytes) (o : Option F) (s : Start) (old new : List Moment) (id : ℕ) (name : BlobName) → o ≡ None → s.alone ≡ true → Drew s old id → Has (caller_of s old).committed name → (caller_of s old).removed ≡ []
-    → Stepped s old new 0 (ReadStep (ReadBlob name)) (fetch_reply o) → caller_of s new ≡ fetched_by left name o (caller_of s old) → IsAbsent new (caller_of s new) name
-absent left None s old new id name is alone drew committed unremoved step own = absent_so s old new id name alone drew committed unremoved step own
-absent left (Some f) s old new id name is alone drew committed unremoved step own = absurd cc
+-- by the answer
+pub absent_so : {S F H T : Type 0} (e : Evidence S F H T) (s : Start) (old new : List Moment) (id : ℕ) (name : CodeName) (o : Option Bytes) → o ≡ None → s.alone ≡ true → Drew s old id → Has (caller_of s old).committed (name_of name) → (caller_of s old).removed ≡ []
+    → Stepped s old new 0 (ReadStep (ReadBlob (name_of name))) (fetch_reply o) → own_of s new 0 ≡ own_fetched hands.Verify (told_bytes s) (name_of name) o (own_of s old 0) → Shown {S = S} {F = F} {H = H} {T = T} hands.Verify e ⊥ s new 0 (troubles.Found (whys.Absent name))
+absent_so e s old new id name None is alone drew committed unremoved step own = record { client = refl; shown = absent s old new (name_of name) own id alone drew committed unremoved step }
+absent_so e s old new id name (Some bytes) is alone drew committed unremoved step own = absurd cc
 
 -- ---- one is there, and read to its end
 
-pub fetched : {F : Type 0} (left : F → Option Bytes) (o : Option F) (f : F) (s : Start) (old new : List Moment) (name : BlobName) (bytes : Bytes) → o ≡ Some f → s.alone ≡ true → left f ≡ told_bytes s bytes
-    → Stepped s old new 0 (ReadStep (ReadBlob name)) (fetch_reply o) → caller_of s new ≡ fetched_by left name o (caller_of s old) → Fetched s old new name bytes
-fetched left None f s old new name bytes is alone told step own = absurd cc
-fetched {F} left (Some g) f s old new name bytes is alone told step own =
-    let same : g ≡ f = cc in
+pub fetched : (s : Start) (old new : List Moment) (name : BlobName) (o : Option Bytes) (bytes : Bytes) → o ≡ Some bytes → s.alone ≡ true → Stepped s old new 0 (ReadStep (ReadBlob name)) (fetch_reply o)
+    → own_of s new 0 ≡ own_fetched hands.Verify (told_bytes s) name o (own_of s old 0) → MadeOne s old new 0 (ReadStep (ReadBlob name)) → Fetched s old new name bytes
+fetched s old new name None bytes is alone step own made = absurd cc
+fetched s old new name (Some held) bytes is alone step own made =
+    let same : held ≡ bytes = cc in
     record {
       went = stepped_went s old new (ReadStep (ReadBlob name)) WasFetched alone step;
-      own = own ∙ ap (λ (x : F). caller_told (caller_of s old) name (left x)) same ∙ ap (λ (o : Option Bytes). caller_told (caller_of s old) name o) told;
+      own = ap (λ (o : Own). o.caller) own ∙ ap (λ (b : Bytes). caller_told (caller_of s old) name (told_bytes s b)) same;
+      made = made;
     }
 
 -- ---- it holds something else
@@ -125,23 +143,19 @@ module _ (s : Start) (old new : List Moment) (id : ℕ) (name : BlobName) (bytes
     unprinted = inr (ap (λ (p : Print). p.len) same, ap (λ (p : Print). p.sha256) same);
   }
 
-pub wanting : (s : Start) (log : List Moment) (refusal : StepRefusal) → refusal ≡ Memory → IsStepRefusal s log refusal
-wanting s log refusal is = subst (λ (r : StepRefusal). IsStepRefusal s log r) (sym is) tt
+module _ {S F H T : Type 0} (e : Evidence S F H T) (s : Start) (old new : List Moment) (id : ℕ) (name : CodeName) (bytes : Bytes) (drew : Drew s new id) (committed : Has (caller_of s old).committed (name_of name)) (got : Fetched s old new (name_of name) bytes) where
+  judged_why : (why : Why) → HasOtherPrint id name bytes why ⊎ IsNoText id name bytes why → Shown {S = S} {F = F} {H = H} {T = T} hands.Verify e ⊥ s new 0 (troubles.Found why)
+  judged_why why (inl h) =
+      subst (λ (w : Why). Shown {S = S} {F = F} {H = H} {T = T} hands.Verify e ⊥ s new 0 (troubles.Found w)) (sym h.0)
+      (record { client = refl; shown = misprinted s old new id (name_of name) bytes drew committed got h.1 })
+  judged_why why (inr h) =
+      subst (λ (w : Why). Shown {S = S} {F = F} {H = H} {T = T} hands.Verify e ⊥ s new 0 (troubles.Found w)) (sym h.0)
+      (record { client = refl; shown = (other s old new id (name_of name) bytes drew committed got h.1 h.2, refl) })
 
-judged_why : (s : Start) (old new : List Moment) (id : ℕ) (name : CodeName) (bytes : Bytes) → Drew s new id → Has (caller_of s old).committed (name_of name) → Fetched s old new (name_of name) bytes
-    → (why : Why) → HasOtherPrint id name bytes why ⊎ IsNoText id name bytes why → IsFound s new why
-judged_why s old new id name bytes drew committed got why (inl h) = subst (λ (w : Why). IsFound s new w) (sym h.0) (misprinted s old new id (name_of name) bytes drew committed got h.1)
-judged_why s old new id name bytes drew committed got why (inr h) = subst (λ (w : Why). IsFound s new w) (sym h.0) (other s old new id (name_of name) bytes drew committed got h.1 h.2, refl)
+  judged_one : (trouble : Trouble S F) → Judged id name bytes trouble → Shown {S = S} {F = F} {H = H} {T = T} hands.Verify e ⊥ s new 0 trouble
+  judged_one (troubles.Found why) h = judged_why why h
+  judged_one trouble h = absurd h
 
-judged_one : {S F : Type 0} (stage_faults : S → ℕ) (fetch_faults : F → ℕ) (s : Start) (old new : List Moment) (id : ℕ) (name : CodeName) (bytes : Bytes) → Drew s new id → Has (caller_of s old).committed (name_of name) → Fetched s old new (name_of name) bytes
-    → (trouble : Trouble S F) → Judged id name bytes trouble → Shown stage_faults fetch_faults s new trouble
-judged_one stage_faults fetch_faults s old new id name bytes drew committed got (troubles.Step refusal) h = absurd h
-judged_one stage_faults fetch_faults s old new id name bytes drew committed got (troubles.Stage stage) h = absurd h
-judged_one stage_faults fetch_faults s old new id name bytes drew committed got (troubles.Fetch fetch) h = absurd h
-judged_one stage_faults fetch_faults s old new id name bytes drew committed got (troubles.Found why) h = judged_why s old new id name bytes drew committed got why h
-
-pub judged : {T S F : Type 0} (stage_faults : S → ℕ) (fetch_faults : F → ℕ) (s : Start) (old new : List Moment) (id : ℕ) (name : CodeName) (bytes read : Bytes) (result : Result T (Trouble S F)) → read ≡ bytes → Drew s new id → Has (caller_of s old).committed (name_of name)
-    → Fetched s old new (name_of name) bytes → IfErr result (Judged id name read) → IfErr result (Shown stage_faults fetch_faults s new)
-judged stage_faults fetch_faults s old new id name bytes read (Ok x) same drew committed got h = tt
-judged stage_faults fetch_faults s old new id name bytes read (Err trouble) same drew committed got h =
-    judged_one stage_faults fetch_faults s old new id name bytes drew committed got trouble (subst (λ (b : Bytes). Judged id name b trouble) same h)
+  pub judged : {X : Type 0} (read : Bytes) (result : Result X (Trouble S F)) → read ≡ bytes → IfErr result (Judged id name read) → IfErr result (Shown {S = S} {F = F} {H = H} {T = T} hands.Verify e ⊥ s new 0)
+  judged read (Ok x) same h = tt
+  judged read (Err trouble) same h = judged_one trouble (subst (λ (b : Bytes). Judged id name b trouble) same h)

@@ -3,6 +3,7 @@ pub mod Naming
 pub mod Living
 pub mod Going
 pub mod Refusing
+pub mod Making
 pub mod Doing
 pub mod Judging
 pub mod Failing

@@ -1,15 +1,17 @@
 -- Worlds that aren't deposed.
-use Rattle.std.proofs.Common.{◌≡◌, ◌⊎◌, inl, inr, ⊎_elim, ℕ, true, false, List, [], ◌∷◌, ◌++◌, refl, ap, ◌∙◌, subst}
+use Rattle.std.proofs.Common.{◌≡◌, ◌⊎◌, inl, inr, ⊎_elim, ℕ, Bool, true, false, List, [], ◌∷◌, ◌++◌, refl, sym, ap, ◌∙◌, subst}
 use Rattle.std.proofs.lemmas.Bool.{cases_Bool}
 use Rattle.esr_model.specs.Values.{Has, Formats}
 use Rattle.esr_core.specs.World.{World}
-use Rattle.esr_core.specs.Entry.{Read, ReadStep, Reply, Refused, DeposedAt, Moment}
+use Rattle.esr_core.specs.Entry.{Read, Step, ReadStep, Reply, Refusal, Refused, DeposedAt, Moment}
 use Rattle.esr_core.specs.After.{after, swaps_record}
-use Rattle.esr_core.specs.Allowed.{Allowed, IsDeposed}
+use Rattle.esr_core.specs.Allowed.{Allowed, Blocks, ByFailedSwap, ByDelete, IsBlocked}
 use Rattle.esr_core.specs.History.{world_from, IsLegal}
-use Rattle.esr_core.specs.Refusing.{SwapFailed}
+use Rattle.esr_core.specs.Refusing.{MayRefuse, ReadFault, SwapFailed}
 use Rattle.esr_desk.specs.Start.{Start, formats_of, world_of, Legal}
 use Rattle.esr_desk.specs.Outcome.{Stepped}
+use Rattle.esr_desk.specs.Last.{IsLast}
+use Rattle.esr_unit.specs.Refusals.{RefusesSo}
 use Rattle.esr_verify.specs.Law.{DeposesSo}
 use Rattle.esr_verify.specs.Began.{AllFurther}
 use Rattle.esr_verify.specs.Went.{IsAlive, GrewFurther}
@@ -53,9 +55,13 @@ alive_on law s old new g alive =
 
 -- ---- an answer that isn't a refusal of a deposed world is that of one that isn't deposed
 
-answer_alive : {P : Type 0} (w : World) (m : Moment) → ((place : ℕ) → m.entry.reply ≡ Refused (DeposedAt place) → ⊥) → ((w.deposed ≡ false) × P) ⊎ IsDeposed w m → w.deposed ≡ false
+block_alive : (w : World) (who : ℕ) (step : Step) (refusal : Refusal) → Blocks w who step refusal → ((place : ℕ) → refusal ≡ DeposedAt place → ⊥) → w.deposed ≡ false
+block_alive w who step refusal (ByFailedSwap place deposed) live = absurd (live place refl)
+block_alive w who step refusal (ByDelete op deposed aborted) live = deposed
+
+answer_alive : {P : Type 0} (w : World) (m : Moment) → ((place : ℕ) → m.entry.reply ≡ Refused (DeposedAt place) → ⊥) → ((w.deposed ≡ false) × P) ⊎ IsBlocked w m → w.deposed ≡ false
 answer_alive w m live (inl h) = h.0
-answer_alive w m live (inr dead) = absurd (live dead.place dead.refused)
+answer_alive w m live (inr b) = block_alive w m.entry.who m.entry.step b.refusal b.blocks (λ place is. live place (b.refused ∙ ap (λ (r : Refusal). Refused r) is))
 
 pub stepped_alive : DeposesSo → (s : Start) (old new : List Moment) (read : Read) (reply : Reply) → ((place : ℕ) → reply ≡ Refused (DeposedAt place) → ⊥) → Stepped s old new 0 (ReadStep read) reply → IsAlive s new
 stepped_alive law s old new read reply live h =
@@ -64,3 +70,27 @@ stepped_alive law s old new read reply live h =
     let allowed : Allowed f s.part_size (world_of s h.front) m = legal_last f s.part_size s.world h.front m (subst (Legal s) h.is h.legal) in
     ap (λ (log : List Moment). (world_of s log).deposed) h.is ∙ ap (λ (w : World). w.deposed) (world_both f s.world h.front (m ∷ []))
     ∙ alive_after law f (world_of s h.front) (m ∷ []) (one_swap m read refl) (answer_alive (world_of s h.front) m live allowed.answered)
+
+-- ---- the last step of one that isn't deposed wasn't refused as in a deposed one
+
+block_dead : (w : World) (who : ℕ) (step : Step) (refusal : Refusal) → Blocks w who step refusal → (place : ℕ) → refusal ≡ DeposedAt place → w.deposed ≡ true
+block_dead w who step refusal (ByFailedSwap at deposed) place is = deposed
+block_dead w who step refusal (ByDelete op deposed aborted) place is = absurd cc
+
+no_deposal : (step : Step) (refusal : Refusal) → MayRefuse step refusal → (place : ℕ) → refusal ≡ DeposedAt place → ⊥
+no_deposal step refusal (ReadFault name) place is = cc
+no_deposal step refusal may place is = cc
+
+both : (b : Bool) → b ≡ true → b ≡ false → ⊥
+both b one other = cc
+
+pub last_alive : RefusesSo → (s : Start) (log : List Moment) (who : ℕ) (step : Step) (place : ℕ) → Legal s log → IsAlive s log → IsLast log who step (Refused (DeposedAt place)) → ⊥
+last_alive law s log who step place legal alive last =
+    let f = formats_of s in
+    let m : Moment = record { entry = record { who = who; step = step; reply = Refused (DeposedAt place) }; image = last.image } in
+    let w = world_of s last.front in
+    let same : (world_of s log).deposed ≡ w.deposed = ap (λ (l : List Moment). (world_of s l).deposed) last.is ∙ ap (λ (x : World). x.deposed) (world_both f s.world last.front (m ∷ [])) in
+    ⊎_elim
+    (λ (blocks : Blocks w who step (DeposedAt place)). both w.deposed (block_dead w who step (DeposedAt place) blocks place refl) (sym same ∙ alive))
+    (λ (may : MayRefuse step (DeposedAt place)). no_deposal step (DeposedAt place) may place refl)
+    (law f s.part_size w m (DeposedAt place) (legal_last f s.part_size s.world last.front m (subst (Legal s) last.is legal)) refl)

@@ -44,6 +44,7 @@ AsksOne old new (Err (units.Failed why)) = HasBegun old new
 AsksOne old new (Err (units.Stopped (steps.Refused refusal))) = HasBegun old new
 AsksOne old new (Err (units.Stopped steps.Memory)) = BeganOne old new
 AsksOne old new (Err (units.Stopped steps.TurnsSpent)) = BeganOne old new
+AsksOne old new (Err units.Stale) = ⊥
 
 -- no verification ended well in what was added
 pub record NoneVerified (old new : List Moment) : Type 0 where

@@ -8,7 +8,7 @@ use Rattle.esr_core.specs.Restores.{WasRead}
 use Rattle.esr_core.specs.Entry.{Moment, ReadStep, RemoveTests, VerifiedAll, WasRemoved, HasEnded}
 use Rattle.esr_names.specs.IdText.{id_text}
 use Rattle.esr_desk.specs.Start.{Start}
-use Rattle.esr_checking.specs.Caller.{caller_of}
+use Rattle.esr_desk.specs.Own.{caller_of}
 use Rattle.esr_verify.specs.Steps.{Answered}
 use Rattle.esr_verify.specs.Went.{Went}
 

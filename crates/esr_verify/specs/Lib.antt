@@ -8,6 +8,4 @@ pub mod Tests
 pub mod Went
 pub mod Done
 pub mod Ended
-pub mod Trouble
-pub mod Cause
-pub mod Fails
+pub mod Judged

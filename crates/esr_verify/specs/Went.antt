@@ -3,7 +3,7 @@ use Rattle.std.specs.Prelude.{◌≡◌, ℕ, false, List, ◌∷◌, ◌++◌, 
 use Rattle.esr_model.specs.Image.{Image}
 use Rattle.esr_core.specs.Entry.{Moment, ReadStep, DrawTest, DrawnFrom}
 use Rattle.esr_desk.specs.Start.{Start, Legal, world_of}
-use Rattle.esr_checking.specs.Caller.{caller_of}
+use Rattle.esr_desk.specs.Own.{caller_of}
 use Rattle.esr_verify.specs.Steps.{Answered}
 use Rattle.esr_verify.specs.Verified.{Are}
 use Rattle.esr_verify.specs.Began.{AllFurther, NoneVerified}

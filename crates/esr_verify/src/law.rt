@@ -1,5 +1,6 @@
 //! The laws on which a verification rests.
-ghost use Rattle.esr_verify.specs.Law.{RefusesSo, DeposesSo};
+ghost use Rattle.esr_unit.specs.Refusals.{RefusesSo};
+ghost use Rattle.esr_verify.specs.Law.{DeposesSo};
 
 /// How steps may be refused, and that a world is deposed only after a record swap that failed.
 pub(crate) fn laws()

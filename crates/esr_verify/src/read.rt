@@ -1,30 +1,32 @@
 //! Test blobs are read back.
-ghost use Rattle.std.specs.Prelude.{◌≡◌, ◌<◌, ◌^◌, [], ◌∷◌, length, map, true, IfErr, IfOk, OnOk};
+ghost use Rattle.std.specs.Prelude.{◌≡◌, ◌<◌, ◌^◌, [], length, map, true, IfErr, IfOk, OnOk};
 ghost use Rattle.esr_model.specs.Values.{Has};
 ghost use Rattle.esr_hash.specs.Prints.{print_of};
 ghost use Rattle.esr_names.specs.IdText.{id_text};
 ghost use Rattle.esr_names.specs.Layout.{IsName};
 ghost use Rattle.esr_formats.specs.Names.{name_of};
-ghost use Rattle.esr_checking.specs.Caller.{caller_of};
+ghost use Rattle.esr_core.specs.Entry.{ReadStep, ReadBlob};
+ghost use Rattle.esr_desk.specs.Own.{caller_of};
+ghost use Rattle.esr_desk.specs.Once.{IsFresh};
 ghost use Rattle.esr_verify.specs.Steps.{reading};
 ghost use Rattle.esr_verify.specs.Tests.{AreTests};
 ghost use Rattle.esr_verify.specs.Went.{Went, Drew, Kept};
-ghost use Rattle.esr_verify.specs.Done.{HasDone, Fetched};
-ghost use Rattle.esr_verify.specs.Trouble.{Shown, Judged};
+ghost use Rattle.esr_verify.specs.Done.{HasDone, HasMade, Fetched};
+ghost use Rattle.esr_desk.specs.Evidence.{evidence};
+ghost use Rattle.esr_unit.specs.Shown.{Shown};
+ghost use Rattle.esr_verify.specs.Judged.{Judged};
 
 use crate::law::laws;
-use crate::trouble::Trouble;
-use esr_checking::VerifyDesk;
-use esr_depot::{CallError, read_whole};
-use esr_desk::{Desk, StepRefusal, Why};
+use esr_desk::{Client, Hand, Why};
 use esr_hash::{Hasher, Print};
 use esr_json::Reason;
 use esr_names::{BlobName, Id, id_text};
 use esr_seq::{Bytes, Seq};
+use esr_unit::{Trouble, fetch_whole};
 use std::alloc::Global;
 
 /// The bytes of the test blob of that name, all of them.
-fn fetch_bytes<Q: VerifyDesk>(
+fn fetch_bytes<Q: Client>(
     alloc: Global,
     desk: &mut Q,
     id: Id,
@@ -35,23 +37,19 @@ fn fetch_bytes<Q: VerifyDesk>(
     requires committed { Has (caller_of Q.start (Q.seen desk.old)).committed (name_of name) }
     requires unremoved { (caller_of Q.start (Q.seen desk.old)).removed ≡ [] }
     requires once { Has (caller_of Q.start (Q.seen desk.old)).fetched (name_of name) → ⊥ }
+    requires new { IsFresh Q.start (Q.seen desk.old) 0 (ReadStep (ReadBlob (name_of name))) }
     requires drew { Drew Q.start (Q.seen desk.old) id.number }
     ensures fetched { IfOk result (Fetched Q.start (Q.seen desk.old) (Q.seen desk.new) (name_of name)) }
-    ensures trouble { IfErr result (Shown Q.Stage.faults Q.Fetch.faults Q.start (Q.seen desk.new)) }
+    ensures trouble { IfErr result (Shown Hand.Verify (evidence Q.Stage.faults Q.Fetch.faults Q.Shard.faults Q.Target.faults Q.Shard.told Q.Target.told) ⊥ Q.start (Q.seen desk.new) 0) }
     ensures kept { Kept Q.start (Q.seen desk.old) (Q.seen desk.new) id.number }
 {
     laws();
-    let mut blob = match desk.fetch_test(alloc, name)? {
-        Some(blob) => blob,
+    match fetch_whole(alloc, desk, Hand::Verify, 0, name)? {
+        Some(bytes) => Ok(bytes),
         None => {
             let why = Why::Absent { name };
-            return Err(Trouble::Found { why });
+            Err(Trouble::Found { why })
         }
-    };
-    match read_whole(alloc, &mut blob) {
-        Ok(bytes) => Ok(bytes),
-        Err(CallError::Memory) => Err(Trouble::Step(StepRefusal::Memory)),
-        Err(CallError::Failed) => Err(Trouble::Fetch { fetch: blob }),
     }
 }
 
@@ -95,7 +93,7 @@ fn judge<S: Drop, F: Drop>(id: Id, name: BlobName, bytes: &[u8]) -> Result<(), T
 }
 
 /// Reads the test blob of that name to its end; it holds the text of the id.
-fn read_test<Q: VerifyDesk>(
+fn read_test<Q: Client>(
     alloc: Global,
     desk: &mut Q,
     id: Id,
@@ -106,9 +104,10 @@ fn read_test<Q: VerifyDesk>(
     requires committed { Has (caller_of Q.start (Q.seen desk.old)).committed (name_of name) }
     requires unremoved { (caller_of Q.start (Q.seen desk.old)).removed ≡ [] }
     requires once { Has (caller_of Q.start (Q.seen desk.old)).fetched (name_of name) → ⊥ }
+    requires new { IsFresh Q.start (Q.seen desk.old) 0 (ReadStep (ReadBlob (name_of name))) }
     requires drew { Drew Q.start (Q.seen desk.old) id.number }
     ensures read { OnOk result (Fetched Q.start (Q.seen desk.old) (Q.seen desk.new) (name_of name) (id_text id.number)) }
-    ensures trouble { IfErr result (Shown Q.Stage.faults Q.Fetch.faults Q.start (Q.seen desk.new)) }
+    ensures trouble { IfErr result (Shown Hand.Verify (evidence Q.Stage.faults Q.Fetch.faults Q.Shard.faults Q.Target.faults Q.Shard.told Q.Target.told) ⊥ Q.start (Q.seen desk.new) 0) }
     ensures kept { Kept Q.start (Q.seen desk.old) (Q.seen desk.new) id.number }
 {
     let bytes = fetch_bytes(alloc, desk, id, name)?;
@@ -116,7 +115,7 @@ fn read_test<Q: VerifyDesk>(
 }
 
 /// Reads the test blobs of these names, one after another; each holds the text of the id.
-pub fn read_all<Q: VerifyDesk>(
+pub fn read_all<Q: Client>(
     alloc: Global,
     desk: &mut Q,
     id: Id,
@@ -126,9 +125,11 @@ pub fn read_all<Q: VerifyDesk>(
     requires tests { AreTests id.number names.now }
     requires drew { Drew Q.start (Q.seen desk.old) id.number }
     requires written { HasDone Q.start (caller_of Q.start (Q.seen desk.old)) id.number (map name_of names.now) [] }
+    requires made { HasMade Q.start (Q.seen desk.old) id.number (map name_of names.now) [] }
     ensures went { OnOk result (Went (Q.seen desk.old) (Q.seen desk.new) (reading (map name_of names.now))) }
     ensures done { OnOk result (HasDone Q.start (caller_of Q.start (Q.seen desk.new)) id.number (map name_of names.now) (map name_of names.now)) }
-    ensures trouble { IfErr result (Shown Q.Stage.faults Q.Fetch.faults Q.start (Q.seen desk.new)) }
+    ensures made { OnOk result (HasMade Q.start (Q.seen desk.new) id.number (map name_of names.now) (map name_of names.now)) }
+    ensures trouble { IfErr result (Shown Hand.Verify (evidence Q.Stage.faults Q.Fetch.faults Q.Shard.faults Q.Target.faults Q.Shard.told Q.Target.told) ⊥ Q.start (Q.seen desk.new) 0) }
     ensures kept { Kept Q.start (Q.seen desk.old) (Q.seen desk.new) id.number }
 {
     for name in names.as_slice() {

@@ -5,24 +5,27 @@ ghost use Rattle.esr_core.specs.Restores.{IsTestOf};
 ghost use Rattle.esr_names.specs.IdText.{id_text};
 ghost use Rattle.esr_names.specs.Layout.{IsName};
 ghost use Rattle.esr_formats.specs.Names.{name_of};
-ghost use Rattle.esr_checking.specs.Caller.{caller_of};
+ghost use Rattle.esr_core.specs.Entry.{ReadStep, BeginTest, CommitTest};
+ghost use Rattle.esr_desk.specs.Own.{caller_of};
+ghost use Rattle.esr_desk.specs.Once.{IsFresh};
 ghost use Rattle.esr_verify.specs.Steps.{writing};
 ghost use Rattle.esr_verify.specs.Tests.{AreTests};
 ghost use Rattle.esr_verify.specs.Went.{Went, Drew, Kept};
-ghost use Rattle.esr_verify.specs.Done.{HasDone, Wrote};
-ghost use Rattle.esr_verify.specs.Trouble.{Shown};
+ghost use Rattle.esr_verify.specs.Done.{HasDone, HasMade, Wrote};
+ghost use Rattle.esr_desk.specs.Evidence.{evidence};
+ghost use Rattle.esr_desk.specs.declared.hand.Hand.TheVariants.{Verify};
+ghost use Rattle.esr_unit.specs.Shown.{Shown};
 
 use crate::law::laws;
-use crate::trouble::Trouble;
-use esr_checking::VerifyDesk;
 use esr_depot::Stage;
-use esr_desk::{Desk, Named};
+use esr_desk::{Client, Named};
 use esr_names::{BlobName, Id, id_text};
 use esr_seq::Seq;
+use esr_unit::Trouble;
 use std::alloc::Global;
 
 /// Writes the test blob of that name, which holds the text of the id.
-fn write_test<Q: VerifyDesk>(
+fn write_test<Q: Client>(
     alloc: Global,
     desk: &mut Q,
     id: Id,
@@ -32,9 +35,11 @@ fn write_test<Q: VerifyDesk>(
     requires layout { IsName name }
     requires own { IsTestOf id.number (name_of name) }
     requires once { Has (caller_of Q.start (Q.seen desk.old)).committed (name_of name) → ⊥ }
+    requires new { IsFresh Q.start (Q.seen desk.old) 0 (ReadStep (BeginTest (name_of name))) }
+    requires whole { IsFresh Q.start (Q.seen desk.old) 0 (ReadStep (CommitTest (name_of name))) }
     requires drew { Drew Q.start (Q.seen desk.old) id.number }
     ensures wrote { OnOk result (Wrote Q.start (Q.seen desk.old) (Q.seen desk.new) (name_of name) (id_text id.number)) }
-    ensures trouble { IfErr result (Shown Q.Stage.faults Q.Fetch.faults Q.start (Q.seen desk.new)) }
+    ensures trouble { IfErr result (Shown Verify (evidence Q.Stage.faults Q.Fetch.faults Q.Shard.faults Q.Target.faults Q.Shard.told Q.Target.told) ⊥ Q.start (Q.seen desk.new) 0) }
     ensures kept { Kept Q.start (Q.seen desk.old) (Q.seen desk.new) id.number }
 {
     laws();
@@ -49,7 +54,7 @@ fn write_test<Q: VerifyDesk>(
 }
 
 /// Writes the test blobs of these names, one after another.
-pub fn write_all<Q: VerifyDesk>(
+pub fn write_all<Q: Client>(
     alloc: Global,
     desk: &mut Q,
     id: Id,
@@ -59,9 +64,11 @@ pub fn write_all<Q: VerifyDesk>(
     requires tests { AreTests id.number names.now }
     requires drew { Drew Q.start (Q.seen desk.old) id.number }
     requires new { HasDone Q.start (caller_of Q.start (Q.seen desk.old)) id.number [] [] }
+    requires made { HasMade Q.start (Q.seen desk.old) id.number [] [] }
     ensures went { OnOk result (Went (Q.seen desk.old) (Q.seen desk.new) (writing (map name_of names.now))) }
     ensures done { OnOk result (HasDone Q.start (caller_of Q.start (Q.seen desk.new)) id.number (map name_of names.now) []) }
-    ensures trouble { IfErr result (Shown Q.Stage.faults Q.Fetch.faults Q.start (Q.seen desk.new)) }
+    ensures made { OnOk result (HasMade Q.start (Q.seen desk.new) id.number (map name_of names.now) []) }
+    ensures trouble { IfErr result (Shown Verify (evidence Q.Stage.faults Q.Fetch.faults Q.Shard.faults Q.Target.faults Q.Shard.told Q.Target.told) ⊥ Q.start (Q.seen desk.new) 0) }
     ensures kept { Kept Q.start (Q.seen desk.old) (Q.seen desk.new) id.number }
 {
     for name in names.as_slice() {

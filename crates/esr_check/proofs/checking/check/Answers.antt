@@ -1,19 +1,19 @@
-use Rattle.std.proofs.Common.{map, Err, sym, ap, ◌∙◌, w64, rules}
+use Rattle.std.proofs.Common.{map, refl, sym, ap, ◌∙◌, w64, rules}
 use Rattle.std.proofs.lemmas.Int.{to_z-of_z}
 use Rattle.esr_core.specs.Entry.{CheckedAll, LookStep, ReadStep, Looked, HasEnded}
 use Rattle.esr_formats.specs.Clusters.{count_of}
 use Rattle.esr_formats.specs.Roots.{root_snap_of}
 use Rattle.esr_desk.specs.declared.unit.Look.{Look}
-use Rattle.esr_desk.specs.declared.unit.UnitRefusal.TheVariants.{Stopped}
 use Rattle.esr_desk.specs.Refusals.{told_refusal}
+use Rattle.esr_desk.specs.Evidence.{evidence}
 use Rattle.esr_desk.specs.Grew.{grew_by_on, outcome_grew_by}
 use Rattle.esr_check.specs.declared.checking.Checked.{Checked}
 use Rattle.esr_check.specs.Names.{IsAny}
 use Rattle.esr_check.proofs.Living.{look_safe, look_same_safe}
 use Rattle.esr_check.proofs.Counting.{look_so_far, look_unfetched}
-use Rattle.esr_check.proofs.Beginning.{since_look, of_check_on, went_of_check, of_check_grew, outcome_of_check, begun_on, asks_begun, asks_look, unchecked_on, went_unchecked, outcome_unchecked, refusing_unchecked}
-use Rattle.esr_check.proofs.Failing.{may_fail}
-use Rattle.esr_check.proofs.Closing.{look_as, look_count, went_alive, went_open, can_end, trouble_ends, end_stops, look_stops, has_checked}
+use Rattle.esr_check.proofs.Beginning.{since_look, of_check_on, went_of_check, of_check_grew, outcome_of_check, report_of_check, begun_on, asks_stopped, asks_given, asks_look, unchecked_on, went_unchecked, outcome_unchecked, refusing_unchecked, report_unchecked}
+use Rattle.esr_check.proofs.Failing.{trouble_shown, may_end, never_stale, ending_shown}
+use Rattle.esr_check.proofs.Closing.{look_as, look_count, went_open, can_end, trouble_ends, end_stops, look_stops, has_checked}
 use Rattle.esr_check.proofs.checking.check.Goals as goal
 
 -- ---- the look was refused
@@ -51,20 +51,52 @@ read_all-requires-clause-so_far g c κs within = look_so_far g.Q.Desk.start (g.Q
 
 -- ---- something failed, or was found
 
-pub fail-requires-clause-may : goal.fail-requires-clause-may
-fail-requires-clause-may g c κs within =
+pub give_up-requires-clause-mine : goal.give_up-requires-clause-mine
+give_up-requires-clause-mine g c κs within = refl
+
+pub give_up-requires-clause-may : goal.give_up-requires-clause-may
+give_up-requires-clause-may g c κs within =
     let s = g.Q.Desk.start in
     let old = g.Q.Desk.seen c.args.desk.now in
     let first = g.Q.Desk.seen c.look.new.self in
     let mid = g.Q.Desk.seen c.read_all.new.desk in
-    may_fail g.row.Q-Shard.Denot g.row.Q-Target.Denot (record { stage = g.Q.Stage.Counted.faults; fetch = g.Q.Fetch.Counted.faults }) s mid c.in-Err-read_all.trouble c.never_fails.ensures
-    (went_alive s old first mid (map root_snap_of c.in-Ok.look.listing) (count_of c.in-Ok.look.safe) c.requires.alone c.in-Ok.ensures.step c.read_all.ensures.went) (went_open s old first mid (map root_snap_of c.in-Ok.look.listing) (count_of c.in-Ok.look.safe) c.requires.alone c.in-Ok.ensures.step c.read_all.ensures.went)
-    (since_look s old first mid (Looked (map root_snap_of c.in-Ok.look.listing) (count_of c.in-Ok.look.safe)) IsAny c.requires.alone c.in-Ok.ensures.step c.read_all.ensures.went) c.in-Err-read_all.ensures.trouble
+    may_end s mid c.ending_of.result c.requires.alone (went_open s old first mid (map root_snap_of c.in-Ok.look.listing) (count_of c.in-Ok.look.safe) c.requires.alone c.in-Ok.ensures.step c.read_all.ensures.went)
+
+pub give_up-requires-clause-shown : goal.give_up-requires-clause-shown
+give_up-requires-clause-shown g c κs within =
+    let s = g.Q.Desk.start in
+    let old = g.Q.Desk.seen c.args.desk.now in
+    let first = g.Q.Desk.seen c.look.new.self in
+    let mid = g.Q.Desk.seen c.read_all.new.desk in
+    let e = evidence g.Q.Stage.Counted.faults g.Q.Fetch.Counted.faults g.Q.Shard.Counted.faults g.Q.Target.Counted.faults g.Q.Shard.Shard.told g.Q.Target.Target.told in
+    ending_shown e s mid c.in-Err-read_all.trouble c.ending_of.result c.ending_of.ensures
+    (trouble_shown e s mid (went_open s old first mid (map root_snap_of c.in-Ok.look.listing) (count_of c.in-Ok.look.safe) c.requires.alone c.in-Ok.ensures.step c.read_all.ensures.went)
+    (since_look s old first mid (Looked (map root_snap_of c.in-Ok.look.listing) (count_of c.in-Ok.look.safe)) IsAny c.requires.alone c.in-Ok.ensures.step c.read_all.ensures.went) c.in-Err-read_all.trouble c.in-Err-read_all.ensures.trouble)
+
+pub give_up-requires-clause-present : goal.give_up-requires-clause-present
+give_up-requires-clause-present g c κs within =
+    let s = g.Q.Desk.start in
+    let old = g.Q.Desk.seen c.args.desk.now in
+    let first = g.Q.Desk.seen c.look.new.self in
+    let mid = g.Q.Desk.seen c.read_all.new.desk in
+    let e = evidence g.Q.Stage.Counted.faults g.Q.Fetch.Counted.faults g.Q.Shard.Counted.faults g.Q.Target.Counted.faults g.Q.Shard.Shard.told g.Q.Target.Target.told in
+    never_stale e s mid c.ending_of.result
+    (ending_shown e s mid c.in-Err-read_all.trouble c.ending_of.result c.ending_of.ensures
+    (trouble_shown e s mid (went_open s old first mid (map root_snap_of c.in-Ok.look.listing) (count_of c.in-Ok.look.safe) c.requires.alone c.in-Ok.ensures.step c.read_all.ensures.went)
+    (since_look s old first mid (Looked (map root_snap_of c.in-Ok.look.listing) (count_of c.in-Ok.look.safe)) IsAny c.requires.alone c.in-Ok.ensures.step c.read_all.ensures.went) c.in-Err-read_all.trouble c.in-Err-read_all.ensures.trouble))
 
 pub returns-in-Err-read_all-clause-refused : goal.returns-in-Err-read_all-clause-refused
 returns-in-Err-read_all-clause-refused g c =
-    trouble_ends g.Q.Desk.start (g.Q.Desk.seen c.args.desk.now) (g.Q.Desk.seen c.look.new.self) (g.Q.Desk.seen c.read_all.new.desk) (map root_snap_of c.in-Ok.look.listing) (count_of c.in-Ok.look.safe) c.requires.alone c.in-Ok.ensures.step c.read_all.ensures.went
-    g.row.Q-Shard.Denot g.row.Q-Target.Denot (record { stage = g.Q.Stage.Counted.faults; fetch = g.Q.Fetch.Counted.faults }) (g.Q.Desk.seen c.fail.new.desk) c.in-Err-read_all.trouble c.fail.result c.in-Err-read_all.ensures.trouble c.fail.ensures.failed
+    let s = g.Q.Desk.start in
+    let old = g.Q.Desk.seen c.args.desk.now in
+    let first = g.Q.Desk.seen c.look.new.self in
+    let mid = g.Q.Desk.seen c.read_all.new.desk in
+    let new = g.Q.Desk.seen c.give_up.new.desk in
+    let e = evidence g.Q.Stage.Counted.faults g.Q.Fetch.Counted.faults g.Q.Shard.Counted.faults g.Q.Target.Counted.faults g.Q.Shard.Shard.told g.Q.Target.Target.told in
+    trouble_ends s old first mid (map root_snap_of c.in-Ok.look.listing) (count_of c.in-Ok.look.safe) c.requires.alone c.in-Ok.ensures.step c.read_all.ensures.went e c.laws.ensures new c.in-Err-read_all.trouble c.ending_of.result c.give_up.result c.ending_of.ensures c.in-Err-read_all.ensures.trouble
+    (trouble_shown e s mid (went_open s old first mid (map root_snap_of c.in-Ok.look.listing) (count_of c.in-Ok.look.safe) c.requires.alone c.in-Ok.ensures.step c.read_all.ensures.went)
+    (since_look s old first mid (Looked (map root_snap_of c.in-Ok.look.listing) (count_of c.in-Ok.look.safe)) IsAny c.requires.alone c.in-Ok.ensures.step c.read_all.ensures.went) c.in-Err-read_all.trouble c.in-Err-read_all.ensures.trouble)
+    c.give_up.ensures.end c.give_up.ensures.report
 
 pub returns-in-Err-read_all-clause-asked : goal.returns-in-Err-read_all-clause-asked
 returns-in-Err-read_all-clause-asked g c =
@@ -72,9 +104,10 @@ returns-in-Err-read_all-clause-asked g c =
     let old = g.Q.Desk.seen c.args.desk.now in
     let first = g.Q.Desk.seen c.look.new.self in
     let mid = g.Q.Desk.seen c.read_all.new.desk in
-    let new = g.Q.Desk.seen c.fail.new.desk in
-    asks_begun {X = Checked} old new (Err c.fail.result)
-    (begun_on s old first new (Looked (map root_snap_of c.in-Ok.look.listing) (count_of c.in-Ok.look.safe)) c.requires.alone c.in-Ok.ensures.step (of_check_on s first mid new (went_of_check s first mid IsAny c.read_all.ensures.went) c.fail.ensures.grew))
+    let new = g.Q.Desk.seen c.give_up.new.desk in
+    let e = evidence g.Q.Stage.Counted.faults g.Q.Fetch.Counted.faults g.Q.Shard.Counted.faults g.Q.Target.Counted.faults g.Q.Shard.Shard.told g.Q.Target.Target.told in
+    asks_given Checked e s old mid new c.ending_of.result c.give_up.result c.give_up.ensures.end
+    (begun_on s old first new (Looked (map root_snap_of c.in-Ok.look.listing) (count_of c.in-Ok.look.safe)) c.requires.alone c.in-Ok.ensures.step (of_check_on s first mid new (went_of_check s first mid IsAny c.read_all.ensures.went) (report_of_check s mid new c.ending_of.result c.give_up.result c.requires.alone c.give_up.ensures.report)))
 
 pub returns-in-Err-read_all-clause-unchecked : goal.returns-in-Err-read_all-clause-unchecked
 returns-in-Err-read_all-clause-unchecked g c =
@@ -82,9 +115,9 @@ returns-in-Err-read_all-clause-unchecked g c =
     let old = g.Q.Desk.seen c.args.desk.now in
     let first = g.Q.Desk.seen c.look.new.self in
     let mid = g.Q.Desk.seen c.read_all.new.desk in
-    let new = g.Q.Desk.seen c.fail.new.desk in
+    let new = g.Q.Desk.seen c.give_up.new.desk in
     unchecked_on old first new (outcome_unchecked s old first LookStep (λ (l : Look). Looked (map root_snap_of l.listing) (count_of l.safe)) c.look.result c.requires.alone (λ snapshots blobs e. cc) c.look.ensures.step)
-    (unchecked_on first mid new (went_unchecked s first mid IsAny c.read_all.ensures.went) c.fail.ensures.unchecked)
+    (unchecked_on first mid new (went_unchecked s first mid IsAny c.read_all.ensures.went) (report_unchecked s mid new c.ending_of.result c.give_up.result c.requires.alone c.give_up.ensures.report))
 
 pub returns-in-Err-read_all-clause-grew : goal.returns-in-Err-read_all-clause-grew
 returns-in-Err-read_all-clause-grew g c =
@@ -92,27 +125,27 @@ returns-in-Err-read_all-clause-grew g c =
     let old = g.Q.Desk.seen c.args.desk.now in
     let first = g.Q.Desk.seen c.look.new.self in
     let mid = g.Q.Desk.seen c.read_all.new.desk in
-    let new = g.Q.Desk.seen c.fail.new.desk in
+    let new = g.Q.Desk.seen c.give_up.new.desk in
     grew_by_on s 0 old first new (outcome_grew_by s old first 0 LookStep (λ (l : Look). Looked (map root_snap_of l.listing) (count_of l.safe)) c.look.result c.look.ensures.step)
-    (of_check_grew s first new (of_check_on s first mid new (went_of_check s first mid IsAny c.read_all.ensures.went) c.fail.ensures.grew))
+    (of_check_grew s first new (of_check_on s first mid new (went_of_check s first mid IsAny c.read_all.ensures.went) (report_of_check s mid new c.ending_of.result c.give_up.result c.requires.alone c.give_up.ensures.report)))
 
 -- ---- the check ends
 
-pub checked-requires-clause-may : goal.checked-requires-clause-may
-checked-requires-clause-may g c =
+pub end_check-requires-clause-may : goal.end_check-requires-clause-may
+end_check-requires-clause-may g c =
     let s = g.Q.Desk.start in
     let old = g.Q.Desk.seen c.args.desk.now in
     let first = g.Q.Desk.seen c.look.new.self in
     can_end s old first (g.Q.Desk.seen c.read_all.new.desk) (map root_snap_of c.in-Ok.look.listing) (count_of c.in-Ok.look.safe) c.requires.alone c.in-Ok.ensures.step c.read_all.ensures.went c.in-Ok-read_all.blobs c.listed_count-snapshots.result c.in-Ok-read_all.ensures.so_far c.in-Ok-read_all.ensures.read
     (look_count s old first c.in-Ok.look.listing (count_of c.in-Ok.look.safe) c.listed_count-snapshots.result c.requires.alone c.in-Ok.ensures.step c.listed_count-snapshots.ensures)
 
-pub returns-in-Ok-checked-clause-ok : goal.returns-in-Ok-checked-clause-ok
-returns-in-Ok-checked-clause-ok g c =
+pub returns-in-Ok-end_check-clause-ok : goal.returns-in-Ok-end_check-clause-ok
+returns-in-Ok-end_check-clause-ok g c =
     let s = g.Q.Desk.start in
     let old = g.Q.Desk.seen c.args.desk.now in
     let first = g.Q.Desk.seen c.look.new.self in
-    let done = c.in-Ok-checked.ensures in
-    has_checked s old first (g.Q.Desk.seen c.read_all.new.desk) (g.Q.Desk.seen c.checked.new.self) c.listed_count-snapshots.result c.in-Ok-read_all.blobs c.requires.alone (look_as s old first (map root_snap_of c.in-Ok.look.listing) (count_of c.in-Ok.look.safe) c.requires.alone c.in-Ok.ensures.step) c.read_all.ensures.went
+    let done = c.in-Ok-end_check.ensures in
+    has_checked s old first (g.Q.Desk.seen c.read_all.new.desk) (g.Q.Desk.seen c.end_check.new.self) c.listed_count-snapshots.result c.in-Ok-read_all.blobs c.requires.alone (look_as s old first (map root_snap_of c.in-Ok.look.listing) (count_of c.in-Ok.look.safe) c.requires.alone c.in-Ok.ensures.step) c.read_all.ensures.went
     c.in-Ok-read_all.ensures.so_far c.in-Ok-read_all.ensures.read done.step
     (look_count s old first c.in-Ok.look.listing (count_of c.in-Ok.look.safe) c.listed_count-snapshots.result c.requires.alone c.in-Ok.ensures.step c.listed_count-snapshots.ensures)
     (λ none.
@@ -120,31 +153,31 @@ returns-in-Ok-checked-clause-ok g c =
     (ap count_of (to_z-of_z w64 c.in-Ok.look.safe (search rules)) ∙ look_safe s old first (map root_snap_of c.in-Ok.look.listing) (count_of c.in-Ok.look.safe) c.requires.alone c.in-Ok.ensures.step ∙ none))
     done.own
 
-pub returns-in-Ok-checked-clause-asked : goal.returns-in-Ok-checked-clause-asked
-returns-in-Ok-checked-clause-asked g c =
+pub returns-in-Ok-end_check-clause-asked : goal.returns-in-Ok-end_check-clause-asked
+returns-in-Ok-end_check-clause-asked g c =
     let s = g.Q.Desk.start in
     let first = g.Q.Desk.seen c.look.new.self in
     let mid = g.Q.Desk.seen c.read_all.new.desk in
-    let new = g.Q.Desk.seen c.checked.new.self in
+    let new = g.Q.Desk.seen c.end_check.new.self in
     begun_on s (g.Q.Desk.seen c.args.desk.now) first new (Looked (map root_snap_of c.in-Ok.look.listing) (count_of c.in-Ok.look.safe)) c.requires.alone c.in-Ok.ensures.step
-    (of_check_on s first mid new (went_of_check s first mid IsAny c.read_all.ensures.went) (outcome_of_check s mid new (CheckedAll c.listed_count-snapshots.result c.in-Ok-read_all.blobs) (λ x. HasEnded) c.checked.result c.requires.alone tt c.checked.ensures.step))
+    (of_check_on s first mid new (went_of_check s first mid IsAny c.read_all.ensures.went) (outcome_of_check s mid new (CheckedAll c.listed_count-snapshots.result c.in-Ok-read_all.blobs) (λ x. HasEnded) c.end_check.result c.requires.alone tt c.end_check.ensures.step))
 
-pub returns-in-Ok-checked-clause-grew : goal.returns-in-Ok-checked-clause-grew
-returns-in-Ok-checked-clause-grew g c =
+pub returns-in-Ok-end_check-clause-grew : goal.returns-in-Ok-end_check-clause-grew
+returns-in-Ok-end_check-clause-grew g c =
     let s = g.Q.Desk.start in
     let old = g.Q.Desk.seen c.args.desk.now in
     let first = g.Q.Desk.seen c.look.new.self in
     let mid = g.Q.Desk.seen c.read_all.new.desk in
-    let new = g.Q.Desk.seen c.checked.new.self in
+    let new = g.Q.Desk.seen c.end_check.new.self in
     grew_by_on s 0 old first new (outcome_grew_by s old first 0 LookStep (λ (l : Look). Looked (map root_snap_of l.listing) (count_of l.safe)) c.look.result c.look.ensures.step)
     (of_check_grew s first new
-    (of_check_on s first mid new (went_of_check s first mid IsAny c.read_all.ensures.went) (outcome_of_check s mid new (CheckedAll c.listed_count-snapshots.result c.in-Ok-read_all.blobs) (λ x. HasEnded) c.checked.result c.requires.alone tt c.checked.ensures.step)))
+    (of_check_on s first mid new (went_of_check s first mid IsAny c.read_all.ensures.went) (outcome_of_check s mid new (CheckedAll c.listed_count-snapshots.result c.in-Ok-read_all.blobs) (λ x. HasEnded) c.end_check.result c.requires.alone tt c.end_check.ensures.step)))
 
 pub returns-clause-refused : goal.returns-clause-refused
 returns-clause-refused g c =
     let s = g.Q.Desk.start in
     let mid = g.Q.Desk.seen c.read_all.new.desk in
-    end_stops c.laws.ensures s (g.Q.Desk.seen c.args.desk.now) mid (g.Q.Desk.seen c.checked.new.self) c.listed_count-snapshots.result c.in-Ok-read_all.blobs c.in-Err-checked.refusal c.requires.alone c.in-Ok-read_all.ensures.so_far.alive c.in-Err-checked.ensures.step
+    end_stops c.laws.ensures s (g.Q.Desk.seen c.args.desk.now) mid (g.Q.Desk.seen c.end_check.new.self) c.listed_count-snapshots.result c.in-Ok-read_all.blobs c.in-Err-end_check.refusal c.requires.alone c.in-Ok-read_all.ensures.so_far.alive c.in-Err-end_check.ensures.step
 
 pub returns-clause-asked : goal.returns-clause-asked
 returns-clause-asked g c =
@@ -152,10 +185,10 @@ returns-clause-asked g c =
     let old = g.Q.Desk.seen c.args.desk.now in
     let first = g.Q.Desk.seen c.look.new.self in
     let mid = g.Q.Desk.seen c.read_all.new.desk in
-    let new = g.Q.Desk.seen c.checked.new.self in
-    asks_begun {X = Checked} old new (Err (Stopped c.in-Err-checked.refusal))
+    let new = g.Q.Desk.seen c.end_check.new.self in
+    asks_stopped Checked old new c.in-Err-end_check.refusal
     (begun_on s old first new (Looked (map root_snap_of c.in-Ok.look.listing) (count_of c.in-Ok.look.safe)) c.requires.alone c.in-Ok.ensures.step
-    (of_check_on s first mid new (went_of_check s first mid IsAny c.read_all.ensures.went) (outcome_of_check s mid new (CheckedAll c.listed_count-snapshots.result c.in-Ok-read_all.blobs) (λ x. HasEnded) c.checked.result c.requires.alone tt c.checked.ensures.step)))
+    (of_check_on s first mid new (went_of_check s first mid IsAny c.read_all.ensures.went) (outcome_of_check s mid new (CheckedAll c.listed_count-snapshots.result c.in-Ok-read_all.blobs) (λ x. HasEnded) c.end_check.result c.requires.alone tt c.end_check.ensures.step)))
 
 pub returns-clause-unchecked : goal.returns-clause-unchecked
 returns-clause-unchecked g c =
@@ -163,10 +196,10 @@ returns-clause-unchecked g c =
     let old = g.Q.Desk.seen c.args.desk.now in
     let first = g.Q.Desk.seen c.look.new.self in
     let mid = g.Q.Desk.seen c.read_all.new.desk in
-    let new = g.Q.Desk.seen c.checked.new.self in
+    let new = g.Q.Desk.seen c.end_check.new.self in
     unchecked_on old first new (outcome_unchecked s old first LookStep (λ (l : Look). Looked (map root_snap_of l.listing) (count_of l.safe)) c.look.result c.requires.alone (λ snapshots blobs e. cc) c.look.ensures.step)
     (unchecked_on first mid new (went_unchecked s first mid IsAny c.read_all.ensures.went)
-    (refusing_unchecked s mid new (ReadStep (CheckedAll c.listed_count-snapshots.result c.in-Ok-read_all.blobs)) (told_refusal c.in-Err-checked.refusal) c.requires.alone c.in-Err-checked.ensures.step.0))
+    (refusing_unchecked s mid new (ReadStep (CheckedAll c.listed_count-snapshots.result c.in-Ok-read_all.blobs)) (told_refusal c.in-Err-end_check.refusal) c.requires.alone c.in-Err-end_check.ensures.step.0))
 
 pub returns-clause-grew : goal.returns-clause-grew
 returns-clause-grew g c =
@@ -174,7 +207,7 @@ returns-clause-grew g c =
     let old = g.Q.Desk.seen c.args.desk.now in
     let first = g.Q.Desk.seen c.look.new.self in
     let mid = g.Q.Desk.seen c.read_all.new.desk in
-    let new = g.Q.Desk.seen c.checked.new.self in
+    let new = g.Q.Desk.seen c.end_check.new.self in
     grew_by_on s 0 old first new (outcome_grew_by s old first 0 LookStep (λ (l : Look). Looked (map root_snap_of l.listing) (count_of l.safe)) c.look.result c.look.ensures.step)
     (of_check_grew s first new
-    (of_check_on s first mid new (went_of_check s first mid IsAny c.read_all.ensures.went) (outcome_of_check s mid new (CheckedAll c.listed_count-snapshots.result c.in-Ok-read_all.blobs) (λ x. HasEnded) c.checked.result c.requires.alone tt c.checked.ensures.step)))
+    (of_check_on s first mid new (went_of_check s first mid IsAny c.read_all.ensures.went) (outcome_of_check s mid new (CheckedAll c.listed_count-snapshots.result c.in-Ok-read_all.blobs) (λ x. HasEnded) c.end_check.result c.requires.alone tt c.end_check.ensures.step)))

@@ -3,7 +3,7 @@ use Rattle.esr_meta.specs.Info.{Info}
 use Rattle.esr_model.specs.Names.{Root}
 use Rattle.esr_formats.specs.Infos.{info_of_code}
 use Rattle.esr_formats.specs.Roots.{root_of}
-use Rattle.esr_checking.specs.Caller.{caller_of}
+use Rattle.esr_desk.specs.Own.{caller_of}
 use Rattle.esr_check.specs.Names.{Just, IsAny, IsOfAnySnap, IsOfAnyShard}
 use Rattle.esr_check.specs.Pieces.{HasInfos, HasIndices}
 use Rattle.esr_check.proofs.Going.{went_as, went_both, went_on, infos_more, still_new, root_on}

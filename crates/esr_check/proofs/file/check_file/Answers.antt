@@ -1,5 +1,5 @@
 use Rattle.esr_formats.specs.Shards.{shard_index_of}
-use Rattle.esr_checking.specs.Caller.{caller_of}
+use Rattle.esr_desk.specs.Own.{caller_of}
 use Rattle.esr_check.proofs.Going.{held_more}
 use Rattle.esr_check.proofs.Judging.{judged_so, judged_well, has_file}
 use Rattle.esr_check.proofs.file.check_file.Goals as goal

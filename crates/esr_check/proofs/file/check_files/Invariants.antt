@@ -1,6 +1,6 @@
 use Rattle.std.proofs.Common.{◌≡◌, map, take, length}
 use Rattle.esr_formats.specs.Shards.{entry_of}
-use Rattle.esr_checking.specs.Caller.{caller_of}
+use Rattle.esr_desk.specs.Own.{caller_of}
 use Rattle.esr_check.specs.Pieces.{HasFiles}
 use Rattle.esr_check.specs.Went.{IsSoFar, Went}
 use Rattle.esr_check.proofs.Listing.{Any}

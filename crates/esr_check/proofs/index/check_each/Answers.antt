@@ -5,7 +5,7 @@ use Rattle.esr_root.specs.declared.indices.RootIndex.{RootIndex as CodeIndex}
 use Rattle.esr_model.specs.Values.{Has, RootIndex}
 use Rattle.esr_formats.specs.Infos.{info_of_code}
 use Rattle.esr_formats.specs.Roots.{root_of, root_index_of}
-use Rattle.esr_checking.specs.Caller.{caller_of}
+use Rattle.esr_desk.specs.Own.{caller_of}
 use Rattle.esr_reach.specs.Reached.{generation_at}
 use Rattle.esr_reach.proofs.Apart.{indices_once}
 use Rattle.esr_agreement.proofs.Loops.{has_at, every_more, every_all}

@@ -4,7 +4,7 @@ use Rattle.esr_model.specs.Values.{Has, SnapList}
 use Rattle.esr_formats.specs.Infos.{info_of_code}
 use Rattle.esr_formats.specs.Roots.{root_of}
 use Rattle.esr_formats.specs.Shards.{shard_index_of, snap_list_of}
-use Rattle.esr_checking.specs.Caller.{caller_of}
+use Rattle.esr_desk.specs.Own.{caller_of}
 use Rattle.esr_reach.specs.Names.{AreOnce}
 use Rattle.esr_reach.proofs.Apart.{shard_apart}
 use Rattle.esr_agreement.proofs.Loops.{has_at, every_more, every_all}

@@ -1,7 +1,7 @@
 use Rattle.esr_model.specs.Names.{ShardSnap}
 use Rattle.esr_formats.specs.Roots.{root_of}
 use Rattle.esr_formats.specs.Shards.{shard_index_of, shard_snap_of, snap_list_of}
-use Rattle.esr_checking.specs.Caller.{caller_of}
+use Rattle.esr_desk.specs.Own.{caller_of}
 use Rattle.esr_check.proofs.Reading.{snap_name, as_shard_snap, snap_unread}
 use Rattle.esr_check.proofs.Reaching.{can_list}
 use Rattle.esr_check.proofs.lists.fetch_list.Goals as goal

@@ -6,8 +6,8 @@ use Rattle.esr_formats.specs.Roots.{root_of}
 use Rattle.esr_formats.specs.Shards.{shard_index_of}
 use Rattle.esr_shardidx.specs.Parts.{part_count}
 use Rattle.esr_hash.specs.Fed.{fed_count}
-use Rattle.esr_checking.specs.Caller.{caller_of}
-use Rattle.esr_checking.specs.Checks.{CanCheck}
+use Rattle.esr_desk.specs.Own.{caller_of}
+use Rattle.esr_desk.specs.Check.Conditions.{CanCheck}
 use Rattle.esr_restore.proofs.Sizes.{part_layout, few_parts, fed_bound}
 use Rattle.esr_restore.proofs.Parts.{and_then, and_else, fed_most}
 use Rattle.esr_check.specs.Names.{Just, IsOfFile}

@@ -1,5 +1,5 @@
 use Rattle.std.proofs.Common.{◌≡◌, length}
-use Rattle.esr_checking.specs.Caller.{caller_of}
+use Rattle.esr_desk.specs.Own.{caller_of}
 use Rattle.esr_check.specs.Went.{IsSoFar, Went}
 use Rattle.esr_check.proofs.Listing.{Below}
 use Rattle.esr_check.proofs.Naming.{PartOf}

@@ -2,7 +2,7 @@ use Rattle.std.proofs.Common.{◌∙◌, subst}
 use Rattle.esr_model.specs.Names.{Root}
 use Rattle.esr_root.specs.Root.{IsRoot}
 use Rattle.esr_formats.specs.Roots.{root_of}
-use Rattle.esr_checking.specs.Caller.{caller_of}
+use Rattle.esr_desk.specs.Own.{caller_of}
 use Rattle.esr_check.proofs.Reading.{root_name, as_root, root_unread}
 use Rattle.esr_check.proofs.Reaching.{can_root}
 use Rattle.esr_check.proofs.root.fetch_root.Goals as goal

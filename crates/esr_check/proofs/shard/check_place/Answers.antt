@@ -3,7 +3,7 @@ use Rattle.esr_names.specs.declared.ids.Id.{Id}
 use Rattle.esr_formats.specs.Ids.{number_of}
 use Rattle.esr_formats.specs.Infos.{info_of_code}
 use Rattle.esr_formats.specs.Roots.{root_of}
-use Rattle.esr_checking.specs.Caller.{caller_of}
+use Rattle.esr_desk.specs.Own.{caller_of}
 use Rattle.esr_check.specs.Names.{IsOfShard}
 use Rattle.esr_check.specs.Pieces.{HasShard, HasPlace}
 use Rattle.esr_check.proofs.Going.{went_none}

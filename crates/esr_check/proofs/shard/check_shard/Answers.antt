@@ -3,7 +3,7 @@ use Rattle.esr_model.specs.Names.{ShardIndex}
 use Rattle.esr_formats.specs.Infos.{info_of_code}
 use Rattle.esr_formats.specs.Roots.{root_of}
 use Rattle.esr_formats.specs.Shards.{shard_index_of}
-use Rattle.esr_checking.specs.Caller.{caller_of}
+use Rattle.esr_desk.specs.Own.{caller_of}
 use Rattle.esr_check.specs.Names.{Just, IsOfShard, IsSnapOf, IsPieceOf}
 use Rattle.esr_check.proofs.Going.{went_as, went_both, went_on, some_new, still_new, infos_more, held_more, lists_more, safe_on}
 use Rattle.esr_check.proofs.Naming.{held_of_shard, lists_of_shard, files_of_shard, lists_no_held, files_no_held, files_no_lists}

@@ -4,7 +4,7 @@ use Rattle.esr_formats.specs.Ids.{number_of}
 use Rattle.esr_formats.specs.Infos.{info_of_code}
 use Rattle.esr_formats.specs.Roots.{root_of}
 use Rattle.esr_model.specs.Image.{at_shard}
-use Rattle.esr_checking.specs.Caller.{caller_of}
+use Rattle.esr_desk.specs.Own.{caller_of}
 use Rattle.esr_reach.proofs.Shards.{at_place}
 use Rattle.esr_agreement.proofs.Loops.{all, item_is}
 use Rattle.esr_check.specs.Names.{IsOfShard, IsOfShards}

@@ -1,7 +1,7 @@
 use Rattle.esr_model.specs.Names.{ShardIndex}
 use Rattle.esr_formats.specs.Roots.{root_of}
 use Rattle.esr_formats.specs.Shards.{shard_index_of}
-use Rattle.esr_checking.specs.Caller.{caller_of}
+use Rattle.esr_desk.specs.Own.{caller_of}
 use Rattle.esr_check.proofs.Reading.{held_name, as_shard_index, held_unread}
 use Rattle.esr_check.proofs.Reaching.{can_held}
 use Rattle.esr_check.proofs.shard.fetch_held.Goals as goal

@@ -8,7 +8,7 @@ use Rattle.esr_desk.specs.Start.{formats_of}
 use Rattle.esr_formats.specs.Infos.{info_of_code}
 use Rattle.esr_formats.specs.Refs.{ref_of_code}
 use Rattle.esr_formats.specs.Roots.{root_of}
-use Rattle.esr_checking.specs.Caller.{caller_of}
+use Rattle.esr_desk.specs.Own.{caller_of}
 use Rattle.esr_agreement.proofs.Loops.{has_at, every_more, every_all}
 use Rattle.esr_check.specs.Names.{IsMetaIn}
 use Rattle.esr_check.specs.Pieces.{HasMeta, HasMetas}

@@ -2,7 +2,7 @@ use Rattle.esr_model.specs.Names.{Snap, Meta}
 use Rattle.esr_desk.specs.Start.{formats_of}
 use Rattle.esr_formats.specs.Infos.{info_of_code}
 use Rattle.esr_formats.specs.Roots.{root_of, root_snap_of}
-use Rattle.esr_checking.specs.Caller.{caller_of}
+use Rattle.esr_desk.specs.Own.{caller_of}
 use Rattle.esr_check.specs.Names.{Just, IsOfSnap, IsMetaIn}
 use Rattle.esr_check.proofs.Going.{went_as, went_both, went_on, some_new, still_new, read_more, root_on}
 use Rattle.esr_check.proofs.Naming.{info_of_snap, global_of_snap, metas_of_snap, global_no_info, metas_no_info, metas_no_global}

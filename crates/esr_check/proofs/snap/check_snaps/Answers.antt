@@ -6,7 +6,7 @@ use Rattle.esr_meta.specs.Info.{Info}
 use Rattle.esr_model.specs.Values.{Has, RootSnap}
 use Rattle.esr_formats.specs.Infos.{info_of_code}
 use Rattle.esr_formats.specs.Roots.{root_of, root_snap_of}
-use Rattle.esr_checking.specs.Caller.{caller_of}
+use Rattle.esr_desk.specs.Own.{caller_of}
 use Rattle.esr_reach.proofs.Apart.{snaps_once}
 use Rattle.esr_agreement.proofs.Loops.{has_at, all}
 use Rattle.esr_check.specs.Names.{IsOfAnySnap}

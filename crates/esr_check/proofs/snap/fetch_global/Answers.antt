@@ -1,7 +1,7 @@
 use Rattle.esr_model.specs.Names.{Meta}
 use Rattle.esr_formats.specs.Globals.{global_of_code}
 use Rattle.esr_formats.specs.Roots.{root_of, root_snap_of}
-use Rattle.esr_checking.specs.Caller.{caller_of}
+use Rattle.esr_desk.specs.Own.{caller_of}
 use Rattle.esr_check.proofs.Reading.{global_name, as_global, global_unread}
 use Rattle.esr_check.proofs.Reaching.{can_meta}
 use Rattle.esr_check.proofs.snap.fetch_global.Goals as goal

@@ -1,7 +1,7 @@
 use Rattle.esr_model.specs.Names.{Snap}
 use Rattle.esr_formats.specs.Infos.{info_of_code}
 use Rattle.esr_formats.specs.Roots.{root_of, root_snap_of}
-use Rattle.esr_checking.specs.Caller.{caller_of}
+use Rattle.esr_desk.specs.Own.{caller_of}
 use Rattle.esr_check.proofs.Reading.{info_name, as_info, info_unread}
 use Rattle.esr_check.proofs.Reaching.{can_snap}
 use Rattle.esr_check.proofs.snap.fetch_info.Goals as goal

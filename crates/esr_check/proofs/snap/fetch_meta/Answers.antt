@@ -3,7 +3,7 @@ use Rattle.esr_formats.specs.Infos.{info_of_code}
 use Rattle.esr_formats.specs.IndexMetas.{index_meta_of}
 use Rattle.esr_formats.specs.Refs.{ref_of_code}
 use Rattle.esr_formats.specs.Roots.{root_of, root_snap_of}
-use Rattle.esr_checking.specs.Caller.{caller_of}
+use Rattle.esr_desk.specs.Own.{caller_of}
 use Rattle.esr_check.proofs.Reading.{meta_name, as_index_meta, meta_unread}
 use Rattle.esr_check.proofs.Reaching.{can_index_meta}
 use Rattle.esr_check.proofs.snap.fetch_meta.Goals as goal

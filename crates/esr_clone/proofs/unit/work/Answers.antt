@@ -1,17 +1,19 @@
-use Rattle.std.proofs.Common.{[], Some, option_map, arith}
+use Rattle.std.proofs.Common.{List, [], Some, option_map, sym, ap, ◌∙◌, subst, arith}
+use Rattle.esr_core.specs.World.{Ticket}
 use Rattle.esr_names.specs.declared.ids.Id.{Id}
 use Rattle.esr_core.specs.Entry.{DrawStep, DrawnFrom}
 use Rattle.esr_formats.specs.Ids.{number_of}
+use Rattle.esr_desk.specs.Calls.{Call, HasTaken}
+use Rattle.esr_desk.specs.Evidence.{evidence}
 use Rattle.esr_desk.specs.Start.{ticket_of}
 use Rattle.esr_desk.specs.Grew.{grew_by_on, outcome_grew_by}
-use Rattle.esr_desk.specs.Told.{draw_new, draw_tells}
-use Rattle.esr_upload.specs.declared.trouble.Trouble.TheVariants.{Step}
-use Rattle.esr_upload.proofs.Going.{went_on, refusal_last}
-use Rattle.esr_upload.proofs.Ending.{done_on, if_err, went_same}
+use Rattle.esr_desk.specs.Told.{draw_fresh, draw_tells}
+use Rattle.esr_unit.specs.declared.trouble.Trouble.TheVariants.{Step}
+use Rattle.esr_upload.specs.Trouble.{Shown}
+use Rattle.esr_upload.proofs.Going.{went_on, went_same}
+use Rattle.esr_upload.proofs.Ending.{done_on, if_err}
 use Rattle.esr_upload.proofs.Drawing.{drew_went}
-use Rattle.esr_upload.proofs.Refusing.{passed}
-use Rattle.esr_clone.specs.declared.trouble.Trouble.TheVariants.{Upload}
-use Rattle.esr_clone.specs.Trouble.{Shown}
+use Rattle.esr_upload.proofs.Refusing.{passed, step_shown}
 use Rattle.esr_clone.proofs.Copying.{snap_copy, undrawn, can_draw, has_read}
 use Rattle.esr_clone.proofs.unit.work.Goals as goal
 
@@ -51,8 +53,8 @@ base_of-requires-clause-base g c κs within =
 
 pub returns-in_err-index-clause-trouble : goal.returns-in_err-index-clause-trouble
 returns-in_err-index-clause-trouble g c =
-    passed c.from_residual-in_err-index.result (Shown g.Q.Stage.Counted.faults g.Q.Fetch.Counted.faults g.Q.Desk.start (g.Q.Desk.seen c.base_of.new.desk) c.args.ticket)
-    (Upload c.in_err-index.field-0.0) c.from_residual-in_err-index.ensures.1 (c.in_err-index.ensures.trouble 0 (Some []))
+    let e = evidence g.Q.Stage.Counted.faults g.Q.Fetch.Counted.faults g.Q.Shard.Counted.faults g.Q.Target.Counted.faults g.Q.Shard.Shard.told g.Q.Target.Target.told in
+    passed c.from_residual-in_err-index.result (Shown e 0 (Some []) g.Q.Desk.start (g.Q.Desk.seen c.base_of.new.desk) c.args.ticket) c.in_err-index.field-0.0 c.from_residual-in_err-index.ensures.1 c.in_err-index.ensures.trouble
 
 pub returns-in_err-index-clause-went : goal.returns-in_err-index-clause-went
 returns-in_err-index-clause-went g c =
@@ -74,7 +76,7 @@ pub draw-requires-clause-new : goal.draw-requires-clause-new
 draw-requires-clause-new g c =
     let s = g.Q.Desk.start in
     let who = c.args.ticket in
-    draw_new s (g.Q.Desk.seen c.base_of.new.desk) who 1 c.in_ok-index.ensures.tells
+    draw_fresh s (g.Q.Desk.seen c.base_of.new.desk) who 1 c.in_ok-index.ensures.tells
     (undrawn s c.args.at.index.number c.args.at.number c.args.uuid c.args.source.number (option_map number_of c.args.base) c.in_ok-index.index c.in_ok-snap.snap
     (ticket_of s (g.Q.Desk.seen c.args.desk.now) who) (ticket_of s (g.Q.Desk.seen c.fetch_snap.new.desk) who) (ticket_of s (g.Q.Desk.seen c.base_of.new.desk) who) c.requires.unit c.in_ok-snap.ensures.read c.in_ok-index.ensures.based)
 
@@ -85,8 +87,12 @@ returns-in_err-first-clause-trouble g c =
     let mid = g.Q.Desk.seen c.base_of.new.desk in
     let new = g.Q.Desk.seen c.draw.new.self in
     let refusal = c.in_err-first.field-0.0 in
-    passed c.from_residual-in_err-first.result (Shown g.Q.Stage.Counted.faults g.Q.Fetch.Counted.faults s new who) (Upload (Step refusal)) c.from_residual-in_err-first.ensures.1
-    (refusal_last s mid new who (DrawStep 1) refusal (λ r. c.refusals.ensures.work s mid new who (DrawStep 1) r tt) c.in_err-first.ensures.step)
+    let e = evidence g.Q.Stage.Counted.faults g.Q.Fetch.Counted.faults g.Q.Shard.Counted.faults g.Q.Target.Counted.faults g.Q.Shard.Shard.told g.Q.Target.Target.told in
+    let copy = snap_copy s c.args.at.index.number c.args.at.number c.args.uuid.number c.args.source.number (option_map number_of c.args.base) (ticket_of s (g.Q.Desk.seen c.args.desk.now) who) (ticket_of s (g.Q.Desk.seen c.fetch_snap.new.desk) who)
+    c.in_ok-snap.snap c.requires.unit c.in_ok-snap.ensures.read in
+    let work = ap (λ (t : Ticket). t.work) (c.in_err-first.ensures.kept ∙ c.in_ok-index.ensures.based.has_base.is) ∙ copy.at.work in
+    passed c.from_residual-in_err-first.result (Shown e 0 (Some []) s new who) (Step refusal) c.from_residual-in_err-first.ensures.1
+    (step_shown e 0 (Some []) s mid new who c.args.at.index.number c.args.at.number work (DrawStep 1) refusal c.refusals_are_of_their_steps.ensures tt (λ swap. swap) c.in_err-first.ensures.step)
 
 pub returns-in_err-first-clause-went : goal.returns-in_err-first-clause-went
 returns-in_err-first-clause-went g c =
@@ -121,12 +127,12 @@ copy-requires-clause-read g c κs within =
 pub copy-requires-clause-tells : goal.copy-requires-clause-tells
 copy-requires-clause-tells g c κs within =
     let first = c.in_ok-first.first.number in
-    draw_tells g.Q.Desk.start (g.Q.Desk.seen c.base_of.new.desk) (g.Q.Desk.seen c.draw.new.self) c.args.ticket first 1 (DrawnFrom first) c.in_ok-index.ensures.tells c.in_ok-first.ensures.step c.in_ok-first.ensures.own (λ none. omega (arith, none))
+    draw_tells g.Q.Desk.start (g.Q.Desk.seen c.base_of.new.desk) (g.Q.Desk.seen c.draw.new.self) c.args.ticket first 1 (DrawnFrom first) c.requires.mine.some c.in_ok-index.ensures.tells c.in_ok-first.ensures.step c.in_ok-first.ensures.own (λ none. omega (arith, none))
 
 pub returns-in_err-copy-clause-trouble : goal.returns-in_err-copy-clause-trouble
 returns-in_err-copy-clause-trouble g c =
-    passed c.from_residual-in_err-copy.result (Shown g.Q.Stage.Counted.faults g.Q.Fetch.Counted.faults g.Q.Desk.start (g.Q.Desk.seen c.copy.new.desk) c.args.ticket)
-    (Upload c.in_err-copy.field-0.0) c.from_residual-in_err-copy.ensures.1 c.in_err-copy.ensures.trouble
+    let e = evidence g.Q.Stage.Counted.faults g.Q.Fetch.Counted.faults g.Q.Shard.Counted.faults g.Q.Target.Counted.faults g.Q.Shard.Shard.told g.Q.Target.Target.told in
+    passed c.from_residual-in_err-copy.result (Shown e 0 (Some []) g.Q.Desk.start (g.Q.Desk.seen c.copy.new.desk) c.args.ticket) c.in_err-copy.field-0.0 c.from_residual-in_err-copy.ensures.1 c.in_err-copy.ensures.trouble
 
 pub returns-in_err-copy-clause-went : goal.returns-in_err-copy-clause-went
 returns-in_err-copy-clause-went g c =
@@ -177,3 +183,12 @@ returns-clause-grew g c =
     grew_by_on s who old one new c.fetch_snap.ensures.went.grew
     (grew_by_on s who one two new c.base_of.ensures.went.grew
     (grew_by_on s who two drawn new (outcome_grew_by s two drawn who (DrawStep 1) (λ (first : Id). DrawnFrom first.number) c.draw.result c.draw.ensures.step) c.copy.ensures.grew))
+
+pub base_of-requires-clause-mine : goal.base_of-requires-clause-mine
+base_of-requires-clause-mine g c κs within = subst (λ (calls : List Call). HasTaken calls c.args.ticket) (sym c.fetch_snap.ensures.calls) c.requires.mine
+
+pub draw-requires-clause-mine : goal.draw-requires-clause-mine
+draw-requires-clause-mine g c = subst (λ (calls : List Call). HasTaken calls c.args.ticket) (sym (c.base_of.ensures.calls ∙ c.fetch_snap.ensures.calls)) c.requires.mine
+
+pub copy-requires-clause-mine : goal.copy-requires-clause-mine
+copy-requires-clause-mine g c κs within = subst (λ (calls : List Call). HasTaken calls c.args.ticket) (sym (c.draw.ensures.calls ∙ c.base_of.ensures.calls ∙ c.fetch_snap.ensures.calls)) c.requires.mine

@@ -19,7 +19,7 @@ use Rattle.esr_complete.proofs.law.smooth_runs_are_answered.Goals as goal
 
 answered : Laws → (s : Start) (log : List Moment) (lines : List ScriptLine) (moment : ℕ) → IsSmooth s log → NoneFailed log → NoneUndeleted log → NoneUnrestored log → NoneUnverified log → AreChecksInTurn moment lines log → AreByRule log → IsInTurn s log → IsIdle s log → AreKnown lines → asked_steps log ≡ steps_of moment lines → AreAnswered lines (replies lines (entries_of log))
 answered laws s log lines moment smooth none undeleted unrestored unverified checks by_rule in_turn idle known asked =
-    answered_lines log lines moment known (facts laws lines s log smooth none undeleted unrestored by_rule idle (asks_all s log lines moment smooth asked)) (entries_in_turn s log lines moment smooth none undeleted unverified by_rule in_turn asked checks) asked
+    answered_lines log lines moment known (facts laws lines s log smooth none undeleted unrestored by_rule idle (asks_all s log lines moment smooth by_rule asked)) (entries_in_turn s log lines moment smooth none undeleted unverified by_rule in_turn asked checks) asked
 
 pub returns-clause-answered : goal.returns-clause-answered
 returns-clause-answered c =
@@ -29,6 +29,9 @@ returns-clause-answered c =
       opening = c.opening_is_lawful.ensures;
       restores_open = c.opened_restores_are_lawful.ensures;
       restores_kept = c.each_history_keeps_restores.ensures;
+      opened_tracked = c.opened_worlds_are_tracked.ensures;
+      opened_read_tracked = c.opened_worlds_track_restores.ensures;
+      tracks = c.each_history_tracks_restores.ensures;
     })
 
 pub returns-clause-ends : goal.returns-clause-ends
@@ -39,5 +42,8 @@ returns-clause-ends c = λ s log lines moment smooth none undeleted unrestored u
       opening = c.opening_is_lawful.ensures;
       restores_open = c.opened_restores_are_lawful.ensures;
       restores_kept = c.each_history_keeps_restores.ensures;
+      opened_tracked = c.opened_worlds_are_tracked.ensures;
+      opened_read_tracked = c.opened_worlds_track_restores.ensures;
+      tracks = c.each_history_tracks_restores.ensures;
     } in
-    ends_well lines (entries_of log) (facts laws lines s log smooth none undeleted unrestored by_rule idle (asks_all s log lines moment smooth asked)) (answered laws s log lines moment smooth none undeleted unrestored unverified checks by_rule in_turn idle known asked)
+    ends_well lines (entries_of log) (facts laws lines s log smooth none undeleted unrestored by_rule idle (asks_all s log lines moment smooth by_rule asked)) (answered laws s log lines moment smooth none undeleted unrestored unverified checks by_rule in_turn idle known asked)

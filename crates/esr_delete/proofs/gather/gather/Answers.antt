@@ -9,6 +9,7 @@ use Rattle.esr_reach.specs.Held.{HeldShard}
 use Rattle.esr_dooming.proofs.Loops.{next, all, item_is}
 use Rattle.esr_desk.specs.Start.{ticket_of}
 use Rattle.esr_desk.specs.Grew.{grew_by_none, grew_by_on}
+use Rattle.esr_finish.proofs.Runs.{taken_on}
 use Rattle.esr_delete.specs.Gathered.{IsSoFar}
 use Rattle.esr_delete.proofs.Going.{read_same, read_on}
 use Rattle.esr_delete.proofs.Fetching.{can_fetch, new_fetch, none_so_far, more_so_far, gathered_all, only_fetches, there_in}
@@ -27,7 +28,7 @@ loop-shard-init g c =
     let old = g.Q.Desk.seen c.args.desk.now in
     record {
       so_far = subst (λ (held : List HeldShard). IsSoFar s old old c.args.ticket [] held) (sym c.new-held.ensures) (none_so_far s old c.args.ticket c.requires.unread c.requires.new);
-      holds = c.requires.mine;
+      calls = refl;
     }
 
 pub fetch_index-requires-clause-few : goal.fetch_index-requires-clause-few
@@ -49,7 +50,7 @@ pub fetch_index-requires-clause-new : goal.fetch_index-requires-clause-new
 fetch_index-requires-clause-new g c κs within =
     let items = c.as_slice-shard-items.result.now in
     let k = c.loop-shard.shard-index in
-    new_fetch (map pruned_of (take k items)) (g.Q.Desk.seen c.loop-shard.desk) c.args.ticket (pruned_of (get_or items k no_shard)) c.loop-shard.invariant.so_far.made
+    new_fetch (map pruned_of (take k items)) g.Q.Desk.start (g.Q.Desk.seen c.loop-shard.desk) c.args.ticket (pruned_of (get_or items k no_shard)) c.loop-shard.invariant.so_far.made
     (apart_at (root_of c.args.root.now) items c.in_ok-shards.shards k c.as_slice-shard-items.ensures c.in_ok-shards.ensures.of_root c.loop-shard-test.true)
 
 pub loop-shard-preserved : goal.loop-shard-preserved
@@ -70,7 +71,7 @@ loop-shard-preserved g c =
     (apart_at (root_of c.args.root.now) items c.in_ok-shards.shards k c.as_slice-shard-items.ensures c.in_ok-shards.ensures.of_root less) c.in_ok-index.ensures.fetched c.fetch_index.ensures.made c.fetch_index.ensures.read c.fetch_index.ensures.grew c.in_ok-insert.ensures.ok in
     record {
       so_far = subst (λ (shards : List PrunedShard). IsSoFar s old new who shards c.insert.new.self) (sym (next pruned_of items k item less (item_is items k no_shard less))) more;
-      holds = c.fetch_index.ensures.holds;
+      calls = c.fetch_index.ensures.calls ∙ c.loop-shard.invariant.calls;
     }
 
 pub returns-in_err-index-clause-read : goal.returns-in_err-index-clause-read
@@ -108,10 +109,19 @@ returns-clause-ok g c =
 
 pub returns-clause-made : goal.returns-clause-made
 returns-clause-made g c =
-    only_fetches (map pruned_of (take c.loop-shard.shard-index c.as_slice-shard-items.result.now)) (g.Q.Desk.seen c.loop-shard.desk) c.args.ticket c.loop-shard.invariant.so_far.made
+    only_fetches (map pruned_of (take c.loop-shard.shard-index c.as_slice-shard-items.result.now)) g.Q.Desk.start (g.Q.Desk.seen c.loop-shard.desk) c.args.ticket c.loop-shard.invariant.so_far.made
 
 pub returns-clause-read : goal.returns-clause-read
 returns-clause-read g c = c.loop-shard.invariant.so_far.read
 
 pub returns-clause-grew : goal.returns-clause-grew
 returns-clause-grew g c = c.loop-shard.invariant.so_far.grew
+
+pub fetch_index-requires-clause-mine : goal.fetch_index-requires-clause-mine
+fetch_index-requires-clause-mine g c κs within = taken_on (g.Q.Desk.calls c.args.desk.now) (g.Q.Desk.calls c.loop-shard.desk) c.args.ticket c.loop-shard.invariant.calls c.requires.mine
+
+pub returns-in_err-index-clause-calls : goal.returns-in_err-index-clause-calls
+returns-in_err-index-clause-calls g c = c.fetch_index.ensures.calls ∙ c.loop-shard.invariant.calls
+
+pub returns-in_err-insert-clause-calls : goal.returns-in_err-insert-clause-calls
+returns-in_err-insert-clause-calls g c = c.fetch_index.ensures.calls ∙ c.loop-shard.invariant.calls

@@ -1,4 +1,5 @@
 use Rattle.std.proofs.Common.{◌≡◌, [], ◌∷◌, map, ap, sym, ◌∙◌, subst}
+use Rattle.std.proofs.lemmas.Result.{on_ok_weaker}
 use Rattle.esr_model.specs.Names.{ShardIndex}
 use Rattle.esr_model.specs.Values.{Bytes, ShardFiles}
 use Rattle.esr_model.specs.Delete.{surviving}
@@ -7,8 +8,6 @@ use Rattle.esr_formats.specs.Shards.{shard_index_of, shard_index_kind}
 use Rattle.esr_desk.specs.Start.{ticket_of}
 use Rattle.esr_finish.specs.Ticket.{MayStore, Puts}
 use Rattle.esr_finish.proofs.Runs.{went_not}
-use Rattle.esr_delete.specs.Trouble.{of_put, IsTrouble}
-use Rattle.esr_delete.proofs.Going.{passed, put_trouble}
 use Rattle.esr_delete.proofs.Fetching.{index_laid}
 use Rattle.esr_delete.proofs.indices.write_index.Goals as goal
 
@@ -28,19 +27,10 @@ put-requires-clause-may g c κs within =
     let text_is : c.as_slice.result.now ≡ shard_index_kind.text (surviving (map number_of c.args.uuids.now) (shard_index_of c.args.index.now)) = c.as_slice.ensures ∙ c.in_ok-text.ensures.text ∙ ap text c.in_ok-index.ensures in
     subst (λ (b : Bytes). MayStore s (ticket_of s (g.Q.Desk.seen c.args.desk.now) c.args.ticket) (ShardIndex c.args.shard.index.number c.args.shard.number c.args.id.number) b) (sym text_is) c.requires.may
 
-pub returns-in_err-put-clause-trouble : goal.returns-in_err-put-clause-trouble
-returns-in_err-put-clause-trouble g c =
-    let s = g.Q.Desk.start in
-    let new = g.Q.Desk.seen c.put.new.desk in
-    let who = c.args.ticket in
-    let stages = g.Q.Stage.Counted.faults in
-    let fetches = g.Q.Fetch.Counted.faults in
-    passed c.from_residual-in_err-put.result (IsTrouble s stages fetches new who) (of_put c.in_err-put.field-0.0) c.from_residual-in_err-put.ensures.1
-    (put_trouble s stages fetches new who c.in_err-put.field-0.0 c.in_err-put.ensures.refused)
-
 pub returns-clause-ok : goal.returns-clause-ok
 returns-clause-ok g c =
     let s = g.Q.Desk.start in
     let text = λ (v : ShardFiles). shard_index_kind.text v in
     let text_is : c.as_slice.result.now ≡ shard_index_kind.text (surviving (map number_of c.args.uuids.now) (shard_index_of c.args.index.now)) = c.as_slice.ensures ∙ c.in_ok-text.ensures.text ∙ ap text c.in_ok-index.ensures in
-    subst (λ (b : Bytes). Puts s (g.Q.Desk.seen c.args.desk.now) (g.Q.Desk.seen c.put.new.desk) c.args.ticket ((ShardIndex c.args.shard.index.number c.args.shard.number c.args.id.number, b) ∷ [])) text_is c.in_ok-put.ensures.ok
+    on_ok_weaker c.put.result
+    (λ puts. subst (λ (b : Bytes). Puts s (g.Q.Desk.seen c.args.desk.now) (g.Q.Desk.seen c.put.new.desk) c.args.ticket ((ShardIndex c.args.shard.index.number c.args.shard.number c.args.id.number, b) ∷ [])) text_is puts) c.put.ensures.ok

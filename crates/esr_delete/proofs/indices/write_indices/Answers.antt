@@ -1,4 +1,4 @@
-use Rattle.std.proofs.Common.{◌≡◌, ◌+◌, ℕ, List, [], ◌∷◌, map, take, get_or, sym, ap, ◌∙◌, subst}
+use Rattle.std.proofs.Common.{◌≡◌, ◌+◌, ℕ, List, [], ◌∷◌, map, take, get_or, refl, sym, ap, ◌∙◌, subst}
 use Rattle.esr_model.specs.Delete.{PrunedShard, next_after, kept_count, left_uuids, uuids_of, pruned_blobs}
 use Rattle.esr_formats.specs.Ids.{number_of}
 use Rattle.esr_formats.specs.Roots.{root_of}
@@ -6,7 +6,7 @@ use Rattle.esr_results.specs.Pruned.{pruned_of}
 use Rattle.esr_results.proofs.Pruning.{no_shard}
 use Rattle.esr_dooming.proofs.Loops.{next, all, item_is}
 use Rattle.esr_desk.specs.Start.{formats_of, ticket_of}
-use Rattle.esr_finish.proofs.Runs.{went_not, went_on}
+use Rattle.esr_finish.proofs.Runs.{taken_on, went_not, went_on}
 use Rattle.esr_delete.specs.Planned.{Notes}
 use Rattle.esr_delete.proofs.Numbered.{shard_in}
 use Rattle.esr_delete.proofs.Indexing.{notes_none, has_room, next_more, left_of_draft, index_of, notes_as, notes_more, notes_all, first_next}
@@ -34,7 +34,7 @@ loop-shard-init g c =
       next = first_next c.args.draft.now.first.number;
       tells = c.requires.tells;
       went = went_not s old c.args.ticket;
-      holds = c.requires.mine;
+      calls = refl;
     }
 
 pub write_shard-requires-clause-few : goal.write_shard-requires-clause-few
@@ -82,7 +82,7 @@ loop-shard-preserved g c =
       next = c.in_ok-next.ensures.next ∙ ap (λ (n : ℕ). next_after n (pruned_of item)) c.loop-shard.invariant.next ∙ next_more first before (pruned_of item) ∙ ap (λ (ps : List PrunedShard). first + kept_count ps) (sym more);
       tells = c.in_ok-next.ensures.tells;
       went = went_on s old mid new who c.loop-shard.invariant.went c.write_shard.ensures.went;
-      holds = c.write_shard.ensures.holds;
+      calls = c.write_shard.ensures.calls ∙ c.loop-shard.invariant.calls;
     }
 
 pub returns-in_err-next-clause-went : goal.returns-in_err-next-clause-went
@@ -102,3 +102,9 @@ returns-clause-ok g c =
     let whole : map pruned_of (take c.loop-shard.shard-index items) ≡ map pruned_of d.shards = all pruned_of items c.loop-shard.shard-index c.loop-shard-test.false ∙ ap (map pruned_of) c.as_slice-shard-items.ensures in
     notes_all s old new c.args.held.now (map pruned_of d.shards) d.first.number (root_of d.root) left c.requires.may (ap (map number_of) c.left.view_is ∙ left_is g (goal.at.returns-clause-ok g c).In_ok-left)
     (subst (λ (ps : List PrunedShard). Notes s old new (pruned_blobs (formats_of s) old.read left d.first.number ps)) whole c.loop-shard.invariant.notes)
+
+pub write_shard-requires-clause-mine : goal.write_shard-requires-clause-mine
+write_shard-requires-clause-mine g c κs within = taken_on (g.Q.Desk.calls c.args.desk.now) (g.Q.Desk.calls c.loop-shard.desk) c.args.ticket c.loop-shard.invariant.calls c.requires.mine
+
+pub returns-in_err-next-clause-calls : goal.returns-in_err-next-clause-calls
+returns-in_err-next-clause-calls g c = c.write_shard.ensures.calls ∙ c.loop-shard.invariant.calls

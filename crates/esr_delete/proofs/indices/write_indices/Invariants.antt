@@ -1,8 +1,9 @@
-use Rattle.std.proofs.Common.{◌≡◌, ◌+◌, map, take}
+use Rattle.std.proofs.Common.{◌≡◌, ◌+◌, List, map, take}
 use Rattle.esr_model.specs.Delete.{kept_count, pruned_blobs}
 use Rattle.esr_formats.specs.Ids.{number_of}
 use Rattle.esr_results.specs.Pruned.{pruned_of}
 use Rattle.esr_desk.specs.Start.{formats_of, ticket_of}
+use Rattle.esr_desk.specs.Calls.{Call}
 use Rattle.esr_desk.specs.Told.{TellsAll}
 use Rattle.esr_finish.specs.Went.{Went}
 use Rattle.esr_delete.specs.Planned.{Notes}
@@ -19,5 +20,5 @@ invariant-loop-shard g l =
       next : l.next.number ≡ l.draft.first.number + kept_count before;
       tells : TellsAll s now l.ticket;
       went : Went s old now l.ticket;
-      holds : g.Q.Desk.holds l.desk l.ticket;
+      calls : ◌≡◌ {A = List Call} (g.Q.Desk.calls l.desk) (g.Q.Desk.calls l.fn.desk);
     }

@@ -1,14 +1,17 @@
-use Rattle.std.proofs.Common.{map, refl}
+use Rattle.std.proofs.Common.{None, map, ap, ◌∙◌}
+use Rattle.esr_core.specs.World.{Ticket}
 use Rattle.esr_core.specs.Entry.{PruneStep, PlanShards, DrawnFrom}
 use Rattle.esr_formats.specs.Ids.{number_of}
 use Rattle.esr_formats.specs.Roots.{root_of}
 use Rattle.esr_results.specs.Pruned.{pruned_of}
 use Rattle.esr_desk.specs.Start.{ticket_of}
 use Rattle.esr_desk.specs.Grew.{grew_by_none, outcome_grew_by}
-use Rattle.esr_deleting.specs.declared.desk.Planned.{Planned}
-use Rattle.esr_delete.specs.Trouble.{IsTrouble}
-use Rattle.esr_delete.specs.declared.trouble.Trouble.TheVariants.{Step}
-use Rattle.esr_delete.proofs.Going.{passed, early_refused}
+use Rattle.esr_desk.specs.declared.unit.Planned.{Planned}
+use Rattle.esr_desk.specs.declared.hand.Hand.TheVariants as hands
+use Rattle.esr_desk.specs.Evidence.{evidence}
+use Rattle.esr_unit.specs.declared.trouble.Trouble.TheVariants.{Step}
+use Rattle.esr_unit.specs.Shown.{Shown}
+use Rattle.esr_delete.proofs.Going.{passed, prune_shown}
 use Rattle.esr_delete.proofs.Planning.{found, can_plan, plan_new, plan_tells, has_planned}
 use Rattle.esr_delete.proofs.plan.plan.Goals as goal
 
@@ -27,7 +30,7 @@ plan-requires-clause-may g c =
     (found s t root uuids c.args.held.now shards c.requires.may.root_is c.requires.gathered all.one_each all.exact all.of_root all.each all.held all.writable)
 
 pub plan-requires-clause-new : goal.plan-requires-clause-new
-plan-requires-clause-new g c = plan_new (g.Q.Desk.seen c.args.desk.now) c.args.ticket (map pruned_of c.in_ok-shards.shards) c.requires.made
+plan-requires-clause-new g c = plan_new g.Q.Desk.start (g.Q.Desk.seen c.args.desk.now) c.args.ticket (map pruned_of c.in_ok-shards.shards) c.requires.made
 
 pub returns-in_err-shards-clause-grew : goal.returns-in_err-shards-clause-grew
 returns-in_err-shards-clause-grew g c = grew_by_none g.Q.Desk.start c.args.ticket (g.Q.Desk.seen c.args.desk.now)
@@ -39,9 +42,11 @@ returns-in_err-planned-clause-trouble g c =
     let new = g.Q.Desk.seen c.plan.new.self in
     let who = c.args.ticket in
     let refusal = c.in_err-planned.field-0.0 in
-    let step = PruneStep (PlanShards (map pruned_of c.in_ok-shards.shards)) in
-    passed c.from_residual-in_err-planned.result (IsTrouble s g.Q.Stage.Counted.faults g.Q.Fetch.Counted.faults new who) (Step refusal) c.from_residual-in_err-planned.ensures.1
-    (early_refused s g.Q.Stage.Counted.faults g.Q.Fetch.Counted.faults old new who step refusal tt refl c.in_err-planned.ensures.step)
+    let kept = c.in_err-planned.ensures.kept in
+    let e = evidence g.Q.Stage.Counted.faults g.Q.Fetch.Counted.faults g.Q.Shard.Counted.faults g.Q.Target.Counted.faults g.Q.Shard.Shard.told g.Q.Target.Target.told in
+    passed c.from_residual-in_err-planned.result (Shown hands.Delete e ⊥ s new who) (Step refusal) c.from_residual-in_err-planned.ensures.1
+    (prune_shown e s old new who (PlanShards (map pruned_of c.in_ok-shards.shards)) refusal (map number_of c.args.uuids.now) None c.refusals_are_of_their_steps.ensures (ap (λ (t : Ticket). t.out) kept ∙ c.requires.may.out)
+    (ap (λ (t : Ticket). t.work) kept ∙ c.requires.may.work) c.in_err-planned.ensures.step)
 
 pub returns-in_err-planned-clause-grew : goal.returns-in_err-planned-clause-grew
 returns-in_err-planned-clause-grew g c =
@@ -66,7 +71,7 @@ returns-clause-few g c = c.in_ok-shards.ensures.few
 
 pub returns-clause-tells : goal.returns-clause-tells
 returns-clause-tells g c =
-    plan_tells g.Q.Desk.start (g.Q.Desk.seen c.args.desk.now) (g.Q.Desk.seen c.plan.new.self) c.args.ticket (map pruned_of c.in_ok-shards.shards) (DrawnFrom c.in_ok-planned.planned.first.number) c.requires.made c.in_ok-planned.ensures.step
+    plan_tells g.Q.Desk.start (g.Q.Desk.seen c.args.desk.now) (g.Q.Desk.seen c.plan.new.self) c.args.ticket (map pruned_of c.in_ok-shards.shards) (DrawnFrom c.in_ok-planned.planned.first.number) c.requires.mine.some c.requires.made c.in_ok-planned.ensures.step
 
 pub returns-clause-grew : goal.returns-clause-grew
 returns-clause-grew g c =

@@ -2,6 +2,7 @@ use Rattle.std.proofs.Common.{◌≡◌, [], ◌++◌, ◌∙◌, length, take, 
 use Rattle.std.proofs.lemmas.Bool.{eqb-true}
 use Rattle.esr_desk.specs.Start.{ticket_of}
 use Rattle.esr_desk.specs.Grew.{grew_by_none, grew_by_on}
+use Rattle.esr_finish.proofs.Runs.{taken_on}
 use Rattle.esr_delete.proofs.Removing.{still_new, still_once, more_named, whole_more, rest_may, rest_layout, all_named}
 use Rattle.esr_delete.proofs.remove.remove_all.Goals as goal
 
@@ -14,7 +15,7 @@ loop-rest-init g c = record {
   new = c.requires.new;
   own = refl;
   grew = grew_by_none g.Q.Desk.start c.args.ticket (g.Q.Desk.seen c.args.desk.now);
-  holds = c.requires.mine;
+  calls = refl;
 }
 
 pub remove_first-requires-clause-layout : goal.remove_first-requires-clause-layout
@@ -44,10 +45,10 @@ loop-rest-preserved g c =
       whole = whole_more c.args.names.now inv.front rest n inv.whole;
       named = more_named s mid new who inv.front (take n rest) inv.named c.in_ok-count.ensures.removed;
       once = still_once rest n inv.once;
-      new = still_new s mid new who rest n inv.new inv.once c.in_ok-count.ensures.removed;
+      new = still_new s mid new who rest n c.requires.mine.some inv.new inv.once c.in_ok-count.ensures.removed;
       own = c.remove_first.ensures.own ∙ inv.own;
       grew = grew_by_on s who old mid new inv.grew c.remove_first.ensures.grew;
-      holds = c.remove_first.ensures.holds;
+      calls = c.remove_first.ensures.calls ∙ inv.calls;
     }
 
 pub returns-in_err-count-clause-own : goal.returns-in_err-count-clause-own
@@ -62,4 +63,10 @@ pub returns-clause-named : goal.returns-clause-named
 returns-clause-named g c =
     let inv = c.loop-rest.invariant in
     let none : length c.loop-rest.rest.now ≡ 0 = eqb-true (length c.loop-rest.rest.now) 0 (sym c.loop-rest-test.ensures) in
-    all_named g.Q.Desk.start (g.Q.Desk.seen c.loop-rest.desk) c.args.names.now inv.front c.loop-rest.rest.now inv.whole none inv.named
+    all_named g.Q.Desk.start (g.Q.Desk.seen c.loop-rest.desk) c.args.ticket c.args.names.now inv.front c.loop-rest.rest.now inv.whole none inv.named
+
+pub remove_first-requires-clause-mine : goal.remove_first-requires-clause-mine
+remove_first-requires-clause-mine g c κs within = taken_on (g.Q.Desk.calls c.args.desk.now) (g.Q.Desk.calls c.loop-rest.desk) c.args.ticket c.loop-rest.invariant.calls c.requires.mine
+
+pub returns-in_err-count-clause-calls : goal.returns-in_err-count-clause-calls
+returns-in_err-count-clause-calls g c = c.remove_first.ensures.calls ∙ c.loop-rest.invariant.calls

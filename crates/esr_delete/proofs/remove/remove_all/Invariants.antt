@@ -4,8 +4,9 @@ use Rattle.esr_formats.specs.Names.{name_of}
 use Rattle.esr_reach.specs.Names.{AreOnce}
 use Rattle.esr_desk.specs.Start.{ticket_of}
 use Rattle.esr_desk.specs.Grew.{GrewBy}
-use Rattle.esr_deleting.specs.Once.{IsNewRemoval}
-use Rattle.esr_deleting.specs.Named.{AreNamed}
+use Rattle.esr_desk.specs.Calls.{Call}
+use Rattle.esr_desk.specs.Delete.Named.{AreNamed}
+use Rattle.esr_delete.specs.Removed.{AreUnnamed}
 use Rattle.esr_delete.proofs.remove.remove_all.Given as goal
 
 abbrev pub invariant-loop-rest : goal.invariant-loop-rest
@@ -16,12 +17,12 @@ invariant-loop-rest g l =
     record {
       front : List CodeName;
       whole : l.fn.names ≡ front ++ l.rest;
-      named : AreNamed s now (map name_of front);
+      named : AreNamed s now l.ticket (map name_of front);
       once : AreOnce (map name_of l.rest);
-      new : IsNewRemoval now l.ticket (map name_of l.rest);
+      new : AreUnnamed s now l.ticket (map name_of l.rest);
       own : ticket_of s now l.ticket ≡ ticket_of s old l.ticket;
       grew : GrewBy s l.ticket old now;
-      holds : g.Q.Desk.holds l.desk l.ticket;
+      calls : ◌≡◌ {A = List Call} (g.Q.Desk.calls l.desk) (g.Q.Desk.calls l.fn.desk);
     }
 
 abbrev pub decreases-loop-rest : goal.decreases-loop-rest

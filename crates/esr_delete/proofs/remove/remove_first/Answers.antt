@@ -2,10 +2,11 @@ use Rattle.std.proofs.Common.{◌≤◌, List, length, map, subst, arith}
 use Rattle.esr_names.specs.declared.blob.BlobName.{BlobName as CodeName}
 use Rattle.esr_core.specs.Entry.{RemoveDoomed, PruneStep, WasRemoved}
 use Rattle.esr_formats.specs.Names.{name_of}
+use Rattle.esr_desk.specs.Start.{ticket_of}
 use Rattle.esr_desk.specs.Halts.{Halts}
 use Rattle.esr_desk.specs.Grew.{grew_by_none, outcome_grew_by}
 use Rattle.esr_delete.specs.Removed.{Removed}
-use Rattle.esr_delete.proofs.Removing.{can_remove, batch_layout}
+use Rattle.esr_delete.proofs.Removing.{can_remove, fresh_removal, batch_layout}
 use Rattle.esr_delete.proofs.Passing.{passed_removed, passed_halts}
 use Rattle.esr_delete.proofs.Clearing.{passed_on}
 use Rattle.esr_delete.proofs.remove.remove_first.Goals as goal
@@ -23,7 +24,15 @@ remove-requires-clause-may g c =
     let some : 1 ≤ n = omega (arith, c.min-count.ensures, c.requires.some) in
     let few : n ≤ 1000 = omega (arith, c.min-count.ensures) in
     let within : n ≤ length names = omega (arith, c.min-count.ensures) in
-    can_remove g.Q.Desk.start (g.Q.Desk.seen c.args.desk.now) c.args.ticket names c.in_ok-batch.batch n c.in_ok-batch.ensures some few within c.requires.may c.requires.new
+    can_remove g.Q.Desk.start (ticket_of g.Q.Desk.start (g.Q.Desk.seen c.args.desk.now) c.args.ticket) names c.in_ok-batch.batch n c.in_ok-batch.ensures some few within c.requires.may
+
+pub remove-requires-clause-new : goal.remove-requires-clause-new
+remove-requires-clause-new g c =
+    let names = c.args.names.now in
+    let n = c.min-count.result in
+    let some : 1 ≤ n = omega (arith, c.min-count.ensures, c.requires.some) in
+    let within : n ≤ length names = omega (arith, c.min-count.ensures) in
+    fresh_removal g.Q.Desk.start (g.Q.Desk.seen c.args.desk.now) c.args.ticket names c.in_ok-batch.batch n c.in_ok-batch.ensures some within c.requires.new
 
 pub returns-in_err-passed-clause-refused : goal.returns-in_err-passed-clause-refused
 returns-in_err-passed-clause-refused g c =
@@ -32,7 +41,7 @@ returns-in_err-passed-clause-refused g c =
     let new = g.Q.Desk.seen c.remove.new.self in
     let who = c.args.ticket in
     passed_on c.from_residual-in_err-passed.result (λ e. Halts s new who e) c.in_err-passed.field-0.0 c.from_residual-in_err-passed.ensures.1
-    (passed_halts s old new who (map name_of c.in_ok-batch.batch) c.remove.result c.in_err-passed.field-0.0 c.in_err-passed.ensures c.remove.ensures.step)
+    (passed_halts s old new who (map name_of c.in_ok-batch.batch) c.remove.result c.in_err-passed.field-0.0 c.refusals_are_of_their_steps.ensures c.requires.may.over c.remove.ensures.own c.in_err-passed.ensures c.remove.ensures.step)
 
 pub returns-in_err-passed-clause-grew : goal.returns-in_err-passed-clause-grew
 returns-in_err-passed-clause-grew g c =
@@ -45,7 +54,7 @@ returns-clause-removed g c =
     let new = g.Q.Desk.seen c.remove.new.self in
     let who = c.args.ticket in
     subst (λ (l : List CodeName). Removed s old new who (map name_of l)) c.in_ok-batch.ensures
-    (passed_removed s old new who (map name_of c.in_ok-batch.batch) c.remove.result c.in_ok-passed.field-0 c.in_ok-passed.ensures c.remove.ensures.step c.remove.ensures.named)
+    (passed_removed s old new who (map name_of c.in_ok-batch.batch) c.remove.result c.in_ok-passed.field-0 c.requires.mine.some c.in_ok-passed.ensures c.remove.ensures.step)
 
 pub returns-clause-grew : goal.returns-clause-grew
 returns-clause-grew g c =

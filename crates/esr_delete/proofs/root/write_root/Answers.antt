@@ -3,7 +3,7 @@ use Rattle.std.proofs.lemmas.Result.{on_ok_weaker}
 use Rattle.esr_core.specs.World.{Ticket}
 use Rattle.esr_formats.specs.Roots.{root_of}
 use Rattle.esr_desk.specs.Start.{ticket_of}
-use Rattle.esr_finish.proofs.Runs.{went_on}
+use Rattle.esr_finish.proofs.Runs.{taken_on, went_on}
 use Rattle.esr_delete.proofs.Rooting.{can_put}
 use Rattle.esr_delete.proofs.root.write_root.Goals as goal
 
@@ -25,3 +25,9 @@ pub returns-clause-went : goal.returns-clause-went
 returns-clause-went g c =
     let seen = g.Q.Desk.seen in
     went_on g.Q.Desk.start (seen c.args.desk.now) (seen c.put_root.new.desk) (seen c.put_latest.new.desk) c.args.ticket c.put_root.ensures.went c.put_latest.ensures.went
+
+pub put_latest-requires-clause-mine : goal.put_latest-requires-clause-mine
+put_latest-requires-clause-mine g c κs within = taken_on (g.Q.Desk.calls c.args.desk.now) (g.Q.Desk.calls c.put_root.new.desk) c.args.ticket c.put_root.ensures.calls c.requires.mine
+
+pub returns-clause-calls : goal.returns-clause-calls
+returns-clause-calls g c = c.put_latest.ensures.calls ∙ c.put_root.ensures.calls

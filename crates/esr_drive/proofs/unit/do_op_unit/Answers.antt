@@ -1,39 +1,62 @@
 use Rattle.std.proofs.Common.{[], Some}
+use Rattle.esr_desk.specs.Evidence.{evidence}
 use Rattle.esr_upload.specs.Refused.{told_of}
-use Rattle.esr_drive.proofs.Halting.{upload_stopped, finish_stopped, delete_stopped}
-use Rattle.esr_drive.proofs.Taken.{deleted_ended}
+use Rattle.esr_drive.proofs.Halting.{upload_stopped, master_stopped, delete_stopped}
+use Rattle.esr_drive.proofs.Ended.{upload_ended, master_ended, delete_ended}
 use Rattle.esr_drive.proofs.unit.do_op_unit.Goals as goal
+
+-- ---- a shard
 
 pub returns-in-Shard-clause-stopped : goal.returns-in-Shard-clause-stopped
 returns-in-Shard-clause-stopped g c =
-    let seen = g.Q.Desk.seen in
     let unit = c.args.unit.now in
-    upload_stopped
-    (record { stage = g.Q.Stage.Counted.faults; fetch = g.Q.Fetch.Counted.faults; shard = g.S.Shard.Counted.faults; target = g.Q.Target.Counted.faults; made_for = λ h. (g.S.Shard.Shard.origin h).address })
-    (told_of (g.S.Sources.files c.args.sources.now) unit.ready.work) g.Q.Desk.start (seen c.args.desk.now) (seen c.run_unit.new.desk) unit.ready.ticket c.run_unit.result c.run_unit.ensures.refused
+    upload_stopped (evidence g.Q.Stage.Counted.faults g.Q.Fetch.Counted.faults g.S.Shard.Counted.faults g.Q.Target.Counted.faults g.S.Shard.Shard.told g.Q.Target.Target.told)
+    g.Q.Desk.start (g.Q.Desk.seen c.args.desk.now) (g.Q.Desk.seen c.run_unit.new.desk) unit.ready.ticket (told_of (g.S.Sources.told c.args.sources.now).files unit.ready.work) c.run_unit.result c.run_unit.ensures.refused
+
+pub returns-in-Shard-clause-ended : goal.returns-in-Shard-clause-ended
+returns-in-Shard-clause-ended g c =
+    let unit = c.args.unit.now in
+    upload_ended (evidence g.Q.Stage.Counted.faults g.Q.Fetch.Counted.faults g.S.Shard.Counted.faults g.Q.Target.Counted.faults g.S.Shard.Shard.told g.Q.Target.Target.told)
+    g.Q.Desk.start (g.Q.Desk.seen c.args.desk.now) (g.Q.Desk.seen c.run_unit.new.desk) unit.ready.ticket (told_of (g.S.Sources.told c.args.sources.now).files unit.ready.work) c.run_unit.result c.run_unit.ensures.ok c.run_unit.ensures.refused
+
+-- ---- a clone's shard
 
 pub returns-in-CloneShard-clause-stopped : goal.returns-in-CloneShard-clause-stopped
 returns-in-CloneShard-clause-stopped g c =
-    let seen = g.Q.Desk.seen in
     let run = c.run_unit-in-CloneShard in
-    upload_stopped
-    (record { stage = g.Q.Stage.Counted.faults; fetch = g.Q.Fetch.Counted.faults; shard = g.S.Shard.Counted.faults; target = g.Q.Target.Counted.faults; made_for = λ h. (g.S.Shard.Shard.origin h).address })
-    (Some []) g.Q.Desk.start (seen c.args.desk.now) (seen run.new.desk) c.args.unit.now.ready.ticket run.result run.ensures.refused
+    upload_stopped (evidence g.Q.Stage.Counted.faults g.Q.Fetch.Counted.faults g.S.Shard.Counted.faults g.Q.Target.Counted.faults g.S.Shard.Shard.told g.Q.Target.Target.told)
+    g.Q.Desk.start (g.Q.Desk.seen c.args.desk.now) (g.Q.Desk.seen run.new.desk) c.args.unit.now.ready.ticket (Some []) run.result run.ensures.refused
+
+pub returns-in-CloneShard-clause-ended : goal.returns-in-CloneShard-clause-ended
+returns-in-CloneShard-clause-ended g c =
+    let run = c.run_unit-in-CloneShard in
+    upload_ended (evidence g.Q.Stage.Counted.faults g.Q.Fetch.Counted.faults g.S.Shard.Counted.faults g.Q.Target.Counted.faults g.S.Shard.Shard.told g.Q.Target.Target.told)
+    g.Q.Desk.start (g.Q.Desk.seen c.args.desk.now) (g.Q.Desk.seen run.new.desk) c.args.unit.now.ready.ticket (Some []) run.result run.ensures.ok run.ensures.refused
+
+-- ---- a finalization
 
 pub returns-in-Finalize-clause-stopped : goal.returns-in-Finalize-clause-stopped
 returns-in-Finalize-clause-stopped g c =
-    let seen = g.Q.Desk.seen in
     let run = c.run_unit-in-Finalize in
-    finish_stopped g.Q.Desk.start g.Q.Stage.Counted.faults (seen c.args.desk.now) (seen run.new.desk) c.args.unit.now.ready.ticket run.result run.ensures.refused
+    master_stopped (evidence g.Q.Stage.Counted.faults g.Q.Fetch.Counted.faults g.S.Shard.Counted.faults g.Q.Target.Counted.faults g.S.Shard.Shard.told g.Q.Target.Target.told)
+    g.Q.Desk.start (g.Q.Desk.seen c.args.desk.now) (g.Q.Desk.seen run.new.desk) c.args.unit.now.ready.ticket run.result run.ensures.refused
+
+pub returns-in-Finalize-clause-ended : goal.returns-in-Finalize-clause-ended
+returns-in-Finalize-clause-ended g c =
+    let run = c.run_unit-in-Finalize in
+    master_ended (evidence g.Q.Stage.Counted.faults g.Q.Fetch.Counted.faults g.S.Shard.Counted.faults g.Q.Target.Counted.faults g.S.Shard.Shard.told g.Q.Target.Target.told)
+    g.Q.Desk.start (g.Q.Desk.seen c.args.desk.now) (g.Q.Desk.seen run.new.desk) c.args.unit.now.ready.ticket run.result run.ensures.ok run.ensures.refused
+
+-- ---- a delete
 
 pub returns-in-Delete-clause-stopped : goal.returns-in-Delete-clause-stopped
 returns-in-Delete-clause-stopped g c =
-    let seen = g.Q.Desk.seen in
     let run = c.run_unit-in-Delete in
-    delete_stopped g.Q.Desk.start g.Q.Stage.Counted.faults g.Q.Fetch.Counted.faults (seen c.args.desk.now) (seen run.new.desk) c.args.unit.now.ready.ticket run.result run.ensures.refused
+    delete_stopped (evidence g.Q.Stage.Counted.faults g.Q.Fetch.Counted.faults g.S.Shard.Counted.faults g.Q.Target.Counted.faults g.S.Shard.Shard.told g.Q.Target.Target.told)
+    g.Q.Desk.start (g.Q.Desk.seen c.args.desk.now) (g.Q.Desk.seen run.new.desk) c.args.unit.now.ready.ticket run.result run.ensures.refused
 
 pub returns-in-Delete-clause-ended : goal.returns-in-Delete-clause-ended
 returns-in-Delete-clause-ended g c =
-    let seen = g.Q.Desk.seen in
     let run = c.run_unit-in-Delete in
-    deleted_ended g.Q.Desk.start g.Q.Stage.Counted.faults g.Q.Fetch.Counted.faults (seen c.args.desk.now) (seen run.new.desk) c.args.unit.now.ready.ticket run.result run.ensures.ok run.ensures.refused
+    delete_ended (evidence g.Q.Stage.Counted.faults g.Q.Fetch.Counted.faults g.S.Shard.Counted.faults g.Q.Target.Counted.faults g.S.Shard.Shard.told g.Q.Target.Target.told)
+    g.Q.Desk.start (g.Q.Desk.seen c.args.desk.now) (g.Q.Desk.seen run.new.desk) c.args.unit.now.ready.ticket run.result run.ensures.ok run.ensures.refused

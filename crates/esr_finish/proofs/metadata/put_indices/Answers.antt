@@ -1,8 +1,8 @@
-use Rattle.std.proofs.Common.{sym, subst, ap, ◌∙◌}
+use Rattle.std.proofs.Common.{refl, sym, subst, ap, ◌∙◌}
 use Rattle.esr_model.specs.Names.{IndexMeta}
 use Rattle.esr_meta.specs.Info.{Info}
 use Rattle.esr_desk.specs.Start.{ticket_of}
-use Rattle.esr_finish.proofs.Runs.{went_not, went_on}
+use Rattle.esr_finish.proofs.Runs.{taken_on, went_not, went_on}
 use Rattle.esr_finish.proofs.Writing.{wrote_none}
 use Rattle.esr_finish.specs.Ticket.{IsUnnoted}
 use Rattle.esr_finish.proofs.Indices.{ref_at, index_may, index_more}
@@ -13,7 +13,7 @@ pub loop-index-init : goal.loop-index-init
 loop-index-init g c =
     let s = g.Q.Desk.start in
     let old = g.Q.Desk.seen c.args.desk.now in
-    record { puts = wrote_none (ticket_of s old c.args.ticket); tells = c.requires.tells; went = went_not s old c.args.ticket; holds = c.requires.mine }
+    record { puts = wrote_none (ticket_of s old c.args.ticket); tells = c.requires.tells; went = went_not s old c.args.ticket; calls = refl }
 
 pub put_index-requires-clause-some : goal.put_index-requires-clause-some
 put_index-requires-clause-some g c κs within =
@@ -47,7 +47,7 @@ loop-index-preserved g c =
           c.index-item.is;
       tells = c.in_ok-put_index.ensures.tells;
       went = went_on s old mid new who c.loop-index.invariant.went c.put_index.ensures.went;
-      holds = c.put_index.ensures.holds;
+      calls = c.put_index.ensures.calls ∙ c.loop-index.invariant.calls;
     }
 
 pub returns-in_err-put_index-clause-went : goal.returns-in_err-put_index-clause-went
@@ -64,3 +64,9 @@ put_index-requires-clause-new g c κs within =
     index_new s t0 t1 c.info.inside.uuid c.info.inside.indices c.as_slice-index-items.result.now c.loop-index.index-index c.index-item.result c.info.invariant.indices c.as_slice-index-items.ensures c.loop-index-test.true c.index-item.is
     (λ id. subst (λ (i : Info). IsUnnoted t0 (IndexMeta id i.uuid.number)) (sym c.info.view_is) (c.requires.new id))
     c.loop-index.invariant.puts
+
+pub put_index-requires-clause-mine : goal.put_index-requires-clause-mine
+put_index-requires-clause-mine g c κs within = taken_on (g.Q.Desk.calls c.args.desk.now) (g.Q.Desk.calls c.loop-index.desk) c.args.ticket c.loop-index.invariant.calls c.requires.mine
+
+pub returns-in_err-put_index-clause-calls : goal.returns-in_err-put_index-clause-calls
+returns-in_err-put_index-clause-calls g c = c.put_index.ensures.calls ∙ c.loop-index.invariant.calls

@@ -1,7 +1,8 @@
-use Rattle.std.proofs.Common.{map, take}
+use Rattle.std.proofs.Common.{◌≡◌, List, map, take}
 use Rattle.esr_model.specs.Values.{IndexRef}
 use Rattle.esr_formats.specs.Refs.{ref_of_code}
 use Rattle.esr_desk.specs.Start.{formats_of}
+use Rattle.esr_desk.specs.Calls.{Call}
 use Rattle.esr_desk.specs.Told.{TellsAll}
 use Rattle.esr_finish.specs.Blobs.{index_blob}
 use Rattle.esr_finish.specs.Ticket.{Puts}
@@ -17,5 +18,5 @@ invariant-loop-index g l =
       puts : Puts s old now l.ticket (map (λ (r : IndexRef). index_blob (formats_of s) l.info-inside.uuid.number r) (map ref_of_code (take l.index-index l.index-items)));
       tells : TellsAll s now l.ticket;
       went : Went s old now l.ticket;
-      holds : g.Q.Desk.holds l.desk l.ticket;
+      calls : ◌≡◌ {A = List Call} (g.Q.Desk.calls l.desk) (g.Q.Desk.calls l.fn.desk);
     }

@@ -1,4 +1,5 @@
-use Rattle.esr_finish.proofs.Runs.{went_on}
+use Rattle.std.proofs.Common.{◌∙◌}
+use Rattle.esr_finish.proofs.Runs.{taken_on, went_on}
 use Rattle.esr_model.specs.Names.{Snap}
 use Rattle.esr_formats.specs.Infos.{info_of_code}
 use Rattle.esr_desk.specs.Start.{ticket_of}
@@ -30,3 +31,16 @@ pub put_indices-requires-clause-new : goal.put_indices-requires-clause-new
 put_indices-requires-clause-new g c κs within =
     let seen = g.Q.Desk.seen in
     indices_new g.Q.Desk.start (seen c.args.desk.now) (seen c.put_info.new.desk) (seen c.put_global.new.desk) c.args.ticket (info_of_code c.args.info.now) c.requires.new c.in_ok-put_info.ensures.ok c.in_ok-put_global.ensures.ok
+
+pub put_global-requires-clause-mine : goal.put_global-requires-clause-mine
+put_global-requires-clause-mine g c κs within = taken_on (g.Q.Desk.calls c.args.desk.now) (g.Q.Desk.calls c.put_info.new.desk) c.args.ticket c.put_info.ensures.calls c.requires.mine
+
+pub put_indices-requires-clause-mine : goal.put_indices-requires-clause-mine
+put_indices-requires-clause-mine g c κs within =
+    taken_on (g.Q.Desk.calls c.args.desk.now) (g.Q.Desk.calls c.put_global.new.desk) c.args.ticket (c.put_global.ensures.calls ∙ c.put_info.ensures.calls) c.requires.mine
+
+pub returns-in_err-put_global-clause-calls : goal.returns-in_err-put_global-clause-calls
+returns-in_err-put_global-clause-calls g c = c.put_global.ensures.calls ∙ c.put_info.ensures.calls
+
+pub returns-clause-calls : goal.returns-clause-calls
+returns-clause-calls g c = c.put_indices.ensures.calls ∙ c.put_global.ensures.calls ∙ c.put_info.ensures.calls

@@ -1,10 +1,13 @@
 use Rattle.esr_core.specs.Entry.{BeginStep, CommitStep, WasBegun}
 use Rattle.esr_formats.specs.Names.{name_of}
 use Rattle.esr_desk.specs.Start.{ticket_of}
-use Rattle.esr_desk.specs.Outcome.{commit_reply}
+use Rattle.esr_desk.specs.Outcome.{commit_reply, Stepped}
 use Rattle.esr_desk.specs.Grew.{outcome_grew_by}
-use Rattle.esr_finish.proofs.Runs.{went_on, worked_to, worked_not, begin_went}
-use Rattle.std.proofs.Common.{◌≡◌, inl, Option, sym, ap, ◌∙◌, subst}
+use Rattle.esr_unit.specs.declared.trouble.Trouble.TheVariants.{Step}
+use Rattle.esr_finish.specs.Refused.{IsPutRefused}
+use Rattle.esr_finish.proofs.Runs.{passed, taken_on, went_on, worked_to, worked_not, begin_went}
+use Rattle.esr_finish.proofs.Stopping.{other_than_latest, writing_refused}
+use Rattle.std.proofs.Common.{◌≡◌, inl, Option, refl, sym, ap, ◌∙◌, subst}
 use Rattle.std.specs.Io.KnownBytes.{append_known}
 use Rattle.esr_model.specs.Values.{Bytes}
 use Rattle.esr_core.specs.World.{Ticket}
@@ -12,10 +15,9 @@ use Rattle.esr_desk.specs.Conditions.{CanCommit}
 use Rattle.esr_finish.proofs.Writing.{on_ok, told_append}
 use Rattle.esr_names.specs.declared.blob.BlobName.{BlobName as CodeName}
 use Rattle.esr_model.specs.Names.{BlobName}
-use Rattle.esr_desk.specs.Outcome.{Stepped}
-use Rattle.esr_desk.specs.Once.{IsNew}
+use Rattle.esr_desk.specs.Once.{IsFresh}
 use Rattle.esr_desk.specs.Taken.{committed_by}
-use Rattle.esr_desk.specs.Told.{begin_new, commit_new, blob_tells}
+use Rattle.esr_desk.specs.Told.{begin_fresh, commit_fresh, blob_tells}
 use Rattle.esr_finish.proofs.one_blob.put.Goals as goal
 
 pub returns-in_err-named-clause-went : goal.returns-in_err-named-clause-went
@@ -53,15 +55,15 @@ commit-requires-clause-may g c =
     )
 
 pub begin-requires-clause-new : goal.begin-requires-clause-new
-begin-requires-clause-new g c = begin_new g.Q.Desk.start (g.Q.Desk.seen c.args.desk.now) c.args.ticket (name_of c.args.name) c.requires.tells c.requires.may.2.stored c.requires.new
+begin-requires-clause-new g c = begin_fresh g.Q.Desk.start (g.Q.Desk.seen c.args.desk.now) c.args.ticket (name_of c.args.name) c.requires.tells c.requires.may.2.stored c.requires.new
 
 pub commit-requires-clause-new : goal.commit-requires-clause-new
 commit-requires-clause-new g c =
     let s = g.Q.Desk.start in
     let mid = g.Q.Desk.seen c.begin.new.self in
     let who = c.args.ticket in
-    subst (λ (n : CodeName). IsNew mid who (CommitStep (name_of n))) (sym c.in_ok-named.ensures.name)
-    (commit_new s (g.Q.Desk.seen c.args.desk.now) mid who (name_of c.args.name) c.requires.tells c.requires.new c.in_ok-named.ensures.step)
+    subst (λ (n : CodeName). IsFresh s mid who (CommitStep (name_of n))) (sym c.in_ok-named.ensures.name)
+    (commit_fresh s (g.Q.Desk.seen c.args.desk.now) mid who (name_of c.args.name) c.requires.mine.some c.requires.tells c.requires.new c.in_ok-named.ensures.step)
 
 pub returns-clause-tells : goal.returns-clause-tells
 returns-clause-tells g c =
@@ -74,6 +76,32 @@ returns-clause-tells g c =
     let contents = g.Q.Stage.Stage.contents c.write.new.self in
     let is = ap name_of c.in_ok-named.ensures.name in
     let done = c.in_ok-commit.field-0 in
-    blob_tells s old mid new who name contents done c.requires.tells c.requires.may.2.stored c.in_ok-named.ensures.step c.in_ok-named.ensures.own
+    blob_tells s old mid new who name contents done c.requires.mine.some c.requires.tells c.requires.may.2.stored c.in_ok-named.ensures.step c.in_ok-named.ensures.own
     (subst (λ (n : BlobName). Stepped s mid new who (CommitStep n) (commit_reply done)) is c.in_ok-commit.ensures.step)
     (subst (λ (n : BlobName). ticket_of s new who ≡ committed_by n contents done (ticket_of s mid who)) is c.in_ok-commit.ensures.own)
+
+pub commit-requires-clause-mine : goal.commit-requires-clause-mine
+commit-requires-clause-mine g c = taken_on (g.Q.Desk.calls c.args.desk.now) (g.Q.Desk.calls c.begin.new.self) c.args.ticket c.begin.ensures.calls c.requires.mine
+
+pub returns-in_err-named-clause-refused : goal.returns-in_err-named-clause-refused
+returns-in_err-named-clause-refused g c =
+    let s = g.Q.Desk.start in
+    let new = g.Q.Desk.seen c.begin.new.self in
+    let name = name_of c.args.name in
+    let refusal = c.in_err-named.field-0.0 in
+    passed c.from_residual.result (IsPutRefused s g.Q.Stage.Counted.faults new c.args.ticket) (Step refusal) c.from_residual.ensures.1
+    (writing_refused {S = g.row.Q-Stage.Denot} g.row.Q-Fetch.Denot s g.Q.Stage.Counted.faults (g.Q.Desk.seen c.args.desk.now) new c.args.ticket (BeginStep name) refusal tt (λ fault. other_than_latest name c.requires.may.2.stored) c.in_err-named.ensures.step)
+
+pub returns-in_err-commit-clause-refused : goal.returns-in_err-commit-clause-refused
+returns-in_err-commit-clause-refused g c =
+    let s = g.Q.Desk.start in
+    let new = g.Q.Desk.seen c.commit.new.self in
+    let refusal = c.in_err-commit.field-0.0 in
+    passed c.from_residual-in_err-commit.result (IsPutRefused s g.Q.Stage.Counted.faults new c.args.ticket) (Step refusal) c.from_residual-in_err-commit.ensures.1
+    (writing_refused {S = g.row.Q-Stage.Denot} g.row.Q-Fetch.Denot s g.Q.Stage.Counted.faults (g.Q.Desk.seen c.begin.new.self) new c.args.ticket (CommitStep (name_of c.in_ok-named.named.name)) refusal tt (λ fault. refl) c.in_err-commit.ensures.step)
+
+pub returns-in_err-commit-clause-calls : goal.returns-in_err-commit-clause-calls
+returns-in_err-commit-clause-calls g c = c.commit.ensures.calls ∙ c.begin.ensures.calls
+
+pub returns-clause-calls : goal.returns-clause-calls
+returns-clause-calls g c = c.commit.ensures.calls ∙ c.begin.ensures.calls

@@ -1,7 +1,7 @@
 use Rattle.esr_formats.specs.Infos.{info_of_code}
 use Rattle.esr_formats.specs.Roots.{root_of}
 use Rattle.esr_desk.specs.Start.{ticket_of}
-use Rattle.esr_finish.proofs.Runs.{went_on}
+use Rattle.esr_finish.proofs.Runs.{taken_on, went_on}
 use Rattle.esr_finish.proofs.Swaps.{root_next}
 use Rattle.std.proofs.Common.{ap, ◌∙◌}
 use Rattle.esr_core.specs.World.{Ticket}
@@ -35,3 +35,16 @@ put_metadata-requires-clause-new g c κs within = c.requires.may.unnoted
 pub put_latest-requires-clause-untried : goal.put_latest-requires-clause-untried
 put_latest-requires-clause-untried g c κs within =
     ap (λ (t : Ticket). t.tried_latest) (c.in_ok-generation.ensures.ok.is) ∙ ap (λ (t : Ticket). t.tried_latest) c.in_ok-put_metadata.ensures.ok.is ∙ c.requires.may.untried
+
+pub put_root-requires-clause-mine : goal.put_root-requires-clause-mine
+put_root-requires-clause-mine g c κs within = taken_on (g.Q.Desk.calls c.args.desk.now) (g.Q.Desk.calls c.put_metadata.new.desk) c.args.ticket c.put_metadata.ensures.calls c.requires.mine
+
+pub put_latest-requires-clause-mine : goal.put_latest-requires-clause-mine
+put_latest-requires-clause-mine g c κs within =
+    taken_on (g.Q.Desk.calls c.args.desk.now) (g.Q.Desk.calls c.put_root.new.desk) c.args.ticket (c.put_root.ensures.calls ∙ c.put_metadata.ensures.calls) c.requires.mine
+
+pub returns-in_err-generation-clause-calls : goal.returns-in_err-generation-clause-calls
+returns-in_err-generation-clause-calls g c = c.put_root.ensures.calls ∙ c.put_metadata.ensures.calls
+
+pub returns-clause-calls : goal.returns-clause-calls
+returns-clause-calls g c = c.put_latest.ensures.calls ∙ c.put_root.ensures.calls ∙ c.put_metadata.ensures.calls

@@ -1,11 +1,11 @@
 use Rattle.std.proofs.Common.{◌∙◌, ◌≤◌, List, length, take, refl, subst}
 use Rattle.esr_shardidx.specs.declared.entry.FileEntry.{FileEntry as CodeEntry}
-use Rattle.esr_desk.specs.Readers.{reader_of}
+use Rattle.esr_desk.specs.Own.{reader_of}
 use Rattle.esr_restore.proofs.Going.{went_none, went_on, went_at}
 use Rattle.esr_restore.proofs.Reading.{snap_more}
 use Rattle.esr_restore.proofs.Listing.{entry_at, listed_at, files_none, next_free, files_next, files_all, at_same}
-use Rattle.esr_reading.specs.First.{HasFirst}
-use Rattle.esr_reading.specs.Once.{reads_none}
+use Rattle.esr_desk.specs.Restore.First.{HasFirst}
+use Rattle.esr_desk.specs.Made.{reads_none}
 use Rattle.esr_restore.specs.Unread.{IsPartOfAny}
 use Rattle.esr_restore.proofs.Once.{file_unread, file_more}
 use Rattle.esr_restore.proofs.Left.{any_err, first_files}
@@ -20,8 +20,8 @@ loop-entry-init g c = record {
   made_for = refl;
   is_sure = refl;
   went = went_none g.Q.Desk.start (g.Q.Desk.seen c.args.desk.now) c.args.ticket;
-  reads = reads_none (g.Q.Desk.seen c.args.desk.now) c.args.ticket (IsPartOfAny c.args.at (take 0 c.args.snap.now.files));
-  first = files_none g.Q.Desk.start (reader_of g.Q.Desk.start (g.Q.Desk.seen c.args.desk.now) c.args.ticket) c.args.at c.args.snap.now.files (g.Q.Target.Target.files c.args.target.now) c.requires.empty;
+  reads = reads_none g.Q.Desk.start (g.Q.Desk.seen c.args.desk.now) c.args.ticket (IsPartOfAny c.args.at (take 0 c.args.snap.now.files));
+  first = files_none g.Q.Desk.start (reader_of g.Q.Desk.start (g.Q.Desk.seen c.args.desk.now) c.args.ticket) c.args.at c.args.snap.now.files (g.Q.Target.Target.told c.args.target.now).files c.requires.empty;
 }
 
 pub restore_file-requires-clause-entry : goal.restore_file-requires-clause-entry
@@ -42,7 +42,7 @@ pub restore_file-requires-clause-free : goal.restore_file-requires-clause-free
 restore_file-requires-clause-free g c κs within =
     let s = g.Q.Desk.start in
     let here = at_same c.files-entry-items.result.now c.args.snap.now.files c.loop-entry.entry-index c.entry-item.result c.files-entry-items.ensures.files c.loop-entry-test.true c.entry-item.is in
-    next_free s (reader_of s (g.Q.Desk.seen c.loop-entry.desk) c.args.ticket) c.args.at c.args.snap.now c.loop-entry.entry-index c.entry-item.result (g.Q.Target.Target.files c.args.target.now) (g.Q.Target.Target.files c.loop-entry.target)
+    next_free s (reader_of s (g.Q.Desk.seen c.loop-entry.desk) c.args.ticket) c.args.at c.args.snap.now c.loop-entry.entry-index c.entry-item.result (g.Q.Target.Target.told c.args.target.now).files (g.Q.Target.Target.told c.loop-entry.target).files
     c.files-entry-items.ensures.whole here.0 here.1 c.loop-entry.invariant.first
 
 pub returns-in_err-restore_file-clause-went : goal.returns-in_err-restore_file-clause-went
@@ -58,9 +58,9 @@ returns-in_err-restore_file-clause-first g c =
     let mid = g.Q.Desk.seen c.loop-entry.desk in
     let new = g.Q.Desk.seen c.restore_file.new.desk in
     let went = went_on s old mid new who c.loop-entry.invariant.went c.restore_file.ensures.went in
-    let files_new = g.Q.Target.Target.files c.restore_file.new.target in
+    let files_new = (g.Q.Target.Target.told c.restore_file.new.target).files in
     any_err c.from_residual.result (HasFirst s (reader_of s new who) files_new)
-    (first_files s (reader_of s mid who) (reader_of s new who) at uuid.number c.args.snap.now c.loop-entry.entry-index (g.Q.Target.Target.files c.args.target.now) (g.Q.Target.Target.files c.loop-entry.target) files_new c.restore_file.ensures.went.worked
+    (first_files s (reader_of s mid who) (reader_of s new who) at uuid.number c.args.snap.now c.loop-entry.entry-index (g.Q.Target.Target.told c.args.target.now).files (g.Q.Target.Target.told c.loop-entry.target).files files_new c.restore_file.ensures.went.worked
     (went_at s old new who at.index.number at.number uuid.number went c.requires.at) (snap_more s (reader_of s old who) (reader_of s new who) c.args.snap.now went.worked c.requires.snap) c.loop-entry.invariant.first c.in_err-restore_file.ensures.kept)
 
 pub loop-entry-preserved : goal.loop-entry-preserved
@@ -73,16 +73,16 @@ loop-entry-preserved g c =
     let new = g.Q.Desk.seen c.restore_file.new.desk in
     let here = at_same c.files-entry-items.result.now c.args.snap.now.files c.loop-entry.entry-index c.entry-item.result c.files-entry-items.ensures.files c.loop-entry-test.true c.entry-item.is in
     record {
-      holds = done.holds;
+      holds = done.calls;
       buffer = done.buffer ∙ inv.buffer;
       begun = done.begun;
       steady = done.steady ∙ inv.steady;
       made_for = done.made_for ∙ inv.made_for;
       is_sure = done.is_sure ∙ inv.is_sure;
       went = went_on s (g.Q.Desk.seen c.args.desk.now) mid new who inv.went done.went;
-      reads = file_more (g.Q.Desk.seen c.args.desk.now) mid new who c.args.at c.args.snap.now.files c.loop-entry.entry-index c.entry-item.result here.0 here.1 inv.reads done.reads;
-      first = files_next s (reader_of s mid who) (reader_of s new who) c.args.at c.args.snap.now.files c.loop-entry.entry-index c.entry-item.result (g.Q.Target.Target.files c.args.target.now) (g.Q.Target.Target.files c.loop-entry.target)
-          (g.Q.Target.Target.files c.restore_file.new.target) done.went.worked here.0 here.1 inv.first done.restored;
+      reads = file_more s (g.Q.Desk.seen c.args.desk.now) mid new who c.args.at c.args.snap.now.files c.loop-entry.entry-index c.entry-item.result here.0 here.1 inv.reads done.reads;
+      first = files_next s (reader_of s mid who) (reader_of s new who) c.args.at c.args.snap.now.files c.loop-entry.entry-index c.entry-item.result (g.Q.Target.Target.told c.args.target.now).files (g.Q.Target.Target.told c.loop-entry.target).files
+          (g.Q.Target.Target.told c.restore_file.new.target).files done.went.worked here.0 here.1 inv.first done.restored;
     }
 
 pub returns-clause-restored : goal.returns-clause-restored
@@ -90,12 +90,12 @@ returns-clause-restored g c =
     let s = g.Q.Desk.start in
     let all : length c.files-entry-items.result.now ≤ c.loop-entry.entry-index = c.loop-entry-test.false in
     let le = subst (λ (l : List CodeEntry). length l ≤ c.loop-entry.entry-index) c.files-entry-items.ensures.files all in
-    files_all s (reader_of s (g.Q.Desk.seen c.loop-entry.desk) c.args.ticket) c.args.at c.args.snap.now.files c.loop-entry.entry-index (g.Q.Target.Target.files c.args.target.now) (g.Q.Target.Target.files c.loop-entry.target) le c.loop-entry.invariant.first
+    files_all s (reader_of s (g.Q.Desk.seen c.loop-entry.desk) c.args.ticket) c.args.at c.args.snap.now.files c.loop-entry.entry-index (g.Q.Target.Target.told c.args.target.now).files (g.Q.Target.Target.told c.loop-entry.target).files le c.loop-entry.invariant.first
 
 pub restore_file-requires-clause-new : goal.restore_file-requires-clause-new
 restore_file-requires-clause-new g c κs within =
     let here = at_same c.files-entry-items.result.now c.args.snap.now.files c.loop-entry.entry-index c.entry-item.result c.files-entry-items.ensures.files c.loop-entry-test.true c.entry-item.is in
-    file_unread (g.Q.Desk.seen c.args.desk.now) (g.Q.Desk.seen c.loop-entry.desk) c.args.ticket c.args.at c.args.snap.now c.loop-entry.entry-index c.entry-item.result c.files-entry-items.ensures.whole here.0 here.1 c.requires.new c.loop-entry.invariant.reads
+    file_unread g.Q.Desk.start (g.Q.Desk.seen c.args.desk.now) (g.Q.Desk.seen c.loop-entry.desk) c.args.ticket c.args.at c.args.snap.now c.loop-entry.entry-index c.entry-item.result c.files-entry-items.ensures.whole here.0 here.1 c.requires.new c.loop-entry.invariant.reads
 
 pub returns-clause-begun : goal.returns-clause-begun
 returns-clause-begun g c = c.loop-entry.invariant.begun

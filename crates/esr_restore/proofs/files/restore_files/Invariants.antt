@@ -1,6 +1,7 @@
 use Rattle.std.proofs.Common.{◌≡◌, length, take, None}
-use Rattle.esr_desk.specs.Readers.{reader_of}
-use Rattle.esr_reading.specs.Once.{ReadsOnly}
+use Rattle.esr_desk.specs.Own.{reader_of}
+use Rattle.esr_desk.specs.Calls.{HasTaken}
+use Rattle.esr_desk.specs.Made.{ReadsOnly}
 use Rattle.esr_restore.specs.Unread.{IsPartOfAny}
 use Rattle.esr_restore.specs.Went.{Went}
 use Rattle.esr_restore.proofs.Listing.{FirstFiles}
@@ -9,13 +10,13 @@ use Rattle.esr_restore.proofs.files.restore_files.Given as goal
 abbrev pub invariant-loop-entry : goal.invariant-loop-entry
 invariant-loop-entry g l =
     record {
-      holds : g.Q.Desk.holds l.desk l.ticket;
+      holds : HasTaken (g.Q.Desk.calls l.desk) l.ticket;
       buffer : length l.buf ≡ length l.fn.buf;
-      begun : g.Q.Target.Target.begun l.target ≡ None;
+      begun : (g.Q.Target.Target.told l.target).begun ≡ None;
       steady : g.Q.Target.Counted.faults l.target ≡ g.Q.Target.Counted.faults l.fn.target;
-      made_for : g.Q.Target.Target.made_for l.target ≡ g.Q.Target.Target.made_for l.fn.target;
-      is_sure : g.Q.Target.Target.is_sure l.target ≡ g.Q.Target.Target.is_sure l.fn.target;
+      made_for : (g.Q.Target.Target.told l.target).made_for ≡ (g.Q.Target.Target.told l.fn.target).made_for;
+      is_sure : (g.Q.Target.Target.told l.target).is_sure ≡ (g.Q.Target.Target.told l.fn.target).is_sure;
       went : Went g.Q.Desk.start (g.Q.Desk.seen l.fn.desk) (g.Q.Desk.seen l.desk) l.ticket;
-      reads : ReadsOnly (g.Q.Desk.seen l.fn.desk) (g.Q.Desk.seen l.desk) l.ticket (IsPartOfAny l.at (take l.entry-index l.snap.files));
-      first : FirstFiles g.Q.Desk.start (reader_of g.Q.Desk.start (g.Q.Desk.seen l.desk) l.ticket) l.at l.snap.files l.entry-index (g.Q.Target.Target.files l.fn.target) (g.Q.Target.Target.files l.target);
+      reads : ReadsOnly g.Q.Desk.start (g.Q.Desk.seen l.fn.desk) (g.Q.Desk.seen l.desk) l.ticket (IsPartOfAny l.at (take l.entry-index l.snap.files));
+      first : FirstFiles g.Q.Desk.start (reader_of g.Q.Desk.start (g.Q.Desk.seen l.desk) l.ticket) l.at l.snap.files l.entry-index (g.Q.Target.Target.told l.fn.target).files (g.Q.Target.Target.told l.target).files;
     }

@@ -4,15 +4,17 @@ use Rattle.esr_names.specs.Layout.{IsName}
 use Rattle.esr_formats.specs.Names.{name_of}
 use Rattle.esr_shardidx.specs.Parts.{part_count}
 use Rattle.esr_hash.specs.Fed.{fed_count}
-use Rattle.esr_desk.specs.Readers.{reader_of}
-use Rattle.esr_reading.specs.Conditions.{CanRead}
+use Rattle.esr_core.specs.Entry.{ReadBlob, ReadStep}
+use Rattle.esr_desk.specs.Own.{reader_of}
+use Rattle.esr_desk.specs.Once.{IsFresh}
+use Rattle.esr_desk.specs.Restore.Conditions.{CanRead}
 use Rattle.esr_restore.specs.Parts.{ReadPart}
 use Rattle.esr_restore.proofs.Going.{went_none, went_on, went_at}
 use Rattle.esr_restore.proofs.Reading.{listed_more}
 use Rattle.esr_restore.proofs.Sizes.{part_layout, few_parts, fed_bound}
 use Rattle.esr_restore.proofs.Parts.{can_read_part, so_far_none, so_far_flag, and_then, and_else, so_far_all, room_for, fed_most}
 use Rattle.esr_restore.proofs.part.read_parts.Goals.{then-is_exact, else-is_exact}
-use Rattle.esr_reading.specs.Once.{IsUnread, ReadsOnly, reads_none}
+use Rattle.esr_desk.specs.Made.{ReadsOnly, reads_none}
 use Rattle.esr_restore.specs.Unread.{IsPartBefore}
 use Rattle.esr_restore.proofs.Once.{part_unread, part_more, parts_all}
 use Rattle.esr_restore.proofs.part.read_parts.Goals as goal
@@ -26,8 +28,8 @@ loop-number-init g c = record {
   made_for = refl;
   is_sure = refl;
   went = went_none g.Q.Desk.start (g.Q.Desk.seen c.args.desk.now) c.args.ticket;
-  reads = reads_none (g.Q.Desk.seen c.args.desk.now) c.args.ticket (IsPartBefore c.args.at c.args.entry.now 0);
-  so_far = so_far_none g.Q.Desk.start (reader_of g.Q.Desk.start (g.Q.Desk.seen c.args.desk.now) c.args.ticket) c.args.hasher.now (g.Q.Target.Target.begun c.args.target.now) c.args.at c.args.entry.now c.requires.fresh c.requires.room;
+  reads = reads_none g.Q.Desk.start (g.Q.Desk.seen c.args.desk.now) c.args.ticket (IsPartBefore c.args.at c.args.entry.now 0);
+  so_far = so_far_none g.Q.Desk.start (reader_of g.Q.Desk.start (g.Q.Desk.seen c.args.desk.now) c.args.ticket) c.args.hasher.now (g.Q.Target.Target.told c.args.target.now).begun c.args.at c.args.entry.now c.requires.fresh c.requires.room;
 }
 
 pub read_part-requires-clause-layout : goal.read_part-requires-clause-layout
@@ -58,7 +60,7 @@ read_part-requires-clause-may g c κs within =
 pub read_part-requires-clause-room : goal.read_part-requires-clause-room
 read_part-requires-clause-room g c κs within =
     let e = c.args.entry.now in
-    room_for (g.Q.Target.Target.begun c.loop-number.target) e.print.len (c.loop-number.number * e.part_size) e.part_size c.part_plan-size.result.1 c.loop-number.invariant.so_far.room c.part_plan-size.ensures.length
+    room_for (g.Q.Target.Target.told c.loop-number.target).begun e.print.len (c.loop-number.number * e.part_size) e.part_size c.part_plan-size.result.1 c.loop-number.invariant.so_far.room c.part_plan-size.ensures.length
 
 pub read_part-requires-clause-bound : goal.read_part-requires-clause-bound
 read_part-requires-clause-bound g c κs within =
@@ -82,9 +84,9 @@ loop-number-preserved g c =
     let mid = g.Q.Desk.seen c.loop-number.desk in
     let new = g.Q.Desk.seen c.read_part.new.desk in
     let done = c.in_ok-is_whole.ensures in
-    let begun_old = g.Q.Target.Target.begun c.args.target.now in
-    let begun_mid = g.Q.Target.Target.begun c.loop-number.target in
-    let begun_new = g.Q.Target.Target.begun c.read_part.new.target in
+    let begun_old = (g.Q.Target.Target.told c.args.target.now).begun in
+    let begun_mid = (g.Q.Target.Target.told c.loop-number.target).begun in
+    let begun_new = (g.Q.Target.Target.told c.read_part.new.target).begun in
     let exact = c.loop-number.is_exact in
     let whole = c.in_ok-is_whole.is_whole in
     let flag : c.if-is_exact.is_exact ≡ exact && whole = elim c.if-is_exact.branch [
@@ -93,14 +95,14 @@ loop-number-preserved g c =
     ] in
     let read = subst (λ (n : CodeName). ReadPart s (reader_of s new who) c.loop-number.hasher c.read_part.new.hasher begun_mid begun_new (name_of n) c.part_plan-size.result.1 whole) c.part_name-name.ensures done.read in
     record {
-      holds = done.holds;
+      holds = done.calls;
       buffer = done.buffer ∙ inv.buffer;
       files = done.files ∙ inv.files;
       steady = done.steady ∙ inv.steady;
       made_for = done.made_for ∙ inv.made_for;
       is_sure = done.is_sure ∙ inv.is_sure;
       went = went_on s old mid new who inv.went done.went;
-      reads = part_more old mid new who c.args.at e number inv.reads (subst (λ (n : CodeName). ReadsOnly mid new who (λ x. x ≡ name_of n)) c.part_name-name.ensures done.reads);
+      reads = part_more s old mid new who c.args.at e number inv.reads (subst (λ (n : CodeName). ReadsOnly s mid new who (λ x. x ≡ name_of n)) c.part_name-name.ensures done.reads);
       so_far = so_far_flag s (reader_of s mid who) (reader_of s new who) c.loop-number.hasher c.read_part.new.hasher begun_old begun_mid begun_new c.args.at e number c.part_plan-size.result.1 exact whole
           done.went.worked inv.so_far read c.part_plan-size.ensures.length c.if-is_exact.is_exact flag;
     }
@@ -111,21 +113,22 @@ returns-clause-read g c =
     let s = g.Q.Desk.start in
     let e = c.args.entry.now in
     let last : c.loop-number.number ≡ c.part_count-number-end.result = omega (arith, c.loop-number.auto.number-end, c.loop-number-test.false) in
-    so_far_all s (reader_of s (g.Q.Desk.seen c.loop-number.desk) c.args.ticket) c.loop-number.hasher (g.Q.Target.Target.begun c.args.target.now) (g.Q.Target.Target.begun c.loop-number.target) c.args.at e c.loop-number.number c.loop-number.is_exact
+    so_far_all s (reader_of s (g.Q.Desk.seen c.loop-number.desk) c.args.ticket) c.loop-number.hasher (g.Q.Target.Target.told c.args.target.now).begun (g.Q.Target.Target.told c.loop-number.target).begun c.args.at e c.loop-number.number c.loop-number.is_exact
     c.requires.entry.least (last ∙ c.part_count-number-end.ensures.count) inv.so_far
 
 pub read_part-requires-clause-new : goal.read_part-requires-clause-new
 read_part-requires-clause-new g c κs within =
+    let s = g.Q.Desk.start in
     let e = c.args.entry.now in
     let number = c.loop-number.number in
     let old = g.Q.Desk.seen c.args.desk.now in
     let now = g.Q.Desk.seen c.loop-number.desk in
     let test : number < c.part_count-number-end.result = c.loop-number-test.true in
     let less : number < part_count e.print.len e.part_size = omega (arith, test, c.part_count-number-end.ensures.count) in
-    subst (λ (n : CodeName). IsUnread now c.args.ticket (name_of n)) (sym c.part_name-name.ensures) (part_unread old now c.args.ticket c.args.at e number c.requires.new less c.loop-number.invariant.reads)
+    subst (λ (n : CodeName). IsFresh s now c.args.ticket (ReadStep (ReadBlob (name_of n)))) (sym c.part_name-name.ensures) (part_unread s old now c.args.ticket c.args.at e number c.requires.new less c.loop-number.invariant.reads)
 
 pub returns-clause-reads : goal.returns-clause-reads
-returns-clause-reads g c = parts_all (g.Q.Desk.seen c.args.desk.now) (g.Q.Desk.seen c.loop-number.desk) c.args.ticket c.args.at c.args.entry.now c.loop-number.number c.loop-number.invariant.reads
+returns-clause-reads g c = parts_all g.Q.Desk.start (g.Q.Desk.seen c.args.desk.now) (g.Q.Desk.seen c.loop-number.desk) c.args.ticket c.args.at c.args.entry.now c.loop-number.number c.loop-number.invariant.reads
 
 pub returns-clause-steady : goal.returns-clause-steady
 returns-clause-steady g c = c.loop-number.invariant.steady

@@ -1,8 +1,9 @@
-use Rattle.std.proofs.Common.{◌≡◌, ℕ, Bool, Some, subst}
+use Rattle.std.proofs.Common.{◌≡◌, Some, subst}
 use Rattle.esr_model.specs.Values.{Bytes}
 use Rattle.esr_formats.specs.Shards.{shard_snap_of, shard_snap_kind}
-use Rattle.esr_desk.specs.Readers.{reader_of}
-use Rattle.esr_restore.proofs.Reading.{has_snap, no_snap}
+use Rattle.esr_desk.specs.Evidence.{evidence}
+use Rattle.esr_desk.specs.Own.{reader_of}
+use Rattle.esr_restore.proofs.Reading.{has_snap, snap_unread}
 use Rattle.esr_restore.proofs.snap.fetch_snap.Goals as goal
 
 pub returns-in-Ok-clause-snap : goal.returns-in-Ok-clause-snap
@@ -15,6 +16,9 @@ returns-in-Ok-clause-snap g c =
 
 pub returns-clause-trouble : goal.returns-clause-trouble
 returns-clause-trouble g c =
-    λ (n : ℕ) (sure : Bool).
-    no_snap g.Q.Desk.start (g.Q.Desk.seen c.args.desk.now) (g.Q.Desk.seen c.fetch_bytes.new.desk) c.args.ticket c.args.at.index.number c.args.at.number c.args.uuid.number c.in_ok-bytes.bytes c.as_slice.result.now
-    c.in-Err-Damaged.field-0 c.in-Err-Damaged.reason c.requires.at c.in_ok-bytes.ensures.fetched c.in_ok-bytes.ensures.found c.as_slice.ensures c.in-Err-Damaged.field-0-is c.in-Err-Damaged.ensures.reason
+    let s = g.Q.Desk.start in
+    let who = c.args.ticket in
+    let old = g.Q.Desk.seen c.args.desk.now in
+    let new = g.Q.Desk.seen c.fetch_bytes.new.desk in
+    snap_unread (evidence g.Q.Stage.Counted.faults g.Q.Fetch.Counted.faults g.Q.Shard.Counted.faults g.Q.Target.Counted.faults g.Q.Shard.Shard.told g.Q.Target.Target.told) s old new who c.args.at c.args.uuid c.in_ok-bytes.bytes c.as_slice.result.now c.requires.at
+    c.in_ok-bytes.ensures.fetched c.in_ok-bytes.ensures.found c.as_slice.ensures c.in-Err.refusal c.unread.result c.unread.ensures c.in-Err.ensures.reason

@@ -1,82 +1,125 @@
-use Rattle.std.proofs.Common.{◌∙◌, refl, sym}
-use Rattle.esr_core.specs.Entry.{ReadFails, HasEnded}
-use Rattle.esr_desk.specs.Entries.{why_of}
+use Rattle.std.proofs.Common.{refl}
+use Rattle.esr_desk.specs.declared.entry.Why.TheVariants as whys
+use Rattle.esr_desk.specs.declared.fault.By.TheVariants as shows
+use Rattle.esr_desk.specs.declared.fault.FailedObject.TheVariants as objects
+use Rattle.esr_desk.specs.declared.unit.UnitRefusal.TheVariants.{Stopped}
+use Rattle.esr_desk.specs.Evidence.{evidence}
 use Rattle.esr_desk.specs.Grew.{grew_by_none}
-use Rattle.esr_desk.specs.Readers.{reader_of}
-use Rattle.esr_restore.proofs.Going.{worked_none, worked_same, outcome_grew, end_refusal}
-use Rattle.esr_restore.proofs.Ending.{cause_shown, stopped, has_failed}
-use Rattle.esr_restore.proofs.Left.{left_ended, left_unreported, left_stopped}
+use Rattle.esr_desk.specs.Own.{reader_of}
+use Rattle.esr_restore.proofs.Going.{worked_none}
+use Rattle.esr_restore.proofs.Ending.{cause_shown, stop_halts, no_stale, own_faulty, target_shown, not_stale, given_refused}
+use Rattle.esr_restore.proofs.Left.{given_out, left_given, left_taken}
 use Rattle.esr_restore.proofs.unit.fail.Goals as goal
 
-pub unrestored-requires-clause-shown : goal.unrestored-requires-clause-shown
-unrestored-requires-clause-shown g c =
-    let s = g.Q.Desk.start in
-    cause_shown (record { fetch = g.Q.Fetch.Counted.faults; target = g.Q.Target.Counted.faults; made_for = g.Q.Target.Target.made_for; files = g.Q.Target.Target.files }) s (g.Q.Desk.seen c.args.desk.now) c.args.ticket (g.Q.Target.Target.is_sure c.args.target) c.args.target c.args.trouble c.in-Ok.cause
-    c.never_fails.ensures c.requires.sure c.requires.of c.requires.first c.requires.trouble (sym c.cause_of-found.ensures.cause ∙ c.in-Ok.is)
+-- ---- it failed
 
-pub returns-in-Ok-unrestored-clause-refused : goal.returns-in-Ok-unrestored-clause-refused
-returns-in-Ok-unrestored-clause-refused g c =
-    let s = g.Q.Desk.start in
-    let who = c.args.ticket in
-    let old = g.Q.Desk.seen c.args.desk.now in
-    let new = g.Q.Desk.seen c.unrestored.new.self in
-    let done = c.in-Ok-unrestored.ensures in (
-      (reader_of s old who, worked_none (reader_of s old who), done.own),
-      has_failed (record { fetch = g.Q.Fetch.Counted.faults; target = g.Q.Target.Counted.faults; made_for = g.Q.Target.Target.made_for; files = g.Q.Target.Target.files }) s old new who c.in-Ok.cause.why c.in-Ok.cause.by
-          (cause_shown (record { fetch = g.Q.Fetch.Counted.faults; target = g.Q.Target.Counted.faults; made_for = g.Q.Target.Target.made_for; files = g.Q.Target.Target.files }) s old who (g.Q.Target.Target.is_sure c.args.target) c.args.target c.args.trouble c.in-Ok.cause
-          c.never_fails.ensures c.requires.sure c.requires.of c.requires.first c.requires.trouble (sym c.cause_of-found.ensures.cause ∙ c.in-Ok.is)) done.step,
-    )
+pub give_up-requires-clause-may : goal.give_up-requires-clause-may
+give_up-requires-clause-may g c κs within =
+    c.requires.out
 
-pub returns-in-Ok-unrestored-clause-left : goal.returns-in-Ok-unrestored-clause-left
-returns-in-Ok-unrestored-clause-left g c =
-    let s = g.Q.Desk.start in
-    let who = c.args.ticket in
-    left_ended g.Q.Target.Target.made_for g.Q.Target.Target.files s (g.Q.Desk.seen c.unrestored.new.self) who (reader_of s (g.Q.Desk.seen c.args.desk.now) who) c.args.target c.requires.of c.requires.first
-    c.args.trouble c.in-Ok.cause c.cause_of-found.result.1 c.in-Ok-unrestored.ensures.own (sym c.cause_of-found.ensures.cause ∙ c.in-Ok.is) c.cause_of-found.ensures.left
-
-pub returns-in-Ok-unrestored-clause-grew : goal.returns-in-Ok-unrestored-clause-grew
-returns-in-Ok-unrestored-clause-grew g c =
-    outcome_grew g.Q.Desk.start (g.Q.Desk.seen c.args.desk.now) (g.Q.Desk.seen c.unrestored.new.self) c.args.ticket (ReadFails (why_of c.in-Ok.cause.why)) (λ x. HasEnded) c.unrestored.result c.unrestored.ensures.step
-
-pub returns-in-Err-unrestored-clause-refused : goal.returns-in-Err-unrestored-clause-refused
-returns-in-Err-unrestored-clause-refused g c =
+pub give_up-requires-clause-shown : goal.give_up-requires-clause-shown
+give_up-requires-clause-shown g c κs within =
+    let e = evidence g.Q.Stage.Counted.faults g.Q.Fetch.Counted.faults g.Q.Shard.Counted.faults g.Q.Target.Counted.faults g.Q.Shard.Shard.told g.Q.Target.Target.told in
     let s = g.Q.Desk.start in
     let who = c.args.ticket in
     let old = g.Q.Desk.seen c.args.desk.now in
-    let new = g.Q.Desk.seen c.unrestored.new.self in (
-      worked_same (reader_of s old who) (reader_of s new who) c.in-Err-unrestored.ensures.kept,
-      end_refusal s old new who (ReadFails (why_of c.in-Ok.cause.why)) c.in-Err-unrestored.refusal (λ r. c.refusals.ensures.unrestored s old new who (why_of c.in-Ok.cause.why) r) c.in-Err-unrestored.ensures.step,
-    )
+    let target = c.args.target in
+    cause_shown e (g.Q.Target.Counted.faults target) (g.Q.Target.Target.told target).is_sure s old who c.args.trouble c.requires.trouble c.ending_of.result c.ending_of.ensures c.in-Failed.why c.in-Failed.by c.in-Failed.is
 
-pub returns-in-Err-unrestored-clause-left : goal.returns-in-Err-unrestored-clause-left
-returns-in-Err-unrestored-clause-left g c =
+pub give_up-requires-clause-present : goal.give_up-requires-clause-present
+give_up-requires-clause-present g c κs within =
+    not_stale c.in-Failed.why c.in-Failed.by
+
+pub returns-in-Failed-clause-refused : goal.returns-in-Failed-clause-refused
+returns-in-Failed-clause-refused g c =
+    let e = evidence g.Q.Stage.Counted.faults g.Q.Fetch.Counted.faults g.Q.Shard.Counted.faults g.Q.Target.Counted.faults g.Q.Shard.Shard.told g.Q.Target.Target.told in
     let s = g.Q.Desk.start in
     let who = c.args.ticket in
     let old = g.Q.Desk.seen c.args.desk.now in
-    let failed = c.in-Err-unrestored in
-    left_unreported g.Q.Target.Target.made_for g.Q.Target.Target.files s (g.Q.Desk.seen c.unrestored.new.self) who (reader_of s old who) c.args.target c.requires.of c.requires.first
-    old c.args.trouble c.in-Ok.cause failed.refusal c.cause_of-found.result.1 failed.ensures.kept (sym c.cause_of-found.ensures.cause ∙ c.in-Ok.is) failed.ensures.step.0 c.cause_of-found.ensures.left
+    let target = c.args.target in
+    let new = g.Q.Desk.seen c.give_up.new.desk in
+    given_refused e s old new who c.in-Failed.why c.in-Failed.by c.give_up.result c.give_up.ensures.end
 
-pub returns-in-Err-unrestored-clause-grew : goal.returns-in-Err-unrestored-clause-grew
-returns-in-Err-unrestored-clause-grew g c =
-    outcome_grew g.Q.Desk.start (g.Q.Desk.seen c.args.desk.now) (g.Q.Desk.seen c.unrestored.new.self) c.args.ticket (ReadFails (why_of c.in-Ok.cause.why)) (λ x. HasEnded) c.unrestored.result c.unrestored.ensures.step
-
-pub returns-in-Err-clause-refused : goal.returns-in-Err-clause-refused
-returns-in-Err-clause-refused g c =
-    let s = g.Q.Desk.start in
-    let who = c.args.ticket in
-    let old = g.Q.Desk.seen c.args.desk.now in (
-      worked_none (reader_of s old who),
-      stopped g.Q.Fetch.Counted.faults (g.Q.Target.Counted.faults c.args.target) (g.Q.Target.Target.is_sure c.args.target) s old who c.args.target c.args.trouble c.in-Err.refusal c.requires.trouble (sym c.cause_of-found.ensures.cause ∙ c.in-Err.is),
-    )
-
-pub returns-in-Err-clause-left : goal.returns-in-Err-clause-left
-returns-in-Err-clause-left g c =
+pub returns-in-Failed-clause-left : goal.returns-in-Failed-clause-left
+returns-in-Failed-clause-left g c =
+    let e = evidence g.Q.Stage.Counted.faults g.Q.Fetch.Counted.faults g.Q.Shard.Counted.faults g.Q.Target.Counted.faults g.Q.Shard.Shard.told g.Q.Target.Target.told in
     let s = g.Q.Desk.start in
     let who = c.args.ticket in
     let old = g.Q.Desk.seen c.args.desk.now in
-    left_stopped g.Q.Target.Target.made_for g.Q.Target.Target.files s old who (reader_of s old who) c.args.target c.requires.of c.requires.first
-    c.args.trouble c.in-Err.refusal c.cause_of-found.result.1 refl (sym c.cause_of-found.ensures.cause ∙ c.in-Err.is) c.cause_of-found.ensures.left
+    let target = c.args.target in
+    let new = g.Q.Desk.seen c.give_up.new.desk in
+    left_given e s old new who target c.requires.of c.requires.first c.in-Failed.why c.in-Failed.by c.give_up.result c.give_up.ensures.end
 
-pub returns-in-Err-clause-grew : goal.returns-in-Err-clause-grew
-returns-in-Err-clause-grew g c = grew_by_none g.Q.Desk.start c.args.ticket (g.Q.Desk.seen c.args.desk.now)
+-- ---- its target failed
+
+pub give_up-requires-in-Own-clause-may : goal.give_up-requires-in-Own-clause-may
+give_up-requires-in-Own-clause-may g c κs within =
+    c.requires.out
+
+pub give_up-requires-in-Own-clause-shown : goal.give_up-requires-in-Own-clause-shown
+give_up-requires-in-Own-clause-shown g c κs within =
+    let e = evidence g.Q.Stage.Counted.faults g.Q.Fetch.Counted.faults g.Q.Shard.Counted.faults g.Q.Target.Counted.faults g.Q.Shard.Shard.told g.Q.Target.Target.told in
+    let s = g.Q.Desk.start in
+    let who = c.args.ticket in
+    let old = g.Q.Desk.seen c.args.desk.now in
+    let target = c.args.target in
+    target_shown e s old who target (own_faulty e (g.Q.Target.Counted.faults target) (g.Q.Target.Target.told target).is_sure s old who c.args.trouble c.requires.trouble c.ending_of.result c.ending_of.ensures c.in-Own.is) c.requires.sure c.requires.of c.requires.first
+
+pub give_up-requires-in-Own-clause-present : goal.give_up-requires-in-Own-clause-present
+give_up-requires-in-Own-clause-present g c κs within =
+    not_stale whys.Target (shows.Object (objects.Target c.args.target))
+
+pub returns-in-Own-clause-refused : goal.returns-in-Own-clause-refused
+returns-in-Own-clause-refused g c =
+    let e = evidence g.Q.Stage.Counted.faults g.Q.Fetch.Counted.faults g.Q.Shard.Counted.faults g.Q.Target.Counted.faults g.Q.Shard.Shard.told g.Q.Target.Target.told in
+    let s = g.Q.Desk.start in
+    let who = c.args.ticket in
+    let old = g.Q.Desk.seen c.args.desk.now in
+    let target = c.args.target in
+    let new = g.Q.Desk.seen c.give_up-in-Own.new.desk in
+    given_refused e s old new who whys.Target (shows.Object (objects.Target target)) c.give_up-in-Own.result c.give_up-in-Own.ensures.end
+
+pub returns-in-Own-clause-left : goal.returns-in-Own-clause-left
+returns-in-Own-clause-left g c =
+    let e = evidence g.Q.Stage.Counted.faults g.Q.Fetch.Counted.faults g.Q.Shard.Counted.faults g.Q.Target.Counted.faults g.Q.Shard.Shard.told g.Q.Target.Target.told in
+    let s = g.Q.Desk.start in
+    let who = c.args.ticket in
+    let old = g.Q.Desk.seen c.args.desk.now in
+    let target = c.args.target in
+    let new = g.Q.Desk.seen c.give_up-in-Own.new.desk in
+    left_taken e s old new who (shows.Object (objects.Target target)) c.give_up-in-Own.result c.give_up-in-Own.ensures.end c.give_up-in-Own.ensures.report
+
+-- ---- it has no term
+
+pub unreachable-requires : goal.unreachable-requires
+unreachable-requires g c =
+    let e = evidence g.Q.Stage.Counted.faults g.Q.Fetch.Counted.faults g.Q.Shard.Counted.faults g.Q.Target.Counted.faults g.Q.Shard.Shard.told g.Q.Target.Target.told in
+    let s = g.Q.Desk.start in
+    let who = c.args.ticket in
+    let old = g.Q.Desk.seen c.args.desk.now in
+    let target = c.args.target in
+    no_stale e (g.Q.Target.Counted.faults target) (g.Q.Target.Target.told target).is_sure s old who c.args.trouble c.requires.trouble c.ending_of.result c.ending_of.ensures c.in-Stale.is
+
+-- ---- it was stopped
+
+pub returns-in-Stopped-clause-refused : goal.returns-in-Stopped-clause-refused
+returns-in-Stopped-clause-refused g c =
+    let e = evidence g.Q.Stage.Counted.faults g.Q.Fetch.Counted.faults g.Q.Shard.Counted.faults g.Q.Target.Counted.faults g.Q.Shard.Shard.told g.Q.Target.Target.told in
+    let s = g.Q.Desk.start in
+    let who = c.args.ticket in
+    let old = g.Q.Desk.seen c.args.desk.now in
+    let target = c.args.target in
+    (worked_none (reader_of s old who), stop_halts e (g.Q.Target.Counted.faults target) (g.Q.Target.Target.told target).is_sure s old who c.args.trouble c.requires.trouble c.ending_of.result c.ending_of.ensures c.in-Stopped.refusal c.in-Stopped.is)
+
+pub returns-in-Stopped-clause-left : goal.returns-in-Stopped-clause-left
+returns-in-Stopped-clause-left g c =
+    let e = evidence g.Q.Stage.Counted.faults g.Q.Fetch.Counted.faults g.Q.Shard.Counted.faults g.Q.Target.Counted.faults g.Q.Shard.Shard.told g.Q.Target.Target.told in
+    let s = g.Q.Desk.start in
+    let who = c.args.ticket in
+    let old = g.Q.Desk.seen c.args.desk.now in
+    let target = c.args.target in
+    given_out g.Q.Target.Target.told s (reader_of s old who) target c.requires.of c.requires.first old who (Stopped c.in-Stopped.refusal) refl
+
+pub returns-in-Stopped-clause-grew : goal.returns-in-Stopped-clause-grew
+returns-in-Stopped-clause-grew g c =
+    grew_by_none g.Q.Desk.start c.args.ticket (g.Q.Desk.seen c.args.desk.now)

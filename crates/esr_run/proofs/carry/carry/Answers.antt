@@ -6,7 +6,6 @@ use Rattle.esr_complete.specs.Answers.{IsIdle}
 use Rattle.esr_run.specs.Checked.{asks_check}
 use Rattle.esr_run.specs.Made.{HasStopped, WasLeft, AreIn, AreDone}
 use Rattle.esr_complete.specs.Lines.{steps_of}
-use Rattle.esr_run.proofs.Filling.{fills_then}
 use Rattle.esr_run.proofs.Making.{made_then, done_then}
 use Rattle.esr_run.proofs.carry.carry.Goals as goal
 
@@ -18,12 +17,9 @@ returns-in-Ok-clause-done g c = go c.work_out.result c.work_out.ensures.done
   where
     go : (r : Result Unit AllocError) → OnOk r (g.Q.Desk.start.alone ≡ true → AreIn g.Q.Desk.start (g.Q.Desk.seen c.carry_lines.new.desk) → IsIdle g.Q.Desk.start (g.Q.Desk.seen c.work_out.new.desk) ⊎ HasStopped (g.Q.Desk.seen c.work_out.new.desk))
         → OnOk r (g.Q.Desk.start.alone ≡ true → AreIn g.Q.Desk.start (g.Q.Desk.seen c.args.desk.now) → AreDone g.Q.Desk.start c.args.moment c.args.lines.now (g.Q.Desk.seen c.args.desk.now) (g.Q.Desk.seen c.work_out.new.desk) ⊎ WasLeft g.Q.Desk.start c.args.moment c.args.lines.now (g.Q.Desk.seen c.args.desk.now) (g.Q.Desk.seen c.work_out.new.desk))
-    go (Ok x) done = done_then g.Q.Desk.start c.args.moment c.args.lines.now (g.Q.Desk.seen c.args.desk.now) (g.Q.Desk.seen c.carry_lines.new.desk) (g.Q.Desk.seen c.work_out.new.desk) c.in-Ok.ensures.rests c.work_out.ensures.grew (c.work_out.ensures.unchecked c.requires.alone) done
+    go (Ok x) done = done_then g.Q.Desk.start c.args.moment c.args.lines.now (g.Q.Desk.seen c.args.desk.now) (g.Q.Desk.seen c.carry_lines.new.desk) (g.Q.Desk.seen c.work_out.new.desk) c.in-Ok.ensures.rests c.work_out.ensures.grew (c.work_out.ensures.only c.requires.alone) done
         (λ closed. c.work_out.ensures.closed c.requires.alone (c.carry_lines.ensures.made.grew.legal c.requires.may.legal) closed)
     go (Err e) done = tt
-
-pub returns-in-Ok-clause-filled : goal.returns-in-Ok-clause-filled
-returns-in-Ok-clause-filled g c = fills_then _ g.Q.Desk.start (g.Q.Desk.seen c.args.desk.now) (g.Q.Desk.seen c.carry_lines.new.desk) (g.Q.Desk.seen c.work_out.new.desk) c.args.filled.now.items c.carry_lines.new.filled.items c.work_out.new.filled.items c.work_out.result c.in-Ok.ensures.filled c.work_out.ensures.filled
 
 pub returns-in-Ok-clause-whole : goal.returns-in-Ok-clause-whole
 returns-in-Ok-clause-whole g c = c.work_out.ensures.whole c.args.workers (asks_check c.args.lines.now) c.requires.alone c.carry_lines.ensures.whole

@@ -2,15 +2,14 @@ use Rattle.std.proofs.Common.{◌+◌, ◌≤◌, Err, inl, inr, arith}
 use Rattle.esr_drive.specs.Takes.{idle_takes}
 use Rattle.esr_complete.specs.Lines.{steps_of_item}
 use Rattle.esr_run.specs.Checked.{asks_check}
-use Rattle.esr_run.proofs.Filling.{fills_same, fills_on, fills_spent, fills_refused}
-use Rattle.esr_run.proofs.Making.{front_none, front_made, front_all, front_step, good_next, none_left, asks_first, made_stopped, spent_turns, refused_line, ended_refused, as_refused, rests_refused, asks_here, look_refused}
+use Rattle.esr_run.proofs.Making.{front_none, front_made, front_all, front_step, good_next, none_left, asks_first, made_stopped, spent_turns, refused_line, ended_refused, as_refused, rests_refused, asks_here, look_refused, begun_refused}
 use Rattle.esr_run.proofs.Verifying.{refused_may, verified_whole}
 use Rattle.esr_run.specs.Waits.{waits_of}
 use Rattle.esr_run.proofs.Taking.{waits_on, waits_end}
 use Rattle.esr_run.proofs.carry.carry_lines.Goals as goal
 
 pub loop-left-init : goal.loop-left-init
-loop-left-init g c = record { front = front_none g.Q.Desk.start c.args.moment c.args.lines.now (g.Q.Desk.seen c.args.desk.now); good = c.requires.carried; filled = λ alone. fills_same _ g.Q.Desk.start (g.Q.Desk.seen c.args.desk.now) c.args.filled.now.items; may = c.requires.may; takes = omega arith }
+loop-left-init g c = record { front = front_none g.Q.Desk.start c.args.moment c.args.lines.now (g.Q.Desk.seen c.args.desk.now); good = c.requires.carried; may = c.requires.may; takes = omega arith }
 
 pub loop-left-preserved-in-Ok : goal.loop-left-preserved-in-Ok
 loop-left-preserved-in-Ok g c =
@@ -20,10 +19,10 @@ loop-left-preserved-in-Ok g c =
     let new = g.Q.Desk.seen c.carry_line.new.desk in
     let inv = c.loop-left.invariant in
     record {
-      front = front_step s c.args.moment c.line-item.result c.loop-left.left.now c.args.lines.now old mid new c.in-len1-up.len_at_least c.line-item.is inv.front c.in-Ok.ensures.made (λ check. inl (c.in-Ok.ensures.checked check)) c.carry_line.ensures.unchecked
+      front = front_step s c.args.moment c.line-item.result c.loop-left.left.now c.args.lines.now old mid new c.in-len1-up.len_at_least c.line-item.is inv.front c.in-Ok.ensures.made
+          (record { checks = λ check. inl (c.in-Ok.ensures.checked check); verifies = c.in-Ok.ensures.begun; only = c.carry_line.ensures.only })
           (λ alone none. inl (c.in-Ok.ensures.rests alone none, λ wait. c.in-Ok.ensures.ended wait alone));
       good = good_next c.loop-left.left.now inv.good;
-      filled = λ alone. fills_on _ s old mid new c.args.filled.now.items c.loop-left.filled.items c.carry_line.new.filled.items (inv.filled alone) (c.in-Ok.ensures.filled alone);
       may = c.in-Ok.ensures.verified (asks_check c.args.lines.now) (asks_here s c.args.moment c.line-item.result c.loop-left.left.now c.args.lines.now old mid c.in-len1-up.len_at_least c.line-item.is inv.front) inv.may;
       takes = waits_on c.line-item.result c.loop-left.left.now (idle_takes old) (idle_takes mid) (idle_takes new) (waits_of c.args.lines.now) c.in-len1-up.len_at_least c.line-item.is inv.takes c.carry_line.ensures.takes;
     }
@@ -39,13 +38,15 @@ loop-left-preserved g c =
     let made = as_refused s (steps_of_item c.args.moment item) mid new c.in-Err-Refused.field-0 c.in-Err-Refused.field-0-0 c.in-Err-Refused.field-0-is c.in-Err-Refused.ensures.made in
     record {
       front = front_step s c.args.moment c.line-item.result c.loop-left.left.now c.args.lines.now old mid new c.in-len1-up.len_at_least c.line-item.is inv.front made
-          (λ check. inr (look_refused mid new c.in-Err-Refused.field-0 c.in-Err-Refused.field-0-0 c.in-Err-Refused.field-0-is (c.in-Err-Refused.ensures.checked check))) c.carry_line.ensures.unchecked
+          (record {
+            checks = λ check. inr (look_refused mid new c.in-Err-Refused.field-0 c.in-Err-Refused.field-0-0 c.in-Err-Refused.field-0-is (c.in-Err-Refused.ensures.checked check));
+            verifies = λ verify. begun_refused mid new c.in-Err-Refused.field-0 c.in-Err-Refused.field-0-0 c.in-Err-Refused.field-0-is (c.in-Err-Refused.ensures.begun verify);
+            only = c.carry_line.ensures.only;
+          })
           (λ alone none. refused_line s item new
           (rests_refused s new c.in-Err-Refused.field-0 c.in-Err-Refused.field-0-0 c.in-Err-Refused.field-0-is (c.in-Err-Refused.ensures.rests alone none))
           (λ wait. ended_refused new c.in-Err-Refused.field-0 c.in-Err-Refused.field-0-0 c.in-Err-Refused.field-0-is (c.in-Err-Refused.ensures.ended wait alone)));
       good = good_next c.loop-left.left.now inv.good;
-      filled = λ alone. fills_on _ s old mid new c.args.filled.now.items c.loop-left.filled.items c.carry_line.new.filled.items (inv.filled alone)
-          (fills_refused _ s mid new c.loop-left.filled.items c.carry_line.new.filled.items c.in-Err-Refused.field-0 c.in-Err-Refused.field-0-0 c.in-Err-Refused.field-0-is (c.in-Err-Refused.ensures.filled alone));
       may = refused_may s c.args.workers (asks_check c.args.lines.now) new c.in-Err-Refused.field-0 c.in-Err-Refused.field-0-0 c.in-Err-Refused.field-0-is
           (c.in-Err-Refused.ensures.verified (asks_check c.args.lines.now) (asks_here s c.args.moment c.line-item.result c.loop-left.left.now c.args.lines.now old mid c.in-len1-up.len_at_least c.line-item.is inv.front) inv.may);
       takes = waits_on c.line-item.result c.loop-left.left.now (idle_takes old) (idle_takes mid) (idle_takes new) (waits_of c.args.lines.now) c.in-len1-up.len_at_least c.line-item.is inv.takes c.carry_line.ensures.takes;
@@ -71,12 +72,6 @@ pub returns-clause-rests : goal.returns-clause-rests
 returns-clause-rests g c alone none =
     front_all g.Q.Desk.start c.args.moment c.loop-left.left.now c.args.lines.now (g.Q.Desk.seen c.args.desk.now) (g.Q.Desk.seen c.loop-left.desk) (none_left c.loop-left.left.now c.in_default.len_below)
     c.loop-left.invariant.front c.loop-left.invariant.may.idle alone none
-
-pub returns-in-Err-TurnsSpent-clause-filled : goal.returns-in-Err-TurnsSpent-clause-filled
-returns-in-Err-TurnsSpent-clause-filled g c alone =
-    let s = g.Q.Desk.start in
-    fills_on _ s (g.Q.Desk.seen c.args.desk.now) (g.Q.Desk.seen c.loop-left.desk) (g.Q.Desk.seen c.carry_line.new.desk) c.args.filled.now.items c.loop-left.filled.items c.carry_line.new.filled.items (c.loop-left.invariant.filled alone)
-    (fills_spent _ s (g.Q.Desk.seen c.loop-left.desk) (g.Q.Desk.seen c.carry_line.new.desk) c.loop-left.filled.items c.carry_line.new.filled.items c.in-Err-TurnsSpent.field-0 c.in-Err-TurnsSpent.field-0-is (c.in-Err-TurnsSpent.ensures.filled alone))
 
 pub returns-in-Err-Memory-clause-whole : goal.returns-in-Err-Memory-clause-whole
 returns-in-Err-Memory-clause-whole g c =

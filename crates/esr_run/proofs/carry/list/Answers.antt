@@ -5,10 +5,9 @@ use Rattle.esr_formats.specs.Clusters.{count_of}
 use Rattle.esr_desk.specs.declared.unit.Look.{Look as Answer}
 use Rattle.esr_run.proofs.Making.{rests_by, made_refused, spent_by, looked_none}
 use Rattle.esr_quiet.specs.Asking.{asking_stepped}
-use Rattle.esr_run.proofs.Filling.{line_restores_none}
 use Rattle.esr_run.proofs.Verifying.{line_verifies}
 use Rattle.esr_run.proofs.Taking.{line_takes}
-use Rattle.esr_run.proofs.Unended.{line_ends}
+use Rattle.esr_run.proofs.Alone.{line_asks}
 use Rattle.esr_run.proofs.carry.list.Goals as goal
 
 pub returns-in-Err-clause-rests : goal.returns-in-Err-clause-rests
@@ -43,22 +42,14 @@ pub returns-clause-takes : goal.returns-clause-takes
 returns-clause-takes g c alone =
     line_takes g.Q.Desk.start (g.Q.Desk.seen c.args.desk.now) (g.Q.Desk.seen c.look.new.self) LookStep (λ (l : Answer). Looked (map root_snap_of l.listing) (count_of l.safe)) (Ok c.in_default.field-0) (inr refl) alone c.in_default.ensures.step
 
-pub returns-in-Err-clause-none : goal.returns-in-Err-clause-none
-returns-in-Err-clause-none g c alone =
-    line_restores_none g.Q.Desk.start (g.Q.Desk.seen c.args.desk.now) (g.Q.Desk.seen c.look.new.self) LookStep (λ (l : Answer). Looked (map root_snap_of l.listing) (count_of l.safe)) (Err c.in-Err.refusal) (inr refl) alone c.in-Err.ensures.step
-
-pub returns-clause-none : goal.returns-clause-none
-returns-clause-none g c alone =
-    line_restores_none g.Q.Desk.start (g.Q.Desk.seen c.args.desk.now) (g.Q.Desk.seen c.look.new.self) LookStep (λ (l : Answer). Looked (map root_snap_of l.listing) (count_of l.safe)) (Ok c.in_default.field-0) (inr refl) alone c.in_default.ensures.step
-
 pub returns-clause-made : goal.returns-clause-made
 returns-clause-made g c =
     asking_stepped g.Q.Desk.start (g.Q.Desk.seen c.args.desk.now) (g.Q.Desk.seen c.look.new.self) LookStep (Looked (map root_snap_of c.in_default.field-0.listing) (count_of c.in_default.field-0.safe)) c.in_default.ensures.step
 
-pub returns-in-Err-clause-unchecked : goal.returns-in-Err-clause-unchecked
-returns-in-Err-clause-unchecked g c alone =
-    line_ends g.Q.Desk.start (g.Q.Desk.seen c.args.desk.now) (g.Q.Desk.seen c.look.new.self) LookStep (λ (l : Answer). Looked (map root_snap_of l.listing) (count_of l.safe)) (Err c.in-Err.refusal) (inr refl) alone c.in-Err.ensures.step
+pub returns-in-Err-clause-only : goal.returns-in-Err-clause-only
+returns-in-Err-clause-only g c alone =
+    line_asks g.Q.Desk.start (g.Q.Desk.seen c.args.desk.now) (g.Q.Desk.seen c.look.new.self) LookStep (λ (l : Answer). Looked (map root_snap_of l.listing) (count_of l.safe)) (Err c.in-Err.refusal) (inr refl) alone c.in-Err.ensures.step
 
-pub returns-clause-unchecked : goal.returns-clause-unchecked
-returns-clause-unchecked g c alone =
-    line_ends g.Q.Desk.start (g.Q.Desk.seen c.args.desk.now) (g.Q.Desk.seen c.look.new.self) LookStep (λ (l : Answer). Looked (map root_snap_of l.listing) (count_of l.safe)) (Ok c.in_default.field-0) (inr refl) alone c.in_default.ensures.step
+pub returns-clause-only : goal.returns-clause-only
+returns-clause-only g c alone =
+    line_asks g.Q.Desk.start (g.Q.Desk.seen c.args.desk.now) (g.Q.Desk.seen c.look.new.self) LookStep (λ (l : Answer). Looked (map root_snap_of l.listing) (count_of l.safe)) (Ok c.in_default.field-0) (inr refl) alone c.in_default.ensures.step

@@ -1,6 +1,5 @@
 use Rattle.std.proofs.Common.{◌⊎◌, List, [], OnOk, sym, subst}
 use Rattle.esr_script.specs.declared.item.ScriptLine.{ScriptLine}
-use Rattle.esr_drive.specs.Restored.{AreTargetsOf}
 use Rattle.esr_run.specs.Made.{HasFallen, AreDone}
 use Rattle.esr_run.proofs.Making.{done_on}
 use Rattle.esr_run.proofs.Falling.{done_fallen}
@@ -8,21 +7,14 @@ use Rattle.esr_run.specs.Checked.{asks_check}
 use Rattle.esr_run.specs.Verified.{AreWhole}
 use Rattle.esr_run.proofs.Verifying.{begun_may}
 use Rattle.esr_run.proofs.Taking.{takes_few}
-use Rattle.esr_run.proofs.Restoring.{filled_on, unless_filled, unless_done}
 use Rattle.esr_run.proofs.whole.carry_on.Goals as goal
 
 pub returns-clause-done : goal.returns-clause-done
 returns-clause-done g c =
-    unless_done (AreDone g.K.Told.start c.args.moment c.args.asked.now.script [] c.into_parts-repo.result.0 ⊎ HasFallen g.K.Told.start c.args.moment c.args.asked.now.script [] c.into_parts-repo.result.0) c.carry-carried.result c.carry-carried.new.filled.items c.unless_wanting.result c.unless_wanting.ensures
-    (subst (λ (lines : List ScriptLine). OnOk c.carry-carried.result (AreDone g.K.Told.start c.args.moment lines [] c.into_parts-repo.result.0 ⊎ HasFallen g.K.Told.start c.args.moment lines [] c.into_parts-repo.result.0)) c.as_slice-lines.ensures
+    subst (λ (lines : List ScriptLine). OnOk c.carry-carried.result (AreDone g.K.Told.start c.args.moment lines [] c.into_parts-repo.result.0 ⊎ HasFallen g.K.Told.start c.args.moment lines [] c.into_parts-repo.result.0)) c.as_slice-lines.ensures
     (done_fallen c.refusals.ensures g.K.Told.start c.args.moment c.as_slice-lines.result.now c.new-desk.result c.carry-carried.new.desk c.into_parts-repo.result.0 c.carry-carried.result
     (done_on g.K.Told.start c.args.moment c.as_slice-lines.result.now c.new-desk.result c.carry-carried.new.desk c.into_parts-repo.result.0 c.carry-carried.result c.carry-carried.ensures.done c.into_parts-repo.ensures.repo c.new-desk.ensures c.requires.alone c.requires.numbered c.requires.readers)
-    c.carry-carried.ensures.made c.into_parts-repo.ensures.repo c.new-desk.ensures c.requires.alone c.requires.numbered c.requires.alive))
-
-pub returns-clause-filled : goal.returns-clause-filled
-returns-clause-filled g c =
-    unless_filled (AreTargetsOf (record { made_for = g.T.Target.Target.made_for; files = g.T.Target.Target.files; is_sure = g.T.Target.Target.is_sure; begun = g.T.Target.Target.begun; faults = g.T.Target.Counted.faults; are_told = g.T.Targets.is_told c.args.targets.now; are_quiet = g.T.Targets.is_quiet c.args.targets.now }) g.K.Told.start [] c.into_parts-repo.result.0) c.carry-carried.result c.carry-carried.new.filled.items c.unless_wanting.result c.unless_wanting.ensures
-    (filled_on (record { made_for = g.T.Target.Target.made_for; files = g.T.Target.Target.files; is_sure = g.T.Target.Target.is_sure; begun = g.T.Target.Target.begun; faults = g.T.Target.Counted.faults; are_told = g.T.Targets.is_told c.args.targets.now; are_quiet = g.T.Targets.is_quiet c.args.targets.now }) g.K.Told.start c.new-desk.result c.carry-carried.new.desk c.into_parts-repo.result.0 c.new-filled.result.items c.carry-carried.new.filled.items c.carry-carried.result c.carry-carried.ensures.filled c.into_parts-repo.ensures.repo c.new-desk.ensures c.new-filled.ensures.items c.requires.alone)
+    c.carry-carried.ensures.made c.into_parts-repo.ensures.repo c.new-desk.ensures c.requires.alive)
 
 pub carry-carried-requires-clause-may : goal.carry-carried-requires-clause-may
 carry-carried-requires-clause-may g c κs within = begun_may g.K.Told.start c.args.asked.now.workers _ c.new-desk.result c.new-desk.ensures c.requires.nobody

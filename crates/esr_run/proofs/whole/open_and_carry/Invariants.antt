@@ -1,13 +1,13 @@
 use Rattle.esr_depot.specs.Look.{now}
 use Rattle.esr_formats.specs.Clusters.{cluster_of}
 use Rattle.esr_formats.specs.Roots.{root_of}
-use Rattle.esr_run.specs.Start.{is_calm_by, start_of}
+use Rattle.esr_run.specs.Start.{telling, is_calm_by, start_of}
 use Rattle.esr_run.proofs.Worlds.{begun_world}
 use Rattle.esr_run.proofs.whole.open_and_carry.Given as goal
 
 abbrev pub ghosts-run_told : goal.ghosts-run_told
 ghosts-run_told g a = record {
-  start = start_of (record { files = g.S.Sources.files a.sources.now; is_there = g.S.Sources.is_there a.sources.now; is_quiet = g.S.Sources.is_quiet a.sources.now; targets_quiet = g.T.Targets.is_quiet a.targets.now; targets_told = g.T.Targets.is_told a.targets.now }) a.asked.now.part_size (is_calm_by (g.D.Depot.look a.opening.depot).sure) (g.D.Depot.look a.opening.depot)
+  start = start_of (telling (g.S.Sources.told a.sources.now) (g.T.Targets.told a.targets.now)) a.asked.now.part_size (is_calm_by (g.D.Depot.look a.opening.depot).sure) (g.D.Depot.look a.opening.depot)
       (begun_world (now (g.D.Depot.look a.opening.depot)) (cluster_of a.opening.cluster) (root_of a.opening.root) a.opening.progress);
   clock = (g.D.Depot.look a.opening.depot).clock;
   faults = g.D.Counted.faults a.opening.depot;

@@ -1,13 +1,9 @@
-use Rattle.std.proofs.Common.{[], List, sym, subst}
-use Rattle.esr_model.specs.Image.{AllPairs}
-use Rattle.esr_core.specs.Entry.{Moment}
-use Rattle.esr_drive.specs.Restored.{restorations_in, IsTargetOf}
 use Rattle.esr_targets.proofs.Laws.{ReaderLaws, ShelfLaws}
 use Rattle.esr_targets.proofs.Targets.{are_of_lines}
 use Rattle.esr_targets.proofs.law.each_target_is_of_its_line.Goals as goal
 
 pub returns : goal.returns
-returns g c = λ tells s moment lines log rest restored tracked reads legal numbered same targets.
+returns g c = λ e s moment lines log rest restored tracked reads legal numbered same targets.
     let laws : ReaderLaws = record {
       tracked = c.each_history_is_tracked.ensures;
       read_tracked = c.each_history_tracks_restores.ensures;
@@ -27,4 +23,4 @@ returns g c = λ tells s moment lines log rest restored tracked reads legal numb
       gives = c.restores_give_the_shelf_of_their_ask.ensures;
       asked = c.asked_snapshots_are_on_the_shelf.ensures;
     } in
-    are_of_lines laws shelf_laws s tracked reads log legal tells moment lines rest numbered same restored (subst (λ (x : List Moment). AllPairs (IsTargetOf tells s) (restorations_in [] x) restored) (sym targets.is) targets.each)
+    are_of_lines laws shelf_laws s tracked reads log legal e moment lines rest numbered same restored targets

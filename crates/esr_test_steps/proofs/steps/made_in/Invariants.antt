@@ -2,13 +2,13 @@ use Rattle.std.specs.Prelude.{false}
 use Rattle.esr_depot.specs.Look.{now}
 use Rattle.esr_formats.specs.Clusters.{cluster_of}
 use Rattle.esr_formats.specs.Roots.{root_of}
-use Rattle.esr_run.specs.Start.{is_calm_by, start_of}
+use Rattle.esr_run.specs.Start.{telling, is_calm_by, start_of}
 use Rattle.esr_run.proofs.Worlds.{begun_world}
 use Rattle.esr_test_steps.proofs.steps.made_in.Given as goal
 
 abbrev pub ghosts-made : goal.ghosts-made
 ghosts-made g a = record {
-  start = start_of (record { files = g.S.Sources.files a.sources.now; is_there = g.S.Sources.is_there a.sources.now; is_quiet = g.S.Sources.is_quiet a.sources.now; targets_quiet = false; targets_told = false }) 16777216 (is_calm_by (g.D.Depot.look a.opening.depot).sure) (g.D.Depot.look a.opening.depot)
+  start = start_of (telling (g.S.Sources.told a.sources.now) (record { tells = false; is_quiet = false })) 16777216 (is_calm_by (g.D.Depot.look a.opening.depot).sure) (g.D.Depot.look a.opening.depot)
       (begun_world (now (g.D.Depot.look a.opening.depot)) (cluster_of a.opening.cluster) (root_of a.opening.root) a.opening.progress);
   clock = (g.D.Depot.look a.opening.depot).clock;
   faults = g.D.Counted.faults a.opening.depot;

@@ -1,23 +1,21 @@
-use Rattle.std.proofs.Common.{◌∙◌, ap, sym, subst, Option, option_map}
-use Rattle.esr_names.specs.declared.ids.Id.{Id}
-use Rattle.esr_formats.specs.Ids.{number_of}
-use Rattle.esr_formats.specs.Shards.{shard_index_of}
-use Rattle.esr_shardidx.specs.Indices.{IndexValue}
+use Rattle.std.proofs.Common.{◌≡◌, [], Some, subst}
+use Rattle.esr_model.specs.Values.{Bytes}
+use Rattle.esr_formats.specs.Shards.{shard_index_of, shard_index_kind}
+use Rattle.esr_desk.specs.Evidence.{evidence}
 use Rattle.esr_desk.specs.Start.{ticket_of}
-use Rattle.esr_upload.specs.Base.{HasBase}
-use Rattle.esr_upload.proofs.Going.{went_none}
-use Rattle.esr_upload.proofs.Reading.{has_no_base}
+use Rattle.esr_upload.proofs.Reading.{has_base, unread_shown}
 use Rattle.esr_upload.proofs.base.read_base.Goals as goal
 
-pub returns-in-None-clause-based : goal.returns-in-None-clause-based
-returns-in-None-clause-based g c =
+pub returns-in-Ok-clause-based : goal.returns-in-Ok-clause-based
+returns-in-Ok-clause-based g c =
     let s = g.Q.Desk.start in
-    let t = ticket_of s (g.Q.Desk.seen c.args.desk.now) c.args.ticket in
-    subst (λ (v : IndexValue). HasBase s t t c.args.shard.index.number c.args.shard.number (shard_index_of v)) (sym c.new.ensures)
-    (has_no_base s t c.args.shard.index.number c.args.shard.number (c.requires.base ∙ ap (λ (o : Option Id). option_map number_of o) c.in-None.is))
+    let who = c.args.ticket in
+    let value = shard_index_of c.in-Ok.index in
+    has_base s (ticket_of s (g.Q.Desk.seen c.args.desk.now) who) (ticket_of s (g.Q.Desk.seen c.fetch_bytes.new.desk) who) c.args.shard.index.number c.args.shard.number c.args.base.number c.in_ok-bytes.bytes value
+    c.requires.base c.in_ok-bytes.ensures.fetched (subst (λ (b : Bytes). shard_index_kind.read b ≡ Some value) c.as_slice.ensures c.in-Ok.ensures.read)
 
-pub returns-in-None-clause-went : goal.returns-in-None-clause-went
-returns-in-None-clause-went g c = went_none g.Q.Desk.start (g.Q.Desk.seen c.args.desk.now) c.args.ticket
-
-pub returns-in-None-clause-tells : goal.returns-in-None-clause-tells
-returns-in-None-clause-tells g c = c.requires.tells
+pub returns-clause-trouble : goal.returns-clause-trouble
+returns-clause-trouble g c =
+    let e = evidence g.Q.Stage.Counted.faults g.Q.Fetch.Counted.faults g.Q.Shard.Counted.faults g.Q.Target.Counted.faults g.Q.Shard.Shard.told g.Q.Target.Target.told in
+    unread_shown e 0 (Some []) g.Q.Desk.start (g.Q.Desk.seen c.args.desk.now) (g.Q.Desk.seen c.fetch_bytes.new.desk) c.args.ticket c.args.shard c.args.base c.requires.at c.requires.base
+    c.in_ok-bytes.bytes c.as_slice.result.now c.in-Err.refusal c.unread.result c.in_ok-bytes.ensures.fetched c.in_ok-bytes.ensures.found c.as_slice.ensures c.in-Err.ensures.reason c.unread.ensures

@@ -1,24 +1,27 @@
-use Rattle.std.proofs.Common.{Bool, [], Err, inl, ap, subst}
+use Rattle.std.proofs.Common.{Bool, [], Err, inl, ap, ◌∙◌, subst, List, refl}
 use Rattle.esr_core.specs.Entry.{BeginStep, CommitStep, WasBegun}
 use Rattle.esr_formats.specs.Names.{name_of}
-use Rattle.esr_parts.specs.Reads.{Copied, is_of_stage}
+use Rattle.esr_parts.specs.Reads.{Copied, is_of_source, is_of_stage}
 use Rattle.esr_parts.specs.declared.copy.CopyError.{CopyError}
+use Rattle.esr_desk.specs.Calls.{Call, HasTaken}
 use Rattle.esr_desk.specs.Refusals.{told_refusal}
 use Rattle.esr_desk.specs.Start.{ticket_of}
-use Rattle.esr_desk.specs.Outcome.{commit_reply}
+use Rattle.esr_desk.specs.Outcome.{commit_reply, Stepped}
 use Rattle.esr_desk.specs.Grew.{stepped_grew_by, refusing_grew_by}
-use Rattle.esr_upload.specs.declared.trouble.Trouble.TheVariants.{Step}
+use Rattle.esr_desk.specs.Evidence.{evidence}
+use Rattle.esr_unit.specs.declared.trouble.Trouble.TheVariants.{Step}
 use Rattle.esr_upload.specs.Trouble.{Shown}
-use Rattle.esr_upload.proofs.Going.{refusal_last}
-use Rattle.esr_upload.proofs.Putting.{is_faulty}
-use Rattle.esr_upload.proofs.FileParts.{err_passed, begun_is, stage_holds, can_commit, went_same, went_refused, not_there, part_put, went_put}
+use Rattle.esr_core.specs.World.{Ticket}
+use Rattle.esr_upload.proofs.Going.{went_same}
+use Rattle.esr_upload.proofs.Putting.{has_risen, is_faulty}
+use Rattle.esr_upload.proofs.Refusing.{passed, step_shown}
+use Rattle.esr_upload.proofs.FileParts.{begun_is, stage_holds, can_commit, went_refused, not_there, part_put, went_put}
 use Rattle.std.proofs.Common.{◌≡◌, sym}
 use Rattle.esr_names.specs.declared.blob.BlobName.{BlobName as CodeName}
 use Rattle.esr_model.specs.Names.{BlobName}
-use Rattle.esr_desk.specs.Outcome.{Stepped}
-use Rattle.esr_desk.specs.Once.{IsNew}
+use Rattle.esr_desk.specs.Once.{IsFresh}
 use Rattle.esr_desk.specs.Taken.{committed_by}
-use Rattle.esr_desk.specs.Told.{begin_new, commit_new, blob_tells}
+use Rattle.esr_desk.specs.Told.{begin_fresh, commit_fresh, blob_tells}
 use Rattle.esr_upload.proofs.file.put_part.Goals as goal
 
 pub begin-requires-clause-may : goal.begin-requires-clause-may
@@ -30,9 +33,13 @@ returns-in_err-named-clause-trouble g c =
     let refusal = c.in_err-named.field-0.0 in
     let old = g.Q.Desk.seen c.args.desk.now in
     let log = g.Q.Desk.seen c.begin.new.self in
-    err_passed c.from_residual.result (Shown g.Q.Stage.Counted.faults g.Q.Fetch.Counted.faults (g.S.Counted.faults c.args.shard.now) (g.S.Shard.origin c.args.shard.now).files s log c.args.ticket) (Step refusal)
-    c.from_residual.ensures.1
-    (refusal_last s old log c.args.ticket (BeginStep (name_of c.args.name)) refusal (λ r. c.refusals.ensures.work s old log c.args.ticket (BeginStep (name_of c.args.name)) r tt) c.in_err-named.ensures.step)
+    let e = evidence g.Q.Stage.Counted.faults g.Q.Fetch.Counted.faults g.Q.Shard.Counted.faults g.Q.Target.Counted.faults g.Q.Shard.Shard.told g.Q.Target.Target.told in
+    let files = (g.S.Shard.told c.args.shard.now).files in
+    let n = g.S.Counted.faults c.args.shard.now in
+    let may = c.requires.may in
+    let same = begun_is s c.args.name c.begin.result (ticket_of s old c.args.ticket) (ticket_of s log c.args.ticket) may c.begin.ensures.own in
+    passed c.from_residual.result (Shown e n files s log c.args.ticket) (Step refusal) c.from_residual.ensures.1
+    (step_shown e n files s old log c.args.ticket may.index may.number (ap (λ (t : Ticket). t.work) same ∙ may.work) (BeginStep (name_of c.args.name)) refusal c.refusals_are_of_their_steps.ensures tt (λ swap. swap) c.in_err-named.ensures.step)
 
 pub returns-in_err-named-clause-went : goal.returns-in_err-named-clause-went
 returns-in_err-named-clause-went g c =
@@ -43,10 +50,19 @@ returns-in_err-named-clause-went g c =
     (begun_is s c.args.name c.begin.result (ticket_of s old c.args.ticket) (ticket_of s new c.args.ticket) c.requires.may c.begin.ensures.own)
 
 pub returns-in-Err-Stage-clause-trouble : goal.returns-in-Err-Stage-clause-trouble
-returns-in-Err-Stage-clause-trouble g c =
-    is_faulty g.Q.Desk.start (g.Q.Stage.Counted.faults c.in_ok-named.named.stage) (g.Q.Stage.Counted.faults c.copy_part.new.stage) (is_of_stage {T = Bool} (Err c.in-Err-Stage.field-0)) c.in-Err-Stage.ensures.stage
-    (λ quiet. c.in-Err-Stage.ensures.sure (c.in_ok-named.ensures.sure quiet))
-    (ap (λ (e : CopyError). is_of_stage {T = Bool} (Err e)) c.in-Err-Stage.field-0-is)
+returns-in-Err-Stage-clause-trouble g c = (
+  is_faulty g.Q.Desk.start (g.Q.Stage.Counted.faults c.in_ok-named.named.stage) (g.Q.Stage.Counted.faults c.copy_part.new.stage) (is_of_stage {T = Bool} (Err c.in-Err-Stage.field-0)) c.in-Err-Stage.ensures.stage
+      (λ quiet. c.in-Err-Stage.ensures.sure (c.in_ok-named.ensures.sure quiet))
+      (ap (λ (e : CopyError). is_of_stage {T = Bool} (Err e)) c.in-Err-Stage.field-0-is),
+  tt,
+)
+
+pub returns-in-Err-Source-clause-trouble : goal.returns-in-Err-Source-clause-trouble
+returns-in-Err-Source-clause-trouble g c = (
+  has_risen (g.S.Counted.faults c.args.shard.now) (g.S.Counted.faults c.copy_part.new.shard) (is_of_source {T = Bool} (Err c.in-Err-Source.field-0)) c.in-Err-Source.ensures.source
+      (ap (λ (e : CopyError). is_of_source {T = Bool} (Err e)) c.in-Err-Source.field-0-is),
+  tt,
+)
 
 pub commit-requires-clause-may : goal.commit-requires-clause-may
 commit-requires-clause-may g c =
@@ -63,10 +79,10 @@ returns-clause-put g c =
     let s = g.Q.Desk.start in
     let begun = c.in_ok-named.ensures in
     let committed = c.in_ok-commit.ensures in
-    part_put s (g.S.Shard.left c.args.shard.now) (g.S.Shard.left c.copy_part.new.shard) (g.Q.Stage.Stage.contents c.in_ok-named.named.stage) (g.Q.Stage.Stage.contents c.copy_part.new.stage)
+    part_put s (g.S.Shard.told c.args.shard.now).left (g.S.Shard.told c.copy_part.new.shard).left (g.Q.Stage.Stage.contents c.in_ok-named.named.stage) (g.Q.Stage.Stage.contents c.copy_part.new.stage)
     c.args.hasher.now c.copy_part.new.hasher (ticket_of s (g.Q.Desk.seen c.args.desk.now) c.args.ticket) (ticket_of s (g.Q.Desk.seen c.begin.new.self) c.args.ticket) (ticket_of s (g.Q.Desk.seen c.commit.new.self) c.args.ticket)
     c.args.name c.in_ok-named.named.name c.args.size c.in_ok-commit.field-0
-    (subst (λ (full : Bool). Copied (g.S.Shard.left c.args.shard.now) (g.S.Shard.left c.copy_part.new.shard) (g.Q.Stage.Stage.contents c.in_ok-named.named.stage) (g.Q.Stage.Stage.contents c.copy_part.new.stage) c.args.hasher.now c.copy_part.new.hasher c.args.size full) c.in-Ok-true.field-0-test c.in-Ok-true.ensures.copied)
+    (subst (λ (full : Bool). Copied (g.S.Shard.told c.args.shard.now).left (g.S.Shard.told c.copy_part.new.shard).left (g.Q.Stage.Stage.contents c.in_ok-named.named.stage) (g.Q.Stage.Stage.contents c.copy_part.new.stage) c.args.hasher.now c.copy_part.new.hasher c.args.size full) c.in-Ok-true.field-0-test c.in-Ok-true.ensures.copied)
     begun.contents begun.own begun.name
     (not_there c.args.name c.in_ok-named.named.name c.in_ok-commit.field-0 begun.name c.requires.may.own committed.found) committed.own
 
@@ -76,7 +92,7 @@ returns-clause-went g c =
     let old = g.Q.Desk.seen c.args.desk.now in
     let mid = g.Q.Desk.seen c.begin.new.self in
     let new = g.Q.Desk.seen c.commit.new.self in
-    went_put s (g.S.Shard.left c.args.shard.now) (g.S.Shard.left c.copy_part.new.shard) c.args.hasher.now c.copy_part.new.hasher old mid new c.args.ticket (name_of c.args.name) c.args.size
+    went_put s (g.S.Shard.told c.args.shard.now).left (g.S.Shard.told c.copy_part.new.shard).left c.args.hasher.now c.copy_part.new.hasher old mid new c.args.ticket (name_of c.args.name) c.args.size
     (stepped_grew_by s old mid c.args.ticket (BeginStep (name_of c.args.name)) WasBegun c.in_ok-named.ensures.step)
     (stepped_grew_by s mid new c.args.ticket (CommitStep (name_of c.in_ok-named.named.name)) (commit_reply c.in_ok-commit.field-0) c.in_ok-commit.ensures.step)
     (returns-clause-put g c)
@@ -88,9 +104,13 @@ returns-in_err-commit-clause-trouble g c =
     let mid = g.Q.Desk.seen c.begin.new.self in
     let step = CommitStep (name_of c.in_ok-named.named.name) in
     let log = g.Q.Desk.seen c.commit.new.self in
-    err_passed c.from_residual-in_err-commit.result (Shown g.Q.Stage.Counted.faults g.Q.Fetch.Counted.faults (g.S.Counted.faults c.copy_part.new.shard) (g.S.Shard.origin c.args.shard.now).files s log c.args.ticket) (Step refusal)
-    c.from_residual-in_err-commit.ensures.1
-    (refusal_last s mid log c.args.ticket step refusal (λ r. c.refusals.ensures.work s mid log c.args.ticket step r tt) c.in_err-commit.ensures.step)
+    let e = evidence g.Q.Stage.Counted.faults g.Q.Fetch.Counted.faults g.Q.Shard.Counted.faults g.Q.Target.Counted.faults g.Q.Shard.Shard.told g.Q.Target.Target.told in
+    let files = (g.S.Shard.told c.args.shard.now).files in
+    let n = g.S.Counted.faults c.copy_part.new.shard in
+    let may = c.requires.may in
+    passed c.from_residual-in_err-commit.result (Shown e n files s log c.args.ticket) (Step refusal) c.from_residual-in_err-commit.ensures.1
+    (step_shown e n files s mid log c.args.ticket may.index may.number (ap (λ (t : Ticket). t.work) (c.in_err-commit.ensures.kept ∙ c.in_ok-named.ensures.own) ∙ may.work) step refusal c.refusals_are_of_their_steps.ensures tt (λ swap. swap)
+    c.in_err-commit.ensures.step)
 
 pub returns-in_err-commit-clause-went : goal.returns-in_err-commit-clause-went
 returns-in_err-commit-clause-went g c =
@@ -108,7 +128,7 @@ returns-in_err-commit-clause-went g c =
 pub begin-requires-clause-new : goal.begin-requires-clause-new
 begin-requires-clause-new g c =
     let may = c.requires.may.may [] in
-    begin_new g.Q.Desk.start (g.Q.Desk.seen c.args.desk.now) c.args.ticket (name_of c.args.name) c.requires.tells may.stored (may.once c.requires.may.own)
+    begin_fresh g.Q.Desk.start (g.Q.Desk.seen c.args.desk.now) c.args.ticket (name_of c.args.name) c.requires.tells may.stored (may.once c.requires.may.own)
 
 pub commit-requires-clause-new : goal.commit-requires-clause-new
 commit-requires-clause-new g c =
@@ -116,8 +136,8 @@ commit-requires-clause-new g c =
     let mid = g.Q.Desk.seen c.begin.new.self in
     let who = c.args.ticket in
     let may = c.requires.may.may [] in
-    subst (λ (n : CodeName). IsNew mid who (CommitStep (name_of n))) (sym c.in_ok-named.ensures.name)
-    (commit_new s (g.Q.Desk.seen c.args.desk.now) mid who (name_of c.args.name) c.requires.tells (may.once c.requires.may.own) c.in_ok-named.ensures.step)
+    subst (λ (n : CodeName). IsFresh s mid who (CommitStep (name_of n))) (sym c.in_ok-named.ensures.name)
+    (commit_fresh s (g.Q.Desk.seen c.args.desk.now) mid who (name_of c.args.name) c.requires.mine.some c.requires.tells (may.once c.requires.may.own) c.in_ok-named.ensures.step)
 
 pub returns-clause-tells : goal.returns-clause-tells
 returns-clause-tells g c =
@@ -130,6 +150,12 @@ returns-clause-tells g c =
     let done = c.in_ok-commit.field-0 in
     let is = ap name_of c.in_ok-named.ensures.name in
     let may = c.requires.may.may [] in
-    λ full. blob_tells s old mid new who (name_of c.args.name) contents done c.requires.tells may.stored c.in_ok-named.ensures.step c.in_ok-named.ensures.own
+    λ full. blob_tells s old mid new who (name_of c.args.name) contents done c.requires.mine.some c.requires.tells may.stored c.in_ok-named.ensures.step c.in_ok-named.ensures.own
     (subst (λ (n : BlobName). Stepped s mid new who (CommitStep n) (commit_reply done)) is c.in_ok-commit.ensures.step)
     (subst (λ (n : BlobName). ticket_of s new who ≡ committed_by n contents done (ticket_of s mid who)) is c.in_ok-commit.ensures.own)
+
+pub commit-requires-clause-mine : goal.commit-requires-clause-mine
+commit-requires-clause-mine g c = subst (λ (calls : List Call). HasTaken calls c.args.ticket) (sym c.begin.ensures.calls) c.requires.mine
+
+pub returns-in_err-named-clause-kept : goal.returns-in_err-named-clause-kept
+returns-in_err-named-clause-kept g c = refl

@@ -1,21 +1,25 @@
-use Rattle.std.proofs.Common.{◌≡◌, ◌<◌, ◌≤◌, ◌+◌, ◌*◌, ◌-◌, ◌^◌, min, [], ◌++◌, length, length-append, refl, ◌∙◌, arith}
+use Rattle.std.proofs.Common.{◌≡◌, ◌<◌, ◌≤◌, ◌+◌, ◌*◌, ◌-◌, ◌^◌, min, List, [], ◌++◌, Option, length, length-append, refl, sym, ap, subst, ◌∙◌, arith}
+use Rattle.esr_source.specs.Told.{ShardTold, FileList}
 use Rattle.esr_shardidx.specs.Parts.{part_count}
 use Rattle.esr_desk.specs.Start.{ticket_of}
 use Rattle.esr_upload.specs.Pieces.{blob_name}
-use Rattle.esr_upload.proofs.Going.{went_none, went_on, steady_on}
+use Rattle.esr_desk.specs.Calls.{Call, HasTaken}
+use Rattle.esr_desk.specs.Evidence.{evidence}
+use Rattle.esr_upload.specs.Trouble.{Shown}
+use Rattle.esr_upload.proofs.Going.{went_none, went_on, read_on, same_read, steady_on}
+use Rattle.esr_upload.proofs.Refusing.{passed}
 use Rattle.esr_upload.proofs.Pieces.{can_store_next, cut_none, cut_put, consumes_none, consumes_more, all_put, short_put}
 use Rattle.esr_upload.proofs.file.put_parts.Goals as goal
 
 pub loop-number-init : goal.loop-number-init
 loop-number-init g c = record {
-  holds = c.requires.mine;
-  listed = refl;
-  origin = refl;
+  calls = refl;
+  kept = refl;
   steady = λ sure. refl;
   buffer = refl;
   later = omega arith;
   bytes = [];
-  took = consumes_none (g.S.Shard.left c.args.shard.now);
+  took = consumes_none (g.S.Shard.told c.args.shard.now).left;
   fed = c.requires.fresh;
   count = omega arith;
   is = cut_none g.Q.Desk.start (blob_name c.args.at c.args.entry.now) c.args.entry.now.part_size (ticket_of g.Q.Desk.start (g.Q.Desk.seen c.args.desk.now) c.args.ticket);
@@ -33,7 +37,7 @@ put_part-requires-clause-may g c κs within =
     let less : number < part_count e.print.len e.part_size = omega (arith, test, c.part_count-number-end.ensures.count) in
     let low : number * e.part_size < 2 ^ 61 = omega (arith, c.part_plan-size.ensures.place, c.part_plan-size.ensures.within, c.requires.short) in
     can_store_next s (ticket_of s (g.Q.Desk.seen c.args.desk.now) c.args.ticket) (ticket_of s (g.Q.Desk.seen c.loop-number.desk) c.args.ticket) inv.bytes c.args.at e number c.part_name-name.result
-    c.requires.may c.requires.few c.requires.size.0 low less inv.is c.part_name-name.ensures
+    c.requires.may c.requires.few c.requires.numbered c.requires.size.0 low less inv.is c.part_name-name.ensures
 
 pub loop-number-preserved : goal.loop-number-preserved
 loop-number-preserved g c =
@@ -52,14 +56,14 @@ loop-number-preserved g c =
     let next : (number + 1) * e.part_size ≡ number * e.part_size + e.part_size = omega arith in
     let sum : length (inv.bytes ++ put.piece) ≡ length inv.bytes + length put.piece = length-append inv.bytes put.piece in
     record {
-      holds = done.holds;
-      listed = done.listed ∙ inv.listed;
-      origin = done.origin ∙ inv.origin;
-      steady = steady_on (g.S.Shard.origin c.args.shard.now) (g.S.Shard.origin c.loop-number.shard) (g.S.Counted.faults c.args.shard.now) (g.S.Counted.faults c.loop-number.shard) (g.S.Counted.faults c.put_part.new.shard) inv.origin inv.steady done.steady;
+      calls = done.calls ∙ inv.calls;
+      kept = read_on (g.S.Shard.told c.args.shard.now) (g.S.Shard.told c.loop-number.shard) (g.S.Shard.told c.put_part.new.shard) inv.kept done.kept;
+      steady = steady_on (g.S.Shard.told c.args.shard.now) (g.S.Shard.told c.loop-number.shard) (g.S.Counted.faults c.args.shard.now) (g.S.Counted.faults c.loop-number.shard) (g.S.Counted.faults c.put_part.new.shard)
+          (same_read (g.S.Shard.told c.args.shard.now) (g.S.Shard.told c.loop-number.shard) inv.kept) inv.steady done.steady;
       buffer = done.buffer ∙ inv.buffer;
       later = omega (arith, inv.later, done.faults);
       bytes = inv.bytes ++ put.piece;
-      took = consumes_more (g.S.Shard.left c.args.shard.now) (g.S.Shard.left c.loop-number.shard) (g.S.Shard.left c.put_part.new.shard) inv.bytes put.piece inv.took put.took;
+      took = consumes_more (g.S.Shard.told c.args.shard.now).left (g.S.Shard.told c.loop-number.shard).left (g.S.Shard.told c.put_part.new.shard).left inv.bytes put.piece inv.took put.took;
       fed = put.fed.joined inv.bytes inv.fed;
       count = omega (arith, sum, len, piece, next, fits);
       is = cut_put s c.args.at e number inv.bytes put.piece c.part_name-name.result
@@ -74,7 +78,7 @@ returns-clause-put g c =
     let inv = c.loop-number.invariant in
     let s = g.Q.Desk.start in
     let last : c.loop-number.number ≡ c.part_count-number-end.result = omega (arith, c.loop-number.auto.number-end, c.loop-number-test.false) in
-    all_put s (g.S.Shard.left c.args.shard.now) (g.S.Shard.left c.loop-number.shard) c.loop-number.hasher c.args.at c.args.entry.now
+    all_put s (g.S.Shard.told c.args.shard.now).left (g.S.Shard.told c.loop-number.shard).left c.loop-number.hasher c.args.at c.args.entry.now
     (ticket_of s (g.Q.Desk.seen c.args.desk.now) c.args.ticket) (ticket_of s (g.Q.Desk.seen c.loop-number.desk) c.args.ticket) c.loop-number.number c.part_count-number-end.result inv.bytes
     c.requires.size.0 last c.part_count-number-end.ensures.count inv.took inv.fed inv.count inv.is
 
@@ -88,7 +92,7 @@ returns-then-not-branch-clause-put g c =
     let number = c.loop-number.number in
     let plan = c.part_plan-size.ensures in
     let less : length inv.bytes + length put.piece < e.print.len = omega (arith, inv.count, short.0, plan.place, plan.within) in
-    short_put s (g.S.Shard.left c.args.shard.now) (g.S.Shard.left c.loop-number.shard) (g.S.Shard.left c.put_part.new.shard) c.put_part.new.hasher c.args.at e
+    short_put s (g.S.Shard.told c.args.shard.now).left (g.S.Shard.told c.loop-number.shard).left (g.S.Shard.told c.put_part.new.shard).left c.put_part.new.hasher c.args.at e
     (ticket_of s (g.Q.Desk.seen c.args.desk.now) c.args.ticket) (ticket_of s (g.Q.Desk.seen c.put_part.new.desk) c.args.ticket) inv.bytes put.piece
     inv.took put.took (put.fed.joined inv.bytes inv.fed) short.1 less
 
@@ -111,3 +115,37 @@ returns-then-not-branch-clause-tells g c =
     let less : length inv.bytes + length put.piece < e.print.len = omega (arith, inv.count, short.0, plan.place, plan.within) in
     let sum : length (inv.bytes ++ put.piece) ≡ length inv.bytes + length put.piece = length-append inv.bytes put.piece in
     record { bytes = inv.bytes ++ put.piece; fed = put.fed.joined inv.bytes inv.fed; tells = λ all. let none : ⊥ = omega (arith, all, less, sum) in absurd none }
+
+-- ---- what it leaves of the shard and of the calls
+
+pub put_part-requires-clause-mine : goal.put_part-requires-clause-mine
+put_part-requires-clause-mine g c κs within = subst (λ (calls : List Call). HasTaken calls c.args.ticket) (sym c.loop-number.invariant.calls) c.requires.mine
+
+pub returns-in_err-put_part-clause-kept : goal.returns-in_err-put_part-clause-kept
+returns-in_err-put_part-clause-kept g c = read_on (g.S.Shard.told c.args.shard.now) (g.S.Shard.told c.loop-number.shard) (g.S.Shard.told c.put_part.new.shard) c.loop-number.invariant.kept c.put_part.ensures.kept
+
+pub returns-then-not-branch-clause-kept : goal.returns-then-not-branch-clause-kept
+returns-then-not-branch-clause-kept g c = read_on (g.S.Shard.told c.args.shard.now) (g.S.Shard.told c.loop-number.shard) (g.S.Shard.told c.put_part.new.shard) c.loop-number.invariant.kept c.put_part.ensures.kept
+
+pub returns-in_err-put_part-clause-steady : goal.returns-in_err-put_part-clause-steady
+returns-in_err-put_part-clause-steady g c =
+    let inv = c.loop-number.invariant in
+    steady_on (g.S.Shard.told c.args.shard.now) (g.S.Shard.told c.loop-number.shard) (g.S.Counted.faults c.args.shard.now) (g.S.Counted.faults c.loop-number.shard) (g.S.Counted.faults c.put_part.new.shard)
+    (same_read (g.S.Shard.told c.args.shard.now) (g.S.Shard.told c.loop-number.shard) inv.kept) inv.steady c.put_part.ensures.steady
+
+pub returns-then-not-branch-clause-steady : goal.returns-then-not-branch-clause-steady
+returns-then-not-branch-clause-steady g c =
+    let inv = c.loop-number.invariant in
+    steady_on (g.S.Shard.told c.args.shard.now) (g.S.Shard.told c.loop-number.shard) (g.S.Counted.faults c.args.shard.now) (g.S.Counted.faults c.loop-number.shard) (g.S.Counted.faults c.put_part.new.shard)
+    (same_read (g.S.Shard.told c.args.shard.now) (g.S.Shard.told c.loop-number.shard) inv.kept) inv.steady c.put_part.ensures.steady
+
+pub returns-in_err-put_part-clause-trouble : goal.returns-in_err-put_part-clause-trouble
+returns-in_err-put_part-clause-trouble g c =
+    let s = g.Q.Desk.start in
+    let new = g.Q.Desk.seen c.put_part.new.desk in
+    let e = evidence g.Q.Stage.Counted.faults g.Q.Fetch.Counted.faults g.Q.Shard.Counted.faults g.Q.Target.Counted.faults g.Q.Shard.Shard.told g.Q.Target.Target.told in
+    let n = g.S.Counted.faults c.put_part.new.shard in
+    let trouble = c.in_err-put_part.field-0.0 in
+    let files : (g.S.Shard.told c.loop-number.shard).files ≡ (g.S.Shard.told c.args.shard.now).files = ap (λ (t : ShardTold). t.files) c.loop-number.invariant.kept in
+    passed c.from_residual.result (Shown e n (g.S.Shard.told c.args.shard.now).files s new c.args.ticket) trouble c.from_residual.ensures.1
+    (subst (λ (o : Option FileList). Shown e n o s new c.args.ticket trouble) files c.in_err-put_part.ensures.trouble)

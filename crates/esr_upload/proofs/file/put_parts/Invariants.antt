@@ -1,6 +1,7 @@
 use Rattle.std.proofs.Common.{◌≡◌, ◌*◌, ◌≤◌, ℕ, true, List, length, min}
 use Rattle.std.specs.Io.KnownBytes.{Consumes}
 use Rattle.esr_hash.specs.Fed.{HasFed}
+use Rattle.esr_parts.specs.Reads.{ReadOn}
 use Rattle.esr_desk.specs.Start.{ticket_of}
 use Rattle.esr_desk.specs.Taken.{after_writes}
 use Rattle.esr_desk.specs.Told.{TellsAll}
@@ -11,14 +12,13 @@ use Rattle.esr_upload.proofs.file.put_parts.Given as goal
 abbrev pub invariant-loop-number : goal.invariant-loop-number
 invariant-loop-number g l =
     record {
-      holds : g.Q.Desk.holds l.desk l.ticket;
-      listed : g.S.Shard.listed l.shard ≡ g.S.Shard.listed l.fn.shard;
-      origin : g.S.Shard.origin l.shard ≡ g.S.Shard.origin l.fn.shard;
-      steady : (g.S.Shard.origin l.fn.shard).is_sure ≡ true → g.S.Counted.faults l.shard ≡ g.S.Counted.faults l.fn.shard;
+      calls : g.Q.Desk.calls l.desk ≡ g.Q.Desk.calls l.fn.desk;
+      kept : ReadOn (g.S.Shard.told l.fn.shard) (g.S.Shard.told l.shard);
+      steady : (g.S.Shard.told l.fn.shard).is_sure ≡ true → g.S.Counted.faults l.shard ≡ g.S.Counted.faults l.fn.shard;
       buffer : length l.buf ≡ length l.fn.buf;
       later : g.S.Counted.faults l.fn.shard ≤ g.S.Counted.faults l.shard;
       bytes : List ℕ;
-      took : Consumes (g.S.Shard.left l.fn.shard) (g.S.Shard.left l.shard) bytes;
+      took : Consumes (g.S.Shard.told l.fn.shard).left (g.S.Shard.told l.shard).left bytes;
       fed : HasFed l.hasher bytes;
       count : length bytes ≡ min (l.number * l.entry.part_size) l.entry.print.len;
       is : ticket_of g.Q.Desk.start (g.Q.Desk.seen l.desk) l.ticket

@@ -1,49 +1,51 @@
 use Rattle.esr_model.specs.Names.{ShardSnap}
 use Rattle.esr_core.specs.Entry.{DoneStep, HasEnded}
 use Rattle.esr_results.specs.Results.{result_of}
+use Rattle.esr_desk.specs.Calls.{Call, HasTaken}
 use Rattle.esr_desk.specs.Start.{ticket_of}
 use Rattle.esr_desk.specs.Grew.{grew_by_on, outcome_grew_by}
 use Rattle.esr_upload.specs.Published.{snap_blob}
 use Rattle.esr_upload.proofs.Noting.{index_unnoted}
-use Rattle.std.proofs.Common.{[], Some}
-use Rattle.esr_upload.specs.declared.trouble.Trouble.TheVariants.{Step}
+use Rattle.std.proofs.Common.{[], Some, List, sym, subst, ◌∙◌}
+use Rattle.esr_desk.specs.Evidence.{evidence}
+use Rattle.esr_unit.specs.declared.trouble.Trouble.TheVariants.{Step}
 use Rattle.esr_upload.specs.Trouble.{Shown}
-use Rattle.esr_upload.proofs.Refusing.{passed}
-use Rattle.esr_upload.proofs.Going.{went_on, refusal_last}
-use Rattle.esr_upload.proofs.Ending.{if_err, went_same, has_done}
+use Rattle.esr_upload.proofs.Refusing.{passed, done_shown}
+use Rattle.esr_upload.proofs.Going.{went_on, went_same}
+use Rattle.esr_upload.proofs.Ending.{if_err, has_done}
 use Rattle.esr_upload.proofs.publish.end_shard.Goals as goal
 
-pub returns-in_err-done-clause-trouble : goal.returns-in_err-done-clause-trouble
-returns-in_err-done-clause-trouble g c =
+pub returns-in_err-end_shard-clause-trouble : goal.returns-in_err-end_shard-clause-trouble
+returns-in_err-end_shard-clause-trouble g c =
     let s = g.Q.Desk.start in
     let who = c.args.ticket in
     let mid = g.Q.Desk.seen c.put_index.new.desk in
-    let new = g.Q.Desk.seen c.done.new.self in
-    let step = DoneStep (result_of c.args.outcome.now) in
-    let refusal = c.in_err-done.field-0.0 in
-    passed c.from_residual-in_err-done.result (Shown g.Q.Stage.Counted.faults g.Q.Fetch.Counted.faults 0 (Some []) s new who) (Step refusal) c.from_residual-in_err-done.ensures.1
-    (refusal_last s mid new who step refusal (λ r. c.refusals.ensures.work s mid new who step r tt) c.in_err-done.ensures.step)
+    let new = g.Q.Desk.seen c.end_shard.new.self in
+    let refusal = c.in_err-end_shard.field-0.0 in
+    let e = evidence g.Q.Stage.Counted.faults g.Q.Fetch.Counted.faults g.Q.Shard.Counted.faults g.Q.Target.Counted.faults g.Q.Shard.Shard.told g.Q.Target.Target.told in
+    passed c.from_residual-in_err-end_shard.result (Shown e 0 (Some []) s new who) (Step refusal) c.from_residual-in_err-end_shard.ensures.1
+    (done_shown e 0 (Some []) s mid new who (result_of c.args.outcome.now) refusal c.refusals_are_of_their_steps.ensures c.in_err-end_shard.ensures.step)
 
-pub returns-in_err-done-clause-went : goal.returns-in_err-done-clause-went
-returns-in_err-done-clause-went g c =
+pub returns-in_err-end_shard-clause-went : goal.returns-in_err-end_shard-clause-went
+returns-in_err-end_shard-clause-went g c =
     let s = g.Q.Desk.start in
     let who = c.args.ticket in
     let old = g.Q.Desk.seen c.args.desk.now in
     let one = g.Q.Desk.seen c.put_snap.new.desk in
     let two = g.Q.Desk.seen c.put_index.new.desk in
-    let new = g.Q.Desk.seen c.done.new.self in
-    let ended = went_same s two new who (outcome_grew_by s two new who (DoneStep (result_of c.args.outcome.now)) (λ x. HasEnded) c.done.result c.done.ensures.step) c.in_err-done.ensures.kept in
-    if_err c.from_residual-in_err-done.result (went_on s old one new who c.put_snap.ensures.went (went_on s one two new who c.put_index.ensures.went ended))
+    let new = g.Q.Desk.seen c.end_shard.new.self in
+    let ended = went_same s two new who (outcome_grew_by s two new who (DoneStep (result_of c.args.outcome.now)) (λ x. HasEnded) c.end_shard.result c.end_shard.ensures.step) c.in_err-end_shard.ensures.kept in
+    if_err c.from_residual-in_err-end_shard.result (went_on s old one new who c.put_snap.ensures.went (went_on s one two new who c.put_index.ensures.went ended))
 
-pub returns-in_err-done-clause-grew : goal.returns-in_err-done-clause-grew
-returns-in_err-done-clause-grew g c =
+pub returns-in_err-end_shard-clause-grew : goal.returns-in_err-end_shard-clause-grew
+returns-in_err-end_shard-clause-grew g c =
     let s = g.Q.Desk.start in
     let who = c.args.ticket in
     let old = g.Q.Desk.seen c.args.desk.now in
     let one = g.Q.Desk.seen c.put_snap.new.desk in
     let two = g.Q.Desk.seen c.put_index.new.desk in
-    let new = g.Q.Desk.seen c.done.new.self in
-    grew_by_on s who old one new c.put_snap.ensures.went.grew (grew_by_on s who one two new c.put_index.ensures.went.grew (outcome_grew_by s two new who (DoneStep (result_of c.args.outcome.now)) (λ x. HasEnded) c.done.result c.done.ensures.step))
+    let new = g.Q.Desk.seen c.end_shard.new.self in
+    grew_by_on s who old one new c.put_snap.ensures.went.grew (grew_by_on s who one two new c.put_index.ensures.went.grew (outcome_grew_by s two new who (DoneStep (result_of c.args.outcome.now)) (λ x. HasEnded) c.end_shard.result c.end_shard.ensures.step))
 
 pub returns-clause-ok : goal.returns-clause-ok
 returns-clause-ok g c =
@@ -52,8 +54,8 @@ returns-clause-ok g c =
     let old = g.Q.Desk.seen c.args.desk.now in
     let one = g.Q.Desk.seen c.put_snap.new.desk in
     let two = g.Q.Desk.seen c.put_index.new.desk in
-    let new = g.Q.Desk.seen c.done.new.self in
-    has_done s old two new who (result_of c.args.outcome.now) (went_on s old one two who c.put_snap.ensures.went c.put_index.ensures.went) c.in_ok-done.ensures.step c.in_ok-done.ensures.own
+    let new = g.Q.Desk.seen c.end_shard.new.self in
+    has_done s old two new who (result_of c.args.outcome.now) (went_on s old one two who c.put_snap.ensures.went c.put_index.ensures.went) c.in_ok-end_shard.ensures.step c.in_ok-end_shard.ensures.own
 
 pub put_snap-requires-clause-unnoted : goal.put_snap-requires-clause-unnoted
 put_snap-requires-clause-unnoted g c κs within =
@@ -89,5 +91,11 @@ returns-clause-grew g c =
     let old = g.Q.Desk.seen c.args.desk.now in
     let one = g.Q.Desk.seen c.put_snap.new.desk in
     let two = g.Q.Desk.seen c.put_index.new.desk in
-    let new = g.Q.Desk.seen c.done.new.self in
-    grew_by_on s who old one new c.put_snap.ensures.went.grew (grew_by_on s who one two new c.put_index.ensures.went.grew (outcome_grew_by s two new who (DoneStep (result_of c.args.outcome.now)) (λ x. HasEnded) c.done.result c.done.ensures.step))
+    let new = g.Q.Desk.seen c.end_shard.new.self in
+    grew_by_on s who old one new c.put_snap.ensures.went.grew (grew_by_on s who one two new c.put_index.ensures.went.grew (outcome_grew_by s two new who (DoneStep (result_of c.args.outcome.now)) (λ x. HasEnded) c.end_shard.result c.end_shard.ensures.step))
+
+pub put_index-requires-clause-mine : goal.put_index-requires-clause-mine
+put_index-requires-clause-mine g c κs within = subst (λ (calls : List Call). HasTaken calls c.args.ticket) (sym c.put_snap.ensures.calls) c.requires.mine
+
+pub end_shard-requires-clause-mine : goal.end_shard-requires-clause-mine
+end_shard-requires-clause-mine g c = subst (λ (calls : List Call). HasTaken calls c.args.ticket) (sym (c.put_index.ensures.calls ∙ c.put_snap.ensures.calls)) c.requires.mine

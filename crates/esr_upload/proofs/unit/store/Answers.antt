@@ -1,17 +1,16 @@
-use Rattle.std.proofs.Common.{◌≡◌, ℕ, ◌+◌, ◌∙◌, [], Some, refl, sym, ap, subst}
+use Rattle.std.proofs.Common.{◌≡◌, ℕ, ◌+◌, ◌∙◌, [], Some, refl, sym, ap, subst, List}
+use Rattle.esr_desk.specs.Calls.{Call, HasTaken}
 use Rattle.esr_desk.specs.Start.{ticket_of}
 use Rattle.esr_upload.specs.Entries.{new_count}
-use Rattle.esr_upload.proofs.Going.{went_on}
+use Rattle.esr_upload.proofs.Going.{went_on, fetched_later}
 use Rattle.esr_upload.proofs.Ending.{done_on}
-use Rattle.esr_upload.proofs.Drawing.{err_on}
+use Rattle.esr_upload.proofs.Drawing.{ok_on, err_on}
 use Rattle.esr_desk.specs.Grew.{grew_by_on}
 use Rattle.esr_upload.specs.Stored.{AreBelow}
-use Rattle.esr_upload.proofs.Closing.{ready, drew_last, bad_end, none_below}
-use Rattle.esr_upload.specs.Refused.{HasDone}
-use Rattle.esr_upload.specs.Trouble.{Shown, IsChangeUntold}
-use Rattle.esr_upload.proofs.Shown.{shown_err, ok_on}
-use Rattle.esr_upload.proofs.Refusing.{passed}
-use Rattle.esr_upload.proofs.Untold.{on_err, no_change, change_untold}
+use Rattle.esr_upload.proofs.Closing.{ready, drew_last, base_ahead, none_below}
+use Rattle.esr_desk.specs.Evidence.{evidence}
+use Rattle.esr_upload.specs.Trouble.{Shown, shown_any}
+use Rattle.esr_upload.proofs.Refusing.{on_err}
 use Rattle.esr_upload.proofs.unit.store.Goals as goal
 
 pub finish-requires-clause-drew : goal.finish-requires-clause-drew
@@ -19,7 +18,7 @@ finish-requires-clause-drew g c κs within =
     let s = g.Q.Desk.start in
     let who = c.args.ticket in
     let count : c.args.first.number + c.from.result ≡ c.args.first.number + new_count c.args.plans.now = ap (λ (n : ℕ). c.args.first.number + n) (c.from.ensures ∙ c.count_new.ensures.count) in
-    drew_last s (g.S.Shard.origin c.args.shard.now).files (g.S.Shard.listed c.args.shard.now) c.args.at c.args.uuid c.args.base.now c.args.plans.now c.args.part_size c.args.first.number c.in_ok-entries.entries
+    drew_last s (g.S.Shard.told c.args.shard.now).files (g.S.Shard.told c.args.shard.now).listed c.args.at c.args.uuid c.args.base.now c.args.plans.now c.args.part_size c.args.first.number c.in_ok-entries.entries
     (ticket_of s (g.Q.Desk.seen c.args.desk.now) who) (ticket_of s (g.Q.Desk.seen c.store_files.new.desk) who) c.requires.drawn c.requires.size c.requires.sized.0 c.in_ok-entries.ensures.stored
     (c.args.first.number + c.from.result) count
 
@@ -32,20 +31,25 @@ finish-requires-clause-files g c κs within =
     let count : c.args.first.number + c.from.result ≡ c.args.first.number + new_count c.args.plans.now = ap (λ (n : ℕ). c.args.first.number + n) (c.from.ensures ∙ c.count_new.ensures.count) in
     subst (λ (n : ℕ). AreBelow t n) (sym count) c.in_ok-entries.ensures.below
 
+pub store_files-requires-clause-told : goal.store_files-requires-clause-told
+store_files-requires-clause-told g c κs within = record { source_is = c.requires.drawn.source_is; tells = c.requires.drawn.tells }
+
 pub finish-requires-clause-ahead : goal.finish-requires-clause-ahead
 finish-requires-clause-ahead g c κs within =
     let s = g.Q.Desk.start in
     let who = c.args.ticket in
-    bad_end s (g.S.Shard.origin c.args.shard.now).files (g.S.Shard.listed c.args.shard.now) c.args.at c.args.uuid c.args.base.now c.args.plans.now c.args.part_size c.args.first.number c.in_ok-entries.entries
-    (ticket_of s (g.Q.Desk.seen c.args.desk.now) who) (ticket_of s (g.Q.Desk.seen c.store_files.new.desk) who) c.requires.drawn c.requires.size c.requires.sized.0 c.in_ok-entries.ensures.stored
-    (g.Q.Desk.seen c.store_files.new.desk) who refl c.requires.sized.1
+    let told = g.S.Shard.told c.args.shard.now in
+    let mid = g.Q.Desk.seen c.store_files.new.desk in
+    λ refused. base_ahead s told.files told.listed c.args.at c.args.uuid c.args.base.now c.args.plans.now c.args.part_size c.args.first.number c.in_ok-entries.entries
+    (ticket_of s (g.Q.Desk.seen c.args.desk.now) who) (ticket_of s mid who) c.requires.drawn c.requires.size c.requires.sized.0 c.in_ok-entries.ensures.stored mid who refl c.requires.sized.1 refused
+    c.args.generation c.requires.base (fetched_later s (g.Q.Desk.seen c.args.desk.now) mid who c.args.at.index.number c.args.at.number c.args.generation c.store_files.ensures.went.grew c.requires.fetched)
 
 pub finish-requires-clause-ready : goal.finish-requires-clause-ready
 finish-requires-clause-ready g c κs within =
     let s = g.Q.Desk.start in
     let who = c.args.ticket in
     let count : c.args.first.number + c.from.result ≡ c.args.first.number + new_count c.args.plans.now = ap (λ (n : ℕ). c.args.first.number + n) (c.from.ensures ∙ c.count_new.ensures.count) in
-    ready s (g.S.Shard.origin c.args.shard.now).files (g.S.Shard.listed c.args.shard.now) c.args.at c.args.uuid c.args.base.now c.args.plans.now c.args.part_size c.args.first.number c.in_ok-entries.entries
+    ready s (g.S.Shard.told c.args.shard.now).files (g.S.Shard.told c.args.shard.now).listed c.args.at c.args.uuid c.args.base.now c.args.plans.now c.args.part_size c.args.first.number c.in_ok-entries.entries
     (ticket_of s (g.Q.Desk.seen c.args.desk.now) who) (ticket_of s (g.Q.Desk.seen c.store_files.new.desk) who) c.requires.drawn c.requires.size c.requires.sized.0 c.in_ok-entries.ensures.stored
     (c.args.first.number + c.from.result) c.sum_of.result count c.sum_of.ensures
 
@@ -55,7 +59,7 @@ returns-clause-ok g c =
     let old = g.Q.Desk.seen c.args.desk.now in
     let mid = g.Q.Desk.seen c.store_files.new.desk in
     let new = g.Q.Desk.seen c.finish.new.desk in
-    ok_on c.finish.result (HasDone s mid new c.args.ticket) (HasDone s old new c.args.ticket) (λ done. done_on s old mid new c.args.ticket c.store_files.ensures.went done) c.finish.ensures.ok
+    ok_on c.finish.result (done_on s old mid new c.args.ticket c.store_files.ensures.went) c.finish.ensures.ok
 
 pub returns-clause-went : goal.returns-clause-went
 returns-clause-went g c =
@@ -63,27 +67,17 @@ returns-clause-went g c =
 
 pub returns-clause-trouble : goal.returns-clause-trouble
 returns-clause-trouble g c =
-    shown_err c.finish.result g.Q.Stage.Counted.faults g.Q.Fetch.Counted.faults (g.S.Counted.faults c.store_files.new.shard) (g.S.Shard.origin c.args.shard.now).files g.Q.Desk.start (g.Q.Desk.seen c.finish.new.desk) c.args.ticket c.finish.ensures.trouble
-
-pub returns-in_err-entries-clause-untold : goal.returns-in_err-entries-clause-untold
-returns-in_err-entries-clause-untold g c =
-    let s = g.Q.Desk.start in
-    let who = c.args.ticket in
-    let old = g.Q.Desk.seen c.args.desk.now in
-    let new = g.Q.Desk.seen c.store_files.new.desk in
-    let refused = c.in_err-entries.ensures in
-    passed c.from_residual.result (IsChangeUntold s (ticket_of s new who)) c.in_err-entries.field-0.0 c.from_residual.ensures.1
-    (change_untold g.Q.Stage.Counted.faults g.Q.Fetch.Counted.faults (g.S.Counted.faults c.store_files.new.shard) (g.S.Shard.origin c.args.shard.now).files (g.S.Shard.listed c.args.shard.now) s old new who
-    c.args.at.index.number c.args.at.number c.args.uuid c.args.base.now c.args.plans.now c.args.first.number c.in_err-entries.field-0.0 c.requires.drawn refused.went refused.trouble)
-
-pub returns-clause-untold : goal.returns-clause-untold
-returns-clause-untold g c =
     let s = g.Q.Desk.start in
     let who = c.args.ticket in
     let new = g.Q.Desk.seen c.finish.new.desk in
-    on_err c.finish.result (Shown g.Q.Stage.Counted.faults g.Q.Fetch.Counted.faults 0 (Some []) s new who) (IsChangeUntold s (ticket_of s new who))
-    (no_change g.Q.Stage.Counted.faults g.Q.Fetch.Counted.faults s new who (ticket_of s new who)) c.finish.ensures.trouble
+    let e = evidence g.Q.Stage.Counted.faults g.Q.Fetch.Counted.faults g.Q.Shard.Counted.faults g.Q.Target.Counted.faults g.Q.Shard.Shard.told g.Q.Target.Target.told in
+    let n = g.S.Counted.faults c.store_files.new.shard in
+    let files = (g.S.Shard.told c.args.shard.now).files in
+    on_err c.finish.result (Shown e 0 (Some []) s new who) (Shown e n files s new who) (λ trouble. shown_any e n files s new who trouble) c.finish.ensures.trouble
 
 pub returns-clause-grew : goal.returns-clause-grew
 returns-clause-grew g c =
     grew_by_on g.Q.Desk.start c.args.ticket (g.Q.Desk.seen c.args.desk.now) (g.Q.Desk.seen c.store_files.new.desk) (g.Q.Desk.seen c.finish.new.desk) c.store_files.ensures.went.grew c.finish.ensures.grew
+
+pub finish-requires-clause-mine : goal.finish-requires-clause-mine
+finish-requires-clause-mine g c κs within = subst (λ (calls : List Call). HasTaken calls c.args.ticket) (sym c.store_files.ensures.calls) c.requires.mine

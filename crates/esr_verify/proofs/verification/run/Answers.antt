@@ -1,9 +1,10 @@
 use Rattle.esr_verify.specs.Went.{Kept}
-use Rattle.esr_verify.specs.Trouble.{Shown}
-use Rattle.esr_verify.specs.declared.trouble.Trouble.TheVariants.{Step}
+use Rattle.esr_desk.specs.declared.hand.Hand.TheVariants.{Verify}
+use Rattle.esr_desk.specs.Evidence.{evidence}
+use Rattle.esr_unit.specs.declared.trouble.Trouble.TheVariants.{Step}
+use Rattle.esr_unit.specs.Shown.{Shown}
 use Rattle.esr_verify.proofs.Going.{further_none, further_on, unverified_on, kept_none, kept_on}
-use Rattle.esr_verify.proofs.Refusing.{passed, any_err}
-use Rattle.esr_verify.proofs.Judging.{wanting}
+use Rattle.esr_verify.proofs.Refusing.{passed, any_err, wanting}
 use Rattle.esr_verify.proofs.Naming.{has_master}
 use Rattle.esr_verify.proofs.Ending.{ended_all}
 use Rattle.esr_verify.proofs.verification.run.Goals as goal
@@ -13,7 +14,7 @@ returns-in_err-names-clause-trouble g c =
     let s = g.Q.Desk.start in
     let log = g.Q.Desk.seen c.args.desk.now in
     let refusal = c.in_err-names.field-0.0 in
-    passed c.from_residual.result (Shown g.Q.Stage.Counted.faults g.Q.Fetch.Counted.faults s log) (Step refusal) c.from_residual.ensures.1 (wanting s log refusal c.in_err-names.ensures.wanting)
+    passed c.from_residual.result (Shown Verify (evidence g.Q.Stage.Counted.faults g.Q.Fetch.Counted.faults g.Q.Shard.Counted.faults g.Q.Target.Counted.faults g.Q.Shard.Shard.told g.Q.Target.Target.told) ⊥ s log 0) (Step refusal) c.from_residual.ensures.1 (wanting (evidence g.Q.Stage.Counted.faults g.Q.Fetch.Counted.faults g.Q.Shard.Counted.faults g.Q.Target.Counted.faults g.Q.Shard.Shard.told g.Q.Target.Target.told) s log refusal c.in_err-names.ensures.wanting)
 
 pub returns-in_err-names-clause-kept : goal.returns-in_err-names-clause-kept
 returns-in_err-names-clause-kept g c =
@@ -50,7 +51,7 @@ returns-in_err-finish-clause-trouble g c =
     let s = g.Q.Desk.start in
     let new = g.Q.Desk.seen c.finish.new.desk in
     let refusal = c.in_err-finish.field-0.0 in
-    passed c.from_residual-in_err-finish.result (Shown g.Q.Stage.Counted.faults g.Q.Fetch.Counted.faults s new) (Step refusal) c.from_residual-in_err-finish.ensures.1 c.in_err-finish.ensures.refused
+    passed c.from_residual-in_err-finish.result (Shown Verify (evidence g.Q.Stage.Counted.faults g.Q.Fetch.Counted.faults g.Q.Shard.Counted.faults g.Q.Target.Counted.faults g.Q.Shard.Shard.told g.Q.Target.Target.told) ⊥ s new 0) (Step refusal) c.from_residual-in_err-finish.ensures.1 c.in_err-finish.ensures.refused
 
 pub returns-in_err-finish-clause-kept : goal.returns-in_err-finish-clause-kept
 returns-in_err-finish-clause-kept g c =

@@ -1,13 +1,18 @@
-use Rattle.std.proofs.Common.{sym, ap, ◌∙◌}
+use Rattle.std.proofs.Common.{refl, sym, ap, ◌∙◌, subst}
 use Rattle.std.specs.Result.{is_err}
-use Rattle.esr_core.specs.Entry.{BeginTest, CommitTest, WasBegun, WasDone}
+use Rattle.esr_core.specs.Entry.{ReadStep, BeginTest, CommitTest, WasBegun, WasDone}
+use Rattle.esr_names.specs.declared.blob.BlobName.{BlobName as CodeName}
 use Rattle.esr_names.specs.IdText.{id_text}
 use Rattle.esr_formats.specs.Names.{name_of}
-use Rattle.esr_checking.specs.Caller.{caller_of}
-use Rattle.esr_verify.specs.Trouble.{Shown}
-use Rattle.esr_verify.specs.declared.trouble.Trouble.TheVariants.{Step}
+use Rattle.esr_desk.specs.Own.{caller_of}
+use Rattle.esr_desk.specs.Once.{IsFresh}
+use Rattle.esr_desk.specs.declared.hand.Hand.TheVariants.{Verify}
+use Rattle.esr_desk.specs.Evidence.{evidence}
+use Rattle.esr_unit.specs.declared.trouble.Trouble.TheVariants.{Step}
+use Rattle.esr_unit.specs.Shown.{Shown}
 use Rattle.esr_verify.proofs.Going.{outcome_further, outcome_unverified, kept_by, kept_on, drew_on, drawn_same}
 use Rattle.esr_verify.proofs.Refusing.{passed, step_refused, is_faulty, never_err, on_ok}
+use Rattle.esr_verify.proofs.Making.{client_fresh}
 use Rattle.esr_verify.proofs.Doing.{is_own, can_commit, committed_drawn, held_text, holds_text, wrote_one}
 use Rattle.esr_verify.proofs.write.write_test.Goals as goal
 
@@ -20,8 +25,8 @@ returns-in_err-named-clause-trouble g c =
     let old = g.Q.Desk.seen c.args.desk.now in
     let new = g.Q.Desk.seen c.begin_test.new.self in
     let refusal = c.in_err-named.field-0.0 in
-    passed c.from_residual.result (Shown g.Q.Stage.Counted.faults g.Q.Fetch.Counted.faults s new) (Step refusal) c.from_residual.ensures.1
-    (step_refused c.laws.ensures.refuses s old new c.args.id.number (BeginTest (name_of c.args.name)) refusal (λ r how. how) c.requires.alone c.requires.drew c.in_err-named.ensures.step (drawn_same (caller_of s old) (caller_of s new) c.begin_test.ensures.own))
+    passed c.from_residual.result (Shown Verify (evidence g.Q.Stage.Counted.faults g.Q.Fetch.Counted.faults g.Q.Shard.Counted.faults g.Q.Target.Counted.faults g.Q.Shard.Shard.told g.Q.Target.Target.told) ⊥ s new 0) (Step refusal) c.from_residual.ensures.1
+    (step_refused (evidence g.Q.Stage.Counted.faults g.Q.Fetch.Counted.faults g.Q.Shard.Counted.faults g.Q.Target.Counted.faults g.Q.Shard.Shard.told g.Q.Target.Target.told) s c.laws.ensures.refuses old new c.args.id.number (BeginTest (name_of c.args.name)) refusal (λ r how. how) c.requires.alone c.requires.drew c.in_err-named.ensures.step (drawn_same (caller_of s old) (caller_of s new) c.begin_test.ensures.own))
 
 pub returns-in_err-named-clause-kept : goal.returns-in_err-named-clause-kept
 returns-in_err-named-clause-kept g c =
@@ -32,9 +37,11 @@ returns-in_err-named-clause-kept g c =
     (drawn_same (caller_of s old) (caller_of s new) c.begin_test.ensures.own)
 
 pub returns-then-is_err-clause-trouble : goal.returns-then-is_err-clause-trouble
-returns-then-is_err-clause-trouble g c =
-    is_faulty g.Q.Desk.start (g.Q.Stage.Counted.faults c.in_ok-named.named.stage) (g.Q.Stage.Counted.faults c.write.new.self) (is_err c.write.result) c.write.ensures.cause
-    (λ quiet. never_err c.write.result (c.write.ensures.sure_ok (c.in_ok-named.ensures.sure quiet))) (sym c.is_err.ensures.value ∙ c.if-is_err.true)
+returns-then-is_err-clause-trouble g c = record {
+  client = refl;
+  shown = is_faulty g.Q.Desk.start (g.Q.Stage.Counted.faults c.in_ok-named.named.stage) (g.Q.Stage.Counted.faults c.write.new.self) (is_err c.write.result) c.write.ensures.cause
+      (λ quiet. never_err c.write.result (c.write.ensures.sure_ok (c.in_ok-named.ensures.sure quiet))) (sym c.is_err.ensures.value ∙ c.if-is_err.true);
+}
 
 pub returns-then-is_err-clause-kept : goal.returns-then-is_err-clause-kept
 returns-then-is_err-clause-kept g c =
@@ -57,6 +64,14 @@ commit_test-requires-clause-may g c =
     can_commit s (g.Q.Desk.seen c.args.desk.now) (g.Q.Desk.seen c.begin_test.new.self) c.args.id.number (name_of c.args.name) (name_of c.in_ok-named.named.name) c.requires.drew c.requires.own c.requires.once c.begin_test.ensures.own
     (ap name_of c.in_ok-named.ensures.name)
 
+pub commit_test-requires-clause-new : goal.commit_test-requires-clause-new
+commit_test-requires-clause-new g c =
+    let s = g.Q.Desk.start in
+    let mid = g.Q.Desk.seen c.begin_test.new.self in
+    let name = name_of c.args.name in
+    subst (λ (n : CodeName). IsFresh s mid 0 (ReadStep (CommitTest (name_of n)))) (sym c.in_ok-named.ensures.name)
+    (client_fresh s (g.Q.Desk.seen c.args.desk.now) mid (ReadStep (CommitTest name)) (ReadStep (BeginTest name)) WasBegun c.requires.alone (λ same. same) c.in_ok-named.ensures.step c.requires.whole)
+
 pub returns-in_err-commit_test-clause-trouble : goal.returns-in_err-commit_test-clause-trouble
 returns-in_err-commit_test-clause-trouble g c =
     let s = g.Q.Desk.start in
@@ -66,8 +81,8 @@ returns-in_err-commit_test-clause-trouble g c =
     let id = c.args.id.number in
     let refusal = c.in_err-commit_test.field-0.0 in
     let drew = drew_on c.laws.ensures.deposes s old mid id (outcome_further s old mid (BeginTest (name_of c.args.name)) (λ x. WasBegun) c.begin_test.result c.requires.alone tt c.begin_test.ensures.step) c.requires.drew (drawn_same (caller_of s old) (caller_of s mid) c.begin_test.ensures.own) in
-    passed c.from_residual-in_err-commit_test.result (Shown g.Q.Stage.Counted.faults g.Q.Fetch.Counted.faults s new) (Step refusal) c.from_residual-in_err-commit_test.ensures.1
-    (step_refused c.laws.ensures.refuses s mid new id (CommitTest (name_of c.in_ok-named.named.name)) refusal (λ r how. how) c.requires.alone drew c.in_err-commit_test.ensures.step (drawn_same (caller_of s mid) (caller_of s new) c.in_err-commit_test.ensures.kept))
+    passed c.from_residual-in_err-commit_test.result (Shown Verify (evidence g.Q.Stage.Counted.faults g.Q.Fetch.Counted.faults g.Q.Shard.Counted.faults g.Q.Target.Counted.faults g.Q.Shard.Shard.told g.Q.Target.Target.told) ⊥ s new 0) (Step refusal) c.from_residual-in_err-commit_test.ensures.1
+    (step_refused (evidence g.Q.Stage.Counted.faults g.Q.Fetch.Counted.faults g.Q.Shard.Counted.faults g.Q.Target.Counted.faults g.Q.Shard.Shard.told g.Q.Target.Target.told) s c.laws.ensures.refuses mid new id (CommitTest (name_of c.in_ok-named.named.name)) refusal (λ r how. how) c.requires.alone drew c.in_err-commit_test.ensures.step (drawn_same (caller_of s mid) (caller_of s new) c.in_err-commit_test.ensures.kept))
 
 pub returns-in_err-commit_test-clause-kept : goal.returns-in_err-commit_test-clause-kept
 returns-in_err-commit_test-clause-kept g c =

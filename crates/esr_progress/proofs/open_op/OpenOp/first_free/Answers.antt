@@ -8,6 +8,6 @@ use Rattle.esr_progress.proofs.open_op.OpenOp.first_free.Goals as goal
 
 pub returns : goal.returns
 returns c =
-    c.first_free.ensures ∙ ap (position (is_open_free c.args.before.now)) c.deref.ensures.value
-    ∙ sym (position-map (is_free c.args.before.now) (work_of_shard c.self.inside.making.indices c.self.inside.places) c.self.inside.shards.items)
-    ∙ ap (λ (v : ℕ × Op). position (is_free c.args.before.now) v.1.shards) c.self.view_is
+    c.first_free.ensures ∙ ap (position (is_open_free c.args.ops.now c.args.restores.now c.self.inside.number)) c.deref.ensures.value
+    ∙ sym (position-map (is_free c.args.ops.now c.args.restores.now c.self.inside.number) (work_of_shard c.self.inside.making.indices c.self.inside.places) c.self.inside.shards.items)
+    ∙ ap (λ (v : ℕ × Op). position (is_free c.args.ops.now c.args.restores.now v.0) v.1.shards) c.self.view_is

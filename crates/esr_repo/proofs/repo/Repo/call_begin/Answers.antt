@@ -18,7 +18,7 @@ invariant_of-self-in-Ok-begin g c =
     let e : Entry = record { who = c.args.who; step = step_of c.args.step; reply = WasBegun } in
     let p : Pushed c.self.inside.history.items c.reserve.new.self.items c.push_reserved.new.self.items e = record { reserved = c.reserve.ensures.items; pushed = c.push_reserved.ensures.items } in (
       made_whole b g.K.Told.past c.self.invariant.0.past (g.met.D.Depot.only_now c.begin.new.self)
-          (begin_ok b (g.D.Depot.look c.begin.new.self) c.args.who (step_of c.args.step) (name_of c.args.name) c.requires.may c.write_name.ensures.reads c.in-Ok-begin.stage c.in-Ok-begin.ensures.call c.reserve.new.self.items c.push_reserved.new.self.items p),
+          (begin_ok b (g.D.Depot.look c.begin.new.self) c.args.who (step_of c.args.step) (name_of c.args.name) c.requires.may c.requires.goes c.write_name.ensures.reads c.in-Ok-begin.stage c.in-Ok-begin.ensures.call c.reserve.new.self.items c.push_reserved.new.self.items p),
       unfailed_faults c.self.invariant.1 p (g.D.Counted.faults c.begin.new.self) refl c.in-Ok-begin.ensures.cause.later,
       calm_goes (g.D.Depot.look c.self.inside.depot).sure c.self.invariant.2 p (g.D.Depot.look c.begin.new.self).sure refl c.in-Ok-begin.ensures.sure.spent,
     )
@@ -28,7 +28,7 @@ returns-in-Ok-begin-clause-step g c =
     let k : Kept = record { cluster = c.self.inside.cluster; root = c.self.inside.root; infos = c.self.inside.infos.items; plan = c.self.inside.progress; next = c.self.inside.next.number } in
     let b : Before (g.D.Depot.look c.self.inside.depot) g.K.Told.start g.K.Told.clock c.self.inside.history.items k c.self.inside.deposed c.args.self.now =
     record { laws = c.laws.ensures; repo = c.self.invariant.0.repo; view = c.self.view_is; live = c.requires.live } in
-    (begin_ok b (g.D.Depot.look c.begin.new.self) c.args.who (step_of c.args.step) (name_of c.args.name) c.requires.may c.write_name.ensures.reads c.in-Ok-begin.stage c.in-Ok-begin.ensures.call c.reserve.new.self.items c.push_reserved.new.self.items
+    (begin_ok b (g.D.Depot.look c.begin.new.self) c.args.who (step_of c.args.step) (name_of c.args.name) c.requires.may c.requires.goes c.write_name.ensures.reads c.in-Ok-begin.stage c.in-Ok-begin.ensures.call c.reserve.new.self.items c.push_reserved.new.self.items
     (record { reserved = c.reserve.ensures.items; pushed = c.push_reserved.ensures.items })).added
 
 pub returns-in-Ok-begin-clause-sure : goal.returns-in-Ok-begin-clause-sure
@@ -59,7 +59,7 @@ invariant_of-self-in-Err-Failed g c =
     let e : Entry = record { who = c.args.who; step = step_of c.args.step; reply = Refused DepotFault } in
     let p : Pushed c.self.inside.history.items c.reserve.new.self.items c.push_reserved-in-Err-Failed.new.self.items e = pushed_as c.reserve.new.self.items c.push_reserved-in-Err-Failed.new.self.items c.faulted.result c.reserve.ensures.items c.push_reserved-in-Err-Failed.ensures.items c.faulted.ensures in (
       made_whole b g.K.Told.past c.self.invariant.0.past (g.met.D.Depot.only_now c.begin.new.self)
-          (begin_fault b (g.D.Depot.look c.begin.new.self) c.args.who (step_of c.args.step) (name_of c.args.name) c.requires.may c.write_name.ensures.reads c.in-Err-Failed.field-0 c.in-Err-Failed.field-0-is c.in-Err-Failed.ensures.call c.reserve.new.self.items c.push_reserved-in-Err-Failed.new.self.items p),
+          (begin_fault b (g.D.Depot.look c.begin.new.self) c.args.who (step_of c.args.step) (name_of c.args.name) c.requires.may c.requires.goes c.write_name.ensures.reads c.in-Err-Failed.field-0 c.in-Err-Failed.field-0-is c.in-Err-Failed.ensures.call c.reserve.new.self.items c.push_reserved-in-Err-Failed.new.self.items p),
       failed_faults c.self.invariant.1 p (g.D.Counted.faults c.begin.new.self) _ c.in-Err-Failed.ensures.cause (failed_so c.in-Err-Failed.field-0 c.in-Err-Failed.field-0-is) refl,
       calm_failed (g.D.Depot.look c.self.inside.depot).sure c.self.invariant.2 p (g.D.Depot.look c.begin.new.self).sure _ c.in-Err-Failed.ensures.sure (failed_so c.in-Err-Failed.field-0 c.in-Err-Failed.field-0-is),
     )
@@ -69,5 +69,5 @@ returns-clause-step g c =
     let k : Kept = record { cluster = c.self.inside.cluster; root = c.self.inside.root; infos = c.self.inside.infos.items; plan = c.self.inside.progress; next = c.self.inside.next.number } in
     let b : Before (g.D.Depot.look c.self.inside.depot) g.K.Told.start g.K.Told.clock c.self.inside.history.items k c.self.inside.deposed c.args.self.now =
     record { laws = c.laws.ensures; repo = c.self.invariant.0.repo; view = c.self.view_is; live = c.requires.live } in
-    (begin_fault b (g.D.Depot.look c.begin.new.self) c.args.who (step_of c.args.step) (name_of c.args.name) c.requires.may c.write_name.ensures.reads c.in-Err-Failed.field-0 c.in-Err-Failed.field-0-is c.in-Err-Failed.ensures.call c.reserve.new.self.items c.push_reserved-in-Err-Failed.new.self.items
+    (begin_fault b (g.D.Depot.look c.begin.new.self) c.args.who (step_of c.args.step) (name_of c.args.name) c.requires.may c.requires.goes c.write_name.ensures.reads c.in-Err-Failed.field-0 c.in-Err-Failed.field-0-is c.in-Err-Failed.ensures.call c.reserve.new.self.items c.push_reserved-in-Err-Failed.new.self.items
     (pushed_as c.reserve.new.self.items c.push_reserved-in-Err-Failed.new.self.items c.faulted.result c.reserve.ensures.items c.push_reserved-in-Err-Failed.ensures.items c.faulted.ensures)).added

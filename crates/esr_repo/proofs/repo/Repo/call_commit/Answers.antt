@@ -21,7 +21,7 @@ invariant_of-self-in-Ok-Done g c =
     let e : Entry = record { who = c.args.who; step = step_of c.args.step; reply = WasDone } in
     let p : Pushed c.self.inside.history.items c.reserve.new.self.items c.push_reserved.new.self.items e = record { reserved = c.reserve.ensures.items; pushed = c.push_reserved.ensures.items } in (
       made_whole b g.K.Told.past c.self.invariant.0.past (g.met.D.Depot.only_now c.commit.new.self)
-          (commit_done b (g.D.Depot.look c.commit.new.self) c.args.who (step_of c.args.step) (name_of c.args.stage.name) (g.D.Stage.Stage.contents c.args.stage.stage) c.requires.may.0 c.requires.may.1 c.requires.may.2 c.reads_back.ensures (g.D.Stage.Stage.name c.args.stage.stage) c.args.stage.named c.in-Ok-Done.field-0 c.in-Ok-Done.field-0-is c.in-Ok-Done.ensures.call c.reserve.new.self.items c.push_reserved.new.self.items p).0,
+          (commit_done b (g.D.Depot.look c.commit.new.self) c.args.who (step_of c.args.step) (name_of c.args.stage.name) (g.D.Stage.Stage.contents c.args.stage.stage) c.requires.may.0 c.requires.may.1 c.requires.may.2 c.requires.goes c.reads_back.ensures (g.D.Stage.Stage.name c.args.stage.stage) c.args.stage.named c.in-Ok-Done.field-0 c.in-Ok-Done.field-0-is c.in-Ok-Done.ensures.call c.reserve.new.self.items c.push_reserved.new.self.items p).0,
       unfailed_faults c.self.invariant.1 p (g.D.Counted.faults c.commit.new.self) refl c.in-Ok-Done.ensures.cause.later,
       calm_goes (g.D.Depot.look c.self.inside.depot).sure c.self.invariant.2 p (g.D.Depot.look c.commit.new.self).sure refl c.in-Ok-Done.ensures.sure.spent,
     )
@@ -31,7 +31,7 @@ returns-in-Ok-Done-clause-step g c =
     let k : Kept = record { cluster = c.self.inside.cluster; root = c.self.inside.root; infos = c.self.inside.infos.items; plan = c.self.inside.progress; next = c.self.inside.next.number } in
     let b : Before (g.D.Depot.look c.self.inside.depot) g.K.Told.start g.K.Told.clock c.self.inside.history.items k c.self.inside.deposed c.args.self.now =
     record { laws = c.laws.ensures; repo = c.self.invariant.0.repo; view = c.self.view_is; live = c.requires.live } in
-    let made = commit_done b (g.D.Depot.look c.commit.new.self) c.args.who (step_of c.args.step) (name_of c.args.stage.name) (g.D.Stage.Stage.contents c.args.stage.stage) c.requires.may.0 c.requires.may.1 c.requires.may.2 c.reads_back.ensures (g.D.Stage.Stage.name c.args.stage.stage) c.args.stage.named c.in-Ok-Done.field-0 c.in-Ok-Done.field-0-is c.in-Ok-Done.ensures.call c.reserve.new.self.items c.push_reserved.new.self.items (record { reserved = c.reserve.ensures.items; pushed = c.push_reserved.ensures.items }) in
+    let made = commit_done b (g.D.Depot.look c.commit.new.self) c.args.who (step_of c.args.step) (name_of c.args.stage.name) (g.D.Stage.Stage.contents c.args.stage.stage) c.requires.may.0 c.requires.may.1 c.requires.may.2 c.requires.goes c.reads_back.ensures (g.D.Stage.Stage.name c.args.stage.stage) c.args.stage.named c.in-Ok-Done.field-0 c.in-Ok-Done.field-0-is c.in-Ok-Done.ensures.call c.reserve.new.self.items c.push_reserved.new.self.items (record { reserved = c.reserve.ensures.items; pushed = c.push_reserved.ensures.items }) in
     (made.0.added, ap (λ (i : Option Image). told_blob (formats_of g.K.Told.start) i (name_of c.args.stage.name)) made.0.image_is ∙ made.1)
 
 pub invariant_of-self-then-is_metadata : goal.invariant_of-self-then-is_metadata
@@ -42,7 +42,7 @@ invariant_of-self-then-is_metadata g c =
     let e : Entry = record { who = c.args.who; step = step_of c.args.step; reply = WasThere } in
     let p : Pushed c.self.inside.history.items c.reserve.new.self.items c.push_reserved-then-is_metadata.new.self.items e = record { reserved = c.reserve.ensures.items; pushed = c.push_reserved-then-is_metadata.ensures.items } in (
       made_whole b g.K.Told.past c.self.invariant.0.past (g.met.D.Depot.only_now c.commit.new.self)
-          (commit_found b (g.D.Depot.look c.commit.new.self) c.args.who (step_of c.args.step) (name_of c.args.stage.name) (g.D.Stage.Stage.contents c.args.stage.stage) c.requires.may.0 c.requires.may.1 c.requires.may.2 c.reads_back.ensures (g.D.Stage.Stage.name c.args.stage.stage) c.args.stage.named c.in-Ok-Exists.field-0 c.in-Ok-Exists.field-0-is c.in-Ok-Exists.ensures.call (c.is_metadata.ensures.yes_it_is c.if-is_metadata.true) c.reserve.new.self.items c.push_reserved-then-is_metadata.new.self.items p),
+          (commit_found b (g.D.Depot.look c.commit.new.self) c.args.who (step_of c.args.step) (name_of c.args.stage.name) (g.D.Stage.Stage.contents c.args.stage.stage) c.requires.may.0 c.requires.may.1 c.requires.may.2 c.requires.goes c.reads_back.ensures (g.D.Stage.Stage.name c.args.stage.stage) c.args.stage.named c.in-Ok-Exists.field-0 c.in-Ok-Exists.field-0-is c.in-Ok-Exists.ensures.call (c.is_metadata.ensures.yes_it_is c.if-is_metadata.true) c.reserve.new.self.items c.push_reserved-then-is_metadata.new.self.items p),
       unfailed_faults c.self.invariant.1 p (g.D.Counted.faults c.commit.new.self) refl c.in-Ok-Exists.ensures.cause.later,
       calm_goes (g.D.Depot.look c.self.inside.depot).sure c.self.invariant.2 p (g.D.Depot.look c.commit.new.self).sure refl c.in-Ok-Exists.ensures.sure.spent,
     )
@@ -52,7 +52,7 @@ returns-then-is_metadata-clause-step g c =
     let k : Kept = record { cluster = c.self.inside.cluster; root = c.self.inside.root; infos = c.self.inside.infos.items; plan = c.self.inside.progress; next = c.self.inside.next.number } in
     let b : Before (g.D.Depot.look c.self.inside.depot) g.K.Told.start g.K.Told.clock c.self.inside.history.items k c.self.inside.deposed c.args.self.now =
     record { laws = c.laws.ensures; repo = c.self.invariant.0.repo; view = c.self.view_is; live = c.requires.live } in
-    ((commit_found b (g.D.Depot.look c.commit.new.self) c.args.who (step_of c.args.step) (name_of c.args.stage.name) (g.D.Stage.Stage.contents c.args.stage.stage) c.requires.may.0 c.requires.may.1 c.requires.may.2 c.reads_back.ensures (g.D.Stage.Stage.name c.args.stage.stage) c.args.stage.named c.in-Ok-Exists.field-0 c.in-Ok-Exists.field-0-is c.in-Ok-Exists.ensures.call (c.is_metadata.ensures.yes_it_is c.if-is_metadata.true) c.reserve.new.self.items c.push_reserved-then-is_metadata.new.self.items (record { reserved = c.reserve.ensures.items; pushed = c.push_reserved-then-is_metadata.ensures.items })).added, c.is_metadata.ensures.yes_it_is c.if-is_metadata.true)
+    ((commit_found b (g.D.Depot.look c.commit.new.self) c.args.who (step_of c.args.step) (name_of c.args.stage.name) (g.D.Stage.Stage.contents c.args.stage.stage) c.requires.may.0 c.requires.may.1 c.requires.may.2 c.requires.goes c.reads_back.ensures (g.D.Stage.Stage.name c.args.stage.stage) c.args.stage.named c.in-Ok-Exists.field-0 c.in-Ok-Exists.field-0-is c.in-Ok-Exists.ensures.call (c.is_metadata.ensures.yes_it_is c.if-is_metadata.true) c.reserve.new.self.items c.push_reserved-then-is_metadata.new.self.items (record { reserved = c.reserve.ensures.items; pushed = c.push_reserved-then-is_metadata.ensures.items })).added, c.is_metadata.ensures.yes_it_is c.if-is_metadata.true)
 
 pub invariant_of-self-in-Ok-Exists : goal.invariant_of-self-in-Ok-Exists
 invariant_of-self-in-Ok-Exists g c =
@@ -62,7 +62,7 @@ invariant_of-self-in-Ok-Exists g c =
     let e : Entry = record { who = c.args.who; step = step_of c.args.step; reply = Refused (NameTaken (name_of c.args.stage.name)) } in
     let p : Pushed c.self.inside.history.items c.reserve.new.self.items c.push_reserved-in-Ok-Exists.new.self.items e = record { reserved = c.reserve.ensures.items; pushed = c.push_reserved-in-Ok-Exists.ensures.items } in (
       made_whole b g.K.Told.past c.self.invariant.0.past (g.met.D.Depot.only_now c.commit.new.self)
-          (commit_taken b (g.D.Depot.look c.commit.new.self) c.args.who (step_of c.args.step) (name_of c.args.stage.name) (g.D.Stage.Stage.contents c.args.stage.stage) c.requires.may.0 c.requires.may.1 c.requires.may.2 c.reads_back.ensures (g.D.Stage.Stage.name c.args.stage.stage) c.args.stage.named c.in-Ok-Exists.field-0 c.in-Ok-Exists.field-0-is c.in-Ok-Exists.ensures.call (c.is_metadata.ensures.it_is_not c.if-is_metadata.false) c.reserve.new.self.items c.push_reserved-in-Ok-Exists.new.self.items p),
+          (commit_taken b (g.D.Depot.look c.commit.new.self) c.args.who (step_of c.args.step) (name_of c.args.stage.name) (g.D.Stage.Stage.contents c.args.stage.stage) c.requires.may.0 c.requires.may.1 c.requires.may.2 c.requires.goes c.reads_back.ensures (g.D.Stage.Stage.name c.args.stage.stage) c.args.stage.named c.in-Ok-Exists.field-0 c.in-Ok-Exists.field-0-is c.in-Ok-Exists.ensures.call (c.is_metadata.ensures.it_is_not c.if-is_metadata.false) c.reserve.new.self.items c.push_reserved-in-Ok-Exists.new.self.items p),
       unfailed_faults c.self.invariant.1 p (g.D.Counted.faults c.commit.new.self) refl c.in-Ok-Exists.ensures.cause.later,
       calm_goes (g.D.Depot.look c.self.inside.depot).sure c.self.invariant.2 p (g.D.Depot.look c.commit.new.self).sure refl c.in-Ok-Exists.ensures.sure.spent,
     )
@@ -72,7 +72,7 @@ returns-else-is_metadata-clause-step g c =
     let k : Kept = record { cluster = c.self.inside.cluster; root = c.self.inside.root; infos = c.self.inside.infos.items; plan = c.self.inside.progress; next = c.self.inside.next.number } in
     let b : Before (g.D.Depot.look c.self.inside.depot) g.K.Told.start g.K.Told.clock c.self.inside.history.items k c.self.inside.deposed c.args.self.now =
     record { laws = c.laws.ensures; repo = c.self.invariant.0.repo; view = c.self.view_is; live = c.requires.live } in
-    (commit_taken b (g.D.Depot.look c.commit.new.self) c.args.who (step_of c.args.step) (name_of c.args.stage.name) (g.D.Stage.Stage.contents c.args.stage.stage) c.requires.may.0 c.requires.may.1 c.requires.may.2 c.reads_back.ensures (g.D.Stage.Stage.name c.args.stage.stage) c.args.stage.named c.in-Ok-Exists.field-0 c.in-Ok-Exists.field-0-is c.in-Ok-Exists.ensures.call (c.is_metadata.ensures.it_is_not c.if-is_metadata.false) c.reserve.new.self.items c.push_reserved-in-Ok-Exists.new.self.items (record { reserved = c.reserve.ensures.items; pushed = c.push_reserved-in-Ok-Exists.ensures.items })).added
+    (commit_taken b (g.D.Depot.look c.commit.new.self) c.args.who (step_of c.args.step) (name_of c.args.stage.name) (g.D.Stage.Stage.contents c.args.stage.stage) c.requires.may.0 c.requires.may.1 c.requires.may.2 c.requires.goes c.reads_back.ensures (g.D.Stage.Stage.name c.args.stage.stage) c.args.stage.named c.in-Ok-Exists.field-0 c.in-Ok-Exists.field-0-is c.in-Ok-Exists.ensures.call (c.is_metadata.ensures.it_is_not c.if-is_metadata.false) c.reserve.new.self.items c.push_reserved-in-Ok-Exists.new.self.items (record { reserved = c.reserve.ensures.items; pushed = c.push_reserved-in-Ok-Exists.ensures.items })).added
 
 pub invariant_of-self-in-Err-Memory : goal.invariant_of-self-in-Err-Memory
 invariant_of-self-in-Err-Memory g c =
@@ -99,7 +99,7 @@ invariant_of-self-in-Err-Failed g c =
     let e : Entry = record { who = c.args.who; step = step_of c.args.step; reply = Refused DepotFault } in
     let p : Pushed c.self.inside.history.items c.reserve.new.self.items c.push_reserved-in-Err-Failed.new.self.items e = pushed_as c.reserve.new.self.items c.push_reserved-in-Err-Failed.new.self.items c.faulted-failed.result c.reserve.ensures.items c.push_reserved-in-Err-Failed.ensures.items c.faulted-failed.ensures in (
       made_whole b g.K.Told.past c.self.invariant.0.past (g.met.D.Depot.only_now c.commit.new.self)
-          (commit_fault b (g.D.Depot.look c.commit.new.self) c.args.who (step_of c.args.step) (name_of c.args.stage.name) (g.D.Stage.Stage.contents c.args.stage.stage) c.requires.may.0 c.requires.may.1 c.requires.may.2 c.reads_back.ensures (g.D.Stage.Stage.name c.args.stage.stage) c.args.stage.named c.in-Err-Failed.field-0 c.in-Err-Failed.field-0-is c.in-Err-Failed.ensures.call c.reserve.new.self.items c.push_reserved-in-Err-Failed.new.self.items p),
+          (commit_fault b (g.D.Depot.look c.commit.new.self) c.args.who (step_of c.args.step) (name_of c.args.stage.name) (g.D.Stage.Stage.contents c.args.stage.stage) c.requires.may.0 c.requires.may.1 c.requires.may.2 c.requires.goes c.reads_back.ensures (g.D.Stage.Stage.name c.args.stage.stage) c.args.stage.named c.in-Err-Failed.field-0 c.in-Err-Failed.field-0-is c.in-Err-Failed.ensures.call c.reserve.new.self.items c.push_reserved-in-Err-Failed.new.self.items p),
       failed_faults c.self.invariant.1 p (g.D.Counted.faults c.commit.new.self) _ c.in-Err-Failed.ensures.cause (failed_so c.in-Err-Failed.field-0 c.in-Err-Failed.field-0-is) refl,
       calm_failed (g.D.Depot.look c.self.inside.depot).sure c.self.invariant.2 p (g.D.Depot.look c.commit.new.self).sure _ c.in-Err-Failed.ensures.sure (failed_so c.in-Err-Failed.field-0 c.in-Err-Failed.field-0-is),
     )
@@ -109,4 +109,4 @@ returns-in-Err-Failed-clause-step g c =
     let k : Kept = record { cluster = c.self.inside.cluster; root = c.self.inside.root; infos = c.self.inside.infos.items; plan = c.self.inside.progress; next = c.self.inside.next.number } in
     let b : Before (g.D.Depot.look c.self.inside.depot) g.K.Told.start g.K.Told.clock c.self.inside.history.items k c.self.inside.deposed c.args.self.now =
     record { laws = c.laws.ensures; repo = c.self.invariant.0.repo; view = c.self.view_is; live = c.requires.live } in
-    (commit_fault b (g.D.Depot.look c.commit.new.self) c.args.who (step_of c.args.step) (name_of c.args.stage.name) (g.D.Stage.Stage.contents c.args.stage.stage) c.requires.may.0 c.requires.may.1 c.requires.may.2 c.reads_back.ensures (g.D.Stage.Stage.name c.args.stage.stage) c.args.stage.named c.in-Err-Failed.field-0 c.in-Err-Failed.field-0-is c.in-Err-Failed.ensures.call c.reserve.new.self.items c.push_reserved-in-Err-Failed.new.self.items (pushed_as c.reserve.new.self.items c.push_reserved-in-Err-Failed.new.self.items c.faulted-failed.result c.reserve.ensures.items c.push_reserved-in-Err-Failed.ensures.items c.faulted-failed.ensures)).added
+    (commit_fault b (g.D.Depot.look c.commit.new.self) c.args.who (step_of c.args.step) (name_of c.args.stage.name) (g.D.Stage.Stage.contents c.args.stage.stage) c.requires.may.0 c.requires.may.1 c.requires.may.2 c.requires.goes c.reads_back.ensures (g.D.Stage.Stage.name c.args.stage.stage) c.args.stage.named c.in-Err-Failed.field-0 c.in-Err-Failed.field-0-is c.in-Err-Failed.ensures.call c.reserve.new.self.items c.push_reserved-in-Err-Failed.new.self.items (pushed_as c.reserve.new.self.items c.push_reserved-in-Err-Failed.new.self.items c.faulted-failed.result c.reserve.ensures.items c.push_reserved-in-Err-Failed.ensures.items c.faulted-failed.ensures)).added

@@ -21,7 +21,7 @@ invariant_of-self-in-Ok-Some g c =
     let e : Entry = record { who = c.args.who; step = step_of c.args.step; reply = WasFetched } in
     let p : Pushed c.self.inside.history.items c.reserve.new.self.items c.push_reserved.new.self.items e = record { reserved = c.reserve.ensures.items; pushed = c.push_reserved.ensures.items } in (
       made_whole b g.K.Told.past c.self.invariant.0.past (g.met.D.Depot.only_now c.fetch.new.self)
-          (fetch_found b (g.D.Depot.look c.fetch.new.self) c.args.who (step_of c.args.step) (name_of c.args.name) c.requires.may c.write_name.ensures.reads c.as_str.result.now (c.as_str.ensures.text ∙ c.in-Ok.ensures.text) c.in-Ok-Some.field-0 c.in-Ok-Some.fetch c.in-Ok-Some.field-0-is c.in-Ok-Some.ensures.present c.in-Ok-Some.ensures.call c.reserve.new.self.items c.push_reserved.new.self.items p),
+          (fetch_found b (g.D.Depot.look c.fetch.new.self) c.args.who (step_of c.args.step) (name_of c.args.name) c.requires.may c.requires.goes c.write_name.ensures.reads c.as_str.result.now (c.as_str.ensures.text ∙ c.in-Ok.ensures.text) c.in-Ok-Some.field-0 c.in-Ok-Some.fetch c.in-Ok-Some.field-0-is c.in-Ok-Some.ensures.present c.in-Ok-Some.ensures.call c.reserve.new.self.items c.push_reserved.new.self.items p),
       unfailed_faults c.self.invariant.1 p (g.D.Counted.faults c.fetch.new.self) refl c.in-Ok-Some.ensures.cause.later,
       calm_goes (g.D.Depot.look c.self.inside.depot).sure c.self.invariant.2 p (g.D.Depot.look c.fetch.new.self).sure refl c.in-Ok-Some.ensures.sure.spent,
     )
@@ -31,11 +31,11 @@ returns-in-Ok-Some-clause-step g c =
     let k : Kept = record { cluster = c.self.inside.cluster; root = c.self.inside.root; infos = c.self.inside.infos.items; plan = c.self.inside.progress; next = c.self.inside.next.number } in
     let b : Before (g.D.Depot.look c.self.inside.depot) g.K.Told.start g.K.Told.clock c.self.inside.history.items k c.self.inside.deposed c.args.self.now =
     record { laws = c.laws.ensures; repo = c.self.invariant.0.repo; view = c.self.view_is; live = c.requires.live } in
-    let made = fetch_found b (g.D.Depot.look c.fetch.new.self) c.args.who (step_of c.args.step) (name_of c.args.name) c.requires.may c.write_name.ensures.reads c.as_str.result.now (c.as_str.ensures.text ∙ c.in-Ok.ensures.text) c.in-Ok-Some.field-0 c.in-Ok-Some.fetch c.in-Ok-Some.field-0-is c.in-Ok-Some.ensures.present c.in-Ok-Some.ensures.call c.reserve.new.self.items c.push_reserved.new.self.items (record { reserved = c.reserve.ensures.items; pushed = c.push_reserved.ensures.items }) in
-    let left = fetch_left b (g.D.Depot.look c.fetch.new.self) c.args.who (step_of c.args.step) (name_of c.args.name) c.requires.may c.write_name.ensures.reads c.as_str.result.now (c.as_str.ensures.text ∙ c.in-Ok.ensures.text) g.D.Fetch.Fetch.left c.in-Ok-Some.field-0 c.in-Ok-Some.fetch c.in-Ok-Some.field-0-is c.in-Ok-Some.ensures.left in (
+    let made = fetch_found b (g.D.Depot.look c.fetch.new.self) c.args.who (step_of c.args.step) (name_of c.args.name) c.requires.may c.requires.goes c.write_name.ensures.reads c.as_str.result.now (c.as_str.ensures.text ∙ c.in-Ok.ensures.text) c.in-Ok-Some.field-0 c.in-Ok-Some.fetch c.in-Ok-Some.field-0-is c.in-Ok-Some.ensures.present c.in-Ok-Some.ensures.call c.reserve.new.self.items c.push_reserved.new.self.items (record { reserved = c.reserve.ensures.items; pushed = c.push_reserved.ensures.items }) in
+    let left = fetch_left b (g.D.Depot.look c.fetch.new.self) c.args.who (step_of c.args.step) (name_of c.args.name) c.requires.may c.requires.goes c.write_name.ensures.reads c.as_str.result.now (c.as_str.ensures.text ∙ c.in-Ok.ensures.text) g.D.Fetch.Fetch.left c.in-Ok-Some.field-0 c.in-Ok-Some.fetch c.in-Ok-Some.field-0-is c.in-Ok-Some.ensures.left in (
       made.added,
-      ap (λ (i : Option Image). told_blob (formats_of g.K.Told.start) i (name_of c.args.name)) made.image_is ∙ fetch_told b (g.D.Depot.look c.fetch.new.self) c.args.who (step_of c.args.step) (name_of c.args.name) c.requires.may c.write_name.ensures.reads c.as_str.result.now (c.as_str.ensures.text ∙ c.in-Ok.ensures.text) c.in-Ok-Some.ensures.call.done (g.D.Fetch.Fetch.left c.in-Ok-Some.fetch) left,
-      fetch_bytes b (g.D.Depot.look c.fetch.new.self) c.args.who (step_of c.args.step) (name_of c.args.name) c.requires.may c.write_name.ensures.reads c.as_str.result.now (c.as_str.ensures.text ∙ c.in-Ok.ensures.text) c.in-Ok-Some.field-0 c.in-Ok-Some.fetch c.in-Ok-Some.field-0-is c.in-Ok-Some.ensures.present (g.D.Fetch.Fetch.left c.in-Ok-Some.fetch) left,
+      ap (λ (i : Option Image). told_blob (formats_of g.K.Told.start) i (name_of c.args.name)) made.image_is ∙ fetch_told b (g.D.Depot.look c.fetch.new.self) c.args.who (step_of c.args.step) (name_of c.args.name) c.requires.may c.requires.goes c.write_name.ensures.reads c.as_str.result.now (c.as_str.ensures.text ∙ c.in-Ok.ensures.text) c.in-Ok-Some.ensures.call.done (g.D.Fetch.Fetch.left c.in-Ok-Some.fetch) left,
+      fetch_bytes b (g.D.Depot.look c.fetch.new.self) c.args.who (step_of c.args.step) (name_of c.args.name) c.requires.may c.requires.goes c.write_name.ensures.reads c.as_str.result.now (c.as_str.ensures.text ∙ c.in-Ok.ensures.text) c.in-Ok-Some.field-0 c.in-Ok-Some.fetch c.in-Ok-Some.field-0-is c.in-Ok-Some.ensures.present (g.D.Fetch.Fetch.left c.in-Ok-Some.fetch) left,
     )
 
 pub returns-in-Ok-Some-clause-sure : goal.returns-in-Ok-Some-clause-sure
@@ -51,7 +51,7 @@ invariant_of-self-in-Ok-None g c =
     let e : Entry = record { who = c.args.who; step = step_of c.args.step; reply = WasAbsent } in
     let p : Pushed c.self.inside.history.items c.reserve.new.self.items c.push_reserved-in-Ok-None.new.self.items e = record { reserved = c.reserve.ensures.items; pushed = c.push_reserved-in-Ok-None.ensures.items } in (
       made_whole b g.K.Told.past c.self.invariant.0.past (g.met.D.Depot.only_now c.fetch.new.self)
-          (fetch_absent b (g.D.Depot.look c.fetch.new.self) c.args.who (step_of c.args.step) (name_of c.args.name) c.requires.may c.write_name.ensures.reads c.as_str.result.now (c.as_str.ensures.text ∙ c.in-Ok.ensures.text) c.in-Ok-None.field-0 c.in-Ok-None.field-0-is (c.in-Ok-None.ensures.absent (ap Ok c.in-Ok-None.field-0-is)) c.in-Ok-None.ensures.call c.reserve.new.self.items c.push_reserved-in-Ok-None.new.self.items p),
+          (fetch_absent b (g.D.Depot.look c.fetch.new.self) c.args.who (step_of c.args.step) (name_of c.args.name) c.requires.may c.requires.goes c.write_name.ensures.reads c.as_str.result.now (c.as_str.ensures.text ∙ c.in-Ok.ensures.text) c.in-Ok-None.field-0 c.in-Ok-None.field-0-is (c.in-Ok-None.ensures.absent (ap Ok c.in-Ok-None.field-0-is)) c.in-Ok-None.ensures.call c.reserve.new.self.items c.push_reserved-in-Ok-None.new.self.items p),
       unfailed_faults c.self.invariant.1 p (g.D.Counted.faults c.fetch.new.self) refl c.in-Ok-None.ensures.cause.later,
       calm_goes (g.D.Depot.look c.self.inside.depot).sure c.self.invariant.2 p (g.D.Depot.look c.fetch.new.self).sure refl c.in-Ok-None.ensures.sure.spent,
     )
@@ -61,7 +61,7 @@ returns-in-Ok-None-clause-step g c =
     let k : Kept = record { cluster = c.self.inside.cluster; root = c.self.inside.root; infos = c.self.inside.infos.items; plan = c.self.inside.progress; next = c.self.inside.next.number } in
     let b : Before (g.D.Depot.look c.self.inside.depot) g.K.Told.start g.K.Told.clock c.self.inside.history.items k c.self.inside.deposed c.args.self.now =
     record { laws = c.laws.ensures; repo = c.self.invariant.0.repo; view = c.self.view_is; live = c.requires.live } in
-    (fetch_absent b (g.D.Depot.look c.fetch.new.self) c.args.who (step_of c.args.step) (name_of c.args.name) c.requires.may c.write_name.ensures.reads c.as_str.result.now (c.as_str.ensures.text ∙ c.in-Ok.ensures.text) c.in-Ok-None.field-0 c.in-Ok-None.field-0-is (c.in-Ok-None.ensures.absent (ap Ok c.in-Ok-None.field-0-is)) c.in-Ok-None.ensures.call c.reserve.new.self.items c.push_reserved-in-Ok-None.new.self.items (record { reserved = c.reserve.ensures.items; pushed = c.push_reserved-in-Ok-None.ensures.items })).added
+    (fetch_absent b (g.D.Depot.look c.fetch.new.self) c.args.who (step_of c.args.step) (name_of c.args.name) c.requires.may c.requires.goes c.write_name.ensures.reads c.as_str.result.now (c.as_str.ensures.text ∙ c.in-Ok.ensures.text) c.in-Ok-None.field-0 c.in-Ok-None.field-0-is (c.in-Ok-None.ensures.absent (ap Ok c.in-Ok-None.field-0-is)) c.in-Ok-None.ensures.call c.reserve.new.self.items c.push_reserved-in-Ok-None.new.self.items (record { reserved = c.reserve.ensures.items; pushed = c.push_reserved-in-Ok-None.ensures.items })).added
 
 pub invariant_of-self-in-Err-Memory : goal.invariant_of-self-in-Err-Memory
 invariant_of-self-in-Err-Memory g c =
@@ -88,7 +88,7 @@ invariant_of-self-in-Err-Failed g c =
     let e : Entry = record { who = c.args.who; step = step_of c.args.step; reply = Refused DepotFault } in
     let p : Pushed c.self.inside.history.items c.reserve.new.self.items c.push_reserved-in-Err-Failed.new.self.items e = pushed_as c.reserve.new.self.items c.push_reserved-in-Err-Failed.new.self.items c.faulted.result c.reserve.ensures.items c.push_reserved-in-Err-Failed.ensures.items c.faulted.ensures in (
       made_whole b g.K.Told.past c.self.invariant.0.past (g.met.D.Depot.only_now c.fetch.new.self)
-          (fetch_fault b (g.D.Depot.look c.fetch.new.self) c.args.who (step_of c.args.step) (name_of c.args.name) c.requires.may c.write_name.ensures.reads c.as_str.result.now (c.as_str.ensures.text ∙ c.in-Ok.ensures.text) c.in-Err-Failed.field-0 c.in-Err-Failed.field-0-is c.in-Err-Failed.ensures.call c.reserve.new.self.items c.push_reserved-in-Err-Failed.new.self.items p),
+          (fetch_fault b (g.D.Depot.look c.fetch.new.self) c.args.who (step_of c.args.step) (name_of c.args.name) c.requires.may c.requires.goes c.write_name.ensures.reads c.as_str.result.now (c.as_str.ensures.text ∙ c.in-Ok.ensures.text) c.in-Err-Failed.field-0 c.in-Err-Failed.field-0-is c.in-Err-Failed.ensures.call c.reserve.new.self.items c.push_reserved-in-Err-Failed.new.self.items p),
       failed_faults c.self.invariant.1 p (g.D.Counted.faults c.fetch.new.self) _ c.in-Err-Failed.ensures.cause (failed_so c.in-Err-Failed.field-0 c.in-Err-Failed.field-0-is) refl,
       calm_failed (g.D.Depot.look c.self.inside.depot).sure c.self.invariant.2 p (g.D.Depot.look c.fetch.new.self).sure _ c.in-Err-Failed.ensures.sure (failed_so c.in-Err-Failed.field-0 c.in-Err-Failed.field-0-is),
     )
@@ -98,4 +98,4 @@ returns-clause-step g c =
     let k : Kept = record { cluster = c.self.inside.cluster; root = c.self.inside.root; infos = c.self.inside.infos.items; plan = c.self.inside.progress; next = c.self.inside.next.number } in
     let b : Before (g.D.Depot.look c.self.inside.depot) g.K.Told.start g.K.Told.clock c.self.inside.history.items k c.self.inside.deposed c.args.self.now =
     record { laws = c.laws.ensures; repo = c.self.invariant.0.repo; view = c.self.view_is; live = c.requires.live } in
-    (fetch_fault b (g.D.Depot.look c.fetch.new.self) c.args.who (step_of c.args.step) (name_of c.args.name) c.requires.may c.write_name.ensures.reads c.as_str.result.now (c.as_str.ensures.text ∙ c.in-Ok.ensures.text) c.in-Err-Failed.field-0 c.in-Err-Failed.field-0-is c.in-Err-Failed.ensures.call c.reserve.new.self.items c.push_reserved-in-Err-Failed.new.self.items (pushed_as c.reserve.new.self.items c.push_reserved-in-Err-Failed.new.self.items c.faulted.result c.reserve.ensures.items c.push_reserved-in-Err-Failed.ensures.items c.faulted.ensures)).added
+    (fetch_fault b (g.D.Depot.look c.fetch.new.self) c.args.who (step_of c.args.step) (name_of c.args.name) c.requires.may c.requires.goes c.write_name.ensures.reads c.as_str.result.now (c.as_str.ensures.text ∙ c.in-Ok.ensures.text) c.in-Err-Failed.field-0 c.in-Err-Failed.field-0-is c.in-Err-Failed.ensures.call c.reserve.new.self.items c.push_reserved-in-Err-Failed.new.self.items (pushed_as c.reserve.new.self.items c.push_reserved-in-Err-Failed.new.self.items c.faulted.result c.reserve.ensures.items c.push_reserved-in-Err-Failed.ensures.items c.faulted.ensures)).added

@@ -18,7 +18,7 @@ invariant_of-self-in-Ok-remove g c =
     let e : Entry = record { who = c.args.who; step = step_of c.args.step; reply = WasRemoved } in
     let p : Pushed c.self.inside.history.items c.reserve.new.self.items c.push_reserved.new.self.items e = record { reserved = c.reserve.ensures.items; pushed = c.push_reserved.ensures.items } in (
       made_whole b g.K.Told.past c.self.invariant.0.past (g.met.D.Depot.only_now c.remove.new.self)
-          (removed_ok b (g.D.Depot.look c.remove.new.self) c.args.who (step_of c.args.step) (map name_of c.args.names.now) c.requires.may (backs_of c.args.names.now c.in-Ok.ensures.reads) c.in-Ok.texts (c.in-Ok.ensures.texts ∙ texts_of c.args.names.now) c.in-Ok-remove.field-0 c.in-Ok-remove.ensures.call c.reserve.new.self.items c.push_reserved.new.self.items p),
+          (removed_ok b (g.D.Depot.look c.remove.new.self) c.args.who (step_of c.args.step) (map name_of c.args.names.now) c.requires.may c.requires.goes (backs_of c.args.names.now c.in-Ok.ensures.reads) c.in-Ok.texts (c.in-Ok.ensures.texts ∙ texts_of c.args.names.now) c.in-Ok-remove.field-0 c.in-Ok-remove.ensures.call c.reserve.new.self.items c.push_reserved.new.self.items p),
       unfailed_faults c.self.invariant.1 p (g.D.Counted.faults c.remove.new.self) refl c.in-Ok-remove.ensures.cause.later,
       calm_goes (g.D.Depot.look c.self.inside.depot).sure c.self.invariant.2 p (g.D.Depot.look c.remove.new.self).sure refl c.in-Ok-remove.ensures.sure.spent,
     )
@@ -28,7 +28,7 @@ returns-in-Ok-remove-clause-step g c =
     let k : Kept = record { cluster = c.self.inside.cluster; root = c.self.inside.root; infos = c.self.inside.infos.items; plan = c.self.inside.progress; next = c.self.inside.next.number } in
     let b : Before (g.D.Depot.look c.self.inside.depot) g.K.Told.start g.K.Told.clock c.self.inside.history.items k c.self.inside.deposed c.args.self.now =
     record { laws = c.laws.ensures; repo = c.self.invariant.0.repo; view = c.self.view_is; live = c.requires.live } in
-    (removed_ok b (g.D.Depot.look c.remove.new.self) c.args.who (step_of c.args.step) (map name_of c.args.names.now) c.requires.may (backs_of c.args.names.now c.in-Ok.ensures.reads) c.in-Ok.texts (c.in-Ok.ensures.texts ∙ texts_of c.args.names.now) c.in-Ok-remove.field-0 c.in-Ok-remove.ensures.call c.reserve.new.self.items c.push_reserved.new.self.items (record { reserved = c.reserve.ensures.items; pushed = c.push_reserved.ensures.items })).added
+    (removed_ok b (g.D.Depot.look c.remove.new.self) c.args.who (step_of c.args.step) (map name_of c.args.names.now) c.requires.may c.requires.goes (backs_of c.args.names.now c.in-Ok.ensures.reads) c.in-Ok.texts (c.in-Ok.ensures.texts ∙ texts_of c.args.names.now) c.in-Ok-remove.field-0 c.in-Ok-remove.ensures.call c.reserve.new.self.items c.push_reserved.new.self.items (record { reserved = c.reserve.ensures.items; pushed = c.push_reserved.ensures.items })).added
 
 pub invariant_of-self-in-Err : goal.invariant_of-self-in-Err
 invariant_of-self-in-Err g c =
@@ -38,7 +38,7 @@ invariant_of-self-in-Err g c =
     let e : Entry = record { who = c.args.who; step = step_of c.args.step; reply = Refused DepotFault } in
     let p : Pushed c.self.inside.history.items c.reserve.new.self.items c.push_reserved-in-Err.new.self.items e = (pushed_as c.reserve.new.self.items c.push_reserved-in-Err.new.self.items c.faulted.result c.reserve.ensures.items c.push_reserved-in-Err.ensures.items c.faulted.ensures) in (
       made_whole b g.K.Told.past c.self.invariant.0.past (g.met.D.Depot.only_now c.remove.new.self)
-          (removed_fault b (g.D.Depot.look c.remove.new.self) c.args.who (step_of c.args.step) (map name_of c.args.names.now) c.requires.may (backs_of c.args.names.now c.in-Ok.ensures.reads) c.in-Ok.texts (c.in-Ok.ensures.texts ∙ texts_of c.args.names.now) c.in-Err.ensures.call c.reserve.new.self.items c.push_reserved-in-Err.new.self.items p),
+          (removed_fault b (g.D.Depot.look c.remove.new.self) c.args.who (step_of c.args.step) (map name_of c.args.names.now) c.requires.may c.requires.goes (backs_of c.args.names.now c.in-Ok.ensures.reads) c.in-Ok.texts (c.in-Ok.ensures.texts ∙ texts_of c.args.names.now) c.in-Err.ensures.call c.reserve.new.self.items c.push_reserved-in-Err.new.self.items p),
       failed_faults c.self.invariant.1 p (g.D.Counted.faults c.remove.new.self) _ c.in-Err.ensures.cause refl refl,
       calm_failed (g.D.Depot.look c.self.inside.depot).sure c.self.invariant.2 p (g.D.Depot.look c.remove.new.self).sure _ c.in-Err.ensures.sure refl,
     )
@@ -48,4 +48,4 @@ returns-clause-step g c =
     let k : Kept = record { cluster = c.self.inside.cluster; root = c.self.inside.root; infos = c.self.inside.infos.items; plan = c.self.inside.progress; next = c.self.inside.next.number } in
     let b : Before (g.D.Depot.look c.self.inside.depot) g.K.Told.start g.K.Told.clock c.self.inside.history.items k c.self.inside.deposed c.args.self.now =
     record { laws = c.laws.ensures; repo = c.self.invariant.0.repo; view = c.self.view_is; live = c.requires.live } in
-    (removed_fault b (g.D.Depot.look c.remove.new.self) c.args.who (step_of c.args.step) (map name_of c.args.names.now) c.requires.may (backs_of c.args.names.now c.in-Ok.ensures.reads) c.in-Ok.texts (c.in-Ok.ensures.texts ∙ texts_of c.args.names.now) c.in-Err.ensures.call c.reserve.new.self.items c.push_reserved-in-Err.new.self.items (pushed_as c.reserve.new.self.items c.push_reserved-in-Err.new.self.items c.faulted.result c.reserve.ensures.items c.push_reserved-in-Err.ensures.items c.faulted.ensures)).added
+    (removed_fault b (g.D.Depot.look c.remove.new.self) c.args.who (step_of c.args.step) (map name_of c.args.names.now) c.requires.may c.requires.goes (backs_of c.args.names.now c.in-Ok.ensures.reads) c.in-Ok.texts (c.in-Ok.ensures.texts ∙ texts_of c.args.names.now) c.in-Err.ensures.call c.reserve.new.self.items c.push_reserved-in-Err.new.self.items (pushed_as c.reserve.new.self.items c.push_reserved-in-Err.new.self.items c.faulted.result c.reserve.ensures.items c.push_reserved-in-Err.ensures.items c.faulted.ensures)).added

@@ -16,7 +16,7 @@ invariant_of-self-in-Ok g c =
     let e : Entry = record { who = c.args.who; step = LatestStep; reply = WasReplaced } in
     let p : Pushed c.self.inside.history.items c.reserve.new.self.items c.push_reserved.new.self.items e = record { reserved = c.reserve.ensures.items; pushed = c.push_reserved.ensures.items } in (
       made_whole b g.K.Told.past c.self.invariant.0.past (g.met.D.Depot.only_now c.replace.new.self)
-          (replace_ok b (g.D.Depot.look c.replace.new.self) c.args.who (g.D.Stage.Stage.contents c.args.stage.stage) c.requires.may.0 c.requires.may.1 c.requires.may.2 latest_back (g.D.Stage.Stage.name c.args.stage.stage) (latest_named c.args.stage.name (g.D.Stage.Stage.name c.args.stage.stage) c.args.stage.named c.requires.name) c.in-Ok.field-0 c.in-Ok.ensures.call c.reserve.new.self.items c.push_reserved.new.self.items p),
+          (replace_ok b (g.D.Depot.look c.replace.new.self) c.args.who (g.D.Stage.Stage.contents c.args.stage.stage) c.requires.may.0 c.requires.may.1 c.requires.may.2 c.requires.goes latest_back (g.D.Stage.Stage.name c.args.stage.stage) (latest_named c.args.stage.name (g.D.Stage.Stage.name c.args.stage.stage) c.args.stage.named c.requires.name) c.in-Ok.field-0 c.in-Ok.ensures.call c.reserve.new.self.items c.push_reserved.new.self.items p),
       unfailed_faults c.self.invariant.1 p (g.D.Counted.faults c.replace.new.self) refl c.in-Ok.ensures.cause.later,
       calm_goes (g.D.Depot.look c.self.inside.depot).sure c.self.invariant.2 p (g.D.Depot.look c.replace.new.self).sure refl c.in-Ok.ensures.sure.spent,
     )
@@ -26,7 +26,7 @@ returns-in-Ok-clause-step g c =
     let k : Kept = record { cluster = c.self.inside.cluster; root = c.self.inside.root; infos = c.self.inside.infos.items; plan = c.self.inside.progress; next = c.self.inside.next.number } in
     let b : Before (g.D.Depot.look c.self.inside.depot) g.K.Told.start g.K.Told.clock c.self.inside.history.items k c.self.inside.deposed c.args.self.now =
     record { laws = c.laws.ensures; repo = c.self.invariant.0.repo; view = c.self.view_is; live = c.requires.live } in
-    (replace_ok b (g.D.Depot.look c.replace.new.self) c.args.who (g.D.Stage.Stage.contents c.args.stage.stage) c.requires.may.0 c.requires.may.1 c.requires.may.2 latest_back (g.D.Stage.Stage.name c.args.stage.stage) (latest_named c.args.stage.name (g.D.Stage.Stage.name c.args.stage.stage) c.args.stage.named c.requires.name) c.in-Ok.field-0 c.in-Ok.ensures.call c.reserve.new.self.items c.push_reserved.new.self.items (record { reserved = c.reserve.ensures.items; pushed = c.push_reserved.ensures.items })).added
+    (replace_ok b (g.D.Depot.look c.replace.new.self) c.args.who (g.D.Stage.Stage.contents c.args.stage.stage) c.requires.may.0 c.requires.may.1 c.requires.may.2 c.requires.goes latest_back (g.D.Stage.Stage.name c.args.stage.stage) (latest_named c.args.stage.name (g.D.Stage.Stage.name c.args.stage.stage) c.args.stage.named c.requires.name) c.in-Ok.field-0 c.in-Ok.ensures.call c.reserve.new.self.items c.push_reserved.new.self.items (record { reserved = c.reserve.ensures.items; pushed = c.push_reserved.ensures.items })).added
 
 pub invariant_of-self-in-Err-Memory : goal.invariant_of-self-in-Err-Memory
 invariant_of-self-in-Err-Memory g c =
@@ -53,7 +53,7 @@ invariant_of-self-in-Err-Failed g c =
     let e : Entry = record { who = c.args.who; step = LatestStep; reply = Refused DepotFault } in
     let p : Pushed c.self.inside.history.items c.reserve.new.self.items c.push_reserved-in-Err-Failed.new.self.items e = pushed_as c.reserve.new.self.items c.push_reserved-in-Err-Failed.new.self.items c.faulted.result c.reserve.ensures.items c.push_reserved-in-Err-Failed.ensures.items c.faulted.ensures in (
       made_whole b g.K.Told.past c.self.invariant.0.past (g.met.D.Depot.only_now c.replace.new.self)
-          (replace_fault b (g.D.Depot.look c.replace.new.self) c.args.who (g.D.Stage.Stage.contents c.args.stage.stage) c.requires.may.0 c.requires.may.1 c.requires.may.2 latest_back (g.D.Stage.Stage.name c.args.stage.stage) (latest_named c.args.stage.name (g.D.Stage.Stage.name c.args.stage.stage) c.args.stage.named c.requires.name) c.in-Err-Failed.field-0 c.in-Err-Failed.field-0-is c.in-Err-Failed.ensures.call c.reserve.new.self.items c.push_reserved-in-Err-Failed.new.self.items p),
+          (replace_fault b (g.D.Depot.look c.replace.new.self) c.args.who (g.D.Stage.Stage.contents c.args.stage.stage) c.requires.may.0 c.requires.may.1 c.requires.may.2 c.requires.goes latest_back (g.D.Stage.Stage.name c.args.stage.stage) (latest_named c.args.stage.name (g.D.Stage.Stage.name c.args.stage.stage) c.args.stage.named c.requires.name) c.in-Err-Failed.field-0 c.in-Err-Failed.field-0-is c.in-Err-Failed.ensures.call c.reserve.new.self.items c.push_reserved-in-Err-Failed.new.self.items p),
       failed_faults c.self.invariant.1 p (g.D.Counted.faults c.replace.new.self) _ c.in-Err-Failed.ensures.cause (failed_so c.in-Err-Failed.field-0 c.in-Err-Failed.field-0-is) refl,
       calm_failed (g.D.Depot.look c.self.inside.depot).sure c.self.invariant.2 p (g.D.Depot.look c.replace.new.self).sure _ c.in-Err-Failed.ensures.sure (failed_so c.in-Err-Failed.field-0 c.in-Err-Failed.field-0-is),
     )
@@ -63,4 +63,4 @@ returns-in-Err-Failed-clause-step g c =
     let k : Kept = record { cluster = c.self.inside.cluster; root = c.self.inside.root; infos = c.self.inside.infos.items; plan = c.self.inside.progress; next = c.self.inside.next.number } in
     let b : Before (g.D.Depot.look c.self.inside.depot) g.K.Told.start g.K.Told.clock c.self.inside.history.items k c.self.inside.deposed c.args.self.now =
     record { laws = c.laws.ensures; repo = c.self.invariant.0.repo; view = c.self.view_is; live = c.requires.live } in
-    (replace_fault b (g.D.Depot.look c.replace.new.self) c.args.who (g.D.Stage.Stage.contents c.args.stage.stage) c.requires.may.0 c.requires.may.1 c.requires.may.2 latest_back (g.D.Stage.Stage.name c.args.stage.stage) (latest_named c.args.stage.name (g.D.Stage.Stage.name c.args.stage.stage) c.args.stage.named c.requires.name) c.in-Err-Failed.field-0 c.in-Err-Failed.field-0-is c.in-Err-Failed.ensures.call c.reserve.new.self.items c.push_reserved-in-Err-Failed.new.self.items (pushed_as c.reserve.new.self.items c.push_reserved-in-Err-Failed.new.self.items c.faulted.result c.reserve.ensures.items c.push_reserved-in-Err-Failed.ensures.items c.faulted.ensures)).added
+    (replace_fault b (g.D.Depot.look c.replace.new.self) c.args.who (g.D.Stage.Stage.contents c.args.stage.stage) c.requires.may.0 c.requires.may.1 c.requires.may.2 c.requires.goes latest_back (g.D.Stage.Stage.name c.args.stage.stage) (latest_named c.args.stage.name (g.D.Stage.Stage.name c.args.stage.stage) c.args.stage.named c.requires.name) c.in-Err-Failed.field-0 c.in-Err-Failed.field-0-is c.in-Err-Failed.ensures.call c.reserve.new.self.items c.push_reserved-in-Err-Failed.new.self.items (pushed_as c.reserve.new.self.items c.push_reserved-in-Err-Failed.new.self.items c.faulted.result c.reserve.ensures.items c.push_reserved-in-Err-Failed.ensures.items c.faulted.ensures)).added

@@ -1,8 +1,9 @@
-use Rattle.std.proofs.Common.{List, None, subst}
+use Rattle.std.proofs.Common.{List, None, subst, refl}
 use Rattle.esr_core.specs.Entry.{Clone, AskStep, Accepted, Moment}
 use Rattle.esr_desk.specs.Entries.{step_of}
 use Rattle.esr_repo.specs.Next.{AddedOr}
 use Rattle.esr_repo.proofs.Clones.{wanting, passed_on, took_from}
+use Rattle.esr_repo.proofs.Fresh.{free_as, goes_as, own_as}
 use Rattle.esr_repo.proofs.repo.Repo.clone_snapshot.Goals as goal
 
 pub returns-in_err-asked : goal.returns-in_err-asked
@@ -31,3 +32,15 @@ open_clone-requires-clause-may g c = c.in-Ok.ensures
 
 pub refuse_clone-requires-clause-why : goal.refuse_clone-requires-clause-why
 refuse_clone-requires-clause-why g c = c.in-Err.ensures
+
+pub check-requires-clause-fresh : goal.check-requires-clause-fresh
+check-requires-clause-fresh g c = free_as g.K.Told.start c.args.self.now 0 (step_of c.in_ok-asked.asked) (AskStep (Clone c.args.source.now c.args.name.now c.args.indices.now c.args.moment None)) c.in_ok-asked.ensures tt
+
+pub check-requires-clause-own : goal.check-requires-clause-own
+check-requires-clause-own g c = own_as g.K.Told.start c.args.self.now 0 (step_of c.in_ok-asked.asked) (AskStep (Clone c.args.source.now c.args.name.now c.args.indices.now c.args.moment None)) c.in_ok-asked.ensures tt
+
+pub open_clone-requires-clause-goes : goal.open_clone-requires-clause-goes
+open_clone-requires-clause-goes g c = goes_as g.K.Told.start c.check.new.self 0 (step_of c.in_ok-asked.asked) (AskStep (Clone c.args.source.now c.args.name.now c.args.indices.now c.args.moment None)) (AskStep (Clone c.args.source.now c.args.name.now c.args.indices.now c.args.moment None)) c.in_ok-asked.ensures refl c.in_ok-check.ensures.goes
+
+pub refuse_clone-requires-clause-goes : goal.refuse_clone-requires-clause-goes
+refuse_clone-requires-clause-goes g c = goes_as g.K.Told.start c.check.new.self 0 (step_of c.in_ok-asked.asked) (AskStep (Clone c.args.source.now c.args.name.now c.args.indices.now c.args.moment None)) (AskStep (Clone c.args.source.now c.args.name.now c.args.indices.now c.args.moment None)) c.in_ok-asked.ensures refl c.in_ok-check.ensures.goes

@@ -2,12 +2,12 @@ use Rattle.std.proofs.Common.{refl, rules}
 use Rattle.esr_core.specs.Entry.{CommitTest, WasDone}
 use Rattle.esr_formats.specs.Names.{name_of}
 use Rattle.esr_repo.proofs.Callers.{kept_caller}
-use Rattle.esr_repo.proofs.Verifying.{may_commit_test, committed_test, committed_caller}
+use Rattle.esr_repo.proofs.Verifying.{workers_of, may_commit_test, committed_test, committed_caller}
 use Rattle.esr_repo.proofs.repo.Repo.commit_test.Goals as goal
 
 pub call_commit-requires-clause-may : goal.call_commit-requires-clause-may
 call_commit-requires-clause-may g c =
-    may_commit_test g.K.Told.start c.args.self.now c.check.new.self (name_of c.args.stage.name) (g.D.Stage.Stage.contents c.args.stage.stage) c.in_ok-check.ensures.step.0 c.rules.ensures.read_tracked c.requires.may c.requires.holds
+    may_commit_test g.K.Told.start c.args.self.now c.check.new.self (name_of c.args.stage.name) (g.D.Stage.Stage.contents c.args.stage.stage) c.in_ok-check.ensures.step.0 c.rules.ensures.read_tracked c.requires.may (workers_of c.args.stage.name c.requires.layout) c.requires.holds
 
 pub returns-in_err-call_commit-clause-kept : goal.returns-in_err-call_commit-clause-kept
 returns-in_err-call_commit-clause-kept g c = kept_caller g.K.Told.start c.args.self.now c.args.self.now c.call_commit.new.self 0 (CommitTest (name_of c.args.stage.name)) (λ _. WasDone) c.from_residual-in_err-call_commit.result (λ is. cc) refl (search rules)

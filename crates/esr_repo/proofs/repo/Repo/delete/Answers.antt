@@ -1,6 +1,8 @@
 use Rattle.std.proofs.Common.{sym, subst}
-use Rattle.esr_core.specs.Entry.{Step, Accepted}
+use Rattle.esr_core.specs.Entry.{Step, Accepted, AskStep, DeleteSnapshots}
 use Rattle.esr_repo.specs.May.{MaySwap}
+use Rattle.esr_desk.specs.Entries.{step_of}
+use Rattle.esr_repo.proofs.Fresh.{free_as, goes_as, own_as}
 use Rattle.esr_repo.proofs.repo.Repo.delete.Goals as goal
 
 pub swap-requires-clause-may : goal.swap-requires-clause-may
@@ -11,3 +13,17 @@ swap-requires-clause-may g c =
 
 pub refuse_delete-requires-clause-why : goal.refuse_delete-requires-clause-why
 refuse_delete-requires-clause-why g c = (c.args.names.now, c.in_ok-step.ensures, c.in-Err.ensures.err)
+
+pub check-requires-clause-fresh : goal.check-requires-clause-fresh
+check-requires-clause-fresh g c = free_as g.K.Told.start c.args.self.now 0 (step_of c.in_ok-deletes.field-0) (AskStep (DeleteSnapshots c.args.names.now)) c.in_ok-deletes.ensures tt
+
+pub check-requires-clause-own : goal.check-requires-clause-own
+check-requires-clause-own g c = own_as g.K.Told.start c.args.self.now 0 (step_of c.in_ok-deletes.field-0) (AskStep (DeleteSnapshots c.args.names.now)) c.in_ok-deletes.ensures tt
+
+pub swap-requires-clause-goes : goal.swap-requires-clause-goes
+swap-requires-clause-goes g c =
+    goes_as g.K.Told.start c.check.new.self 0 (step_of c.in_ok-deletes.field-0) (step_of c.in_ok-step.step) (AskStep (DeleteSnapshots c.args.names.now)) c.in_ok-deletes.ensures c.in_ok-step.ensures c.in_ok-check.ensures.goes
+
+pub refuse_delete-requires-clause-goes : goal.refuse_delete-requires-clause-goes
+refuse_delete-requires-clause-goes g c =
+    goes_as g.K.Told.start c.check.new.self 0 (step_of c.in_ok-deletes.field-0) (step_of c.in_ok-step.step) (AskStep (DeleteSnapshots c.args.names.now)) c.in_ok-deletes.ensures c.in_ok-step.ensures c.in_ok-check.ensures.goes

@@ -5,7 +5,7 @@ use Rattle.esr_repo.specs.Next.{Added}
 use Rattle.esr_repo.specs.May.{MayNote, MayRefuse}
 use Rattle.esr_repo.proofs.DeleteTickets.{planned_ticket}
 use Rattle.esr_repo.proofs.DeleteMays.{may_plan_delete, may_spend_plan}
-use Rattle.std.proofs.Common.{ℕ, ◌+◌, ◌≤◌, ◌≡◌, suc, ap, ◌∙◌}
+use Rattle.std.proofs.Common.{ℕ, ◌+◌, ◌≤◌, suc, ap, ◌∙◌}
 use Rattle.esr_model.specs.Kept.{first_id}
 use Rattle.esr_desk.specs.Start.{world_of}
 use Rattle.esr_repo.proofs.repo.Repo.draw_planned.Goals as goal

@@ -1,5 +1,6 @@
 use Rattle.std.proofs.Common.{rules}
 use Rattle.esr_repo.proofs.Verifying.{may_note_draw_test, may_refuse_draw_test, drawn_caller, refused_draw, drew_caller}
+use Rattle.esr_repo.proofs.Fresh.{first_draw, tested_none}
 use Rattle.esr_repo.proofs.repo.Repo.draw_test.Goals as goal
 
 pub refuse-requires-clause-may : goal.refuse-requires-clause-may
@@ -17,3 +18,9 @@ returns-clause-own g c = drawn_caller g.K.Told.start c.args.self.now c.check.new
 
 pub returns-in_default-clause-own : goal.returns-in_default-clause-own
 returns-in_default-clause-own g c = refused_draw g.K.Told.start c.args.self.now c.check.new.self c.refuse.new.self c.refuse.result c.in_ok-check.ensures.step.0 c.refuse.ensures.step
+
+pub check-requires-clause-fresh : goal.check-requires-clause-fresh
+check-requires-clause-fresh g c = first_draw g.K.Told.start c.args.self.now c.rules.ensures.client c.requires.may
+
+pub returns-clause-new : goal.returns-clause-new
+returns-clause-new g c = tested_none g.K.Told.start c.args.self.now c.check.new.self c.note.new.self c.next_id-first.result.number c.in_ok-check.ensures.step.0 c.rules.ensures.client c.requires.may c.in_ok-note.ensures.step

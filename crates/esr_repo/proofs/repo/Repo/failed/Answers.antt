@@ -1,15 +1,19 @@
-use Rattle.esr_core.specs.Entry.{FailedStep, HasEnded}
-use Rattle.esr_desk.specs.Entries.{why_of}
-use Rattle.esr_repo.proofs.Stepping.{on_done}
-use Rattle.esr_repo.proofs.Ended.{may_fail, failed_ticket}
+use Rattle.std.proofs.Common.{Some, sym, subst}
+use Rattle.esr_desk.specs.declared.hand.Hand.{Hand}
+use Rattle.esr_desk.specs.Start.{world_of}
+use Rattle.esr_repo.specs.Hands.{IsPlanAfter}
 use Rattle.esr_repo.proofs.repo.Repo.failed.Goals as goal
 
-pub note-requires-clause-may : goal.note-requires-clause-may
-note-requires-clause-may g c =
-    may_fail g.K.Told.start c.args.self.now c.check.new.self c.args.ticket (why_of c.args.why) c.plan.result.now c.in_ok-progress.progress c.term.result c.next_id-next.result.number c.in_ok-check.ensures.step.0 c.requires.may
-    c.rules.ensures.tracked c.plan.ensures c.term.ensures.term c.in_ok-progress.ensures c.next_id-next.ensures.number
+pub returns-in_ok-unit_failed-in-Unit : goal.returns-in_ok-unit_failed-in-Unit
+returns-in_ok-unit_failed-in-Unit g c =
+    subst (λ (h : Hand). IsPlanAfter h (world_of g.K.Told.start c.args.self.now) c.args.who (Some c.in_ok-unit_failed-in-Unit.field-0)) (sym c.in-Unit.is) (c.in_ok-unit_failed-in-Unit.ensures (world_of g.K.Told.start c.args.self.now) c.plan.ensures (sym c.term.ensures.term))
 
-pub returns-clause-own : goal.returns-clause-own
-returns-clause-own g c =
-    on_done g.K.Told.start c.check.new.self c.note.new.self c.args.ticket (FailedStep (why_of c.args.why)) HasEnded c.note.result c.note.ensures.step
-    (failed_ticket g.K.Told.start c.args.self.now c.check.new.self c.note.new.self c.args.ticket (why_of c.args.why) c.in_ok-check.ensures.step.0 c.requires.may c.rules.ensures.tracked)
+pub returns-in_ok-delete_failed-in-Delete : goal.returns-in_ok-delete_failed-in-Delete
+returns-in_ok-delete_failed-in-Delete g c =
+    subst (λ (h : Hand). IsPlanAfter h (world_of g.K.Told.start c.args.self.now) c.args.who (Some c.in_ok-delete_failed-in-Delete.field-0)) (sym c.in-Delete.is)
+    (c.in_ok-delete_failed-in-Delete.ensures (world_of g.K.Told.start c.args.self.now) c.plan-in-Delete.ensures (sym c.term-in-Delete.ensures.term))
+
+pub returns-in_ok-shard_read-in-Restore : goal.returns-in_ok-shard_read-in-Restore
+returns-in_ok-shard_read-in-Restore g c =
+    subst (λ (h : Hand). IsPlanAfter h (world_of g.K.Told.start c.args.self.now) c.args.who (Some c.in_ok-shard_read-in-Restore.field-0)) (sym c.in-Restore.is)
+    (λ state ended. c.in_ok-shard_read-in-Restore.ensures (world_of g.K.Told.start c.args.self.now) state ended c.plan-in-Restore.ensures)

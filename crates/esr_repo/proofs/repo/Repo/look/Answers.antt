@@ -5,6 +5,8 @@ use Rattle.esr_root.specs.Root.{Root}
 use Rattle.esr_formats.specs.Roots.{root_snap_of}
 use Rattle.esr_formats.specs.Clusters.{count_of}
 use Rattle.esr_repo.proofs.Drawing.{may_look}
+use Rattle.esr_core.specs.Entry.{LookStep}
+use Rattle.esr_repo.proofs.Fresh.{free_fresh}
 use Rattle.esr_repo.proofs.repo.Repo.look.Goals as goal
 
 pub note-requires-clause-may : goal.note-requires-clause-may
@@ -16,3 +18,6 @@ note-requires-clause-may g c =
 
 pub returns-clause-least : goal.returns-clause-least
 returns-clause-least g c = subst (λ (z : ℤ). negsuc 0 ≤ℤ z) (sym (to_z-of_z w64 c.safe-safe.result (search rules))) c.safe-safe.ensures.least
+
+pub check-requires-clause-fresh : goal.check-requires-clause-fresh
+check-requires-clause-fresh g c = free_fresh g.K.Told.start c.args.self.now 0 LookStep tt

@@ -1,9 +1,10 @@
-use Rattle.std.proofs.Common.{None, sym, subst}
+use Rattle.std.proofs.Common.{None, sym, subst, refl}
 use Rattle.esr_core.specs.Entry.{Clone, Step, AskStep, Accepted}
 use Rattle.esr_desk.specs.Entries.{step_of}
 use Rattle.esr_repo.specs.Next.{Added}
 use Rattle.esr_repo.specs.May.{MaySwap}
 use Rattle.esr_repo.proofs.Clones.{wanting, passed_on}
+use Rattle.esr_repo.proofs.Fresh.{goes_as, goes_ask}
 use Rattle.esr_repo.proofs.repo.Repo.open_clone.Goals as goal
 
 pub returns-in_err-op : goal.returns-in_err-op
@@ -25,3 +26,8 @@ returns-in_err-swap g c = (
 
 pub returns : goal.returns
 returns g c = (c.in_ok-op.ensures.0, subst (λ (step : Step). Added g.K.Told.start c.args.self.now c.swap.new.self 0 step (Accepted c.in_ok-op.op)) c.in_ok-op.ensures.1 c.in_ok-swap.ensures.step)
+
+pub swap-requires-clause-goes : goal.swap-requires-clause-goes
+swap-requires-clause-goes g c =
+    goes_as g.K.Told.start c.args.self.now 0 (AskStep (Clone c.args.source.now c.args.name.now c.args.indices.now c.args.moment c.in_ok-op.ensures.0)) (step_of c.in_ok-op.step) (AskStep (Clone c.args.source.now c.args.name.now c.args.indices.now c.args.moment c.in_ok-op.ensures.0)) refl c.in_ok-op.ensures.1
+    (goes_ask g.K.Told.start c.args.self.now _ (Clone c.args.source.now c.args.name.now c.args.indices.now c.args.moment c.in_ok-op.ensures.0) c.requires.goes)

@@ -2,16 +2,17 @@ use Rattle.std.proofs.Common.{◌≡◌, ◌+◌, ◌<◌, ◌^◌, List, length
 use Rattle.esr_model.specs.Values.{RootData, IsOneEach}
 use Rattle.esr_model.specs.Delete.{deleted_root}
 use Rattle.esr_core.specs.Pruning.{AreOfRoot, planned}
-use Rattle.esr_core.specs.Entry.{Step, DrawnFrom, Moment}
+use Rattle.esr_core.specs.Entry.{Step, DrawnFrom, Moment, PruneStep, PlanShards}
 use Rattle.esr_formats.specs.Ids.{number_of}
 use Rattle.esr_formats.specs.Roots.{root_of}
 use Rattle.esr_results.specs.Pruned.{pruned_of}
 use Rattle.esr_desk.specs.Start.{formats_of, ticket_of}
 use Rattle.esr_desk.specs.Entries.{step_of}
-use Rattle.esr_deleting.specs.declared.desk.Planned.{Planned}
+use Rattle.esr_desk.specs.declared.unit.Planned.{Planned}
 use Rattle.esr_repo.specs.Next.{Did}
 use Rattle.esr_repo.proofs.Stepping.{did_from}
 use Rattle.esr_repo.proofs.DeletePlans.{plan_now, planned_so}
+use Rattle.esr_repo.proofs.Fresh.{fresh_as, goes_as, own_as}
 use Rattle.esr_repo.proofs.repo.Repo.plan_delete.Goals as goal
 
 pub planned-requires-clause-one_each : goal.planned-requires-clause-one_each
@@ -48,3 +49,13 @@ pub returns-clause-kept : goal.returns-clause-kept
 returns-clause-kept g c =
     let s = g.K.Told.start in
     subst (λ (log : List Moment). OnErr c.draw_planned.result (ticket_of s c.draw_planned.new.self c.args.ticket ≡ ticket_of s log c.args.ticket)) c.in_ok-check.ensures.step.0 c.draw_planned.ensures.kept
+
+pub check-requires-clause-fresh : goal.check-requires-clause-fresh
+check-requires-clause-fresh g c = fresh_as g.K.Told.start c.args.self.now c.args.ticket (step_of c.in_ok-plans.field-0) (PruneStep (PlanShards (map pruned_of c.args.shards.now))) c.in_ok-plans.ensures c.requires.new
+
+pub check-requires-clause-own : goal.check-requires-clause-own
+check-requires-clause-own g c = own_as g.K.Told.start c.args.self.now c.args.ticket (step_of c.in_ok-plans.field-0) (PruneStep (PlanShards (map pruned_of c.args.shards.now))) c.in_ok-plans.ensures tt
+
+pub draw_planned-requires-clause-goes : goal.draw_planned-requires-clause-goes
+draw_planned-requires-clause-goes g c =
+    goes_as g.K.Told.start c.check.new.self c.args.ticket (step_of c.in_ok-plans.field-0) (step_of c.in_ok-step.step) (PruneStep (PlanShards (map pruned_of c.args.shards.now))) c.in_ok-plans.ensures c.in_ok-step.ensures c.in_ok-check.ensures.goes

@@ -8,7 +8,7 @@ use Rattle.esr_meta.specs.Info.{Info}
 use Rattle.esr_formats.specs.Roots.{root_of}
 use Rattle.esr_formats.specs.Clusters.{cluster_of}
 use Rattle.esr_desk.specs.Start.{ticket_of}
-use Rattle.esr_deleting.specs.Conditions.{CanSettleDelete}
+use Rattle.esr_desk.specs.Delete.Conditions.{CanSettleDelete}
 use Rattle.esr_repo.proofs.DeleteMays.{may_swap_delete}
 use Rattle.esr_repo.proofs.repo.Repo.pruned.Goals as goal
 

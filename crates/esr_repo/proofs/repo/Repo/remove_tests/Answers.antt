@@ -1,4 +1,4 @@
-use Rattle.std.proofs.Common.{List, map, refl, sym, subst}
+use Rattle.std.proofs.Common.{List, map, refl, sym, subst, ap, ◌∙◌}
 use Rattle.esr_core.specs.Entry.{Step, ReadStep, RemoveTests, WasRemoved}
 use Rattle.esr_names.specs.declared.blob.BlobName.{BlobName as CodeName}
 use Rattle.esr_formats.specs.Names.{name_of}
@@ -7,6 +7,7 @@ use Rattle.esr_repo.specs.May.{MayRemove}
 use Rattle.esr_repo.proofs.Stepping.{on_done}
 use Rattle.esr_repo.proofs.Callers.{kept_caller}
 use Rattle.esr_repo.proofs.Verifying.{may_remove_tests, removed_did, removed_caller}
+use Rattle.esr_repo.proofs.Fresh.{fresh_as, goes_as, own_as}
 use Rattle.esr_repo.proofs.repo.Repo.remove_tests.Goals as goal
 
 pub call_remove-requires-clause-may : goal.call_remove-requires-clause-may
@@ -27,3 +28,17 @@ returns-clause-own g c =
 pub returns-clause-kept : goal.returns-clause-kept
 returns-clause-kept g c =
     kept_caller g.K.Told.start c.args.self.now c.args.self.now c.call_remove.new.self 0 (RemoveTests (map name_of c.args.names.now)) (λ _. WasRemoved) c.call_remove.result (λ is. cc) refl (returns-clause-step g c)
+
+pub check-requires-clause-fresh : goal.check-requires-clause-fresh
+check-requires-clause-fresh g c =
+    fresh_as g.K.Told.start c.args.self.now 0 (step_of c.in_ok-removes.field-0) (ReadStep (RemoveTests (map name_of c.args.names.now)))
+    (c.in_ok-removes.ensures ∙ ap (λ (names : List CodeName). ReadStep (RemoveTests (map name_of names))) c.as_slice-names.ensures) c.requires.new
+
+pub check-requires-clause-own : goal.check-requires-clause-own
+check-requires-clause-own g c =
+    own_as g.K.Told.start c.args.self.now 0 (step_of c.in_ok-removes.field-0) (ReadStep (RemoveTests (map name_of c.args.names.now)))
+    (c.in_ok-removes.ensures ∙ ap (λ (names : List CodeName). ReadStep (RemoveTests (map name_of names))) c.as_slice-names.ensures) tt
+
+pub call_remove-requires-clause-goes : goal.call_remove-requires-clause-goes
+call_remove-requires-clause-goes g c =
+    goes_as g.K.Told.start c.check.new.self 0 (step_of c.in_ok-removes.field-0) (step_of c.in_ok-step.step) (ReadStep (RemoveTests (map name_of c.as_slice-names.result.now))) c.in_ok-removes.ensures c.in_ok-step.ensures c.in_ok-check.ensures.goes

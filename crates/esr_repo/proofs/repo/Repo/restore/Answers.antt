@@ -7,6 +7,8 @@ use Rattle.esr_desk.specs.Refusals.{refusal_of}
 use Rattle.esr_desk.specs.Start.{world_of}
 use Rattle.esr_repo.specs.May.{MayNote, MayRefuse}
 use Rattle.esr_repo.proofs.Restores.{may_restore}
+use Rattle.esr_desk.specs.Entries.{step_of}
+use Rattle.esr_repo.proofs.Fresh.{free_as, goes_as, own_as}
 use Rattle.esr_repo.proofs.repo.Repo.restore.Goals as goal
 
 pub restore_refusal-requires : goal.restore_refusal-requires
@@ -24,3 +26,17 @@ note-requires-clause-may g c =
     (may_restore g.K.Told.start c.check.new.self c.args.name.now c.args.place.now c.in-Ok.uuid.number (map ref_of_code c.in_ok-indices.indices) c.in_ok-progress.progress c.next_op-op.result c.next_id-next.result.number
     (c.in-Ok.ensures (world_of g.K.Told.start c.check.new.self) c.plan.ensures (sym c.safe_root.ensures)) c.in_ok-indices.ensures.indices c.next_op-op.ensures
     (c.in_ok-progress.ensures (world_of g.K.Told.start c.check.new.self) c.plan-2.ensures) c.next_id-next.ensures.number))
+
+pub check-requires-clause-fresh : goal.check-requires-clause-fresh
+check-requires-clause-fresh g c = free_as g.K.Told.start c.args.self.now 0 (step_of c.in_ok-asks.field-0) (AskStep (Restore c.args.name.now c.args.place.now)) c.in_ok-asks.ensures tt
+
+pub check-requires-clause-own : goal.check-requires-clause-own
+check-requires-clause-own g c = own_as g.K.Told.start c.args.self.now 0 (step_of c.in_ok-asks.field-0) (AskStep (Restore c.args.name.now c.args.place.now)) c.in_ok-asks.ensures tt
+
+pub refuse-requires-clause-goes : goal.refuse-requires-clause-goes
+refuse-requires-clause-goes g c =
+    goes_as g.K.Told.start c.check.new.self 0 (step_of c.in_ok-asks.field-0) (step_of c.in_ok-refused-in-Err.refused) (AskStep (Restore c.args.name.now c.args.place.now)) c.in_ok-asks.ensures c.in_ok-refused-in-Err.ensures c.in_ok-check.ensures.goes
+
+pub note-requires-clause-goes : goal.note-requires-clause-goes
+note-requires-clause-goes g c =
+    goes_as g.K.Told.start c.check.new.self 0 (step_of c.in_ok-asks.field-0) (step_of c.in_ok-step.step) (AskStep (Restore c.args.name.now c.args.place.now)) c.in_ok-asks.ensures c.in_ok-step.ensures c.in_ok-check.ensures.goes

@@ -2,7 +2,11 @@ use Rattle.std.proofs.Common.{List, subst}
 use Rattle.esr_core.specs.Entry.{Moment}
 use Rattle.esr_desk.specs.Start.{world_of}
 use Rattle.esr_repo.specs.Repo.{Gone}
+use Rattle.esr_repo.specs.Tickets.{AreStale}
 use Rattle.esr_repo.proofs.repo.Repo.rules.Goals as goal
 
 pub returns-clause-gone : goal.returns-clause-gone
 returns-clause-gone g c = subst (λ (log : List Moment). Gone (world_of g.K.Told.start log)) c.self.view_is c.self.invariant.0.repo.steady.gone
+
+pub returns-clause-stale : goal.returns-clause-stale
+returns-clause-stale g c = subst (λ (log : List Moment). AreStale (world_of g.K.Told.start log)) c.self.view_is c.self.invariant.0.repo.steady.stale

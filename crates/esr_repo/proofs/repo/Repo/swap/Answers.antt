@@ -21,7 +21,7 @@ invariant_of-self g c =
     let e : Entry = record { who = c.args.who; step = step_of c.args.step; reply = answer_of c.args.answer } in
     let p : Pushed c.self.inside.history.items c.put_record.new.history.items c.push_reserved.new.self.items e = record { reserved = c.in-Ok.ensures.entries; pushed = c.push_reserved.ensures.items } in (
       made_whole b g.K.Told.past c.self.invariant.0.past (g.met.D.Depot.only_now c.put_record.new.depot)
-          (swap_ok b (g.D.Depot.look c.put_record.new.depot) c.args.who (step_of c.args.step) (answer_of c.args.answer) c.args.renewed.cluster c.args.renewed.root c.args.renewed.left c.args.renewed.info c.args.renewed.progress c.args.renewed.next.number c.requires.may (cluster_kind.text (cluster_of c.args.renewed.cluster)) refl c.in-Ok.ensures.reads
+          (swap_ok b (g.D.Depot.look c.put_record.new.depot) c.args.who (step_of c.args.step) (answer_of c.args.answer) c.args.renewed.cluster c.args.renewed.root c.args.renewed.left c.args.renewed.info c.args.renewed.progress c.args.renewed.next.number c.requires.may c.requires.goes (cluster_kind.text (cluster_of c.args.renewed.cluster)) refl c.in-Ok.ensures.reads
           c.in-Ok.field-0 c.in-Ok.ensures.call c.put_record.new.history.items c.push_reserved.new.self.items p
           (record { cluster = c.keep.new.cluster; root = c.keep.new.root; infos = c.keep.new.infos.items; plan = c.keep.new.progress; next = c.keep.new.next.number })
           (record { cluster_new = c.keep.ensures.cluster; root_new = c.keep.ensures.root; infos_new = c.keep.ensures.infos ∙ ap (infos_after c.args.renewed.left c.args.renewed.info) c.in-Ok.ensures.infos; plan_new = c.keep.ensures.progress; next_new = ap (λ (n : Id). n.number) c.keep.ensures.next })),
@@ -34,7 +34,7 @@ returns-in-Ok-clause-step g c =
     let k : Kept = record { cluster = c.self.inside.cluster; root = c.self.inside.root; infos = c.self.inside.infos.items; plan = c.self.inside.progress; next = c.self.inside.next.number } in
     let b : Before (g.D.Depot.look c.self.inside.depot) g.K.Told.start g.K.Told.clock c.self.inside.history.items k c.self.inside.deposed c.args.self.now =
     record { laws = c.laws.ensures; repo = c.self.invariant.0.repo; view = c.self.view_is; live = c.requires.live } in
-    (swap_ok b (g.D.Depot.look c.put_record.new.depot) c.args.who (step_of c.args.step) (answer_of c.args.answer) c.args.renewed.cluster c.args.renewed.root c.args.renewed.left c.args.renewed.info c.args.renewed.progress c.args.renewed.next.number c.requires.may (cluster_kind.text (cluster_of c.args.renewed.cluster)) refl c.in-Ok.ensures.reads
+    (swap_ok b (g.D.Depot.look c.put_record.new.depot) c.args.who (step_of c.args.step) (answer_of c.args.answer) c.args.renewed.cluster c.args.renewed.root c.args.renewed.left c.args.renewed.info c.args.renewed.progress c.args.renewed.next.number c.requires.may c.requires.goes (cluster_kind.text (cluster_of c.args.renewed.cluster)) refl c.in-Ok.ensures.reads
     c.in-Ok.field-0 c.in-Ok.ensures.call c.put_record.new.history.items c.push_reserved.new.self.items (record { reserved = c.in-Ok.ensures.entries; pushed = c.push_reserved.ensures.items })
     (record { cluster = c.keep.new.cluster; root = c.keep.new.root; infos = c.keep.new.infos.items; plan = c.keep.new.progress; next = c.keep.new.next.number })
     (record { cluster_new = c.keep.ensures.cluster; root_new = c.keep.ensures.root; infos_new = c.keep.ensures.infos ∙ ap (infos_after c.args.renewed.left c.args.renewed.info) c.in-Ok.ensures.infos; plan_new = c.keep.ensures.progress; next_new = ap (λ (n : Id). n.number) c.keep.ensures.next })).added
@@ -68,7 +68,7 @@ invariant_of-self-in-Err-Failed g c =
     let e : Entry = record { who = c.args.who; step = step_of c.args.step; reply = Refused DepotFault } in
     let p : Pushed c.self.inside.history.items c.put_record.new.history.items c.push_reserved-in-Err-Failed.new.self.items e = record { reserved = c.in-Err-Failed.ensures.entries; pushed = c.push_reserved-in-Err-Failed.ensures.items } in (
       same_infos k c.put_record.new.infos.items c.in-Err-Failed.ensures.infos (made_whole b g.K.Told.past c.self.invariant.0.past (g.met.D.Depot.only_now c.put_record.new.depot)
-          (swap_fault b (g.D.Depot.look c.put_record.new.depot) c.args.who (step_of c.args.step) (answer_of c.args.answer) c.args.renewed.cluster c.args.renewed.root c.args.renewed.left c.args.renewed.info c.args.renewed.progress c.args.renewed.next.number c.requires.may (cluster_kind.text (cluster_of c.args.renewed.cluster)) refl c.in-Err-Failed.ensures.reads
+          (swap_fault b (g.D.Depot.look c.put_record.new.depot) c.args.who (step_of c.args.step) (answer_of c.args.answer) c.args.renewed.cluster c.args.renewed.root c.args.renewed.left c.args.renewed.info c.args.renewed.progress c.args.renewed.next.number c.requires.may c.requires.goes (cluster_kind.text (cluster_of c.args.renewed.cluster)) refl c.in-Err-Failed.ensures.reads
           c.in-Err-Failed.field-0 c.in-Err-Failed.field-0-is c.in-Err-Failed.ensures.call c.put_record.new.history.items c.push_reserved-in-Err-Failed.new.self.items p c.len-place.result)),
       fallen_faults c.self.invariant.1 p (g.D.Counted.faults c.put_record.new.depot) _ c.len-place.result c.in-Err-Failed.ensures.cause (failed_so c.in-Err-Failed.field-0 c.in-Err-Failed.field-0-is) (c.len-place.ensures ∙ c.put_record.new.history.ok.0 ∙ ap (λ (l : List Entry). length l) c.in-Err-Failed.ensures.entries) c.requires.may.swaps refl,
       calm_failed (g.D.Depot.look c.self.inside.depot).sure c.self.invariant.2 p (g.D.Depot.look c.put_record.new.depot).sure _ c.in-Err-Failed.ensures.sure (failed_so c.in-Err-Failed.field-0 c.in-Err-Failed.field-0-is),
@@ -79,6 +79,6 @@ returns-in-Err-Failed-clause-step g c =
     let k : Kept = record { cluster = c.self.inside.cluster; root = c.self.inside.root; infos = c.self.inside.infos.items; plan = c.self.inside.progress; next = c.self.inside.next.number } in
     let b : Before (g.D.Depot.look c.self.inside.depot) g.K.Told.start g.K.Told.clock c.self.inside.history.items k c.self.inside.deposed c.args.self.now =
     record { laws = c.laws.ensures; repo = c.self.invariant.0.repo; view = c.self.view_is; live = c.requires.live } in
-    (swap_fault b (g.D.Depot.look c.put_record.new.depot) c.args.who (step_of c.args.step) (answer_of c.args.answer) c.args.renewed.cluster c.args.renewed.root c.args.renewed.left c.args.renewed.info c.args.renewed.progress c.args.renewed.next.number c.requires.may (cluster_kind.text (cluster_of c.args.renewed.cluster)) refl c.in-Err-Failed.ensures.reads
+    (swap_fault b (g.D.Depot.look c.put_record.new.depot) c.args.who (step_of c.args.step) (answer_of c.args.answer) c.args.renewed.cluster c.args.renewed.root c.args.renewed.left c.args.renewed.info c.args.renewed.progress c.args.renewed.next.number c.requires.may c.requires.goes (cluster_kind.text (cluster_of c.args.renewed.cluster)) refl c.in-Err-Failed.ensures.reads
     c.in-Err-Failed.field-0 c.in-Err-Failed.field-0-is c.in-Err-Failed.ensures.call c.put_record.new.history.items c.push_reserved-in-Err-Failed.new.self.items
     (record { reserved = c.in-Err-Failed.ensures.entries; pushed = c.push_reserved-in-Err-Failed.ensures.items }) c.len-place.result).added

@@ -1,22 +1,34 @@
-use Rattle.std.proofs.Common.{◌≡◌, ◌<◌, ◌^◌, true, length, IsTrue}
-use Rattle.esr_core.specs.Entry.{FetchStep}
+use Rattle.esr_desk.specs.Calls.{calls_at}
+use Rattle.esr_solo.proofs.Stepping.{keeps, outcome, waited, spends, is_few, is_short, turns_left_of, fetch_reports, fetch_restores, fetch_commits, fetch_tests, fetch_removes}
+use Rattle.std.proofs.Common.{◌≡◌, ◌<◌, ◌^◌, length, true, IsTrue}
 use Rattle.esr_formats.specs.Names.{name_of}
-use Rattle.esr_solo.proofs.Single.{new_own}
-use Rattle.esr_solo.proofs.Stepping.{turns_left_of, is_short, keeps, outcome, waited, spends}
+use Rattle.esr_desk.specs.Hands.{fetch_step}
+use Rattle.esr_desk.specs.Outcome.{fetch_reply}
+use Rattle.esr_solo.proofs.Calls.{calls_same, calls_hand}
 use Rattle.esr_solo.proofs.desk.SoloDesk.fetch.Goals as goal
 
 pub returns-then-self-eq0-clause-step : goal.returns-then-self-eq0-clause-step
 returns-then-self-eq0-clause-step g c = (
-  waited g.K.Told.start c.self.inside.repo c.args.self.now c.args.ticket c.self.view_is c.is_legal.ensures,
+  waited g.K.Told.start c.self.inside.repo c.args.self.now c.args.who c.self.view_is c.is_legal.ensures,
   spends g.K.Told.start c.self.inside.repo c.args.self.now c.self.inside.left c.self.view_is c.self.invariant.0 c.if-self-eq0.true,
 )
 
 pub invariant_of-self : goal.invariant_of-self
 invariant_of-self g c =
-    keeps _ g.K.Told.start c.self.inside.repo c.fetch-answer.new.self c.args.ticket _ _ c.fetch-answer.result c.self.inside.faults.items c.self.inside.left c.turns.result _ c.self.invariant c.if-self-eq0.false c.turns.ensures (λ x why e d. cc) (λ name e no_metadata noted. cc) (new_own c.self.inside.repo c.args.self.now c.args.ticket (FetchStep (name_of c.args.name)) c.self.view_is c.requires.new) c.fetch-answer.ensures.step tt tt
+    keeps _ g.K.Told.start c.self.inside.repo c.fetch-answer.new.self c.args.who c.self.inside.faults.items c.self.inside.targets.items c.self.inside.left c.turns.result _ c.self.invariant c.if-self-eq0.false
+    (fetch_step c.args.hand (name_of c.args.name)) fetch_reply c.fetch-answer.result c.turns.ensures (λ o. fetch_reports c.args.hand (name_of c.args.name) (fetch_reply o)) (λ o. fetch_restores c.args.hand (name_of c.args.name) o) (fetch_commits c.args.hand g.K.Told.start c.self.inside.repo c.args.who (name_of c.args.name)) c.fetch-answer.ensures.step (fetch_tests c.args.hand g.K.Told.start c.self.inside.repo c.fetch-answer.new.self (name_of c.args.name) c.fetch-answer.result) (fetch_removes c.args.hand c.self.inside.repo c.args.who (name_of c.args.name))
 
 pub returns-clause-step : goal.returns-clause-step
-returns-clause-step g c = outcome g.K.Told.start c.self.inside.repo c.args.self.now c.fetch-answer.new.self c.args.ticket _ _ c.fetch-answer.result c.self.view_is c.is_legal.ensures c.fetch-answer.ensures.step
+returns-clause-step g c = outcome g.K.Told.start c.self.inside.repo c.args.self.now c.fetch-answer.new.self c.args.who (fetch_step c.args.hand (name_of c.args.name)) fetch_reply c.fetch-answer.result c.self.inside.left c.self.view_is c.is_legal.ensures c.self.invariant.0 c.if-self-eq0.false c.grounds.ensures c.fetch-answer.ensures.step
+
+pub returns-clause-calls : goal.returns-clause-calls
+returns-clause-calls g c = calls_hand c.args.hand g.K.Told.start c.self.inside.repo c.args.self.now c.fetch-answer.new.self c.args.who (fetch_step c.args.hand (name_of c.args.name)) fetch_reply c.fetch-answer.result c.self.view_is c.requires.mine c.fetch-answer.ensures.step
+
+pub returns-then-self-eq0-clause-calls : goal.returns-then-self-eq0-clause-calls
+returns-then-self-eq0-clause-calls g c = calls_same c.args.hand c.args.self.now (fetch_step c.args.hand (name_of c.args.name)) fetch_reply (calls_at 0 c.args.self.now)
+
+pub returns-clause-few : goal.returns-clause-few
+returns-clause-few g c = is_few g.K.Told.start c.self.inside.repo c.fetch-answer.new.self c.args.who (fetch_step c.args.hand (name_of c.args.name)) fetch_reply c.fetch-answer.result c.self.inside.left c.self.invariant.0 c.if-self-eq0.false c.fetch-answer.ensures.step
 
 pub returns-clause-sure : goal.returns-clause-sure
 returns-clause-sure g c = turns_left_of c.fetch-answer.result (g.K.Told.start.quiet ≡ true) (length c.self.inside.repo < 2 ^ 41) (λ f. IsTrue (g.D.Fetch.Fetch.is_sure f)) (is_short c.self.inside.repo c.self.inside.left c.self.invariant.0 c.if-self-eq0.false) c.fetch-answer.ensures.sure

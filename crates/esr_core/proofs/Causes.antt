@@ -1,0 +1,148 @@
+-- Each refusal has its cause, and what was given or settled was so by its step.
+use Rattle.std.proofs.Common.{◌≡◌, ◌⊎◌, ℕ, suc, ◌+◌, ◌≤◌, List, Option, None, refl, sym, subst, inl, inr, arith, ◌∙◌}
+use Rattle.esr_model.specs.Values.{Bytes, Formats}
+use Rattle.esr_model.specs.Kept.{first_id}
+use Rattle.esr_model.specs.Delete.{kept_count}
+use Rattle.esr_model.specs.Image.{Image}
+use Rattle.esr_core.specs.World.{World}
+use Rattle.esr_core.specs.Entry.{CloneOf, Snapshot, Clone, DeleteSnapshots, Restore, Given, Read, ReadStep, Prune, PruneStep, Step, AskStep, Refusal, Reply, Gave, WasSettled, Refused, Moment}
+use Rattle.esr_core.specs.After.{new_names}
+use Rattle.esr_core.specs.Allowed as allowed
+use Rattle.esr_core.specs.Allowed.{RestoreAllows, CloneAllows, DeleteAllows, ReadAllows, VerifyAllows, PruneAllows, Allows, Blocks, Allowed}
+use Rattle.esr_core.specs.Causes.{RefusalCause, OfRule, OfCleanup, OfName, OfTestName, OfTerm, OfIds, OfGenerations, OfTerms, OfCall, TakeGave, SettleDid}
+
+module _ (f : Formats) (size : ℕ) (w : World) where
+  one_id : first_id (suc w.term) ≤ suc w.next_id → first_id (suc w.term) ≤ w.next_id + 1
+  one_id h = omega (arith, h)
+
+  restore : (who : ℕ) (name place : Bytes) (refusal : Refusal) (image : Option Image) → RestoreAllows f w name (Refused refusal) image → RefusalCause f size w who (AskStep (Restore name place)) image refusal
+  restore who name place refusal image (allowed.NotListed im none) = OfRule _ (Restore name place) refl tt
+  restore who name place refusal image (allowed.NamedByDelete uuid d im listed named) = OfRule _ (Restore name place) refl tt
+  restore who name place refusal image (allowed.FullOfRestores uuid im listed spared full) = OfRule _ (Restore name place) refl tt
+
+  clone : (who : ℕ) (source name : Bytes) (names : List Bytes) (moment : ℕ) (taken : Option CloneOf) (refusal : Refusal) (image : Option Image) → CloneAllows f w source name names moment taken (Refused refusal) image
+      → RefusalCause f size w who (AskStep (Clone source name names moment taken)) image refusal
+  clone who source name names moment taken refusal image (allowed.CloneUsed uuid im clear is) = OfRule _ (Clone source name names moment None) refl tt
+  clone who source name names moment taken refusal image (allowed.SourceNotListed im may none) = OfRule _ (Clone source name names moment None) refl tt
+  clone who source name names moment taken refusal image (allowed.SourceDeleted uuid d im may listed named) = OfRule _ (Clone source name names moment None) refl tt
+  clone who source name names moment taken refusal image (allowed.IndexMissing uuid place im may missing) = OfRule _ (Clone source name names moment None) refl tt
+  clone who source name names moment taken refusal image (allowed.FullOfClones uuid im may full) = OfRule _ (Clone source name names moment None) refl tt
+  clone who source name names moment taken refusal image (allowed.CloneSpent uuid im may room spent) = OfIds 1 (one_id spent)
+  clone who source name names moment taken refusal image (allowed.CloneFault t im acc) = OfCall
+
+  delete : (who : ℕ) (names : List Bytes) (refusal : Refusal) (image : Option Image) → DeleteAllows w names (Refused refusal) → RefusalCause f size w who (AskStep (DeleteSnapshots names)) image refusal
+  delete who names refusal image (allowed.NotNamed place clear first) = OfRule _ (DeleteSnapshots names) refl tt
+  delete who names refusal image (allowed.CloneStands o clear named lowest) = OfRule _ (DeleteSnapshots names) refl tt
+  delete who names refusal image (allowed.RestoreStands o clear named no_clone lowest) = OfRule _ (DeleteSnapshots names) refl tt
+  delete who names refusal image (allowed.FullOfOps may new full) = OfRule _ (DeleteSnapshots names) refl tt
+  delete who names refusal image (allowed.DeleteFault acc) = OfCall
+
+  read_cause : (k : ℕ) (read : Read) (refusal : Refusal) (image : Option Image) → ReadAllows f w k read (Refused refusal) image → RefusalCause f size w k (ReadStep read) image refusal
+  read_cause k read refusal image (allowed.ReadFault j name im stored by) = OfCall
+
+  verify : (read : Read) (refusal : Refusal) (image : Option Image) → VerifyAllows f w read (Refused refusal) image → RefusalCause f size w 0 (ReadStep read) image refusal
+  verify read refusal image (allowed.TestSpent im may spent same) = OfIds 1 (one_id spent)
+  verify read refusal image (allowed.BeginTestFails name im own same) = OfCall
+  verify read refusal image (allowed.TestTaken name im own there) = OfTestName name own refl there
+  verify read refusal image (allowed.CommitTestFails name bytes im own leaves) = OfCall
+  verify read refusal image (allowed.RemoveTestsFails names im may left) = OfCall
+
+  prune : (k : ℕ) (step : Prune) (refusal : Refusal) (image : Option Image) → PruneAllows f w k step (Refused refusal) image → RefusalCause f size w k (PruneStep step) image refusal
+  prune who step refusal image (allowed.FetchShardFails k name im g same) = OfCall
+  prune who step refusal image (allowed.PlanSpent k shards im p spent same) = OfIds (kept_count shards) spent
+  prune who step refusal image (allowed.SettleDeleteStale k im s apart same) = OfTerm s.t s.may.out apart
+  prune who step refusal image (allowed.SettleDeleteFails k im s present same) = OfCall
+  prune who step refusal image (allowed.RemoveDoomedFails k names im r removes) = OfCall
+
+  cause_by : (who : ℕ) (step : Step) (refusal : Refusal) (image : Option Image) → Allows f size w who step (Refused refusal) image → RefusalCause f size w who step image refusal
+  cause_by who step refusal image (allowed.AskingRestore name place rep im h same) = restore 0 name place refusal im h
+  cause_by who step refusal image (allowed.AskingClone source name names moment taken rep im h same) = clone 0 source name names moment taken refusal im h
+  cause_by who step refusal image (allowed.AskingDelete names rep im h same) = delete 0 names refusal im h
+  cause_by who step refusal image (allowed.Verifying read rep im h) = verify read refusal im h
+  cause_by who step refusal image (allowed.Pruning k prunes rep im h) = prune k prunes refusal im h
+  cause_by who step refusal image (allowed.Reading k read rep im h same) = read_cause k read refusal im h
+  cause_by who step refusal image (allowed.Cleaning command d x im recorded there clean same) = OfCleanup command d x refl there clean
+  cause_by who step refusal image (allowed.Used name indices moment uuid im clear is same) = OfRule _ (Snapshot name indices moment) refl tt
+  cause_by who step refusal image (allowed.Full name indices moment im clear unused full same) = OfRule _ (Snapshot name indices moment) refl tt
+  cause_by who step refusal image (allowed.AskSpent name indices moment im clear unused room spent same) = OfIds (suc (new_names w indices)) spent
+  cause_by who step refusal image (allowed.DrawSpent k n im may spent same) = OfIds n spent
+  cause_by who step refusal image (allowed.RaiseStale k im may apart same) = OfTerm may.t may.out apart
+  cause_by who step refusal image (allowed.SettleStale k n t s im may apart same) = OfTerm t may.out apart
+  cause_by who step refusal image (allowed.DropStale k im may apart same) = OfTerm may.t may.out apart
+  cause_by who step refusal image (allowed.RaiseSpent k im may present spent same) = OfGenerations spent
+  cause_by who step refusal image (allowed.ElectSpent im spent same) = OfTerms spent
+  cause_by who step refusal image (allowed.Taken k name im c aside there) = OfName name c refl aside there
+  cause_by who step refusal image (allowed.BeginFails k name im c same) = OfCall
+  cause_by who step refusal image (allowed.BeginLatestFails k im p same) = OfCall
+  cause_by who step refusal image (allowed.CommitFails k name im c leaves) = OfCall
+  cause_by who step refusal image (allowed.ReplaceFails k im p back leaves) = OfCall
+  cause_by who step refusal image (allowed.FetchFails k name im g same) = OfCall
+  cause_by who step refusal image (allowed.ListFails k im t out same) = OfCall
+  cause_by who step refusal image (allowed.AskFails name indices moment im acc same) = OfCall
+  cause_by who step refusal image (allowed.RaiseFails k im r same) = OfCall
+  cause_by who step refusal image (allowed.SettleFails k im s same) = OfCall
+  cause_by who step refusal image (allowed.DropFails k im d same) = OfCall
+  cause_by who step refusal image (allowed.ElectFails im room same) = OfCall
+
+same_refusal : (a b : Refusal) → Refused a ≡ Refused b → a ≡ b
+same_refusal a b e = cc
+
+pub refusal_cause : (f : Formats) (size : ℕ) (w : World) (m : Moment) (refusal : Refusal) → Allowed f size w m → m.entry.reply ≡ Refused refusal → Blocks w m.entry.who m.entry.step refusal ⊎ RefusalCause f size w m.entry.who m.entry.step m.image refusal
+refusal_cause f size w m refusal a is = elim a.answered [
+  | inl alive ↦ inr (cause_by f size w m.entry.who m.entry.step refusal m.image (subst (λ reply. Allows f size w m.entry.who m.entry.step reply m.image) is alive.1))
+  | inr blocked ↦ inl (subst (Blocks w m.entry.who m.entry.step) (same_refusal _ refusal (sym blocked.refused ∙ is)) blocked.blocks)
+]
+
+-- ---- what an answer tells
+
+restore_gives : {f : Formats} {w : World} {name : Bytes} {k o : ℕ} {unit : Given} {reply : Reply} {image : Option Image} → RestoreAllows f w name reply image → reply ≡ Gave k o unit → ⊥
+restore_gives (allowed.OpeningRestore o uuid indices im acc) e = cc
+restore_gives (allowed.NotListed im none) e = cc
+restore_gives (allowed.NamedByDelete uuid d im listed named) e = cc
+restore_gives (allowed.FullOfRestores uuid im listed spared full) e = cc
+
+restore_settles : {f : Formats} {w : World} {name : Bytes} {reply : Reply} {image : Option Image} → RestoreAllows f w name reply image → reply ≡ WasSettled → ⊥
+restore_settles (allowed.OpeningRestore o uuid indices im acc) e = cc
+restore_settles (allowed.NotListed im none) e = cc
+restore_settles (allowed.NamedByDelete uuid d im listed named) e = cc
+restore_settles (allowed.FullOfRestores uuid im listed spared full) e = cc
+
+module _ (f : Formats) (size : ℕ) (w : World) where
+  gave_by : (who : ℕ) (step : Step) (k o : ℕ) (unit : Given) (image : Option Image) → Allows f size w who step (Gave k o unit) image → TakeGave f w who step k o unit
+  gave_by who step k o unit image (allowed.Giving j p u im is lowest g same) = record { who_is = refl; step_is = refl; number = is; lowest = lowest; gives = g }
+  gave_by who step k o unit image (allowed.AskingRestore name place rep im h same) = absurd (restore_gives h refl)
+  gave_by who step k o unit image (allowed.AskingClone source name names moment taken rep im h same) = elim h [ ]
+  gave_by who step k o unit image (allowed.AskingDelete names rep im h same) = elim h [ ]
+  gave_by who step k o unit image (allowed.Verifying read rep im h) = elim h [ ]
+  gave_by who step k o unit image (allowed.Pruning j prune rep im h) = elim h [ ]
+  gave_by who step k o unit image (allowed.Reading j read rep im h same) = elim h [ ]
+
+  pruned_by : (who : ℕ) (prune : Prune) (image : Option Image) → PruneAllows f w who prune WasSettled image → SettleDid f w who (PruneStep prune)
+  pruned_by who prune image (allowed.SettlingDelete k im s present same) = inr (refl, (s, present))
+
+  settled_by : (who : ℕ) (step : Step) (image : Option Image) → Allows f size w who step WasSettled image → SettleDid f w who step
+  settled_by who step image (allowed.Settling k im s same) = inl (refl, s)
+  settled_by who step image (allowed.AskingRestore name place rep im h same) = absurd (restore_settles h refl)
+  settled_by who step image (allowed.AskingClone source name names moment taken rep im h same) = elim h [ ]
+  settled_by who step image (allowed.AskingDelete names rep im h same) = elim h [ ]
+  settled_by who step image (allowed.Verifying read rep im h) = elim h [ ]
+  settled_by who step image (allowed.Pruning j prune rep im h) = pruned_by j prune im h
+  settled_by who step image (allowed.Reading j read rep im h same) = elim h [ ]
+
+no_gift : (k o : ℕ) (unit : Given) (refusal : Refusal) → Gave k o unit ≡ Refused refusal → ⊥
+no_gift k o unit refusal e = cc
+
+no_settle : (refusal : Refusal) → WasSettled ≡ Refused refusal → ⊥
+no_settle refusal e = cc
+
+pub take_gave : (f : Formats) (size : ℕ) (w : World) (m : Moment) (k o : ℕ) (unit : Given) → Allowed f size w m → m.entry.reply ≡ Gave k o unit → TakeGave f w m.entry.who m.entry.step k o unit
+take_gave f size w m k o unit a is = elim a.answered [
+  | inl alive ↦ gave_by f size w m.entry.who m.entry.step k o unit m.image (subst (λ reply. Allows f size w m.entry.who m.entry.step reply m.image) is alive.1)
+  | inr blocked ↦ absurd (no_gift k o unit blocked.refusal (sym is ∙ blocked.refused))
+]
+
+pub settle_did : (f : Formats) (size : ℕ) (w : World) (m : Moment) → Allowed f size w m → m.entry.reply ≡ WasSettled → SettleDid f w m.entry.who m.entry.step
+settle_did f size w m a is = elim a.answered [
+  | inl alive ↦ settled_by f size w m.entry.who m.entry.step m.image (subst (λ reply. Allows f size w m.entry.who m.entry.step reply m.image) is alive.1)
+  | inr blocked ↦ absurd (no_settle blocked.refusal (sym is ∙ blocked.refused))
+]

@@ -1,5 +1,0 @@
-pub mod Once
-pub mod Conditions
-pub mod Named
-pub mod Shown
-pub mod Reports

@@ -1,0 +1,3 @@
+-- What the steps of a check need, and what shows that one failed.
+pub mod Conditions
+pub mod Shown

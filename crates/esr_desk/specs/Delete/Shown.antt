@@ -1,0 +1,34 @@
+-- What shows why a delete failed.
+use Rattle.std.specs.Prelude.{◌≡◌, ℕ, List, Option}
+use Rattle.esr_model.specs.Names.{BlobName, ShardIndex}
+use Rattle.esr_core.specs.World.{Ticket, Deleting, Swap}
+use Rattle.esr_core.specs.Pruning.{IsToRead}
+use Rattle.esr_core.specs.Entry.{Why, OfDepot, OfAbsence, OfUnreadable, OfTaken, OfIdsSpent, OfGenerationsSpent, WasAbsent, NameTaken, IdsSpent, GenerationsSpent, Moment}
+use Rattle.esr_desk.specs.declared.hand.Hand.TheVariants as hands
+use Rattle.esr_desk.specs.declared.fault.By.{By}
+use Rattle.esr_desk.specs.Start.{Start, ticket_of}
+use Rattle.esr_desk.specs.Evidence.{Evidence, HadRefusal, HadFetch, WasUnreadable, DepotShown, ReadShown, StepShown}
+use Rattle.esr_desk.specs.Unit.Shown.{HadFault}
+
+-- the name is that of the index of a shard that the delete is to read
+pub record IsOfDelete (t : Ticket) (name : BlobName) : Type 0 where
+  pub uuids : List ℕ
+  pub plan : Option Swap
+  pub work : t.work ≡ Deleting uuids plan
+  pub index : ℕ
+  pub number : ℕ
+  pub base : ℕ
+  pub to_read : IsToRead t.root uuids index number base
+  pub name_is : name ≡ ShardIndex index number base
+
+-- By its cause: a stage or a fetch that failed, or a step; or an index is absent, or doesn't read for this reason; or a step was refused,
+-- since a name was taken or numbers were spent.
+abbrev pub IsDeleteShown : {S F H T : Type 0} → Evidence S F H T → Start → List Moment → ℕ → Why → By S F H T → Type 0
+IsDeleteShown e s log who OfDepot b = DepotShown e s (HadFault s log who) b
+IsDeleteShown e s log who (OfAbsence name) b = ReadShown b (IsOfDelete (ticket_of s log who) name × HadFetch hands.Delete log who name WasAbsent)
+IsDeleteShown e s log who (OfUnreadable name reason) b = ReadShown b (IsOfDelete (ticket_of s log who) name × WasUnreadable hands.Delete s log who name reason)
+IsDeleteShown e s log who (OfTaken name) b = StepShown b (HadRefusal log who (NameTaken name))
+IsDeleteShown e s log who (OfIdsSpent next) b = StepShown b (HadRefusal log who (IdsSpent next))
+IsDeleteShown e s log who (OfGenerationsSpent pending) b = StepShown b (HadRefusal log who (GenerationsSpent pending))
+-- the others are of snapshots, restores and checks
+IsDeleteShown e s log who why b = ⊥

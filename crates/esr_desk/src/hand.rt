@@ -1,0 +1,15 @@
+//! For whom a step is made.
+
+/// For whom a blob is fetched, or a failure is told: each asks for something else, and shows a failure otherwise.
+#[derive(Clone, Copy)]
+pub enum Hand {
+    /// A unit of a snapshot or a clone: a shard, a finalization, or the drop of an op that failed.
+    Unit,
+    Delete,
+    /// A shard of a restore.
+    Restore,
+    /// Who 0, who checks the repository.
+    Check,
+    /// Who 0, who verifies the container.
+    Verify,
+}

@@ -1,0 +1,16 @@
+//! Targets that restores have filled.
+
+use esr_names::IndexName;
+use esr_seq::Seq;
+
+/// A target that was filled with the files of a shard: by the restore of this op, of this shard of the index of this name.
+#[derive(Drop)]
+pub struct RestoredTarget<T> {
+    pub op: u64,
+    pub index: IndexName,
+    pub shard: u32,
+    pub target: T,
+}
+
+/// Targets in the order of the entries by which their shards were restored.
+pub type RestoredTargets<T> = Seq<RestoredTarget<T>>;

@@ -1,6 +1,0 @@
-//! The steps of a repository that restore: one call for each, what it answers and what the history keeps of it.
-#![tactic(auto)]
-
-mod desk;
-
-pub use desk::RestoreDesk;

@@ -1,0 +1,6 @@
+pub mod Ending
+pub mod Shown
+pub mod Fetch
+pub mod Put
+pub mod Fail
+pub mod Refusals
