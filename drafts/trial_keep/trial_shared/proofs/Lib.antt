@@ -1,0 +1,4 @@
+pub mod Legal
+pub mod Owned
+pub mod Turned
+pub mod Making
