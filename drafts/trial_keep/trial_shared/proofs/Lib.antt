@@ -1,4 +1,0 @@
-pub mod Legal
-pub mod Owned
-pub mod Turned
-pub mod Making

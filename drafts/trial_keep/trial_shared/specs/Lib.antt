@@ -1,4 +1,0 @@
-pub mod Objects
-pub mod Entries
-pub mod Passes
-pub mod Went
