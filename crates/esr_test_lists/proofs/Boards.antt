@@ -50,7 +50,7 @@ never : {A : Type 0} → true ≡ false → A
 never e = absurd (true≢false e)
 
 any_formats : Formats
-any_formats = formats (λ _ _ _. false) (λ _ _ _. [])
+any_formats = formats (λ _ _ _. false) (λ _ _ _. None)
 
 -- ---- an opened list
 
