@@ -98,7 +98,7 @@ fn do_op_unit<Q: Desk<Shard = S::Shard>, S: Sources, G: Gate>(
     }
 }
 
-/// The same. One that fails, or whose term is over, is no reason to stop.
+/// Does the unit of an op. One that fails, or whose term is over, is no reason to stop.
 fn do_op<Q: Desk<Shard = S::Shard>, S: Sources, G: Gate>(
     alloc: Global,
     desk: &mut Q,
