@@ -42,6 +42,7 @@ use Rattle.esr_check.specs.Began.{HasEndedCheck}
 use Rattle.esr_check.specs.Checked.{AreFetched, HasChecked, HasReadAll}
 use Rattle.esr_check.specs.Trouble.{IsFetchRefusal, Shown}
 use Rattle.esr_check.specs.Went.{IsAlive, IsSoFar, Went}
+use Rattle.esr_check.specs.First.{NamesOne, TellsOne, FirstOf}
 use Rattle.esr_check.specs.Refused.{EndsFailed, StopsCheck, IsCheckRefused}
 use Rattle.esr_check.proofs.Living.{moment_of, stepped_is, world_is, look_alive, look_root, look_snapshots, look_safe, end_blobs, end_safe, in_reach_as}
 use Rattle.esr_check.proofs.Counting.{look_so_far}
@@ -132,14 +133,14 @@ module _ (s : Start) (old first mid : List Moment) (snapshots : List RootSnap) (
       }
 
   module _ {S F H T : Type 0} (e : Evidence S F H T) (law : RefusesSo) (new : List Moment) where
-    for_cause : (why : Why) (b : By S F H T) (result : UnitRefusal) → IsCheckShown e s mid 0 (why_of why) b → GivenUp hands.Check e s mid new 0 (endings.Failed why b) result → IsReported hands.Check s mid new 0 (endings.Failed why b) result → IsCheckRefused e s old new result
-    for_cause why b (units.Failed told) shown h report =
-        let ends = ends_failed e s mid new why b alone shown report in
+    for_cause : (why : Why) (b : By S F H T) (result : UnitRefusal) → IsCheckShown e s mid 0 (why_of why) b → NamesOne (FirstOf s mid) (why_of why) → GivenUp hands.Check e s mid new 0 (endings.Failed why b) result → IsReported hands.Check s mid new 0 (endings.Failed why b) result → IsCheckRefused e s old new result
+    for_cause why b (units.Failed told) shown named h report =
+        let ends = ends_failed e s mid new why b alone shown named report in
         (ap (λ (o : Own). o.caller) h.1, (mid, subst (λ (w : Why). EndsFailed e s mid new w) (sym h.0) ends), has_ended e new why ends)
-    for_cause why b (units.Stopped steps.Memory) shown h report = tt
-    for_cause why b (units.Stopped steps.TurnsSpent) shown h report = h.halts
-    for_cause why b (units.Stopped (steps.Refused x)) shown h report = absurd (unreported law s mid new why x alone went_alive report h.halts)
-    for_cause why b units.Stale shown h report = absurd h
+    for_cause why b (units.Stopped steps.Memory) shown named h report = tt
+    for_cause why b (units.Stopped steps.TurnsSpent) shown named h report = h.halts
+    for_cause why b (units.Stopped (steps.Refused x)) shown named h report = absurd (unreported law s mid new why x alone went_alive report h.halts)
+    for_cause why b units.Stale shown named h report = absurd h
 
     for_memory : (result : UnitRefusal) → GivenUp hands.Check e s mid new 0 (endings.Stopped steps.Memory) result → IsCheckRefused e s old new result
     for_memory (units.Stopped told) h = subst (λ (r : StepRefusal). IsCheckRefused e s old new (units.Stopped r)) (sym h.0) tt
@@ -156,20 +157,20 @@ module _ (s : Start) (old first mid : List Moment) (snapshots : List RootSnap) (
         → IsReported {S = S} {F = F} {H = H} {T = T} hands.Check s mid new 0 (ending_by {S = S} {F = F} {H = H} {T = T} (troubles.Step refusal)) result → IsCheckRefused e s old new result
     refused_ends steps.Memory result refused shown h report = for_memory result h
     refused_ends steps.TurnsSpent result refused shown h report = for_turns result refused h
-    refused_ends (steps.Refused refusals.DepotFault) result refused shown h report = for_cause whys.Depot shows.Entry result shown h report
+    refused_ends (steps.Refused refusals.DepotFault) result refused shown h report = for_cause whys.Depot shows.Entry result shown tt h report
     refused_ends (steps.Refused x) result refused shown h report = absurd refused
 
-    by_trouble : (trouble : Trouble S F) (result : UnitRefusal) → Shown e.fetch_faults s mid trouble → ByUnit {S = S} {F = F} {H = H} {T = T} hands.Check e ⊥ s mid 0 trouble → GivenUp hands.Check e s mid new 0 (ending_by {S = S} {F = F} {H = H} {T = T} trouble) result
+    by_trouble : (trouble : Trouble S F) (result : UnitRefusal) → Shown e.fetch_faults s mid trouble → TellsOne (FirstOf s mid) trouble → ByUnit {S = S} {F = F} {H = H} {T = T} hands.Check e ⊥ s mid 0 trouble → GivenUp hands.Check e s mid new 0 (ending_by {S = S} {F = F} {H = H} {T = T} trouble) result
         → IsReported {S = S} {F = F} {H = H} {T = T} hands.Check s mid new 0 (ending_by {S = S} {F = F} {H = H} {T = T} trouble) result → IsCheckRefused e s old new result
-    by_trouble (troubles.Step refusal) result was shown h report = refused_ends refusal result was shown h report
-    by_trouble (troubles.Fetch fetch) result was shown h report = for_cause whys.Depot (shows.Object (objects.Fetch fetch)) result shown h report
-    by_trouble (troubles.Found why) result was shown h report = for_cause why shows.Nothing result shown h report
-    by_trouble trouble result was shown h report = absurd was
+    by_trouble (troubles.Step refusal) result was named shown h report = refused_ends refusal result was shown h report
+    by_trouble (troubles.Fetch fetch) result was named shown h report = for_cause whys.Depot (shows.Object (objects.Fetch fetch)) result shown tt h report
+    by_trouble (troubles.Found why) result was named shown h report = for_cause why shows.Nothing result shown named h report
+    by_trouble trouble result was named shown h report = absurd was
 
-    pub trouble_ends : (trouble : Trouble S F) (ending : Ending S F H T) (result : UnitRefusal) → ending ≡ ending_by trouble → Shown e.fetch_faults s mid trouble → ByUnit {S = S} {F = F} {H = H} {T = T} hands.Check e ⊥ s mid 0 trouble → GivenUp hands.Check e s mid new 0 ending result
+    pub trouble_ends : (trouble : Trouble S F) (ending : Ending S F H T) (result : UnitRefusal) → ending ≡ ending_by trouble → Shown e.fetch_faults s mid trouble → TellsOne (FirstOf s mid) trouble → ByUnit {S = S} {F = F} {H = H} {T = T} hands.Check e ⊥ s mid 0 trouble → GivenUp hands.Check e s mid new 0 ending result
         → IsReported hands.Check s mid new 0 ending result → IsCheckRefused e s old new result
-    trouble_ends trouble ending result is was shown h report =
-        by_trouble trouble result was shown (subst (λ (x : Ending S F H T). GivenUp hands.Check e s mid new 0 x result) is h) (subst (λ (x : Ending S F H T). IsReported hands.Check s mid new 0 x result) is report)
+    trouble_ends trouble ending result is was named shown h report =
+        by_trouble trouble result was named shown (subst (λ (x : Ending S F H T). GivenUp hands.Check e s mid new 0 x result) is h) (subst (λ (x : Ending S F H T). IsReported hands.Check s mid new 0 x result) is report)
 
 -- the end of the check isn't refused, but for want of memory or of turns
 pub end_stops : RefusesSo → (s : Start) (old mid new : List Moment) (snapshots blobs : ℕ) (e : StepRefusal) → s.alone ≡ true → IsAlive s mid → Refusing s mid new 0 (ReadStep (CheckedAll snapshots blobs)) (told_refusal e) × Grounds s new 0 e → StopsCheck s old new e

@@ -26,6 +26,7 @@ use Rattle.esr_unit.specs.Shown.{EndingShown, MayEnd, Shown as ByUnit}
 use Rattle.esr_unit.specs.Refusals.{RefusesSo}
 use Rattle.esr_check.specs.Trouble.{IsFetchRefusal, IsFound, Shown}
 use Rattle.esr_check.specs.Went.{IsAlive}
+use Rattle.esr_check.specs.First.{NamesOne, FirstOf}
 use Rattle.esr_check.specs.Refused.{EndsFailed}
 use Rattle.esr_check.proofs.Living.{stepped_is}
 use Rattle.esr_check.proofs.Refusing.{IsAbort, HowRefused, live_refusal}
@@ -80,10 +81,11 @@ unreported law s mid new why (refusals.Deposed entry) alone alive h halts = ⊎_
 unreported law s mid new why x alone alive h halts = halts
 
 -- the entry tells it
-pub ends_failed : {S F H T : Type 0} (e : Evidence S F H T) (s : Start) (old new : List Moment) (why : Why) (b : By S F H T) → s.alone ≡ true → IsCheckShown e s old 0 (why_of why) b → Stepped s old new 0 (ReadStep (ReadFails (why_of why))) HasEnded → EndsFailed e s old new why
-ends_failed e s old new why b alone shown step = record {
+pub ends_failed : {S F H T : Type 0} (e : Evidence S F H T) (s : Start) (old new : List Moment) (why : Why) (b : By S F H T) → s.alone ≡ true → IsCheckShown e s old 0 (why_of why) b → NamesOne (FirstOf s old) (why_of why) → Stepped s old new 0 (ReadStep (ReadFails (why_of why))) HasEnded → EndsFailed e s old new why
+ends_failed e s old new why b alone shown first step = record {
   image = step.image;
   is = stepped_is s old new (ReadStep (ReadFails (why_of why))) HasEnded alone step;
   by = b;
   shown = shown;
+  first = first;
 }

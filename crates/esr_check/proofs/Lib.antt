@@ -8,6 +8,8 @@ pub mod Listing
 pub mod Naming
 pub mod Parting
 pub mod Judging
+pub mod Telling
+pub mod Firsts
 pub mod Snapping
 pub mod Sharding
 pub mod Ending

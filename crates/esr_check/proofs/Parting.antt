@@ -1,11 +1,12 @@
 -- The parts of a file that are read one after another.
-use Rattle.std.proofs.Common.{◌≡◌, inl, inr, ⊎_elim, ℕ, ◌+◌, ◌-◌, ◌*◌, ◌≤◌, min, Bool, true, false, ◌&&◌, List, [], ◌∷◌, ◌++◌, length, Option, refl, sym, ap, ◌∙◌, subst, arith, length-append}
+use Rattle.std.proofs.Common.{◌≡◌, inl, inr, ⊎_elim, ℕ, zero, suc, ◌+◌, ◌-◌, ◌*◌, ◌<◌, ◌≤◌, min, nat_le, if◌then◌else◌, Bool, true, false, ◌&&◌, List, [], ◌∷◌, ◌++◌, length, Option, refl, sym, ap, ◌∙◌, subst, arith, length-append}
 use Rattle.std.specs.List.{concat}
 use Rattle.std.specs.Io.KnownBytes.{Consumes}
+use Rattle.esr_names.specs.declared.blob.BlobName.TheVariants as codes
 use Rattle.esr_names.specs.declared.blob.ShardId.{ShardId}
-use Rattle.esr_model.specs.Names.{BlobName}
+use Rattle.esr_model.specs.Names.{BlobName, File, Part}
 use Rattle.esr_model.specs.Values.{Bytes, Has}
-use Rattle.esr_model.specs.Parts.{part_names}
+use Rattle.esr_model.specs.Parts.{part_count, part_names}
 use Rattle.esr_model.specs.Image.{AllPairs}
 use Rattle.esr_core.specs.World.{Caller}
 use Rattle.esr_core.specs.Restores.{WasRead}
@@ -16,16 +17,18 @@ use Rattle.esr_parts.specs.Back.{HashedBack}
 use Rattle.esr_parts.specs.declared.back.Extent.{Extent}
 use Rattle.esr_shardidx.specs.declared.entry.FileEntry.{FileEntry as CodeEntry}
 use Rattle.esr_shardidx.specs.Parts.{part_count as code_count}
+use Rattle.esr_formats.specs.Names.{name_of}
 use Rattle.esr_formats.specs.Shards.{entry_of}
 use Rattle.esr_desk.specs.Start.{Start}
 use Rattle.esr_desk.specs.Own.{caller_of}
 use Rattle.esr_desk.specs.Restore.Parts.{sized, sized_parts, IsFront}
 use Rattle.esr_reach.specs.Members.{has_push}
 use Rattle.esr_restore.proofs.Pairs.{pairs_push, pairs_pop, pairs_map}
-use Rattle.esr_restore.proofs.Sizes.{blob_name, size_of, sizes, sizes_next, sizes_all}
+use Rattle.esr_restore.proofs.Sizes.{blob_name, size_of, sizes, sizes_next, sizes_all, same_count, part_listed}
 use Rattle.esr_restore.proofs.Parts.{IsExact, is_whole, front_read, told_some, extent_bound, extent_whole, extent_other, concat_push, both_true, one_false}
 use Rattle.esr_check.specs.Went.{Grown, Came}
 use Rattle.esr_check.specs.Parts.{ReadPart, ReadParts}
+use Rattle.esr_check.specs.First.{FirstOfFile, AtPart}
 
 -- ---- one part
 
@@ -151,3 +154,49 @@ so_far_all s c hasher at e n exact some all so =
       whole = λ flag. subst (λ (l : List (BlobName × ℕ)). AllPairs IsExact l so.fronts) (sym are) (so.whole flag);
       other = λ flag exactly. so.other flag (subst (λ (l : List (BlobName × ℕ)). AllPairs IsExact l so.fronts) are exactly);
     }
+
+-- ---- the first that is damaged
+
+-- the parts before one were found
+found_before : (c : Caller) (name : ℕ → BlobName) (len size j n d : ℕ) → AreFound c (sizes name len size j n) → d < n → Has c.found (name (j + d))
+unfolding sizes
+found_before c name len size j zero d found less = absurd (omega (arith, less))
+found_before c name len size j (suc n) zero found less =
+    let number : j ≡ j + 0 = omega arith in
+    subst (λ (p : ℕ). Has c.found (name p)) number (found (name j, size_of len size j) (inl refl))
+found_before c name len size j (suc n) (suc d) found less =
+    let number : suc j + d ≡ j + suc d = omega arith in
+    let fewer : d < n = omega (arith, less) in
+    subst (λ (p : ℕ). Has c.found (name p)) number (found_before c name len size (suc j) n d (λ part has. found part (inr has)) fewer)
+
+no_part : (i n x p : ℕ) → File i n x ≡ Part i n x p → ⊥
+no_part i n x p e = cc
+
+same_part : (i n x k p : ℕ) → Part i n x k ≡ Part i n x p → p ≡ k
+same_part i n x k p e = cc
+
+-- a name with a number is that of the part of this number
+part_number : (at : ShardId) (e : CodeEntry) (k p : ℕ) → blob_name at e k ≡ Part at.index.number at.number e.name.number p → p ≡ k
+part_number at e k p = elim (nat_le e.print.len e.part_size) as (λ b. name_of (if b then codes.Whole at e.name else codes.Part at e.name k) ≡ Part at.index.number at.number e.name.number p → p ≡ k) [
+  | true ↦ λ is. absurd (no_part at.index.number at.number e.name.number p is)
+  | false ↦ λ is. same_part at.index.number at.number e.name.number k p is
+]
+
+part_found : (c : Caller) (at : ShardId) (e : CodeEntry) (k p q : ℕ) → Has c.found (blob_name at e q) → blob_name at e k ≡ Part at.index.number at.number e.name.number p → Has c.found (Part at.index.number at.number e.name.number q)
+part_found c at e k p q = elim (nat_le e.print.len e.part_size) as (λ b. Has c.found (name_of (if b then codes.Whole at e.name else codes.Part at e.name q)) → name_of (if b then codes.Whole at e.name else codes.Part at e.name k) ≡ Part at.index.number at.number e.name.number p
+    → Has c.found (Part at.index.number at.number e.name.number q)) [
+      | true ↦ λ found is. absurd (no_part at.index.number at.number e.name.number p is)
+      | false ↦ λ found is. found
+    ]
+
+-- the next part
+pub at_part : (s : Start) (c : Caller) (at : ShardId) (e : CodeEntry) (k : ℕ) (name : BlobName) → AreFound c (sizes (blob_name at e) e.print.len e.part_size 0 k) → 1 ≤ e.part_size → k < code_count e.print.len e.part_size → name ≡ blob_name at e k
+    → FirstOfFile s c at.index.number at.number (entry_of e) name
+at_part s c at e k name found some less is =
+    let within : k < part_count e.print.len e.part_size = subst (λ (n : ℕ). k < n) (same_count e.print.len e.part_size some) less in
+    AtPart (subst (λ (n : BlobName). Has (part_names at.index.number at.number (entry_of e)) n) (sym is) (part_listed at e k within))
+    (λ p q named lower.
+    let number : p ≡ k = part_number at e k p (sym is ∙ named) in
+    let fewer : q < k = omega (arith, number, lower) in
+    let start : 0 + q ≡ q = omega arith in
+    part_found c at e k p q (subst (λ (n : ℕ). Has c.found (blob_name at e n)) start (found_before c (blob_name at e) e.print.len e.part_size 0 k q found fewer)) (sym is ∙ named))

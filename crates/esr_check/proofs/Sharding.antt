@@ -1,23 +1,27 @@
 -- Shards with their lists, and what disagrees with their indices.
-use Rattle.std.proofs.Common.{◌≡◌, inl, inr, ℕ, ◌+◌, ◌<◌, List, [], ◌∷◌, map, take, length, get_or, Option, Some, None, option_map, Result, Ok, Err, OnOk, refl, sym, ap, ◌∙◌, subst, arith}
+use Rattle.std.proofs.Common.{◌≡◌, inl, inr, ℕ, zero, suc, ◌+◌, ◌<◌, List, [], ◌∷◌, map, take, length, get_or, Option, Some, None, option_map, Result, Ok, Err, OnOk, IfErr, refl, sym, ap, ◌∙◌, subst, arith}
 use Rattle.std.specs.Prelude.{MatchOption}
+use Rattle.std.specs.Result.{IsErrAnd}
 use Rattle.std.proofs.lemmas.List.{length-map, length-take-le}
 use Rattle.esr_names.specs.declared.ids.Id.{Id}
 use Rattle.esr_formats.specs.Ids.{number_of}
 use Rattle.esr_model.specs.Names.{BlobName, Snap, ShardSnap, ShardIndex}
-use Rattle.esr_model.specs.Values.{Has, RootData, SnapInfo, ShardSnapshot, ShardFiles}
+use Rattle.esr_model.specs.Values.{Has, RootIndex, RootData, SnapInfo, ShardSnapshot, ShardFiles}
 use Rattle.esr_model.specs.Image.{AllPairs, Lists, at_shard}
 use Rattle.esr_core.specs.World.{Caller}
 use Rattle.esr_core.specs.Entry.{Moment}
 use Rattle.esr_desk.specs.Start.{Start, formats_of}
 use Rattle.esr_desk.specs.Own.{caller_of}
 use Rattle.esr_desk.specs.Check.Shown.{ReadAs, Disagree, IndexBeside, SnapBeside}
-use Rattle.esr_reach.proofs.Shards.{at_push}
+use Rattle.esr_unit.specs.declared.trouble.Trouble.{Trouble}
+use Rattle.esr_reach.proofs.Shards.{at_push, at_place}
 use Rattle.esr_agreement.specs.Lists.{HaveShard, IsUnlisted}
 use Rattle.esr_agreement.proofs.Loops.{next as next_item}
 use Rattle.esr_check.specs.Went.{Grown, Went}
 use Rattle.esr_check.specs.Pieces.{HasInfo, HasInfos, HasHeld, HasSnap, HasShard, HasPlace}
+use Rattle.esr_check.specs.First.{TellsOne, FirstOfPlace, FirstOfShards}
 use Rattle.esr_check.proofs.Going.{infos_more, held_more, shard_more}
+use Rattle.esr_check.proofs.Telling.{passes}
 
 -- ---- what is ensured of an answer
 
@@ -104,3 +108,29 @@ first_next s c d root infos index gens n x grown less is before own k g at =
           let len : length (map h (take n gens)) ≡ n = length-map (take n gens) h ∙ length-take-le n gens (omega arith) in
           subst (λ (m : ℕ). HasShard s d root infos index m g) (sym (last.0 ∙ len)) (own g last.1)
     ]
+
+-- the first ones stand where they stand in the whole list
+place_before : {A : Type 0} (h : A → Option ℕ) (xs : List A) (n k : ℕ) → k < n → n < length xs → at_shard (map h (take n xs)) k ≡ at_shard (map h xs) k
+place_before h [] n k less within = absurd (omega (arith, within))
+place_before h (x ∷ xs) zero k less within = absurd (omega (arith, less))
+place_before h (x ∷ xs) (suc n) zero less within = refl
+place_before h (x ∷ xs) (suc n) (suc k) less within =
+    let fewer : k < n = omega (arith, less) in
+    let inner : n < length xs = omega (arith, within) in
+    place_before h xs n k fewer inner
+
+module _ (s : Start) (c d : Caller) (root : RootData) (infos : List SnapInfo) (x : RootIndex) (gens : List (Option Id)) (n : ℕ) (g : Option Id)
+    (grown : Grown c d) (less : n < length gens) (is : g ≡ get_or gens n g) (same : x.generations ≡ map (option_map number_of) gens) (before : HasFirst s c root infos x.id (map (option_map number_of) (take n gens))) where
+  place_first : (name : BlobName) → FirstOfPlace s d root infos x.id n (option_map number_of g) name → FirstOfShards s d root infos x name
+  place_first name own =
+      let h : Option Id → Option ℕ = option_map number_of in
+      let place : at_shard x.generations n ≡ h g = ap (λ (gs : List (Option ℕ)). at_shard gs n) same ∙ at_place h gens n g less ∙ ap h (sym is) in
+      record {
+        shard = n;
+        agree = λ k v lower at. shard_more s c d grown root infos x.id k v (before k v (place_before h gens n k lower less ∙ sym (ap (λ (gs : List (Option ℕ)). at_shard gs k) same) ∙ at));
+        first = subst (λ (o : Option ℕ). FirstOfPlace s d root infos x.id n o name) (sym place) own;
+      }
+
+  -- what is found of the next one is told of the index
+  pub place_passes : {X S F : Type 0} (result : Result X (Trouble S F)) (trouble : Trouble S F) → IsErrAnd result (λ t. t ≡ trouble) → TellsOne (FirstOfPlace s d root infos x.id n (option_map number_of g)) trouble → IfErr result (TellsOne (FirstOfShards s d root infos x))
+  place_passes result trouble passed told = passes (FirstOfPlace s d root infos x.id n (option_map number_of g)) (FirstOfShards s d root infos x) result trouble passed place_first told

@@ -4,5 +4,6 @@ pub mod Checked
 pub mod Went
 pub mod Pieces
 pub mod Parts
+pub mod First
 pub mod Trouble
 pub mod Refused

@@ -18,6 +18,7 @@ use Rattle.esr_desk.specs.Own.{caller_of}
 use Rattle.esr_desk.specs.Evidence.{Evidence}
 use Rattle.esr_desk.specs.Check.Shown.{IsCheckShown}
 use Rattle.esr_check.specs.Began.{HasEndedCheck}
+use Rattle.esr_check.specs.First.{NamesOne, FirstOf}
 
 -- the history went on by one entry, which tells that the check failed, with a cause that was shown before it
 pub record EndsFailed {S F H T : Type 0} (e : Evidence S F H T) (s : Start) (old new : List Moment) (why : Why) : Type 0 where
@@ -25,6 +26,8 @@ pub record EndsFailed {S F H T : Type 0} (e : Evidence S F H T) (s : Start) (old
   pub is : new ≡ old ++ record { entry = record { who = 0; step = ReadStep (ReadFails (why_of why)); reply = HasEnded }; image = image } ∷ []
   pub by : By S F H T
   pub shown : IsCheckShown e s old 0 (why_of why) by
+  -- all blobs before the one that it names agree
+  pub first : NamesOne (FirstOf s old) (why_of why)
 
 -- so it is with its last entry
 abbrev pub HasFailed : {S F H T : Type 0} → Evidence S F H T → Start → List Moment → Why → Type 0

@@ -7,6 +7,7 @@ ghost use Rattle.esr_desk.specs.Own.{caller_of};
 ghost use Rattle.esr_desk.specs.Evidence.{evidence};
 ghost use Rattle.esr_check.specs.Began.{AsksOne, NoneChecked};
 ghost use Rattle.esr_check.specs.Checked.{last_root, HasChecked, HasReadAll};
+ghost use Rattle.esr_check.specs.First.{TellsOne, FirstOf, AreFirst};
 ghost use Rattle.esr_check.specs.Names.{IsAny};
 ghost use Rattle.esr_check.specs.Refused.{IsCheckRefused};
 ghost use Rattle.esr_check.specs.Trouble.{Shown};
@@ -56,6 +57,7 @@ fn read_root<Q: Client>(
     ensures read { OnOk result (HasReadAll Q.start (Q.seen desk.new)) }
     ensures so_far { IfOk result (IsSoFar Q.start (Q.seen desk.new)) }
     ensures trouble { IfErr result (Shown Q.Fetch.faults Q.start (Q.seen desk.new)) }
+    ensures first { IfErr result (TellsOne (FirstOf Q.start (Q.seen desk.new))) }
     ensures went { Went Q.start (Q.seen desk.old) (Q.seen desk.new) IsAny }
 {
     let mut count = 0;
@@ -79,6 +81,7 @@ fn read_all<Q: Client>(
     ensures rootless { IfOk result (λ n. count_of safe ≡ 0 → n ≡ 0) }
     ensures so_far { IfOk result (IsSoFar Q.start (Q.seen desk.new)) }
     ensures trouble { IfErr result (Shown Q.Fetch.faults Q.start (Q.seen desk.new)) }
+    ensures first { IfErr result (TellsOne (FirstOf Q.start (Q.seen desk.new))) }
     ensures went { Went Q.start (Q.seen desk.old) (Q.seen desk.new) IsAny }
 {
     match last_root(safe) {
@@ -97,6 +100,7 @@ pub fn check<Q: Client>(alloc: Global, desk: &mut Q) -> Result<Checked, UnitRefu
         (Q.seen desk.old) (Q.seen desk.new)) }
     ensures asked { AsksOne (Q.seen desk.old) (Q.seen desk.new) result }
     ensures unchecked { OnErr result (NoneChecked (Q.seen desk.old) (Q.seen desk.new)) }
+    ensures first { AreFirst Q.start (Q.seen desk.old) → AreFirst Q.start (Q.seen desk.new) }
     ensures grew { GrewBy Q.start 0 (Q.seen desk.old) (Q.seen desk.new) }
 {
     laws();

@@ -5,6 +5,7 @@ ghost use Rattle.esr_formats.specs.Names.{name_of};
 ghost use Rattle.esr_desk.specs.Own.{caller_of};
 ghost use Rattle.esr_desk.specs.Check.Conditions.{CanCheck};
 ghost use Rattle.esr_desk.specs.Check.Shown.{HasFetched};
+ghost use Rattle.esr_check.specs.First.{TellsOne};
 ghost use Rattle.esr_check.specs.Names.{Just};
 ghost use Rattle.esr_check.specs.Trouble.{Shown};
 ghost use Rattle.esr_check.specs.Went.{IsSoFar, Came, Went};
@@ -31,6 +32,7 @@ pub fn fetch<Q: Client>(
     ensures came { IfOk result (λ f. Came Q.start (Q.seen desk.new) (name_of name) (Q.Fetch.left f) (Q.Fetch.is_sure f)) }
     ensures so_far { IfOk result (λ f. IsSoFar Q.start (Q.seen desk.new) count.new) }
     ensures trouble { IfErr result (Shown Q.Fetch.faults Q.start (Q.seen desk.new)) }
+    ensures first { IfErr result (TellsOne (Just (name_of name))) }
     ensures went { Went Q.start (Q.seen desk.old) (Q.seen desk.new) (Just (name_of name)) }
 {
     laws();
@@ -59,6 +61,7 @@ pub fn fetch_whole<Q: Client>(
     ensures fetched { IfOk result (λ bytes. HasFetched Q.start (caller_of Q.start (Q.seen desk.new)) (name_of name) bytes) }
     ensures so_far { IfOk result (λ bytes. IsSoFar Q.start (Q.seen desk.new) count.new) }
     ensures trouble { IfErr result (Shown Q.Fetch.faults Q.start (Q.seen desk.new)) }
+    ensures first { IfErr result (TellsOne (Just (name_of name))) }
     ensures went { Went Q.start (Q.seen desk.old) (Q.seen desk.new) (Just (name_of name)) }
 {
     let mut blob = fetch(alloc, desk, count, name)?;

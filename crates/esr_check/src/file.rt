@@ -6,6 +6,7 @@ ghost use Rattle.esr_formats.specs.Roots.{root_of};
 ghost use Rattle.esr_formats.specs.Shards.{entry_of, shard_index_of};
 ghost use Rattle.esr_shardidx.specs.Entries.{IsEntry};
 ghost use Rattle.esr_desk.specs.Own.{caller_of};
+ghost use Rattle.esr_check.specs.First.{TellsOne, FirstOfFile, FirstOfFiles};
 ghost use Rattle.esr_check.specs.Names.{IsOfFile, IsPieceOf, AreUnfetched};
 ghost use Rattle.esr_check.specs.Pieces.{HasSafe, HasHeld, HasFile, HasFiles};
 ghost use Rattle.esr_check.specs.Trouble.{Shown, Judged};
@@ -72,6 +73,7 @@ fn check_file<Q: Client>(
     ensures file { OnOk result (HasFile Q.start (caller_of Q.start (Q.seen desk.new)) at.index.number at.number (entry_of entry.now)) }
     ensures so_far { OnOk result (IsSoFar Q.start (Q.seen desk.new) count.new) }
     ensures trouble { IfErr result (Shown Q.Fetch.faults Q.start (Q.seen desk.new)) }
+    ensures first { IfErr result (TellsOne (FirstOfFile Q.start (caller_of Q.start (Q.seen desk.new)) at.index.number at.number (entry_of entry.now))) }
     ensures went { Went Q.start (Q.seen desk.old) (Q.seen desk.new) (IsOfFile at.index.number at.number entry.now.name.number) }
 {
     let mut hasher = Hasher::start();
@@ -116,6 +118,7 @@ pub fn check_files<Q: Client>(
     ensures files { OnOk result (HasFiles Q.start (caller_of Q.start (Q.seen desk.new)) at.index.number at.number (shard_index_of held.now).files) }
     ensures so_far { OnOk result (IsSoFar Q.start (Q.seen desk.new) count.new) }
     ensures trouble { IfErr result (Shown Q.Fetch.faults Q.start (Q.seen desk.new)) }
+    ensures first { IfErr result (TellsOne (FirstOfFiles Q.start (caller_of Q.start (Q.seen desk.new)) at.index.number at.number (shard_index_of held.now).files)) }
     ensures went { Went Q.start (Q.seen desk.old) (Q.seen desk.new) (IsPieceOf at.index.number at.number) }
 {
     for entry in held.files() {

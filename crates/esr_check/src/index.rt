@@ -3,6 +3,7 @@ ghost use Rattle.std.specs.Prelude.{◌≡◌, ◌<◌, true, map, length, IfErr
 ghost use Rattle.esr_formats.specs.Infos.{info_of_code};
 ghost use Rattle.esr_formats.specs.Roots.{root_of};
 ghost use Rattle.esr_desk.specs.Own.{caller_of};
+ghost use Rattle.esr_check.specs.First.{TellsOne, FirstOfIndices};
 ghost use Rattle.esr_check.specs.Names.{IsOfAnyShard, AreUnfetched};
 ghost use Rattle.esr_check.specs.Pieces.{HasSafe, HasInfos, HasIndices};
 ghost use Rattle.esr_check.specs.Trouble.{Shown};
@@ -33,6 +34,7 @@ fn check_each<Q: Client>(
     ensures indices { OnOk result (HasIndices Q.start (caller_of Q.start (Q.seen desk.new)) (root_of root.now) (map info_of_code infos.now) (root_of root.now).indices) }
     ensures so_far { OnOk result (IsSoFar Q.start (Q.seen desk.new) count.new) }
     ensures trouble { IfErr result (Shown Q.Fetch.faults Q.start (Q.seen desk.new)) }
+    ensures first { IfErr result (TellsOne (FirstOfIndices Q.start (caller_of Q.start (Q.seen desk.new)) (root_of root.now) (map info_of_code infos.now))) }
     ensures went { Went Q.start (Q.seen desk.old) (Q.seen desk.new) IsOfAnyShard }
 {
     for index in root.indices.as_slice() {
@@ -57,6 +59,7 @@ pub fn check_indices<Q: Client>(
     ensures indices { OnOk result (HasIndices Q.start (caller_of Q.start (Q.seen desk.new)) (root_of root.now) (map info_of_code infos.now) (root_of root.now).indices) }
     ensures so_far { OnOk result (IsSoFar Q.start (Q.seen desk.new) count.new) }
     ensures trouble { IfErr result (Shown Q.Fetch.faults Q.start (Q.seen desk.new)) }
+    ensures first { IfErr result (TellsOne (FirstOfIndices Q.start (caller_of Q.start (Q.seen desk.new)) (root_of root.now) (map info_of_code infos.now))) }
     ensures went { Went Q.start (Q.seen desk.old) (Q.seen desk.new) IsOfAnyShard }
 {
     let mut buf = [0; 65536];

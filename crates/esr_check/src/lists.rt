@@ -11,6 +11,7 @@ ghost use Rattle.esr_shardidx.specs.Indices.{IsShardIndex};
 ghost use Rattle.esr_desk.specs.Own.{caller_of};
 ghost use Rattle.esr_desk.specs.Check.Shown.{ReadAs};
 ghost use Rattle.esr_agreement.specs.Lists.{IsListed};
+ghost use Rattle.esr_check.specs.First.{TellsOne, FirstOfLists};
 ghost use Rattle.esr_check.specs.Names.{Just, IsSnapOf, AreUnfetched};
 ghost use Rattle.esr_check.specs.Pieces.{HasSafe, HasInfos, HasHeld, HasSnap, HasListed, HasLists};
 ghost use Rattle.esr_check.specs.Trouble.{Shown};
@@ -50,6 +51,7 @@ fn fetch_list<Q: Client>(
     ensures read { IfOk result (λ v. ReadAs Q.start (caller_of Q.start (Q.seen desk.new)) (SnapName at.index.number at.number list.now.uuid.number) (formats_of Q.start).shard_snap (shard_snap_of v)) }
     ensures so_far { IfOk result (λ v. IsSoFar Q.start (Q.seen desk.new) count.new) }
     ensures trouble { IfErr result (Shown Q.Fetch.faults Q.start (Q.seen desk.new)) }
+    ensures first { IfErr result (TellsOne (Just (SnapName at.index.number at.number list.now.uuid.number))) }
     ensures went { Went Q.start (Q.seen desk.old) (Q.seen desk.new) (Just (SnapName at.index.number at.number list.now.uuid.number)) }
 {
     let name = BlobName::ShardSnap(at, list.uuid);
@@ -85,6 +87,7 @@ fn check_list<Q: Client>(
     ensures snap { OnOk result (HasSnap Q.start (caller_of Q.start (Q.seen desk.new)) (map info_of_code infos.now) at.index.number at.number (shard_index_of held.now) list.now.uuid.number) }
     ensures so_far { OnOk result (IsSoFar Q.start (Q.seen desk.new) count.new) }
     ensures trouble { IfErr result (Shown Q.Fetch.faults Q.start (Q.seen desk.new)) }
+    ensures first { IfErr result (TellsOne (Just (SnapName at.index.number at.number list.now.uuid.number))) }
     ensures went { Went Q.start (Q.seen desk.old) (Q.seen desk.new) (Just (SnapName at.index.number at.number list.now.uuid.number)) }
 {
     let snap = fetch_list(alloc, desk, count, root, at, generation, held, list)?;
@@ -124,6 +127,7 @@ fn check_listed<Q: Client>(
     ensures snap { OnOk result (HasListed Q.start (caller_of Q.start (Q.seen desk.new)) (root_of root.now) (map info_of_code infos.now) at.index.number at.number (shard_index_of held.now) (snap_list_of list.now)) }
     ensures so_far { OnOk result (IsSoFar Q.start (Q.seen desk.new) count.new) }
     ensures trouble { IfErr result (Shown Q.Fetch.faults Q.start (Q.seen desk.new)) }
+    ensures first { IfErr result (TellsOne (Just (SnapName at.index.number at.number list.now.uuid.number))) }
     ensures went { Went Q.start (Q.seen desk.old) (Q.seen desk.new) (Just (SnapName at.index.number at.number list.now.uuid.number)) }
 {
     if !is_listed(root, list.uuid) {
@@ -161,6 +165,7 @@ pub fn check_lists<Q: Client>(
     ensures snaps { OnOk result (HasLists Q.start (caller_of Q.start (Q.seen desk.new)) (root_of root.now) (map info_of_code infos.now) at.index.number at.number (shard_index_of held.now) (shard_index_of held.now).snapshots) }
     ensures so_far { OnOk result (IsSoFar Q.start (Q.seen desk.new) count.new) }
     ensures trouble { IfErr result (Shown Q.Fetch.faults Q.start (Q.seen desk.new)) }
+    ensures first { IfErr result (TellsOne (FirstOfLists Q.start (caller_of Q.start (Q.seen desk.new)) (root_of root.now) (map info_of_code infos.now) at.index.number at.number (shard_index_of held.now))) }
     ensures went { Went Q.start (Q.seen desk.old) (Q.seen desk.new) (IsSnapOf at.index.number at.number) }
 {
     index_rule(held);

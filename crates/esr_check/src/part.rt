@@ -10,6 +10,7 @@ ghost use Rattle.esr_formats.specs.Shards.{entry_of, shard_index_of};
 ghost use Rattle.esr_shardidx.specs.Entries.{IsEntry};
 ghost use Rattle.esr_desk.specs.Own.{caller_of};
 ghost use Rattle.esr_desk.specs.Check.Conditions.{CanCheck};
+ghost use Rattle.esr_check.specs.First.{TellsOne, FirstOfFile};
 ghost use Rattle.esr_check.specs.Names.{Just, IsOfFile, AreUnfetched};
 ghost use Rattle.esr_check.specs.Parts.{ReadPart, ReadParts};
 ghost use Rattle.esr_check.specs.Pieces.{HasSafe, HasHeld};
@@ -46,6 +47,7 @@ fn read_part<Q: Client>(
     ensures read { IfOk result (ReadPart Q.start (caller_of Q.start (Q.seen desk.new)) hasher.old hasher.new (name_of name) size) }
     ensures so_far { IfOk result (λ w. IsSoFar Q.start (Q.seen desk.new) count.new) }
     ensures trouble { IfErr result (Shown Q.Fetch.faults Q.start (Q.seen desk.new)) }
+    ensures first { IfErr result (TellsOne (Just (name_of name))) }
     ensures went { Went Q.start (Q.seen desk.old) (Q.seen desk.new) (Just (name_of name)) }
 {
     let mut blob = fetch(alloc, desk, count, name)?;
@@ -85,6 +87,7 @@ pub fn read_parts<Q: Client>(
     ensures read { IfOk result (ReadParts Q.start (caller_of Q.start (Q.seen desk.new)) hasher.new at entry.now) }
     ensures so_far { IfOk result (λ e. IsSoFar Q.start (Q.seen desk.new) count.new) }
     ensures trouble { IfErr result (Shown Q.Fetch.faults Q.start (Q.seen desk.new)) }
+    ensures first { IfErr result (TellsOne (FirstOfFile Q.start (caller_of Q.start (Q.seen desk.new)) at.index.number at.number (entry_of entry.now))) }
     ensures went { Went Q.start (Q.seen desk.old) (Q.seen desk.new) (IsOfFile at.index.number at.number entry.now.name.number) }
 {
     let mut is_exact = true;

@@ -5,6 +5,7 @@ ghost use Rattle.esr_formats.specs.Roots.{root_of};
 ghost use Rattle.esr_root.specs.Root.{IsRoot};
 ghost use Rattle.esr_desk.specs.Own.{caller_of};
 ghost use Rattle.esr_desk.specs.Start.{world_of};
+ghost use Rattle.esr_check.specs.First.{TellsOne};
 ghost use Rattle.esr_check.specs.Names.{Just};
 ghost use Rattle.esr_check.specs.Pieces.{HasRoot};
 ghost use Rattle.esr_check.specs.Trouble.{Shown};
@@ -34,6 +35,7 @@ pub fn fetch_root<Q: Client>(
     ensures rule { IfOk result IsRoot }
     ensures so_far { IfOk result (λ root. IsSoFar Q.start (Q.seen desk.new) count.new) }
     ensures trouble { IfErr result (Shown Q.Fetch.faults Q.start (Q.seen desk.new)) }
+    ensures first { IfErr result (TellsOne (Just (Root number))) }
     ensures went { Went Q.start (Q.seen desk.old) (Q.seen desk.new) (Just (Root number)) }
 {
     let name = BlobName::Root(number);

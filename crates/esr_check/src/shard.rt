@@ -8,6 +8,7 @@ ghost use Rattle.esr_formats.specs.Roots.{root_of, root_index_of};
 ghost use Rattle.esr_formats.specs.Shards.{shard_index_of};
 ghost use Rattle.esr_desk.specs.Own.{caller_of};
 ghost use Rattle.esr_agreement.specs.Lists.{AreKept};
+ghost use Rattle.esr_check.specs.First.{TellsOne, FirstOfPlace, FirstOfShard, FirstOfShards};
 ghost use Rattle.esr_check.specs.Names.{Just, IsOfShard, IsOfShards, AreUnfetched};
 ghost use Rattle.esr_check.specs.Pieces.{HasSafe, HasInfos, HasHeld, HasShard, HasPlace, HasShards};
 ghost use Rattle.esr_check.specs.Trouble.{Shown};
@@ -44,6 +45,7 @@ fn fetch_held<Q: Client>(
     ensures read { IfOk result (λ v. HasHeld Q.start (caller_of Q.start (Q.seen desk.new)) at.index.number at.number generation.number (shard_index_of v)) }
     ensures so_far { IfOk result (λ v. IsSoFar Q.start (Q.seen desk.new) count.new) }
     ensures trouble { IfErr result (Shown Q.Fetch.faults Q.start (Q.seen desk.new)) }
+    ensures first { IfErr result (TellsOne (Just (IndexName at.index.number at.number generation.number))) }
     ensures went { Went Q.start (Q.seen desk.old) (Q.seen desk.new) (Just (IndexName at.index.number at.number generation.number)) }
 {
     let name = BlobName::ShardIndex(at, generation);
@@ -75,6 +77,7 @@ fn check_held<Q: Client>(
     ensures kept { IfOk result (λ v. AreKept (map info_of_code infos.now) at.index.number at.number (shard_index_of v)) }
     ensures so_far { IfOk result (λ v. IsSoFar Q.start (Q.seen desk.new) count.new) }
     ensures trouble { IfErr result (Shown Q.Fetch.faults Q.start (Q.seen desk.new)) }
+    ensures first { IfErr result (TellsOne (Just (IndexName at.index.number at.number generation.number))) }
     ensures went { Went Q.start (Q.seen desk.old) (Q.seen desk.new) (Just (IndexName at.index.number at.number generation.number)) }
 {
     let held = fetch_held(alloc, desk, count, root, at, generation)?;
@@ -112,6 +115,7 @@ fn check_shard<Q: Client>(
     ensures shard { OnOk result (HasShard Q.start (caller_of Q.start (Q.seen desk.new)) (root_of root.now) (map info_of_code infos.now) at.index.number at.number generation.number) }
     ensures so_far { OnOk result (IsSoFar Q.start (Q.seen desk.new) count.new) }
     ensures trouble { IfErr result (Shown Q.Fetch.faults Q.start (Q.seen desk.new)) }
+    ensures first { IfErr result (TellsOne (FirstOfShard Q.start (caller_of Q.start (Q.seen desk.new)) (root_of root.now) (map info_of_code infos.now) at.index.number at.number generation.number)) }
     ensures went { Went Q.start (Q.seen desk.old) (Q.seen desk.new) (IsOfShard at.index.number at.number) }
 {
     let held = check_held(alloc, desk, count, root, infos, at, generation)?;
@@ -143,6 +147,7 @@ fn check_place<Q: Client>(
     ensures place { OnOk result (HasPlace Q.start (caller_of Q.start (Q.seen desk.new)) (root_of root.now) (map info_of_code infos.now) at.index.number at.number (option_map number_of generation)) }
     ensures so_far { OnOk result (IsSoFar Q.start (Q.seen desk.new) count.new) }
     ensures trouble { IfErr result (Shown Q.Fetch.faults Q.start (Q.seen desk.new)) }
+    ensures first { IfErr result (TellsOne (FirstOfPlace Q.start (caller_of Q.start (Q.seen desk.new)) (root_of root.now) (map info_of_code infos.now) at.index.number at.number (option_map number_of generation))) }
     ensures went { Went Q.start (Q.seen desk.old) (Q.seen desk.new) (IsOfShard at.index.number at.number) }
 {
     match generation {
@@ -172,6 +177,7 @@ pub fn check_shards<Q: Client>(
     ensures shards { OnOk result (HasShards Q.start (caller_of Q.start (Q.seen desk.new)) (root_of root.now) (map info_of_code infos.now) (root_index_of index.now)) }
     ensures so_far { OnOk result (IsSoFar Q.start (Q.seen desk.new) count.new) }
     ensures trouble { IfErr result (Shown Q.Fetch.faults Q.start (Q.seen desk.new)) }
+    ensures first { IfErr result (TellsOne (FirstOfShards Q.start (caller_of Q.start (Q.seen desk.new)) (root_of root.now) (map info_of_code infos.now) (root_index_of index.now))) }
     ensures went { Went Q.start (Q.seen desk.old) (Q.seen desk.new) (IsOfShards index.now.id.number) }
 {
     for (number, generation) in index.generations.as_slice().iter().enumerate() {

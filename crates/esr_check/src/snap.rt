@@ -12,6 +12,7 @@ ghost use Rattle.esr_formats.specs.Refs.{ref_of_code};
 ghost use Rattle.esr_formats.specs.Roots.{root_of, root_snap_of};
 ghost use Rattle.esr_desk.specs.Own.{caller_of};
 ghost use Rattle.esr_desk.specs.Check.Shown.{ReadAs};
+ghost use Rattle.esr_check.specs.First.{TellsOne, FirstOfMetas, FirstOfSnap, FirstOfSnaps};
 ghost use Rattle.esr_check.specs.Names.{Just, IsMetaIn, IsOfSnap, IsOfAnySnap, AreUnfetched};
 ghost use Rattle.esr_check.specs.Pieces.{HasRoot, HasMeta, HasMetas, HasInfo, HasInfos};
 ghost use Rattle.esr_check.specs.Trouble.{Shown};
@@ -45,6 +46,7 @@ fn fetch_info<Q: Client>(
     ensures read { IfOk result (λ info. ReadAs Q.start (caller_of Q.start (Q.seen desk.new)) (Snap snap.now.uuid.number) (formats_of Q.start).info (info_of_code info)) }
     ensures so_far { IfOk result (λ info. IsSoFar Q.start (Q.seen desk.new) count.new) }
     ensures trouble { IfErr result (Shown Q.Fetch.faults Q.start (Q.seen desk.new)) }
+    ensures first { IfErr result (TellsOne (Just (Snap snap.now.uuid.number))) }
     ensures went { Went Q.start (Q.seen desk.old) (Q.seen desk.new) (Just (Snap snap.now.uuid.number)) }
 {
     let name = BlobName::Snap(snap.uuid);
@@ -73,6 +75,7 @@ fn check_info<Q: Client>(
     ensures agrees { IfOk result (λ info. Agrees (root_of root.now) (root_snap_of snap.now) (info_of_code info)) }
     ensures so_far { IfOk result (λ info. IsSoFar Q.start (Q.seen desk.new) count.new) }
     ensures trouble { IfErr result (Shown Q.Fetch.faults Q.start (Q.seen desk.new)) }
+    ensures first { IfErr result (TellsOne (Just (Snap snap.now.uuid.number))) }
     ensures went { Went Q.start (Q.seen desk.old) (Q.seen desk.new) (Just (Snap snap.now.uuid.number)) }
 {
     agreement_is();
@@ -103,6 +106,7 @@ fn fetch_global<Q: Client>(
     ensures read { IfOk result (λ meta. ReadAs Q.start (caller_of Q.start (Q.seen desk.new)) (Meta snap.now.uuid.number) (formats_of Q.start).global (global_of_code meta)) }
     ensures so_far { IfOk result (λ meta. IsSoFar Q.start (Q.seen desk.new) count.new) }
     ensures trouble { IfErr result (Shown Q.Fetch.faults Q.start (Q.seen desk.new)) }
+    ensures first { IfErr result (TellsOne (Just (Meta snap.now.uuid.number))) }
     ensures went { Went Q.start (Q.seen desk.old) (Q.seen desk.new) (Just (Meta snap.now.uuid.number)) }
 {
     let name = BlobName::Meta(snap.uuid);
@@ -132,6 +136,7 @@ fn check_global<Q: Client>(
     ensures read { OnOk result (ReadAs Q.start (caller_of Q.start (Q.seen desk.new)) (Meta snap.now.uuid.number) (formats_of Q.start).global (global_of (info_of_code info.now))) }
     ensures so_far { OnOk result (IsSoFar Q.start (Q.seen desk.new) count.new) }
     ensures trouble { IfErr result (Shown Q.Fetch.faults Q.start (Q.seen desk.new)) }
+    ensures first { IfErr result (TellsOne (Just (Meta snap.now.uuid.number))) }
     ensures went { Went Q.start (Q.seen desk.old) (Q.seen desk.new) (Just (Meta snap.now.uuid.number)) }
 {
     let meta = fetch_global(alloc, desk, count, root, number, snap)?;
@@ -164,6 +169,7 @@ fn fetch_meta<Q: Client>(
     ensures read { IfOk result (λ meta. ReadAs Q.start (caller_of Q.start (Q.seen desk.new)) (MetaName index.now.id.number snap.now.uuid.number) (formats_of Q.start).index_meta (index_meta_of meta)) }
     ensures so_far { IfOk result (λ meta. IsSoFar Q.start (Q.seen desk.new) count.new) }
     ensures trouble { IfErr result (Shown Q.Fetch.faults Q.start (Q.seen desk.new)) }
+    ensures first { IfErr result (TellsOne (Just (MetaName index.now.id.number snap.now.uuid.number))) }
     ensures went { Went Q.start (Q.seen desk.old) (Q.seen desk.new) (Just (MetaName index.now.id.number snap.now.uuid.number)) }
 {
     let name = BlobName::IndexMeta(index.id, snap.uuid);
@@ -195,6 +201,7 @@ fn check_meta<Q: Client>(
     ensures meta { OnOk result (HasMeta Q.start (caller_of Q.start (Q.seen desk.new)) snap.now.uuid.number (ref_of_code index.now)) }
     ensures so_far { OnOk result (IsSoFar Q.start (Q.seen desk.new) count.new) }
     ensures trouble { IfErr result (Shown Q.Fetch.faults Q.start (Q.seen desk.new)) }
+    ensures first { IfErr result (TellsOne (Just (MetaName index.now.id.number snap.now.uuid.number))) }
     ensures went { Went Q.start (Q.seen desk.old) (Q.seen desk.new) (Just (MetaName index.now.id.number snap.now.uuid.number)) }
 {
     let meta = fetch_meta(alloc, desk, count, root, number, snap, info, index)?;
@@ -226,6 +233,7 @@ fn check_metas<Q: Client>(
     ensures metas { OnOk result (HasMetas Q.start (caller_of Q.start (Q.seen desk.new)) snap.now.uuid.number (info_of_code info.now).indices) }
     ensures so_far { OnOk result (IsSoFar Q.start (Q.seen desk.new) count.new) }
     ensures trouble { IfErr result (Shown Q.Fetch.faults Q.start (Q.seen desk.new)) }
+    ensures first { IfErr result (TellsOne (FirstOfMetas Q.start (caller_of Q.start (Q.seen desk.new)) snap.now.uuid.number (info_of_code info.now).indices)) }
     ensures went { Went Q.start (Q.seen desk.old) (Q.seen desk.new) (IsMetaIn snap.now.uuid.number) }
 {
     for index in info.indices.as_slice() {
@@ -251,6 +259,7 @@ fn check_snap<Q: Client>(
     ensures info { IfOk result (λ info. HasInfo Q.start (caller_of Q.start (Q.seen desk.new)) (root_of root.now) (root_snap_of snap.now) (info_of_code info)) }
     ensures so_far { IfOk result (λ info. IsSoFar Q.start (Q.seen desk.new) count.new) }
     ensures trouble { IfErr result (Shown Q.Fetch.faults Q.start (Q.seen desk.new)) }
+    ensures first { IfErr result (TellsOne (FirstOfSnap Q.start (caller_of Q.start (Q.seen desk.new)) (root_of root.now) (root_snap_of snap.now))) }
     ensures went { Went Q.start (Q.seen desk.old) (Q.seen desk.new) (IsOfSnap snap.now.uuid.number) }
 {
     let info = check_info(alloc, desk, count, root, number, snap)?;
@@ -274,6 +283,7 @@ pub fn check_snaps<Q: Client>(
     ensures infos { IfOk result (λ infos. HasInfos Q.start (caller_of Q.start (Q.seen desk.new)) (root_of root.now) (map info_of_code infos)) }
     ensures so_far { IfOk result (λ infos. IsSoFar Q.start (Q.seen desk.new) count.new) }
     ensures trouble { IfErr result (Shown Q.Fetch.faults Q.start (Q.seen desk.new)) }
+    ensures first { IfErr result (TellsOne (FirstOfSnaps Q.start (caller_of Q.start (Q.seen desk.new)) (root_of root.now))) }
     ensures went { Went Q.start (Q.seen desk.old) (Q.seen desk.new) IsOfAnySnap }
 {
     let mut infos = Seq::new(alloc);

@@ -13,15 +13,12 @@ use Rattle.esr_core.specs.Tracked.{Tracked, IsOneIndex}
 use Rattle.esr_core.specs.ReadTracked.{ReadTracked}
 use Rattle.esr_core.specs.Ids.{Law}
 use Rattle.esr_core.specs.ReadLaw.{ReadLaw}
-use Rattle.esr_core.specs.Entry.{Asked, Why, Step, AskStep, TakeStep, FailedStep, PruneStep, DeleteFails, Refusal, Reply, NothingReady, HasEnded, Refused, Entry, Moment}
+use Rattle.esr_core.specs.Entry.{Asked, Why, Step, AskStep, FailedStep, PruneStep, DeleteFails, Refusal, Reply, HasEnded, Refused, Entry, Moment}
 use Rattle.esr_core.specs.After.{after}
-use Rattle.esr_core.specs.Allowed as allowed
-use Rattle.esr_core.specs.Allowed.{Allows, Allowed}
-use Rattle.esr_core.specs.History.{world_from, IsLegal, TellsHandedOut, AllKnown, all_handed_out, AreTold, AreHonest, committed}
+use Rattle.esr_core.specs.History.{world_from, IsLegal, TellsHandedOut, all_handed_out, AreTold, AreHonest, committed}
 use Rattle.esr_core.proofs.Opening.{nothing}
 use Rattle.esr_core.proofs.Queues.{was_in}
-use Rattle.esr_core.proofs.Histories.{legal_parts, told_parts, honest_parts}
-use Rattle.esr_desk.specs.Start.{Start, formats_of, world_of, Legal, or_no_ticket}
+use Rattle.esr_desk.specs.Start.{Start, formats_of, world_of, or_no_ticket}
 use Rattle.esr_desk.specs.Own.{or_no_reader}
 use Rattle.esr_quiet.specs.Refusals.{IsByRule, AreByRule}
 use Rattle.esr_quiet.specs.Smooth.{IsSmooth, NoneFailed, NoneUndeleted}
@@ -131,50 +128,6 @@ pub read_opened : Laws → (f : Formats) (image : Image) (w : World) → Opened 
 read_opened laws f image w (OpenedEmpty none) = laws.restores_open f image.blobs no_record no_root
 read_opened laws f image w (OpenedRecord cluster text root is reads root_is) = laws.restores_open f image.blobs cluster root
 
--- what the answer of a take that gives nothing says
-abbrev SaysNone : World → Step → Reply → Type 0
-SaysNone w TakeStep NothingReady = AnyReady w → ⊥
-SaysNone w step reply = Unit {0}
-
-says_none : (f : Formats) (size : ℕ) (w : World) (who : ℕ) (step : Step) (reply : Reply) (image : Option Image) → Allows f size w who step reply image → SaysNone w step reply
-says_none f size w who step reply image (allowed.GivingNothing im none same) = none
-says_none f size w who step reply image other = tt
-
-refused_nothing : (refusal : Refusal) → NothingReady ≡ Refused refusal → ⊥
-refused_nothing refusal e = cc
-
-pub none_ready : (f : Formats) (size : ℕ) (w : World) (image : Option Image) → Allowed f size w (record { entry = record { who = 0; step = TakeStep; reply = NothingReady }; image = image }) → AnyReady w → ⊥
-none_ready f size w image a = elim a.answered [ inl alive ↦ says_none f size w 0 TakeStep NothingReady image alive.1 | inr dead ↦ λ any. absurd (refused_nothing _ dead.refused) ]
-
-pub world_append : (f : Formats) (log : List Moment) (w : World) (m : Moment) → world_from f w (log ++ m ∷ []) ≡ after f (world_from f w log) m
-world_append f [] w m = refl
-world_append f (x ∷ log) w m = world_append f log (after f w x) m
-
-abbrev pub nothing_ready : Option Image → Moment
-nothing_ready image = record { entry = record { who = 0; step = TakeStep; reply = NothingReady }; image = image }
-
--- with a take that gives nothing at its end
-closed_front : Laws → (f : Formats) (size : ℕ) (first : Image) (shelf : List Shelved) (w : World) (front : List Moment) (image : Option Image) → AllKnown f → Kept f first shelf → Opened f first w → IsLegal f size w (front ++ nothing_ready image ∷ [])
-    → AreTold (front ++ nothing_ready image ∷ []) → AreHonest f w (front ++ nothing_ready image ∷ [])
-    → Tracked w × ReadTracked w → NoTicketOut (world_from f w (front ++ nothing_ready image ∷ []))
-    → (o : ℕ) → IsOpen (world_from f w (front ++ nothing_ready image ∷ [])) o → ⊥
-closed_front laws f size first shelf w front image known kept start legal told honest in_order none_out o stands =
-    let m : Moment = nothing_ready image in
-    let last : World = world_from f w front in
-    let same : world_from f w (front ++ m ∷ []) ≡ after f last m = world_append f front w m in
-    let legals = legal_parts f size front (m ∷ []) w legal in
-    let tolds = told_parts front (m ∷ []) told in
-    let honests = honest_parts f front (m ∷ []) w honest in
-    let handed : TellsHandedOut f w front = all_handed_out f w front known in
-    let law = laws.lawful f size first shelf w front handed kept start legals.0 tolds.0 honests.0 in
-    let tracked : ReadTracked last = laws.tracks f size w front in_order.0 in_order.1 legals.0 in
-    none_ready f size last image legals.1.0
-    (laws.ready f last (shelf_after shelf (committed f last.safe w front)) o law tracked (inl (subst (λ (x : World). IsOpen x o) same stands))
-    (record {
-      tickets = λ k t e. none_out.tickets k t (ap (λ (x : World). fin.get x.tickets k) same ∙ e);
-      readers = λ k q e. none_out.readers k q (ap (λ (x : World). fin.get x.readers k) same ∙ e);
-    }))
-
 out_by : (found : Option Ticket) (t : Ticket) → (or_no_ticket found).out ≡ false → found ≡ Some t → t.out ≡ true → ⊥
 out_by found t none is out = true≢false (sym out ∙ sym (ap (λ (o : Option Ticket). (or_no_ticket o).out) is) ∙ none)
 
@@ -184,15 +137,17 @@ reader_out found q none is out = true≢false (sym out ∙ sym (ap (λ (o : Opti
 -- no op is open at the end, nor a delete
 pub all_closed : Laws → (s : Start) (log : List Moment) → IsSmooth s log → IsIdle s log → (o : ℕ) → IsOpen (world_of s log) o → ⊥
 all_closed laws s log smooth idle o stands =
-    let is : log ≡ idle.none_ready.front ++ nothing_ready idle.none_ready.image ∷ [] = idle.none_ready.is in
-    closed_front laws (formats_of s) s.part_size smooth.image smooth.shelf s.world idle.none_ready.front idle.none_ready.image smooth.known smooth.kept smooth.opened (subst (Legal s) is smooth.legal) (subst AreTold is smooth.told)
-    (subst (AreHonest (formats_of s) s.world) is smooth.honest)
-    (opened_in_order laws s smooth.image smooth.shelf s.world smooth.kept smooth.opened)
+    let f = formats_of s in
+    let handed : TellsHandedOut f s.world log = all_handed_out f s.world log smooth.known in
+    let law = laws.lawful f s.part_size smooth.image smooth.shelf s.world log handed smooth.kept smooth.opened smooth.legal smooth.told smooth.honest in
+    let in_order = opened_in_order laws s smooth.image smooth.shelf s.world smooth.kept smooth.opened in
+    let tracked : ReadTracked (world_of s log) = laws.tracks f s.part_size s.world log in_order.0 in_order.1 smooth.legal in
+    idle.none_ready
+    (laws.ready f (world_of s log) (shelf_after smooth.shelf (committed f (world_of s log).safe s.world log)) o law tracked (inl stands)
     (record {
-      tickets = λ k t e out. out_by (fin.get (world_of s log).tickets k) t (idle.none_out k) (ap (λ (l : List Moment). fin.get (world_of s l).tickets k) is ∙ e) out;
-      readers = λ k q e out. reader_out (fin.get (world_of s log).readers k) q (idle.no_reader k) (ap (λ (l : List Moment). fin.get (world_of s l).readers k) is ∙ e) out;
-    })
-    o (subst (λ (l : List Moment). IsOpen (world_of s l) o) is stands)
+      tickets = λ k t e out. out_by (fin.get (world_of s log).tickets k) t (idle.none_out k) e out;
+      readers = λ k q e out. reader_out (fin.get (world_of s log).readers k) q (idle.no_reader k) e out;
+    }))
 
 pub all_safe : Laws → (s : Start) (log : List Moment) → IsSmooth s log → AreSafe (formats_of s) s.world log
 all_safe laws s log smooth front back is =

@@ -6,7 +6,7 @@ use Rattle.esr_model.specs.Names.{BlobName}
 use Rattle.esr_model.specs.Values.{Bytes, Has, Formats}
 use Rattle.esr_model.specs.Image.{Image}
 use Rattle.esr_core.specs.World.{World, Caller, no_caller, Opened, OpenedEmpty, OpenedRecord}
-use Rattle.esr_core.specs.Entry.{DeleteSnapshots, Read, ReadBlob, CheckedAll, DrawTest, VerifiedAll, ReadFails, Why, Step, AskStep, TakeStep, LookStep, ReadStep, HasEnded, Reply, Refused, Entry, Moment}
+use Rattle.esr_core.specs.Entry.{DeleteSnapshots, Read, ReadBlob, CheckedAll, DrawTest, VerifiedAll, ReadFails, Why, Step, AskStep, TakeStep, ElectStep, LookStep, ReadStep, HasEnded, Reply, Refused, Entry, Moment}
 use Rattle.esr_core.specs.After.{told_blob, is_heard, caller_told, caller_wrote, caller_read, caller_after}
 use Rattle.esr_core.specs.Allowed as allowed
 use Rattle.esr_core.specs.Allowed.{ReadAllows, ReadFound, ReadMissing, ReadFault, RestoringShard, ReaderFailing, CheckingAll, CheckFailing, VerifyAllows, DrawingTest, TestSpent, BeginningTest, BeginTestFails, CommittingTest, TestTaken, CommitTestFails, RemovingTests, RemoveTestsFails, VerifyingAll, VerifyFailing, Allows, Allowed}
@@ -240,6 +240,7 @@ module _ (f : Formats) (size : ℕ) (w : World) where
   one_turn (AskStep command) reply image lined closed calm well a = LineTurn refl refl (λ read e. cc) (closed refl) (asked_none (is_heard reply) (closed refl))
   one_turn LookStep reply image lined closed calm well a = LineTurn refl refl (λ read e. cc) (closed refl) (looked_none (is_heard reply) (closed refl))
   one_turn TakeStep reply image lined closed calm well a = AsideTurn refl refl refl
+  one_turn ElectStep reply image lined closed calm well a = AsideTurn refl refl refl
   one_turn (ReadStep read) reply image lined closed calm well a = by_read read reply image calm well a
   one_turn step reply image lined closed calm well a = absurd (lined refl)
 

@@ -11,7 +11,7 @@ use Rattle.esr_core.proofs.Deleting.{bool_told}
 use Rattle.esr_quiet.specs.Refusals.{IsByRule}
 use Rattle.esr_quiet.proofs.Rules.{rule_unblocked}
 use Rattle.esr_report.specs.Replies as report
-use Rattle.esr_report.specs.Replies.{Made, Deleted, Aborted, op_of_ticket, uuid_of_ticket, is_op, ends_by, ends_at, name_of_op, final_out, has_name, abort_of, aborts_at, end_of_op}
+use Rattle.esr_report.specs.Replies.{Made, Deleted, Aborted, op_of_ticket, uuid_of_ticket, is_op, is_stale, ends_by, ends_at, name_of_op, final_out, has_name, abort_of, aborts_at, end_of_op}
 use Rattle.esr_complete.proofs.Tickets.{none_some, name_stays, name_before, same_op}
 
 -- no unit failed by this entry, nor a delete, and no refusal but that of a command by a rule
@@ -67,19 +67,19 @@ of_op : (op : Option ℕ) → DeletedOrNone (option_map Deleted op)
 of_op None = tt
 of_op (Some o) = tt
 
-made_by : (all : List Entry) (who : ℕ) (step : Step) (reply : Reply) → IsCalm reply step → (IsPruned step reply → ⊥) → MadeOrNone (ends_by all who step reply)
-made_by all who SettleStep WasSettled calm other = of_uuid (uuid_of_ticket all who)
-made_by all who (FailedStep why) HasEnded calm other = absurd calm
-made_by all who (PruneStep SettlePruned) WasSettled calm other = absurd (other tt)
-made_by all who (PruneStep (DeleteFails why)) HasEnded calm other = absurd calm
-made_by all who step reply calm other = tt
+made_by : (all : List Entry) (stale : Bool) (who : ℕ) (step : Step) (reply : Reply) → IsCalm reply step → (IsPruned step reply → ⊥) → MadeOrNone (ends_by all stale who step reply)
+made_by all stale who SettleStep WasSettled calm other = of_uuid (uuid_of_ticket all who)
+made_by all stale who (FailedStep why) HasEnded calm other = absurd calm
+made_by all stale who (PruneStep SettlePruned) WasSettled calm other = absurd (other tt)
+made_by all stale who (PruneStep (DeleteFails why)) HasEnded calm other = absurd calm
+made_by all stale who step reply calm other = tt
 
-deleted_by : (all : List Entry) (who : ℕ) (step : Step) (reply : Reply) → IsCalm reply step → (IsSettled step reply → ⊥) → DeletedOrNone (ends_by all who step reply)
-deleted_by all who SettleStep WasSettled calm other = absurd (other tt)
-deleted_by all who (FailedStep why) HasEnded calm other = absurd calm
-deleted_by all who (PruneStep SettlePruned) WasSettled calm other = of_op (op_of_ticket all who)
-deleted_by all who (PruneStep (DeleteFails why)) HasEnded calm other = absurd calm
-deleted_by all who step reply calm other = tt
+deleted_by : (all : List Entry) (stale : Bool) (who : ℕ) (step : Step) (reply : Reply) → IsCalm reply step → (IsSettled step reply → ⊥) → DeletedOrNone (ends_by all stale who step reply)
+deleted_by all stale who SettleStep WasSettled calm other = absurd (other tt)
+deleted_by all stale who (FailedStep why) HasEnded calm other = absurd calm
+deleted_by all stale who (PruneStep SettlePruned) WasSettled calm other = of_op (op_of_ticket all who)
+deleted_by all stale who (PruneStep (DeleteFails why)) HasEnded calm other = absurd calm
+deleted_by all stale who step reply calm other = tt
 
 -- a ticket of the op
 is_own : (o : ℕ) (found : Option ℕ) → is_op o found ≡ true → found ≡ Some o
@@ -89,15 +89,15 @@ is_own o None e = absurd (no_op e)
     no_op h = cc
 is_own o (Some p) e = ap (λ (n : ℕ). Some n) (eqb-true p o e)
 
-made_at : (all : List Entry) (o : ℕ) (e : Entry) → IsCalm e.reply e.step → (op_of_ticket all e.who ≡ Some o → IsPruned e.step e.reply → ⊥) → MadeOrNone (ends_at all o e)
-made_at all o e calm other = elim (bool_told (is_op o (op_of_ticket all e.who))) [
-  | inl own ↦ subst MadeOrNone (sym (choose_true _ _ _ own)) (made_by all e.who e.step e.reply calm (other (is_own o (op_of_ticket all e.who) own)))
+made_at : (all before : List Entry) (o : ℕ) (e : Entry) → IsCalm e.reply e.step → (op_of_ticket all e.who ≡ Some o → IsPruned e.step e.reply → ⊥) → MadeOrNone (ends_at all before o e)
+made_at all before o e calm other = elim (bool_told (is_op o (op_of_ticket all e.who))) [
+  | inl own ↦ subst MadeOrNone (sym (choose_true _ _ _ own)) (made_by all (is_stale before e.who) e.who e.step e.reply calm (other (is_own o (op_of_ticket all e.who) own)))
   | inr none ↦ subst MadeOrNone (sym (choose_false _ _ _ none)) tt
 ]
 
-deleted_at : (all : List Entry) (o : ℕ) (e : Entry) → IsCalm e.reply e.step → (op_of_ticket all e.who ≡ Some o → IsSettled e.step e.reply → ⊥) → DeletedOrNone (ends_at all o e)
-deleted_at all o e calm other = elim (bool_told (is_op o (op_of_ticket all e.who))) [
-  | inl own ↦ subst DeletedOrNone (sym (choose_true _ _ _ own)) (deleted_by all e.who e.step e.reply calm (other (is_own o (op_of_ticket all e.who) own)))
+deleted_at : (all before : List Entry) (o : ℕ) (e : Entry) → IsCalm e.reply e.step → (op_of_ticket all e.who ≡ Some o → IsSettled e.step e.reply → ⊥) → DeletedOrNone (ends_at all before o e)
+deleted_at all before o e calm other = elim (bool_told (is_op o (op_of_ticket all e.who))) [
+  | inl own ↦ subst DeletedOrNone (sym (choose_true _ _ _ own)) (deleted_by all (is_stale before e.who) e.who e.step e.reply calm (other (is_own o (op_of_ticket all e.who) own)))
   | inr none ↦ subst DeletedOrNone (sym (choose_false _ _ _ none)) tt
 ]
 
@@ -158,11 +158,11 @@ IsEnded all o answer = IsMade answer ⊎ WasAborted all o answer
 -- an entry of these ends the op, or aborts it
 abbrev pub EndsIn : List Entry → ℕ → List Entry → List Entry → Type 0
 EndsIn all o before [] = ⊥
-EndsIn all o before (x ∷ es) = IsMade (ends_at all o x) ⊎ (((answer : report.Reply) × (aborts_at before o x ≡ Some answer)) ⊎ EndsIn all o (before ++ x ∷ []) es)
+EndsIn all o before (x ∷ es) = IsMade (ends_at all before o x) ⊎ (((answer : report.Reply) × (aborts_at before o x ≡ Some answer)) ⊎ EndsIn all o (before ++ x ∷ []) es)
 
-made_in : (all : List Entry) (o : ℕ) (before es : List Entry) (e : Entry) → Has es e → IsMade (ends_at all o e) → EndsIn all o before es
+made_in : (all : List Entry) (o : ℕ) (before es : List Entry) (e : Entry) → Has es e → ((b : List Entry) → IsMade (ends_at all b o e)) → EndsIn all o before es
 made_in all o before [] e has made = absurd has
-made_in all o before (x ∷ es) e (inl same) made = inl (subst (λ (y : Entry). IsMade (ends_at all o y)) (sym same) made)
+made_in all o before (x ∷ es) e (inl same) made = inl (subst (λ (y : Entry). IsMade (ends_at all before o y)) (sym same) (made before))
 made_in all o before (x ∷ es) e (inr has) made = inr (inr (made_in all o (before ++ x ∷ []) es e has made))
 
 pub aborted_in : (all : List Entry) (o : ℕ) (before front : List Entry) (e : Entry) (back : List Entry) (answer : report.Reply) → aborts_at (before ++ front) o e ≡ Some answer → EndsIn all o before (front ++ e ∷ back)
@@ -175,9 +175,9 @@ pub end_found : (all : List Entry) (o : ℕ) (before es : List Entry) → all �
 end_found all o before [] is calm other found = absurd found
 end_found all o before (x ∷ es) is calm other found =
     by_end (λ behind. end_found all o (before ++ x ∷ []) es (is ∙ sym (append_assoc before (x ∷ []) es)) (λ e m. calm e (inr m)) (λ e m. other e (inr m)) behind)
-    (ends_at all o x) refl (made_at all o x (calm x (inl refl)) (other x (inl refl)))
+    (ends_at all before o x) refl (made_at all before o x (calm x (inl refl)) (other x (inl refl)))
   where
-    later : (EndsIn all o (before ++ x ∷ []) es → IsEnded all o (end_of_op all o (before ++ x ∷ []) es)) → (ends_at all o x ≡ None) → (aborts_at before o x ≡ None) → IsEnded all o (end_of_op all o (before ++ x ∷ []) es)
+    later : (EndsIn all o (before ++ x ∷ []) es → IsEnded all o (end_of_op all o (before ++ x ∷ []) es)) → (ends_at all before o x ≡ None) → (aborts_at before o x ≡ None) → IsEnded all o (end_of_op all o (before ++ x ∷ []) es)
     later on none unaborted = elim found [
       | inl made ↦ absurd (none_some (Made made.uuid) (sym none ∙ made.is))
       | inr more ↦ elim more [
@@ -186,7 +186,7 @@ end_found all o before (x ∷ es) is calm other found =
       ]
     ]
 
-    by_abort : (EndsIn all o (before ++ x ∷ []) es → IsEnded all o (end_of_op all o (before ++ x ∷ []) es)) → (a : Option report.Reply) → aborts_at before o x ≡ a → ends_at all o x ≡ None
+    by_abort : (EndsIn all o (before ++ x ∷ []) es → IsEnded all o (end_of_op all o (before ++ x ∷ []) es)) → (a : Option report.Reply) → aborts_at before o x ≡ a → ends_at all before o x ≡ None
         → IsEnded all o (or_else a (end_of_op all o (before ++ x ∷ []) es))
     by_abort on None unaborted none = later on none unaborted
     by_abort on (Some answer) aborted none =
@@ -203,22 +203,22 @@ end_found all o before (x ∷ es) is calm other found =
           named = h.named;
         })
 
-    by_end : (EndsIn all o (before ++ x ∷ []) es → IsEnded all o (end_of_op all o (before ++ x ∷ []) es)) → (a : Option report.Reply) → ends_at all o x ≡ a → MadeOrNone a
+    by_end : (EndsIn all o (before ++ x ∷ []) es → IsEnded all o (end_of_op all o (before ++ x ∷ []) es)) → (a : Option report.Reply) → ends_at all before o x ≡ a → MadeOrNone a
         → IsEnded all o (or_else a (or_else (aborts_at before o x) (end_of_op all o (before ++ x ∷ []) es)))
     by_end on None none made = by_abort on (aborts_at before o x) refl none
     by_end on (Some (Made u)) ends made = inl (record { uuid = u; is = refl })
     by_end on (Some answer) ends made = absurd made
 
 -- a settle of the op makes its snapshot
-settle_made : (all : List Entry) (o uuid : ℕ) (e : Entry) → op_of_ticket all e.who ≡ Some o → uuid_of_ticket all e.who ≡ Some uuid → e.step ≡ SettleStep → e.reply ≡ WasSettled → IsMade (ends_at all o e)
-settle_made all o uuid e op_is uuid_is step reply =
+settle_made : (all : List Entry) (o uuid : ℕ) (e : Entry) → op_of_ticket all e.who ≡ Some o → uuid_of_ticket all e.who ≡ Some uuid → e.step ≡ SettleStep → e.reply ≡ WasSettled → (b : List Entry) → IsMade (ends_at all b o e)
+settle_made all o uuid e op_is uuid_is step reply b =
     record {
       uuid = uuid;
       is =
-          ap (λ (a : Option ℕ). if is_op o a then ends_by all e.who e.step e.reply else None) op_is
-          ∙ ap (λ (b : Bool). if b then ends_by all e.who e.step e.reply else None) (same_op o)
-          ∙ ap (λ (x : Step). ends_by all e.who x e.reply) step
-          ∙ ap (λ (x : Reply). ends_by all e.who SettleStep x) reply
+          ap (λ (a : Option ℕ). if is_op o a then ends_by all (is_stale b e.who) e.who e.step e.reply else None) op_is
+          ∙ ap (λ (own : Bool). if own then ends_by all (is_stale b e.who) e.who e.step e.reply else None) (same_op o)
+          ∙ ap (λ (x : Step). ends_by all (is_stale b e.who) e.who x e.reply) step
+          ∙ ap (λ (x : Reply). ends_by all (is_stale b e.who) e.who SettleStep x) reply
           ∙ ap (option_map Made) uuid_is;
     }
 
@@ -228,35 +228,35 @@ settled_in all o uuid e has op_is uuid_is step reply = made_in all o [] all e ha
 -- ---- the end of a delete
 
 pub delete_found : (all : List Entry) (o : ℕ) (before es : List Entry) → all ≡ before ++ es → name_of_op all o ≡ None → ((e : Entry) → Has es e → IsCalm e.reply e.step) → ((e : Entry) → Has es e → op_of_ticket all e.who ≡ Some o → IsSettled e.step e.reply → ⊥)
-    → (e : Entry) → Has es e → IsDeleted (ends_at all o e) → IsDeleted (end_of_op all o before es)
+    → (e : Entry) → Has es e → ((b : List Entry) → IsDeleted (ends_at all b o e)) → IsDeleted (end_of_op all o before es)
 delete_found all o before [] is unnamed calm other e has deleted = absurd has
 delete_found all o before (x ∷ es) is unnamed calm other e has deleted =
     by_end (λ behind. delete_found all o (before ++ x ∷ []) es (is ∙ sym (append_assoc before (x ∷ []) es)) unnamed (λ y m. calm y (inr m)) (λ y m. other y (inr m)) e behind deleted)
-    (ends_at all o x) refl (deleted_at all o x (calm x (inl refl)) (other x (inl refl)))
+    (ends_at all before o x) refl (deleted_at all before o x (calm x (inl refl)) (other x (inl refl)))
   where
     unaborted : aborts_at before o x ≡ None
     unaborted = unnamed_abort (name_of_op before o) (final_out before o) x.step x.reply (name_before before (x ∷ es) o (ap (λ (l : List Entry). name_of_op l o) (sym is) ∙ unnamed))
 
-    later : (Has es e → IsDeleted (end_of_op all o (before ++ x ∷ []) es)) → ends_at all o x ≡ None → IsDeleted (end_of_op all o (before ++ x ∷ []) es)
+    later : (Has es e → IsDeleted (end_of_op all o (before ++ x ∷ []) es)) → ends_at all before o x ≡ None → IsDeleted (end_of_op all o (before ++ x ∷ []) es)
     later on none = elim has [
-      | inl same ↦ absurd (none_some (Deleted deleted.op) (sym none ∙ ap (λ (y : Entry). ends_at all o y) same ∙ deleted.is))
+      | inl same ↦ absurd (none_some (Deleted (deleted before).op) (sym none ∙ ap (λ (y : Entry). ends_at all before o y) same ∙ (deleted before).is))
       | inr behind ↦ on behind
     ]
 
-    by_end : (Has es e → IsDeleted (end_of_op all o (before ++ x ∷ []) es)) → (a : Option report.Reply) → ends_at all o x ≡ a → DeletedOrNone a → IsDeleted (or_else a (or_else (aborts_at before o x) (end_of_op all o (before ++ x ∷ []) es)))
+    by_end : (Has es e → IsDeleted (end_of_op all o (before ++ x ∷ []) es)) → (a : Option report.Reply) → ends_at all before o x ≡ a → DeletedOrNone a → IsDeleted (or_else a (or_else (aborts_at before o x) (end_of_op all o (before ++ x ∷ []) es)))
     by_end on None none ok = subst (λ (a : Option report.Reply). IsDeleted (or_else a (end_of_op all o (before ++ x ∷ []) es))) (sym unaborted) (later on none)
     by_end on (Some (Deleted d)) ends ok = record { op = d; is = refl }
     by_end on (Some answer) ends ok = absurd ok
 
 -- the settle of its ticket carries it out
-pub prune_deleted : (all : List Entry) (o : ℕ) (e : Entry) → op_of_ticket all e.who ≡ Some o → e.step ≡ PruneStep SettlePruned → e.reply ≡ WasSettled → IsDeleted (ends_at all o e)
-prune_deleted all o e op_is step reply =
+pub prune_deleted : (all : List Entry) (o : ℕ) (e : Entry) → op_of_ticket all e.who ≡ Some o → e.step ≡ PruneStep SettlePruned → e.reply ≡ WasSettled → (b : List Entry) → IsDeleted (ends_at all b o e)
+prune_deleted all o e op_is step reply b =
     record {
       op = o;
       is =
-          ap (λ (a : Option ℕ). if is_op o a then ends_by all e.who e.step e.reply else None) op_is
-          ∙ ap (λ (b : Bool). if b then ends_by all e.who e.step e.reply else None) (same_op o)
-          ∙ ap (λ (x : Step). ends_by all e.who x e.reply) step
-          ∙ ap (λ (x : Reply). ends_by all e.who (PruneStep SettlePruned) x) reply
+          ap (λ (a : Option ℕ). if is_op o a then ends_by all (is_stale b e.who) e.who e.step e.reply else None) op_is
+          ∙ ap (λ (own : Bool). if own then ends_by all (is_stale b e.who) e.who e.step e.reply else None) (same_op o)
+          ∙ ap (λ (x : Step). ends_by all (is_stale b e.who) e.who x e.reply) step
+          ∙ ap (λ (x : Reply). ends_by all (is_stale b e.who) e.who (PruneStep SettlePruned) x) reply
           ∙ ap (option_map Deleted) op_is;
     }

@@ -1,5 +1,5 @@
 -- What the whole history tells of restores, and that none is open where no unit is ready and no ticket is out.
-use Rattle.std.proofs.Common.{◌≡◌, ℕ, suc, ◌<◌, ◌≤◌, true, true≢false, List, [], ◌∷◌, ◌++◌, Option, Some, append_assoc, append-nil, refl, sym, ap, ◌∙◌, subst, inl, inr, arith}
+use Rattle.std.proofs.Common.{◌≡◌, ℕ, suc, ◌<◌, ◌≤◌, true, true≢false, List, [], ◌∷◌, ◌++◌, Some, append_assoc, append-nil, refl, sym, ap, subst, inl, inr, arith}
 use Rattle.std.specs.FinMap as fin
 use Rattle.esr_model.specs.Values.{Has, RootData, ClusterRecord, IndexRef, Formats}
 use Rattle.esr_model.specs.Places.{places}
@@ -16,7 +16,7 @@ use Rattle.esr_core.specs.History.{world_from, IsLegal, AllKnown, all_handed_out
 use Rattle.esr_core.proofs.Histories.{legal_parts, told_parts, honest_parts}
 use Rattle.esr_core.proofs.Opening.{nothing}
 use Rattle.esr_core.proofs.Restoring.{one_waits}
-use Rattle.esr_desk.specs.Start.{Start, formats_of, world_of, Legal}
+use Rattle.esr_desk.specs.Start.{Start, formats_of, world_of}
 use Rattle.esr_report.specs.Replies.{read_shard}
 use Rattle.esr_quiet.specs.Refusals.{AreByRule}
 use Rattle.esr_quiet.specs.Smooth.{IsSmooth, NoneFailed, NoneUndeleted, NoneUnrestored}
@@ -27,7 +27,7 @@ use Rattle.esr_complete.proofs.Steps.{follows_step}
 use Rattle.esr_complete.proofs.RestoreTickets.{IsRestored}
 use Rattle.esr_complete.proofs.FollowingRestores.{AskedRestore, opens, RestoresIn}
 use Rattle.esr_complete.proofs.RestoreSteps.{IsOrdered, restores_step}
-use Rattle.esr_complete.proofs.Histories.{Laws, read_opened, reader_out, AreCalm, all_calm, AreSafe, all_safe, follows_start, none_ready, world_append, nothing_ready}
+use Rattle.esr_complete.proofs.Histories.{Laws, read_opened, reader_out, AreCalm, all_calm, AreSafe, all_safe, follows_start}
 
 -- ---- each world of the history is in order
 
@@ -95,25 +95,11 @@ restore_ready w o r t there none_out =
     ready s m (Restored files bytes) is waiting = absurd (true≢false (sym waiting))
     ready s m (NotRestored why) is waiting = absurd (true≢false (sym waiting))
 
--- with a take that gives nothing at its end
-none_open : (f : Formats) (size : ℕ) (w : World) (front : List Moment) (image : Option Image) → IsLegal f size w (front ++ nothing_ready image ∷ []) → IsOrdered (world_from f w front)
-    → ((k : ℕ) (q : Reader) → fin.get (world_from f w (front ++ nothing_ready image ∷ [])).readers k ≡ Some q → q.out ≡ true → ⊥)
-    → (o : ℕ) (r : Restoring) → fin.get (world_from f w (front ++ nothing_ready image ∷ [])).restores o ≡ Some r → ⊥
-none_open f size w front image legal ordered none_out o r there =
-    let m : Moment = nothing_ready image in
-    let last : World = world_from f w front in
-    let same : world_from f w (front ++ m ∷ []) ≡ after f last m = world_append f front w m in
-    none_ready f size last image (legal_parts f size front (m ∷ []) w legal).1.0
-    (restore_ready last o r ordered.tracked (ap (λ (x : World). fin.get x.restores o) (sym same) ∙ there) (λ k q e. none_out k q (ap (λ (x : World). fin.get x.readers k) same ∙ e)))
-
 none_open_at : Laws → (s : Start) (log : List Moment) → IsSmooth s log → IsIdle s log → (o : ℕ) (r : Restoring) → fin.get (world_of s log).restores o ≡ Some r → ⊥
 none_open_at laws s log smooth idle o r there =
-    let front = idle.none_ready.front in
-    let image = idle.none_ready.image in
-    let is : log ≡ front ++ nothing_ready image ∷ [] = idle.none_ready.is in
-    none_open (formats_of s) s.part_size s.world front image (subst (Legal s) is smooth.legal) (smooth_ordered laws s log smooth front (nothing_ready image ∷ []) is)
-    (λ k q e out. reader_out (fin.get (world_of s log).readers k) q (idle.no_reader k) (ap (λ (l : List Moment). fin.get (world_of s l).readers k) is ∙ e) out)
-    o r (ap (λ (l : List Moment). fin.get (world_of s l).restores o) (sym is) ∙ there)
+    idle.none_ready
+    (restore_ready (world_of s log) o r (smooth_ordered laws s log smooth log [] (sym (append-nil log))).tracked there
+    (λ k q e out. reader_out (fin.get (world_of s log).readers k) q (idle.no_reader k) e out))
 
 -- so each shard of each restore that was accepted was restored
 pub all_restored : Laws → (s : Start) (log : List Moment) → IsSmooth s log → NoneFailed log → NoneUndeleted log → NoneUnrestored log → AreByRule log → IsIdle s log → (e : Entry) (a : AskedRestore) → Has (entries_of log) e → opens e.reply ≡ Some a

@@ -6,7 +6,7 @@ use Rattle.esr_core.specs.Entry.{Asked, CloneOf, Clone, DeleteSnapshots, AsksNoC
 use Rattle.esr_script.specs.declared.item.Item.{Item}
 use Rattle.esr_script.specs.declared.item.Item.TheVariants as items
 use Rattle.esr_script.specs.declared.item.ScriptLine.{ScriptLine}
-use Rattle.esr_report.specs.Replies.{Reply, fails_swap, answer_at, is_of_line, from_line, falls_before, falls_first, is_check, is_looked, is_look_answered, look_reply, past_look, from_item, check_answer, line_answer, line_reply, wait_reply, is_wait, and_more, replies_from, replies}
+use Rattle.esr_report.specs.Replies.{Reply, fails_swap, answer_at, is_of_line, from_line, falls_before, falls_first, is_check, is_looked, is_look_answered, look_reply, past_look, from_item, check_answer, line_answer, line_reply, wait_reply, is_wait, is_failover, has_fallen, failover_reply, from_election, past_first, and_those, and_more, replies_from, replies}
 use Rattle.esr_quiet.specs.Asked.{is_asked, as_asked, asked_steps}
 use Rattle.esr_complete.specs.Lines.{index_of_line, command_of_line, steps_of_item, steps_of, IsKnown, AreKnown, entries_of}
 use Rattle.esr_complete.specs.Answers.{IsAnswer, AreAnsweredIn, AreAnswered}
@@ -36,7 +36,7 @@ asked_clone : (source name : Bytes) (indices : List Bytes) (moment : ℕ) (x : S
 asked_clone source name indices moment (AskStep (Clone of called names time taken)) e = let same : AskStep (Clone of called names time None) ≡ AskStep (Clone source name indices moment None) = e in (taken, cc)
 asked_clone source name indices moment x e = (None, e)
 
-module _ (script : List ScriptLine) where
+module _ (script : List ScriptLine) (later : List Entry) where
   -- ---- the next entry of a line
 
   -- what the line is answered by, with what comes after it
@@ -209,13 +209,13 @@ module _ (script : List ScriptLine) where
 
   -- an entry of the line, with the answer that it tells
   by_entry : (all rest : List Entry) (item : Item) (lines : List ScriptLine) (P : Entry → Type 0) (more : List Step) (kinds : List Bool) → is_check item ≡ false → ((x : Entry) → Has rest x → Fact script all x) → (n : Next all rest P more kinds) → IsAnswerOf script item (answer_at all n.e.step n.e.reply)
-      → AreAnsweredIn script lines (replies_from all lines false n.es)
-      → IsFirst item lines (and_more (line_reply item all (from_item item rest)) (replies_from all lines (false || (falls_before rest || falls_first (from_item item rest)))))
+      → AreAnsweredIn script lines (replies_from all lines false later n.es)
+      → IsFirst item lines (and_more (line_reply item all (from_item item rest)) (replies_from all lines (false || (falls_before rest || falls_first (from_item item rest))) later))
   by_entry all rest item lines P more kinds other facts n answer after =
-      subst (λ (es : List Entry). IsFirst item lines (and_more (line_reply item all es) (replies_from all lines (false || (falls_before rest || falls_first es))))) (sym (no_look (is_check item) (from_line rest) other ∙ n.is))
-      (subst (λ (b : Bool). IsFirst item lines (and_more (line_reply item all (n.e ∷ n.es)) (replies_from all lines (false || b))))
+      subst (λ (es : List Entry). IsFirst item lines (and_more (line_reply item all es) (replies_from all lines (false || (falls_before rest || falls_first es)) later))) (sym (no_look (is_check item) (from_line rest) other ∙ n.is))
+      (subst (λ (b : Bool). IsFirst item lines (and_more (line_reply item all (n.e ∷ n.es)) (replies_from all lines (false || b) later)))
       (sym (neither (falls_before rest) (fails_swap n.e.step n.e.reply) (unfallen_before all rest facts) n.fact.unfallen))
-      (answered_next item lines (line_answer item all n.e.step n.e.reply) n.es (replies_from all lines false)
+      (answered_next item lines (line_answer item all n.e.step n.e.reply) n.es (replies_from all lines false later)
       (subst (λ (o : Option Reply). IsAnswerOf script item o) (sym (answer_other (is_check item) (check_answer n.e.step n.e.reply) (answer_at all n.e.step n.e.reply) other)) answer) after))
 
   -- a look that was answered
@@ -225,8 +225,8 @@ module _ (script : List ScriptLine) where
   looked_is reply answered = absurd answered
 
   -- a check is answered by its end
-  by_check : (all rest : List Entry) (lines : List ScriptLine) (more : List Step) (kinds : List Bool) → ((x : Entry) → Has rest x → Fact script all x) → (n : NextCheck all rest more kinds) → AreAnsweredIn script lines (replies_from all lines false n.next.es)
-      → IsFirst items.Check lines (and_more (line_reply items.Check all (from_item items.Check rest)) (replies_from all lines (false || (falls_before rest || falls_first (from_item items.Check rest)))))
+  by_check : (all rest : List Entry) (lines : List ScriptLine) (more : List Step) (kinds : List Bool) → ((x : Entry) → Has rest x → Fact script all x) → (n : NextCheck all rest more kinds) → AreAnsweredIn script lines (replies_from all lines false later n.next.es)
+      → IsFirst items.Check lines (and_more (line_reply items.Check all (from_item items.Check rest)) (replies_from all lines (false || (falls_before rest || falls_first (from_item items.Check rest))) later))
   by_check all rest lines more kinds facts n after =
       let answered : is_look_answered n.look.step n.look.reply ≡ true = ap (λ (step : Step). is_look_answered step n.look.reply) n.looks ∙ looked_is n.look.reply (n.fact.looked n.looks) in
       let from : from_item items.Check rest ≡ n.next.e ∷ n.next.es =
@@ -234,15 +234,17 @@ module _ (script : List ScriptLine) where
       let (snapshots, blobs, step, reply) = n.next.own in
       let answer : IsAnswerOf script items.Check (line_answer items.Check all n.next.e.step n.next.e.reply) =
       subst (λ (x : Step). IsAnswerOf script items.Check (check_answer x n.next.e.reply)) (sym step) (subst (λ (r : entry.Reply). IsAnswerOf script items.Check (check_answer (ReadStep (CheckedAll snapshots blobs)) r)) (sym reply) tt) in
-      subst (λ (es : List Entry). IsFirst items.Check lines (and_more (line_reply items.Check all es) (replies_from all lines (false || (falls_before rest || falls_first es))))) (sym from)
-      (subst (λ (b : Bool). IsFirst items.Check lines (and_more (line_reply items.Check all (n.next.e ∷ n.next.es)) (replies_from all lines (false || b))))
+      subst (λ (es : List Entry). IsFirst items.Check lines (and_more (line_reply items.Check all es) (replies_from all lines (false || (falls_before rest || falls_first es)) later))) (sym from)
+      (subst (λ (b : Bool). IsFirst items.Check lines (and_more (line_reply items.Check all (n.next.e ∷ n.next.es)) (replies_from all lines (false || b) later)))
       (sym (neither (falls_before rest) (fails_swap n.next.e.step n.next.e.reply) (unfallen_before all rest facts) n.next.fact.unfallen))
-      (answered_next items.Check lines (line_answer items.Check all n.next.e.step n.next.e.reply) n.next.es (replies_from all lines false) answer after))
+      (answered_next items.Check lines (line_answer items.Check all n.next.e.step n.next.e.reply) n.next.es (replies_from all lines false later) answer after))
 
   walk_item : (all rest : List Entry) (moment : ℕ) (item : Item) (lines : List ScriptLine) → ((x : Entry) → Has rest x → Fact script all x) → IsKnown item → InTurn Idle (kinds_of_item item ++ kinds_of lines) rest → steps_asked rest ≡ steps_of_item moment item ++ steps_of moment lines
-      → ((es : List Entry) → ((x : Entry) → Has es x → Fact script all x) → InTurn Idle (kinds_of lines) es → steps_asked es ≡ steps_of moment lines → AreAnsweredIn script lines (replies_from all lines false es))
+      → ((es : List Entry) → ((x : Entry) → Has es x → Fact script all x) → InTurn Idle (kinds_of lines) es → steps_asked es ≡ steps_of moment lines → AreAnsweredIn script lines (replies_from all lines false later es))
       → IsFirst item lines
-      (if is_wait item then wait_reply (false || falls_before rest) ∷ replies_from all lines false rest else and_more (line_reply item all (from_item item rest)) (replies_from all lines (false || (falls_before rest || falls_first (from_item item rest)))))
+      (if is_wait item then wait_reply (false || falls_before rest) ∷ replies_from all lines false later rest
+      else if is_failover item then and_those (failover_reply (has_fallen all) (from_election later)) (replies_from all lines false (past_first (from_election later)) rest)
+      else and_more (line_reply item all (from_item item rest)) (replies_from all lines (false || (falls_before rest || falls_first (from_item item rest))) later))
   walk_item all rest moment (items.Snapshot name indices) lines facts known turn e on =
       let step : Step = AskStep (command_of_line name indices moment) in
       let n = next_same all step (steps_of moment lines) (kinds_of lines) rest facts (ask_no_read (command_of_line name indices moment)) (λ source called names when taken same. cc) turn e in
@@ -268,7 +270,7 @@ module _ (script : List ScriptLine) where
       (subst (λ (x : Step). IsAnswerOf script (items.Restore name place) (answer_at all x n.e.reply)) (sym n.own) (n.fact.restored name place n.own name place))
       (on n.es n.facts n.turn n.more_is)
   walk_item all rest moment items.Wait lines facts known turn e on =
-      subst (λ (b : Bool). IsFirst items.Wait lines (wait_reply (false || b) ∷ replies_from all lines false rest)) (sym (unfallen_before all rest facts)) (tt, on rest facts turn e)
+      subst (λ (b : Bool). IsFirst items.Wait lines (wait_reply (false || b) ∷ replies_from all lines false later rest)) (sym (unfallen_before all rest facts)) (tt, on rest facts turn e)
   walk_item all rest moment items.List lines facts known turn e on =
       let n = next_same all LookStep (steps_of moment lines) (kinds_of lines) rest facts look_no_read (λ source called names when taken same. cc) turn e in
       by_entry all rest items.List lines (λ x. x.step ≡ LookStep) (steps_of moment lines) (kinds_of lines) refl facts n
@@ -284,12 +286,12 @@ module _ (script : List ScriptLine) where
       (on n.es n.facts n.turn n.more_is)
   walk_item all rest moment item lines facts known turn e on = absurd known
 
-  walk : (all : List Entry) (moment : ℕ) (lines : List ScriptLine) (rest : List Entry) → AreKnown lines → ((x : Entry) → Has rest x → Fact script all x) → InTurn Idle (kinds_of lines) rest → steps_asked rest ≡ steps_of moment lines → AreAnsweredIn script lines (replies_from all lines false rest)
+  walk : (all : List Entry) (moment : ℕ) (lines : List ScriptLine) (rest : List Entry) → AreKnown lines → ((x : Entry) → Has rest x → Fact script all x) → InTurn Idle (kinds_of lines) rest → steps_asked rest ≡ steps_of moment lines → AreAnsweredIn script lines (replies_from all lines false later rest)
   walk all moment [] rest known facts turn e = tt
   walk all moment (line ∷ lines) rest known facts turn e =
-      first_is line lines (replies_from all (line ∷ lines) false rest) (walk_item all rest moment line.item lines facts known.0 turn e (λ es more after same. walk all moment lines es known.1 more after same))
+      first_is line lines (replies_from all (line ∷ lines) false later rest) (walk_item all rest moment line.item lines facts known.0 turn e (λ es more after same. walk all moment lines es known.1 more after same))
 
 pub answered_lines : (log : List Moment) (lines : List ScriptLine) (moment : ℕ) → AreKnown lines → ((x : Entry) → Has (entries_of log) x → Fact lines (entries_of log) x) → InTurn Idle (kinds_of lines) (entries_of log) → asked_steps log ≡ steps_of moment lines
     → AreAnswered lines (replies lines (entries_of log))
 unfolding replies
-answered_lines log lines moment known facts turn e = walk lines (entries_of log) moment lines (entries_of log) known facts turn (asked_same log ∙ e)
+answered_lines log lines moment known facts turn e = walk lines (entries_of log) (entries_of log) moment lines (entries_of log) known facts turn (asked_same log ∙ e)

@@ -1,15 +1,15 @@
 -- How lines are answered where nothing fails.
 use Rattle.std.specs.Prelude.{◌≡◌, ◌⊎◌, ℕ, false, List, [], ◌∷◌}
 use Rattle.esr_model.specs.Values.{Bytes, Has}
-use Rattle.esr_core.specs.Entry.{TakeStep, NothingReady, Entry, Moment}
+use Rattle.esr_core.specs.Ready.{AnyReady}
+use Rattle.esr_core.specs.Entry.{Entry, Moment}
 use Rattle.esr_script.specs.declared.item.Item.{Item}
 use Rattle.esr_script.specs.declared.item.Item.TheVariants as items
 use Rattle.esr_script.specs.declared.item.ScriptLine.{ScriptLine}
 use Rattle.esr_report.specs.Replies.{Reply, Made, Deleted, Restored, Waited, Listed, Checked, Verified, Refused, Aborted}
 use Rattle.esr_report.specs.Status.{ending, AllOk, SomeRefused}
-use Rattle.esr_desk.specs.Start.{Start}
+use Rattle.esr_desk.specs.Start.{Start, world_of}
 use Rattle.esr_desk.specs.Grew.{NoneOut}
-use Rattle.esr_desk.specs.Last.{IsLast}
 use Rattle.esr_desk.specs.Own.{reader_of}
 use Rattle.esr_quiet.specs.Refusals.{RefusesSnapshot, RefusesRestore, RefusesClone, RefusesDelete}
 
@@ -17,11 +17,11 @@ use Rattle.esr_quiet.specs.Refusals.{RefusesSnapshot, RefusesRestore, RefusesClo
 abbrev pub NoReaderOut : Start → List Moment → Type 0
 NoReaderOut s log = (k : ℕ) → (reader_of s log k).out ≡ false
 
--- no unit was ready, and none is out
+-- no unit is ready, and none is out
 pub record IsIdle (s : Start) (log : List Moment) : Type 0 where
   pub none_out : NoneOut s log
   pub no_reader : NoReaderOut s log
-  pub none_ready : IsLast log 0 TakeStep NothingReady
+  pub none_ready : AnyReady (world_of s log) → ⊥
 
 -- some line of the script asks for a delete that names this
 abbrev pub IsDeletedBy : List ScriptLine → Bytes → Type 0

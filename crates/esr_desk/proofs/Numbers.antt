@@ -1,17 +1,17 @@
 -- The numbers of tickets rise, and no step is made under a number before it is given.
-use Rattle.std.proofs.Common.{◌≡◌, ◌⊎◌, ℕ, suc, ◌<◌, ◌≤◌, Bool, true, false, cond, Ordering, Less, Equal, Greater, is_eq, nat_cmp, List, [], ◌∷◌, ◌++◌, Option, Some, sym, ap, ◌∙◌, subst, refl, inl, inr, ⊎_elim, true≢false, arith}
+use Rattle.std.proofs.Common.{◌≡◌, ◌⊎◌, ℕ, suc, ◌<◌, ◌≤◌, Bool, true, false, cond, Ordering, Less, Equal, Greater, is_eq, nat_cmp, List, [], ◌∷◌, ◌++◌, Option, Some, None, sym, ap, ◌∙◌, subst, refl, inl, inr, ⊎_elim, true≢false, arith}
 use Rattle.std.specs.Ordering.{eq_by_cmp}
 use Rattle.std.specs.Cmp.{nat_cmp_total}
 use Rattle.std.specs.FinMap.{FinMap, nat_cmp-IsAntisymmetric}
 use Rattle.std.specs.FinMap as fin
 use Rattle.esr_model.specs.Values.{Bytes, Has, Formats}
 use Rattle.esr_model.specs.Image.{Image}
-use Rattle.esr_core.specs.World.{World, Ticket, Reader}
-use Rattle.esr_core.specs.Restores.{reader_of, read_more}
-use Rattle.esr_core.specs.Entry.{CloneOf, Read, Prune, Step, Reply, Given, Gave, Refusal, Refused, Moment}
-use Rattle.esr_core.specs.After.{answered, after}
+use Rattle.esr_core.specs.World.{World, Op, ShardWork, Restoring, RestoreShard, Ticket, Reader}
+use Rattle.esr_core.specs.Restores.{reader_of, read_more, restore_shard}
+use Rattle.esr_core.specs.Entry.{CloneOf, Read, Prune, Step, TakeStep, Reply, Given, GivenShard, GivenFinalize, GivenDrop, GivenRestore, GivenClone, GivenDelete, GivenCleanup, Gave, Refusal, Refused, Moment}
+use Rattle.esr_core.specs.After.{shard_of, taken_shard, taken_restore_shard, taken_restore, taken_by, answered, after}
 use Rattle.esr_core.specs.Allowed as allowed
-use Rattle.esr_core.specs.Allowed.{DeleteAllows, RestoreAllows, OpeningRestore, CloneAllows, OpeningClone, ReadAllows, ReadFound, VerifyAllows, DrawingTest, PruneAllows, Allows, Allowed, Blocks, ByFailedSwap, ByDelete, IsBlocked}
+use Rattle.esr_core.specs.Allowed.{DeleteAllows, RestoreAllows, OpeningRestore, CloneAllows, OpeningClone, ReadAllows, ReadFound, VerifyAllows, DrawingTest, PruneAllows, Allows, Gives, Allowed, Blocks, ByFailedSwap, ByDelete, IsBlocked}
 use Rattle.esr_core.specs.Changes.{StepChange, NoChange, NewOp, NewDeletion, MergedDeletion, NewRestore, NewTicket, NewReader, OwnTicket, Settlement, UnitEnd, DeletionFailure, OpDrop, Election, ReaderFetch, ReaderEnd, PlainDraw, TestBlob, SwapFault, Maker, ClientStep, ReaderStep, UnitStep}
 use Rattle.esr_core.specs.History.{world_from, IsLegal}
 use Rattle.esr_desk.specs.Start.{Start, formats_of, world_of, Legal}
@@ -25,6 +25,12 @@ Changes = (f : Formats) (w : World) (who : ℕ) (step : Step) (reply : Reply) (i
 -- it has its maker
 abbrev pub Makers : Type 0
 Makers = (f : Formats) (part_size : ℕ) (w : World) (m : Moment) → Allowed f part_size w m → Maker w m.entry.who m.entry.step ⊎ IsBlocked w m
+
+none_some : {X : Type 0} {x : X} → None ≡ Some x → ⊥
+none_some e = cc
+
+some_same : {X : Type 0} {x y : X} → Some x ≡ Some y → x ≡ y
+some_same e = cc
 
 -- ---- maps
 
@@ -133,58 +139,108 @@ all_below law makers f size (x ∷ log) w m n legal (inr has) made = all_below l
 
 -- ---- a unit is given
 
-abbrev IsGift : World → ℕ → Reply → Type 0
-IsGift w who (Gave ticket op unit) = (who ≡ 0) × (ticket ≡ w.next_ticket)
-IsGift w who reply = Unit {0}
+abbrev IsGift : Formats → World → ℕ → Step → Reply → Type 0
+IsGift f w who step (Gave ticket op unit) = (who ≡ 0) × (ticket ≡ w.next_ticket) × (step ≡ TakeStep) × Gives f w op unit
+IsGift f w who step reply = Unit {0}
 
-gift_restore : (f : Formats) (w : World) (name : Bytes) (reply : Reply) (image : Option Image) → RestoreAllows f w name reply image → IsGift w 0 reply
-gift_restore f w name reply image (OpeningRestore o uuid indices im h) = tt
-gift_restore f w name reply image a = tt
+gift_restore : (f : Formats) (w : World) (name : Bytes) (step : Step) (reply : Reply) (image : Option Image) → RestoreAllows f w name reply image → IsGift f w 0 step reply
+gift_restore f w name step reply image (OpeningRestore o uuid indices im h) = tt
+gift_restore f w name step reply image a = tt
 
-gift_clone : (f : Formats) (w : World) (source name : Bytes) (names : List Bytes) (time : ℕ) (taken : Option CloneOf) (reply : Reply) (image : Option Image) → CloneAllows f w source name names time taken reply image → IsGift w 0 reply
-gift_clone f w source name names time taken reply image (OpeningClone of o im acc) = tt
-gift_clone f w source name names time taken reply image a = tt
+gift_clone : (f : Formats) (w : World) (source name : Bytes) (names : List Bytes) (time : ℕ) (taken : Option CloneOf) (step : Step) (reply : Reply) (image : Option Image) → CloneAllows f w source name names time taken reply image → IsGift f w 0 step reply
+gift_clone f w source name names time taken step reply image (OpeningClone of o im acc) = tt
+gift_clone f w source name names time taken step reply image a = tt
 
-gift_delete : (w : World) (names : List Bytes) (reply : Reply) → DeleteAllows w names reply → IsGift w 0 reply
-gift_delete w names reply (allowed.GoingInto acc) = tt
-gift_delete w names reply a = tt
+gift_delete : (f : Formats) (w : World) (names : List Bytes) (step : Step) (reply : Reply) → DeleteAllows w names reply → IsGift f w 0 step reply
+gift_delete f w names step reply (allowed.GoingInto acc) = tt
+gift_delete f w names step reply a = tt
 
-gift_read : (f : Formats) (w : World) (who : ℕ) (read : Read) (reply : Reply) (image : Option Image) → ReadAllows f w who read reply image → IsGift w who reply
-gift_read f w who read reply image (ReadFound k name im stored by found) = tt
-gift_read f w who read reply image a = tt
+gift_read : (f : Formats) (w : World) (who : ℕ) (read : Read) (step : Step) (reply : Reply) (image : Option Image) → ReadAllows f w who read reply image → IsGift f w who step reply
+gift_read f w who read step reply image (ReadFound k name im stored by found) = tt
+gift_read f w who read step reply image a = tt
 
-gift_verify : (f : Formats) (w : World) (read : Read) (reply : Reply) (image : Option Image) → VerifyAllows f w read reply image → IsGift w 0 reply
-gift_verify f w read reply image (DrawingTest im idle fits same) = tt
-gift_verify f w read reply image a = tt
+gift_verify : (f : Formats) (w : World) (read : Read) (step : Step) (reply : Reply) (image : Option Image) → VerifyAllows f w read reply image → IsGift f w 0 step reply
+gift_verify f w read step reply image (DrawingTest im idle fits same) = tt
+gift_verify f w read step reply image a = tt
 
-gift_prune : (f : Formats) (w : World) (who : ℕ) (prune : Prune) (reply : Reply) (image : Option Image) → PruneAllows f w who prune reply image → IsGift w who reply
-gift_prune f w who prune reply image (allowed.FetchingShard k name im g found) = tt
-gift_prune f w who prune reply image a = tt
+gift_prune : (f : Formats) (w : World) (who : ℕ) (prune : Prune) (step : Step) (reply : Reply) (image : Option Image) → PruneAllows f w who prune reply image → IsGift f w who step reply
+gift_prune f w who prune step reply image (allowed.FetchingShard k name im g found) = tt
+gift_prune f w who prune step reply image a = tt
 
-gift : (f : Formats) (size : ℕ) (w : World) (who : ℕ) (step : Step) (reply : Reply) (image : Option Image) → Allows f size w who step reply image → IsGift w who reply
-gift f size w who step reply image (allowed.Giving k o unit im is lowest g same) = (refl, is)
-gift f size w who step reply image (allowed.AskingRestore name place rep im a same) = gift_restore f w name rep im a
-gift f size w who step reply image (allowed.AskingClone source name names time taken rep im a same) = gift_clone f w source name names time taken rep im a
-gift f size w who step reply image (allowed.AskingDelete names rep im a same) = gift_delete w names rep a
-gift f size w who step reply image (allowed.Reading k read rep im a same) = gift_read f w k read rep im a
-gift f size w who step reply image (allowed.Verifying read rep im a) = gift_verify f w read rep im a
-gift f size w who step reply image (allowed.Pruning k prune rep im a) = gift_prune f w k prune rep im a
+gift : (f : Formats) (size : ℕ) (w : World) (who : ℕ) (step : Step) (reply : Reply) (image : Option Image) → Allows f size w who step reply image → IsGift f w who step reply
+gift f size w who step reply image (allowed.Giving k o unit im is lowest g same) = (refl, is, refl, g)
+gift f size w who step reply image (allowed.AskingRestore name place rep im a same) = gift_restore f w name step rep im a
+gift f size w who step reply image (allowed.AskingClone source name names time taken rep im a same) = gift_clone f w source name names time taken step rep im a
+gift f size w who step reply image (allowed.AskingDelete names rep im a same) = gift_delete f w names step rep a
+gift f size w who step reply image (allowed.Reading k read rep im a same) = gift_read f w k read step rep im a
+gift f size w who step reply image (allowed.Verifying read rep im a) = gift_verify f w read step rep im a
+gift f size w who step reply image (allowed.Pruning k prune rep im a) = gift_prune f w k prune step rep im a
 gift f size w who step reply image a = tt
 
 refused_gave : (refusal : Refusal) (ticket op : ℕ) (unit : Given) → Refused refusal ≡ Gave ticket op unit → ⊥
 refused_gave refusal ticket op unit e = cc
 
-given_by : (f : Formats) (size : ℕ) (w : World) (m : Moment) → Allowed f size w m → (ticket op : ℕ) (unit : Given) → m.entry.reply ≡ Gave ticket op unit → (m.entry.who ≡ 0) × (ticket ≡ w.next_ticket)
+given_by : (f : Formats) (size : ℕ) (w : World) (m : Moment) → Allowed f size w m → (ticket op : ℕ) (unit : Given) → m.entry.reply ≡ Gave ticket op unit → IsGift f w m.entry.who m.entry.step (Gave ticket op unit)
 given_by f size w m a ticket op unit is = elim a.answered [
-  | inl alive ↦ subst (IsGift w m.entry.who) is (gift f size w m.entry.who m.entry.step m.entry.reply m.image alive.1)
+  | inl alive ↦ subst (IsGift f w m.entry.who m.entry.step) is (gift f size w m.entry.who m.entry.step m.entry.reply m.image alive.1)
   | inr dead ↦ absurd (refused_gave dead.refusal ticket op unit (sym dead.refused ∙ is))
 ]
+
+-- ---- the next number
+
+next_shard : (w : World) (o : ℕ) (op : Op) (base : Option ℕ) (s : ShardWork) (found : Option ShardWork) → found ≡ Some s → (taken_shard w o op base found).next_ticket ≡ suc w.next_ticket
+next_shard w o op base s None is = absurd cc
+next_shard w o op base s (Some z) is = refl
+
+next_restore : (w : World) (o : ℕ) (r : Restoring) (s : RestoreShard) (found : Option RestoreShard) → found ≡ Some s → (taken_restore_shard w o r found).next_ticket ≡ suc w.next_ticket
+next_restore w o r s None is = absurd cc
+next_restore w o r s (Some z) is = refl
+
+next_given : (f : Formats) (w : World) (o : ℕ) (unit : Given) (found : Option Op) → found ≡ fin.get w.ops o → Gives f w o unit → (taken_by f w o unit found).next_ticket ≡ suc w.next_ticket
+next_given f w o (GivenShard index number base) None is g = absurd (none_some (is ∙ g.ready.op_there))
+next_given f w o (GivenShard index number base) (Some op) is g = ap (λ (p : Op). (taken_shard w o p base (shard_of p.shards index number)).next_ticket) (some_same (is ∙ g.ready.op_there)) ∙ next_shard w o g.op base g.s (shard_of g.op.shards index number) g.found
+next_given f w o (GivenClone index number source base) None is g = absurd (none_some (is ∙ g.ready.op_there))
+next_given f w o (GivenClone index number source base) (Some op) is g = ap (λ (p : Op). (taken_shard w o p base (shard_of p.shards index number)).next_ticket) (some_same (is ∙ g.ready.op_there)) ∙ next_shard w o g.op base g.s (shard_of g.op.shards index number) g.found
+next_given f w o (GivenFinalize info results) None is g = absurd (none_some (is ∙ g.ready.op_there))
+next_given f w o (GivenFinalize info results) (Some op) is g = refl
+next_given f w o GivenDrop None is g = refl
+next_given f w o GivenDrop (Some op) is g = refl
+next_given f w o (GivenRestore index number uuid) None is g = ap (λ (r : Option Restoring). (taken_restore w o index number r).next_ticket) g.ready.there ∙ next_restore w o g.r g.s (restore_shard g.r.shards index number) g.found
+next_given f w o (GivenRestore index number uuid) (Some op) is g = ap (λ (r : Option Restoring). (taken_restore w o index number r).next_ticket) g.ready.there ∙ next_restore w o g.r g.s (restore_shard g.r.shards index number) g.found
+next_given f w o (GivenDelete uuids) None is g = refl
+next_given f w o (GivenDelete uuids) (Some op) is g = refl
+next_given f w o GivenCleanup found is g = absurd g
+
+next_after : (f : Formats) (w : World) (m : Moment) (ticket op : ℕ) (unit : Given) → IsGift f w m.entry.who m.entry.step (Gave ticket op unit) → m.entry.reply ≡ Gave ticket op unit → (after f w m).next_ticket ≡ suc w.next_ticket
+next_after f w m ticket op unit gift is =
+    ap (λ (who : ℕ). (answered f w who m.entry.step m.entry.reply m.image).next_ticket) gift.0
+    ∙ ap (λ (step : Step). (answered f w 0 step m.entry.reply m.image).next_ticket) gift.2
+    ∙ ap (λ (reply : Reply). (answered f w 0 TakeStep reply m.image).next_ticket) is
+    ∙ next_given f w op unit (fin.get w.ops op) refl gift.3
+
+-- so each ticket that was given is below it
+given_below : Changes → (f : Formats) (size : ℕ) (log : List Moment) (w : World) (m : Moment) (ticket op : ℕ) (unit : Given) → Numbered 1 w → IsLegal f size w log → Has log m → m.entry.reply ≡ Gave ticket op unit → ticket < (world_from f w log).next_ticket
+given_below law f size [] w m ticket op unit n legal none is = absurd none
+given_below law f size (x ∷ log) w m ticket op unit n legal (inl same) is =
+    let gift = given_by f size w m (subst (Allowed f size w) same legal.0) ticket op unit is in
+    let number : ticket ≡ w.next_ticket = gift.1 in
+    let next : (after f w x).next_ticket ≡ suc w.next_ticket = ap (λ (y : Moment). (after f w y).next_ticket) same ∙ next_after f w m ticket op unit gift is in
+    let then_is = numbered_after 1 law f w x n in
+    let more : (after f w x).next_ticket ≤ (world_from f (after f w x) log).next_ticket = (numbered_from (after f w x).next_ticket law f log (after f w x) (record { next = omega arith; tickets = then_is.tickets; readers = then_is.readers })).next in
+    omega (arith, number, next, more)
+given_below law f size (x ∷ log) w m ticket op unit n legal (inr has) is = given_below law f size log (after f w x) m ticket op unit (numbered_after 1 law f w x n) legal.1 has is
+
+pub below_next : Changes → (s : Start) (log : List Moment) (m : Moment) (ticket op : ℕ) (unit : Given) → Numbered 1 s.world → Legal s log → Has log m → m.entry.reply ≡ Gave ticket op unit → ticket < (world_of s log).next_ticket
+below_next law s log m ticket op unit n legal has is = given_below law (formats_of s) s.part_size log s.world m ticket op unit n legal has is
 
 -- ---- the history ends with it
 
 pub front_legal : (f : Formats) (size : ℕ) (log : List Moment) (w : World) (m : Moment) → IsLegal f size w (log ++ m ∷ []) → IsLegal f size w log × Allowed f size (world_from f w log) m
 front_legal f size [] w m legal = (tt, legal.0)
 front_legal f size (x ∷ log) w m legal = let rest = front_legal f size log (after f w x) m legal.1 in ((legal.0, rest.0), rest.1)
+
+pub is_next : (s : Start) (log : List Moment) (m : Moment) (ticket op : ℕ) (unit : Given) → Legal s (log ++ m ∷ []) → m.entry.reply ≡ Gave ticket op unit → ticket ≡ (world_of s log).next_ticket
+is_next s log m ticket op unit legal is = (given_by (formats_of s) s.part_size (world_of s log) m (front_legal (formats_of s) s.part_size log s.world m legal).1 ticket op unit is).1
 
 has_either : (log : List Moment) (m x : Moment) → Has (log ++ m ∷ []) x → Has log x ⊎ (m ≡ x)
 has_either [] m x (inl same) = inr same

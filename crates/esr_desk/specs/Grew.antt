@@ -7,12 +7,6 @@ use Rattle.esr_desk.specs.Refusals.{told_refusal}
 use Rattle.esr_desk.specs.Start.{Start, Legal, ticket_of}
 use Rattle.esr_desk.specs.Outcome.{Stepped, Refusing, Outcome}
 
--- by legal steps
-pub record Grew (s : Start) (old new : List Moment) : Type 0 where
-  pub more : List Moment
-  pub is : new ≡ old ++ more
-  pub legal : Legal s old → Legal s new
-
 -- each of these steps is of the ticket
 abbrev pub AllOf : ℕ → List Moment → Type 0
 AllOf who [] = Unit {0}
@@ -31,16 +25,6 @@ NoneOut s log = (k : ℕ) → (ticket_of s log k).out ≡ false
 
 -- ---- how it goes on
 
-pub grew_none : (s : Start) (log : List Moment) → Grew s log log
-grew_none s log = record { more = []; is = sym (append-nil log); legal = λ was. was }
-
-pub grew_on : (s : Start) (old mid new : List Moment) → Grew s old mid → Grew s mid new → Grew s old new
-grew_on s old mid new first second = record {
-  more = first.more ++ second.more;
-  is = second.is ∙ ap (λ (log : List Moment). log ++ second.more) first.is ∙ append_assoc old first.more second.more;
-  legal = λ was. second.legal (first.legal was);
-}
-
 all_of_both : (who : ℕ) (a b : List Moment) → AllOf who a → AllOf who b → AllOf who (a ++ b)
 all_of_both who [] b of_a of_b = of_b
 all_of_both who (m ∷ a) b of_a of_b = (of_a.0, all_of_both who a b of_a.1 of_b)
@@ -55,9 +39,6 @@ grew_by_on s who old mid new first second = record {
   legal = λ was. second.legal (first.legal was);
   own = λ alone. all_of_both who first.more second.more (first.own alone) (second.own alone);
 }
-
-pub grew_by_any : (s : Start) (who : ℕ) (old new : List Moment) → GrewBy s who old new → Grew s old new
-grew_by_any s who old new g = record { more = g.more; is = g.is; legal = g.legal }
 
 -- ---- what a step says
 
@@ -83,6 +64,3 @@ refusing_grew_by s old new who step (Some refusal) h = stepped_grew_by s old new
 pub outcome_grew_by : {X : Type 0} (s : Start) (old new : List Moment) (who : ℕ) (step : Step) (ok : X → Reply) (result : Result X StepRefusal) → Outcome s old new who step ok result → GrewBy s who old new
 outcome_grew_by s old new who step ok (Ok x) h = stepped_grew_by s old new who step (ok x) h
 outcome_grew_by s old new who step ok (Err e) h = refusing_grew_by s old new who step (told_refusal e) h.0
-
-pub outcome_grew : {X : Type 0} (s : Start) (old new : List Moment) (who : ℕ) (step : Step) (ok : X → Reply) (result : Result X StepRefusal) → Outcome s old new who step ok result → Grew s old new
-outcome_grew s old new who step ok result h = grew_by_any s who old new (outcome_grew_by s old new who step ok result h)

@@ -24,4 +24,5 @@ pub mod Hands
 pub mod Evidence
 pub mod Unit
 pub mod Shown
+pub mod Lasting
 pub mod Unquiet

@@ -10,7 +10,7 @@ use Rattle.esr_core.specs.After.{after}
 use Rattle.esr_core.specs.History.{world_from}
 use Rattle.esr_core.specs.Past.{is_counted, with_entry, begins_anew, entries_by, Repeats}
 use Rattle.esr_desk.specs.Start.{Start, formats_of, world_of}
-use Rattle.esr_desk.specs.Own.{made_of}
+use Rattle.esr_desk.specs.Own.{made_of, MadeLast}
 use Rattle.esr_desk.specs.Once.{WasMade, HasMadeNone, IsFresh}
 use Rattle.esr_desk.specs.Outcome.{Waited, Stepped}
 
@@ -120,27 +120,39 @@ kept_made s old new who step reply ticket old_one h e has =
     let front : Has (made_of s h.front who) e = subst (λ (entries : List Entry). Has entries e) (sym (waited_made s old h.front who ticket h.waited)) has in
     subst (λ (w : World). Has (entries_by w.entries who) e) (sym (stepped_world s old new who step reply h)) (keeps (world_of s h.front).entries last who e old_one front)
 
--- ---- its own step is among them
+-- ---- its own step is the last of them
 
-has_own : (entries : List Entry) (x : Entry) → is_counted x.reply ≡ true → begins_anew x.who x.step ≡ false → Has (entries_by (with_entry entries x) x.who) x
-has_own entries x counted old = by (is_counted x.reply) counted
+own_first : (entries : List Entry) (x : Entry) → is_counted x.reply ≡ true → begins_anew x.who x.step ≡ false → entries_by (with_entry entries x) x.who ≡ x ∷ entries_by entries x.who
+own_first entries x counted old = by (is_counted x.reply) counted
   where
-    there : (mine anew : Bool) → mine ≡ true → anew ≡ false → Has (if mine then (if anew then [] else x ∷ entries_by entries x.who) else entries_by entries x.who) x
+    there : (mine anew : Bool) → mine ≡ true → anew ≡ false → (if mine then (if anew then [] else x ∷ entries_by entries x.who) else entries_by entries x.who) ≡ x ∷ entries_by entries x.who
     there true true mine anew = absurd cc
-    there true false mine anew = inl refl
+    there true false mine anew = refl
     there false anew mine last = absurd cc
 
-    here : Has (entries_by (x ∷ entries) x.who) x
+    here : entries_by (x ∷ entries) x.who ≡ x ∷ entries_by entries x.who
     here = ⊎_elim
         (λ (same : ((x.who == x.who) ≡ true) × (x.who ≡ x.who)). there (x.who == x.who) (begins_anew x.who x.step) same.0 old)
         (λ (apart : ((x.who == x.who) ≡ false) × (x.who ≡ x.who → ⊥)). absurd (apart.1 refl))
         (eqb_tells x.who x.who)
 
-    by : (b : Bool) → b ≡ true → Has (entries_by (if b then x ∷ entries else entries) x.who) x
+    by : (b : Bool) → b ≡ true → entries_by (if b then x ∷ entries else entries) x.who ≡ x ∷ entries_by entries x.who
     by true yes_is = here
     by false yes_is = absurd cc
 
--- unless who 0 begins anew by it, or it was refused since a record swap had failed
+has_own : (entries : List Entry) (x : Entry) → is_counted x.reply ≡ true → begins_anew x.who x.step ≡ false → Has (entries_by (with_entry entries x) x.who) x
+has_own entries x counted old = subst (λ (l : List Entry). Has l x) (sym (own_first entries x counted old)) (inl refl)
+
+-- it is, unless who 0 begins anew by it, or it was refused since a record swap had failed
+pub made_last : (s : Start) (old new : List Moment) (who : ℕ) (step : Step) (reply : Reply) → is_counted reply ≡ true → begins_anew who step ≡ false → Stepped s old new who step reply → MadeLast s new who step reply
+made_last s old new who step reply counted old_one h =
+    let last : Entry = record { who = who; step = step; reply = reply } in
+    record {
+      before = made_of s h.front who;
+      is = ap (λ (w : World). entries_by w.entries who) (stepped_world s old new who step reply h) ∙ own_first (world_of s h.front).entries last counted old_one;
+    }
+
+-- its own step is among those that it has made
 pub own_made : (s : Start) (old new : List Moment) (who : ℕ) (step : Step) (reply : Reply) → is_counted reply ≡ true → begins_anew who step ≡ false → Stepped s old new who step reply
     → Has (made_of s new who) (record { who = who; step = step; reply = reply })
 own_made s old new who step reply counted old_one h =

@@ -19,8 +19,8 @@ use Rattle.esr_desk.specs.Once.{HasMadeNone}
 pub record Waited (s : Start) (old new : List Moment) (who : ℕ) : Type 0 where
   pub others : List Moment
   pub grew : new ≡ old ++ others
-  pub alone : own_of s new who ≡ own_of s old who
   -- a ticket makes its steps itself; as who 0 others may take a unit or elect meanwhile
+  pub alone : 1 ≤ who → own_of s new who ≡ own_of s old who
   pub besides : 1 ≤ who → HasMadeNone others who
   -- where nobody else makes a step, it is as it was
   pub nobody : s.alone ≡ true → others ≡ []
@@ -47,10 +47,10 @@ pub record IsOfOp (s : Start) (log : List Moment) (who : ℕ) : Type 0 where
   pub no_delete : (uuids : List ℕ) (plan : Option Swap) → (ticket_of s log who).work ≡ Deleting uuids plan → ⊥
   pub no_reader : (reader_of s log who).out ≡ false
 
--- Turns are spent only where all were taken; the container fails only where it isn't quiet; and a delete aborts no other unit.
+-- Turns are spent only after 2 ^ 33 entries; the container fails only where it isn't quiet; and a delete aborts no other unit.
 abbrev pub Grounds : Start → List Moment → ℕ → StepRefusal → Type 0
 Grounds s log who steps.Memory = Unit {0}
-Grounds s log who steps.TurnsSpent = s.alone ≡ true → 2 ^ 40 ≤ length log
+Grounds s log who steps.TurnsSpent = 2 ^ 33 ≤ length log
 Grounds s log who (steps.Refused refusals.DepotFault) = s.quiet ≡ false
 Grounds s log who (steps.Refused (refusals.Aborted by)) = IsOfOp s log who
 Grounds s log who (steps.Refused refusal) = Unit {0}

@@ -1,10 +1,10 @@
 -- What someone is and has done: a ticket, the ticket of a restore's shard, or who 0.
-use Rattle.std.specs.Prelude.{ℕ, zero, suc, false, List, [], Option, Some, None}
+use Rattle.std.specs.Prelude.{◌≡◌, ℕ, zero, suc, false, List, [], ◌∷◌, Option, Some, None}
 use Rattle.std.specs.FinMap as fin
 use Rattle.esr_model.specs.Names.{BlobName}
 use Rattle.esr_model.specs.Values.{Bytes}
 use Rattle.esr_core.specs.World.{Ticket, Reader, Caller, no_caller}
-use Rattle.esr_core.specs.Entry.{Entry, Moment}
+use Rattle.esr_core.specs.Entry.{Step, Reply, Entry, Moment}
 use Rattle.esr_core.specs.Past.{entries_by}
 use Rattle.esr_desk.specs.declared.hand.Hand.{Hand}
 use Rattle.esr_desk.specs.declared.hand.Hand.TheVariants as hands
@@ -43,6 +43,11 @@ own_of s log who = record { ticket = ticket_of s log who; reader = reader_of s l
 -- the steps that it has made, the last first, each with its answer; of who 0 those since it began anew
 abbrev pub made_of : Start → List Moment → ℕ → List Entry
 made_of s log who = entries_by (world_of s log).entries who
+
+-- this is the last step that it has made, and it was answered so
+pub record MadeLast (s : Start) (log : List Moment) (who : ℕ) (step : Step) (reply : Reply) : Type 0 where
+  pub before : List Entry
+  pub is : made_of s log who ≡ record { who = who; step = step; reply = reply } ∷ before
 
 -- the blobs that it has fetched, where the container tells, with their bytes
 abbrev pub read_blobs : Hand → Start → List Moment → ℕ → List (BlobName × Bytes)

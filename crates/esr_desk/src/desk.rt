@@ -1,5 +1,5 @@
 //! One call for each step that works on a repository.
-ghost use Rattle.std.specs.Prelude.{◌≡◌, ◌+◌, ◌<◌, ◌≤◌, ◌^◌, ℕ, List, [], map, length, Some, true, false, IsTrue, IfOk, IfSome, OnOk, OnErr};
+ghost use Rattle.std.specs.Prelude.{◌≡◌, ◌+◌, ◌<◌, ◌≤◌, ◌^◌, ℕ, List, [], map, length, Some, true, false, IsTrue, IfOk, IfErr, IfSome, OnOk, OnErr};
 ghost use Rattle.esr_model.specs.Names.{Latest};
 ghost use Rattle.esr_model.specs.Values.{Bytes, Has};
 ghost use Rattle.esr_model.specs.Delete.{deleted_root};
@@ -24,12 +24,12 @@ ghost use Rattle.esr_desk.specs.Outcome.{Outcome, commit_reply, fetch_reply, tak
 ghost use Rattle.esr_desk.specs.Conditions.{CanDraw, CanCommit, CanPut, CanBegin, Holds, CanRaise, IsUnpruned, CanSettle, CanEnd, CanFinish, CanDrop};
 ghost use Rattle.esr_desk.specs.Delete.Conditions.{CanPlan, CanSettleDelete, CanRemove, CanEndDelete};
 ghost use Rattle.esr_desk.specs.Restore.Conditions.{CanEndRestore};
-ghost use Rattle.esr_desk.specs.Restore.Targets.{IsFilled};
+ghost use Rattle.esr_desk.specs.Restore.Targets.{IsFilled, refused_of};
 ghost use Rattle.esr_desk.specs.Readers.{TookUnit, IsBare};
 ghost use Rattle.esr_desk.specs.Taken.{committed_by, begun_by, tried_by, LeftBy, HasRaised, IsSettled, HasEndedAs};
 ghost use Rattle.esr_desk.specs.declared.refusal.StepRefusal.{StepRefusal};
 
-use crate::{By, Hand, Named, Planned, RestoredTarget, StepRefusal, Unit, Why};
+use crate::{By, Hand, Named, Planned, RestoredTarget, StepRefusal, Unended, Unit, Why};
 use esr_depot::{Commit, Fetch, Stage};
 use esr_names::{BlobName, Id, Ids};
 use esr_results::{PrunedShards, ShardResult};
@@ -292,7 +292,7 @@ pub trait Desk {
         ensures calls { calls self.new ≡ calls self.old };
 
     /// A shard is restored, with so many files of so many bytes, which the target has; its ticket ends. The target is listed, or
-    /// given up where the step isn't made.
+    /// given back where that is refused.
     fn end_restore(
         &mut self,
         alloc: Global,
@@ -300,16 +300,17 @@ pub trait Desk {
         files: u64,
         bytes: u64,
         target: RestoredTarget<Self::Target>,
-    ) -> Result<(), StepRefusal>
+    ) -> Result<(), Unended<Self::Target>>
         requires mine { HasTaken (calls self.old) ticket }
         requires may { CanEndRestore start (reader_of start (seen self.old) ticket) files bytes }
         requires filled { IsFilled
             (evidence Self.Stage.faults Self.Fetch.faults Self.Shard.faults Self.Target.faults Self.Shard.told Self.Target.told)
             start (reader_of start (seen self.old) ticket) files bytes target }
-        ensures step { Outcome start (seen self.old) (seen self.new) ticket (ReadStep (RestoredShard files bytes)) (λ _. HasEnded) result }
+        ensures step { Outcome start (seen self.old) (seen self.new) ticket (ReadStep (RestoredShard files bytes)) (λ _. HasEnded) (refused_of result) }
         ensures own { OnOk result (reader_of start (seen self.new) ticket
             ≡ record (reader_of start (seen self.old) ticket) { out = false }) }
         ensures kept { OnErr result (reader_of start (seen self.new) ticket ≡ reader_of start (seen self.old) ticket) }
+        ensures target { IfErr result (λ u. u.target ≡ target) }
         ensures calls { calls self.new ≡ calls self.old };
 
     /// A delete is over: its removals have named all that its plan dooms. Its ticket ends.

@@ -1,7 +1,8 @@
 //! Laws of histories.
-ghost use Rattle.std.specs.Prelude.{◌≡◌, ℕ, List, [], ◌∷◌, ◌++◌};
+ghost use Rattle.std.specs.Prelude.{◌≡◌, ◌<◌, ℕ, List, [], ◌∷◌, ◌++◌};
+ghost use Rattle.esr_model.specs.Values.{Has};
 ghost use Rattle.esr_core.specs.Entry.{Given, Gave, Moment};
-ghost use Rattle.esr_desk.specs.Start.{Start, Legal};
+ghost use Rattle.esr_desk.specs.Start.{Start, Legal, world_of};
 ghost use Rattle.esr_desk.specs.Once.{HasMadeNone, NoneTwice};
 ghost use Rattle.esr_desk.specs.Numbered.{Numbered};
 
@@ -12,6 +13,16 @@ pub fn each_ticket_is_new()
 {
     esr_core::each_step_is_one_change();
     esr_core::each_step_has_its_maker();
+}
+
+/// Each ticket that was given is below the next one, which the next unit is given.
+pub fn each_ticket_is_given_once()
+    ensures below { (s : Start) (log : List Moment) (m : Moment) (ticket op : ℕ) (unit : Given) → Numbered 1 s.world → Legal s log → Has log m
+        → m.entry.reply ≡ Gave ticket op unit → ticket < (world_of s log).next_ticket }
+    ensures next { (s : Start) (log : List Moment) (m : Moment) (ticket op : ℕ) (unit : Given) → Legal s (log ++ m ∷ [])
+        → m.entry.reply ≡ Gave ticket op unit → ticket ≡ (world_of s log).next_ticket }
+{
+    esr_core::each_step_is_one_change();
 }
 
 /// In a legal history no ticket makes a step twice on one name.

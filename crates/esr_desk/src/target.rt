@@ -1,5 +1,6 @@
 //! Targets that restores have filled.
 
+use crate::StepRefusal;
 use esr_names::IndexName;
 use esr_seq::Seq;
 
@@ -10,6 +11,13 @@ pub struct RestoredTarget<T> {
     pub index: IndexName,
     pub shard: u32,
     pub target: T,
+}
+
+/// A restored target whose end was refused.
+#[derive(Drop)]
+pub struct Unended<T> {
+    pub refusal: StepRefusal,
+    pub target: RestoredTarget<T>,
 }
 
 /// Targets in the order of the entries by which their shards were restored.

@@ -1,6 +1,9 @@
 pub mod Stopped
 pub mod Outside
 pub mod Over
+pub mod Ended
 pub mod Works
 pub mod Takes
+pub mod Calls
 pub mod Laws
+pub mod Elections

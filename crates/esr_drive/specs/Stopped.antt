@@ -1,5 +1,7 @@
 -- Why the work stopped before all units were done.
-use Rattle.std.specs.Prelude.{◌≡◌, ◌≢◌, ◌⊎◌, ℕ, Bool, true, false, List, Result, Ok, Err}
+use Rattle.std.specs.Prelude.{◌≡◌, ◌≢◌, ◌⊎◌, ℕ, Bool, true, false, List, [], ◌∷◌, ◌++◌, Result, Ok, Err}
+use Rattle.std.proofs.Common.{refl, sym, subst, inl, inr}
+use Rattle.esr_model.specs.Values.{Has}
 use Rattle.esr_core.specs.World.{Ticket}
 use Rattle.esr_core.specs.Entry.{SettlePruned, Step, TakeStep, SettleStep, DroppedStep, PruneStep, Refusal, DeposedAt, DepotFault, Refused, Moment}
 use Rattle.esr_progress.specs.declared.unit.Work.{Work}
@@ -57,3 +59,38 @@ abbrev pub IsStopped : Start → List Moment → StepRefusal → Type 0
 IsStopped s log steps.Memory = Unit {0}
 IsStopped s log steps.TurnsSpent = Grounds s log 0 steps.TurnsSpent
 IsStopped s log (steps.Refused refusal) = (who : ℕ) × (step : Step) × IsLast log who step (Refused (refusal_of refusal)) × StopsWork step (refusal_of refusal) × ((who ≢ 0) ⊎ (step ≡ TakeStep))
+
+-- ---- in a history that has gone on since
+
+-- what the code says of itself: a step of a ticket, or a take, was refused, which stops the work
+pub record WasStopped (log : List Moment) : Type 0 where
+  pub moment : Moment
+  pub there : Has log moment
+  pub refusal : Refusal
+  pub refused : moment.entry.reply ≡ Refused refusal
+  pub step : (moment.entry.who ≢ 0) ⊎ (moment.entry.step ≡ TakeStep)
+  pub stops : StopsWork moment.entry.step refusal
+
+-- memory was wanting, or turns were spent; or some step was refused so that the work stops
+abbrev pub StoppedIn : Start → List Moment → StepRefusal → Type 0
+StoppedIn s log steps.Memory = Unit {0}
+StoppedIn s log steps.TurnsSpent = Grounds s log 0 steps.TurnsSpent
+StoppedIn s log (steps.Refused refusal) = WasStopped log
+
+has_last : (front : List Moment) (m : Moment) → Has (front ++ m ∷ []) m
+has_last [] m = inl refl
+has_last (x ∷ front) m = inr (has_last front m)
+
+pub stopped_in : (s : Start) (log : List Moment) (e : StepRefusal) → IsStopped s log e → StoppedIn s log e
+stopped_in s log steps.Memory h = tt
+stopped_in s log steps.TurnsSpent h = h
+stopped_in s log (steps.Refused refusal) h =
+    let last : Moment = record { entry = record { who = h.0; step = h.1; reply = Refused (refusal_of refusal) }; image = h.2.image } in
+    record {
+      moment = last;
+      there = subst (λ (l : List Moment). Has l last) (sym h.2.is) (has_last h.2.front last);
+      refusal = refusal_of refusal;
+      refused = refl;
+      step = h.4;
+      stops = h.3;
+    }

@@ -1,6 +1,7 @@
 -- How often takes found no unit ready.
 use Rattle.std.proofs.Common.{◌≡◌, ◌≢◌, ℕ, zero, suc, ◌+◌, true, List, [], ◌∷◌, ◌++◌, Option, Some, None, append-nil, refl, sym, ap, ◌∙◌, arith}
 use Rattle.esr_core.specs.Entry.{Given, Step, TakeStep, Reply, Gave, NothingReady, Refusal, Refused, Moment}
+use Rattle.esr_desk.specs.Calls.{Call}
 use Rattle.esr_desk.specs.Start.{Start}
 use Rattle.esr_desk.specs.Outcome.{Stepped, Refusing}
 use Rattle.esr_desk.specs.Grew.{AllOf, GrewBy}
@@ -14,6 +15,14 @@ idle_take who step reply = 0
 abbrev pub idle_takes : List Moment → ℕ
 idle_takes [] = 0
 idle_takes (m ∷ log) = idle_take m.entry.who m.entry.step m.entry.reply + idle_takes log
+
+-- ... and of the calls of a desk
+abbrev pub idle_call : Call → ℕ
+idle_call c = idle_take c.entry.who c.entry.step c.entry.reply
+
+abbrev pub idle_calls : List Call → ℕ
+idle_calls [] = 0
+idle_calls (c ∷ calls) = idle_call c + idle_calls calls
 
 -- ---- as a history goes on
 

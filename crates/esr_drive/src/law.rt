@@ -1,17 +1,14 @@
 //! The laws on which the work rests.
 ghost use Rattle.esr_drive.specs.Laws.{Laws};
 
-/// What steps change, what they leave of tickets, how they may be refused, how tickets are numbered, and that each world has its
+/// What steps change, what they leave of tickets, how they may be refused, which units were given, and that each world has its
 /// tickets in order.
 pub(crate) fn laws()
     ensures { Laws }
 {
-    esr_quiet::other_tickets_stay();
-    esr_quiet::tickets_are_numbered();
     esr_core::refusals_are_of_their_steps();
     esr_core::each_step_is_one_change();
     esr_core::each_step_leaves_the_others();
-    esr_core::each_step_has_its_maker();
     esr_core::answers_tell_their_steps();
     esr_core::each_history_is_tracked();
     esr_core::each_history_tracks_restores();

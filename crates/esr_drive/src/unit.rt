@@ -1,5 +1,5 @@
 //! One unit.
-ghost use Rattle.std.specs.Prelude.{◌≡◌, ◌≤◌, ◌^◌, [], true, IfErr, OnOk};
+ghost use Rattle.std.specs.Prelude.{◌≡◌, ◌≤◌, ◌^◌, [], IfErr, OnOk};
 ghost use Rattle.esr_core.specs.World.{Drop as DropWork};
 ghost use Rattle.esr_core.specs.Tracked.{Tracked};
 ghost use Rattle.esr_core.specs.ReadTracked.{ReadTracked};
@@ -12,7 +12,7 @@ ghost use Rattle.esr_desk.specs.Sources.{AreSources};
 ghost use Rattle.esr_desk.specs.Start.{Legal, ticket_of};
 ghost use Rattle.esr_desk.specs.Taken.{Took};
 ghost use Rattle.esr_drive.specs.Outside.{IsOutside};
-ghost use Rattle.esr_drive.specs.Over.{NothingOut};
+ghost use Rattle.esr_drive.specs.Over.{IsOver};
 ghost use Rattle.esr_drive.specs.Stopped.{IsDrop, IsHalted, IsUnitStopped, HasEnded, EndedBy, is_late};
 
 use crate::law::laws;
@@ -39,6 +39,7 @@ fn end_stale<Q: Desk>(alloc: Global, desk: &mut Q, ticket: u64) -> UnitRefusal
     ensures stopped { IsUnitStopped Q.start (Q.seen desk.new) ticket result }
     ensures ended { EndedBy result (ticket_of Q.start (Q.seen desk.new) ticket) }
     ensures grew { GrewBy Q.start ticket (Q.seen desk.old) (Q.seen desk.new) }
+    ensures calls { Q.calls desk.new ≡ Q.calls desk.old }
 {
     laws();
     match desk.finish(alloc, ticket) {
@@ -55,6 +56,7 @@ fn drop_op<Q: Desk>(alloc: Global, desk: &mut Q, unit: &Unit) -> Result<(), Unit
     ensures stopped { IfErr result (IsUnitStopped Q.start (Q.seen desk.new) unit.now.ready.ticket) }
     ensures ended { HasEnded result (ticket_of Q.start (Q.seen desk.new) unit.now.ready.ticket) }
     ensures grew { GrewBy Q.start unit.now.ready.ticket (Q.seen desk.old) (Q.seen desk.new) }
+    ensures calls { Q.calls desk.new ≡ Q.calls desk.old }
 {
     laws();
     let ticket = unit.ready.ticket;
@@ -87,6 +89,7 @@ fn do_op_unit<Q: Desk<Shard = S::Shard>, S: Sources, G: Gate>(
     ensures stopped { IfErr result (IsUnitStopped Q.start (Q.seen desk.new) unit.now.ready.ticket) }
     ensures ended { HasEnded result (ticket_of Q.start (Q.seen desk.new) unit.now.ready.ticket) }
     ensures grew { GrewBy Q.start unit.now.ready.ticket (Q.seen desk.old) (Q.seen desk.new) }
+    ensures calls { Q.calls desk.new ≡ Q.calls desk.old }
 {
     match &unit.ready.work {
         Work::Shard { .. } => esr_upload::run_unit(alloc, desk, unit, sources, gate, part_size),
@@ -117,8 +120,9 @@ fn do_op<Q: Desk<Shard = S::Shard>, S: Sources, G: Gate>(
     requires tracked { ReadTracked Q.start.world }
     requires ops { Tracked Q.start.world }
     ensures stopped { IfErr result (IsHalted Q.start (Q.seen desk.new) unit.now.ready.ticket) }
-    ensures over { OnOk result (Q.start.alone ≡ true → NothingOut Q.start (Q.seen desk.new) unit.now.ready.ticket) }
+    ensures over { OnOk result (IsOver Q.start (Q.seen desk.new) unit.now.ready.ticket) }
     ensures grew { GrewBy Q.start unit.now.ready.ticket (Q.seen desk.old) (Q.seen desk.new) }
+    ensures calls { Q.calls desk.new ≡ Q.calls desk.old }
 {
     laws();
     match do_op_unit(alloc, desk, unit, sources, gate, part_size) {
@@ -145,8 +149,9 @@ fn do_restore<Q: Desk, T: Targets<Target = Q::Target>>(
     requires tracked { ReadTracked Q.start.world }
     requires ops { Tracked Q.start.world }
     ensures stopped { IfErr result (IsHalted Q.start (Q.seen desk.new) unit.ready.ticket) }
-    ensures over { OnOk result (Q.start.alone ≡ true → NothingOut Q.start (Q.seen desk.new) unit.ready.ticket) }
+    ensures over { OnOk result (IsOver Q.start (Q.seen desk.new) unit.ready.ticket) }
     ensures grew { GrewBy Q.start unit.ready.ticket (Q.seen desk.old) (Q.seen desk.new) }
+    ensures calls { Q.calls desk.new ≡ Q.calls desk.old }
 {
     laws();
     match esr_restore::run_unit(alloc, desk, unit, targets) {
@@ -177,8 +182,9 @@ pub fn do_next<Q: Desk<Shard = S::Shard, Target = T::Target>, S: Sources, T: Tar
     requires tracked { ReadTracked Q.start.world }
     requires ops { Tracked Q.start.world }
     ensures stopped { IfErr result (IsHalted Q.start (Q.seen desk.new) unit.ready.ticket) }
-    ensures over { OnOk result (Q.start.alone ≡ true → NothingOut Q.start (Q.seen desk.new) unit.ready.ticket) }
+    ensures over { OnOk result (IsOver Q.start (Q.seen desk.new) unit.ready.ticket) }
     ensures grew { GrewBy Q.start unit.ready.ticket (Q.seen desk.old) (Q.seen desk.new) }
+    ensures calls { Q.calls desk.new ≡ Q.calls desk.old }
 {
     if matches!(&unit.ready.work, Work::RestoreShard { .. }) {
         return do_restore(alloc, desk, unit, targets);

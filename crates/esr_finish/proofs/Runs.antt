@@ -1,19 +1,22 @@
 -- Runs of steps, one after another.
 use Rattle.std.specs.Result.{IsErrAnd}
-use Rattle.std.proofs.Common.{◌≡◌, ◌⊎◌, inl, inr, IfOk, IfErr, ℕ, Bool, true, false, List, Some, Result, Ok, Err, refl, sym, ap, ◌∙◌, subst}
+use Rattle.std.proofs.Common.{◌≡◌, ◌⊎◌, inl, inr, IfOk, IfErr, ℕ, Bool, true, false, List, ◌∷◌, Option, Some, None, Result, Ok, Err, refl, sym, ap, ◌∙◌, subst}
 use Rattle.esr_core.specs.World.{Ticket}
 use Rattle.std.specs.Prelude.{if◌then◌else◌}
 use Rattle.esr_model.specs.Names.{BlobName}
-use Rattle.esr_core.specs.Entry.{BeginStep, WasBegun, RaiseStep, RaisedTo, Moment}
+use Rattle.esr_model.specs.Values.{Bytes}
+use Rattle.esr_depot.specs.declared.depot.Commit.{Commit}
+use Rattle.esr_depot.specs.declared.depot.Commit.TheVariants as commits
+use Rattle.esr_core.specs.Entry.{BeginStep, CommitStep, WasBegun, RaiseStep, RaisedTo, Moment}
 use Rattle.esr_core.specs.After.{is_latest}
 use Rattle.esr_desk.specs.declared.refusal.StepRefusal.{StepRefusal}
 use Rattle.esr_desk.specs.declared.refusal.StepRefusal.TheVariants as steps
 use Rattle.esr_desk.specs.declared.refusal.EntryRefusal.TheVariants as refusals
 use Rattle.esr_desk.specs.Start.{Start, ticket_of}
 use Rattle.esr_desk.specs.Calls.{Call, HasTaken}
-use Rattle.esr_desk.specs.Outcome.{Outcome}
-use Rattle.esr_desk.specs.Grew.{grew_by_none, grew_by_on, outcome_grew_by}
-use Rattle.esr_desk.specs.Taken.{tried, tried_by, begun_by, LeftBy, HasRaised}
+use Rattle.esr_desk.specs.Outcome.{Stepped, Outcome, commit_reply}
+use Rattle.esr_desk.specs.Grew.{grew_by_none, grew_by_on, stepped_grew_by, outcome_grew_by}
+use Rattle.esr_desk.specs.Taken.{committed_by, tried, tried_by, begun_by, LeftBy, HasRaised}
 use Rattle.esr_finish.specs.Went.{Worked, Went}
 
 -- an error that was made of another
@@ -110,6 +113,19 @@ pub begin_went : {X : Type 0} (s : Start) (old new : List Moment) (who : ℕ) (n
 begin_went s old new who name result step own = record {
   grew = outcome_grew_by s old new who (BeginStep name) (λ x. WasBegun) result step;
   worked = worked_to (ticket_of s old who) (begun_by name result (ticket_of s old who)) (ticket_of s new who) (begun_by_worked name (ticket_of s old who) result) own;
+}
+
+committed_worked : (name : BlobName) (contents : Option Bytes) (done : Commit) (t : Ticket) → Worked t (committed_by name contents done t)
+committed_worked name None commits.Done t = record { noted = name ∷ t.noted; wrote = t.wrote; raised = t.raised; tried = t.tried_latest; is = refl }
+committed_worked name (Some bytes) commits.Done t = record { noted = name ∷ t.noted; wrote = (name, bytes) ∷ t.wrote; raised = t.raised; tried = t.tried_latest; is = refl }
+committed_worked name contents commits.Exists t = record { noted = name ∷ t.noted; wrote = t.wrote; raised = t.raised; tried = t.tried_latest; is = refl }
+
+-- a commit that was made
+pub commit_went : (s : Start) (old new : List Moment) (who : ℕ) (name : BlobName) (contents : Option Bytes) (done : Commit) → Stepped s old new who (CommitStep name) (commit_reply done)
+    → ticket_of s new who ≡ committed_by name contents done (ticket_of s old who) → Went s old new who
+commit_went s old new who name contents done step own = record {
+  grew = stepped_grew_by s old new who (CommitStep name) (commit_reply done) step;
+  worked = worked_to (ticket_of s old who) (committed_by name contents done (ticket_of s old who)) (ticket_of s new who) (committed_worked name contents done (ticket_of s old who)) own;
 }
 
 -- what a record swap that was refused left of the ticket

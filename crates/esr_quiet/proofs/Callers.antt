@@ -1,9 +1,10 @@
--- Steps of tickets, and takes of units, leave what who 0 has done of a check or a verification; its own further steps give no unit.
+-- Steps of tickets, takes of units, and elections leave what who 0 has done of a check or a verification; its own further steps give
+-- no unit.
 use Rattle.std.proofs.Common.{◌≡◌, ◌≢◌, ◌⊎◌, ℕ, List, [], ◌∷◌, ◌++◌, Option, refl, sym, ap, ◌∙◌, subst, inl, inr}
 use Rattle.esr_model.specs.Values.{Formats}
 use Rattle.esr_model.specs.Image.{Image}
 use Rattle.esr_core.specs.World.{World, Caller}
-use Rattle.esr_core.specs.Entry.{Given, Read, Step, TakeStep, ReadStep, Reply, Gave, Moment}
+use Rattle.esr_core.specs.Entry.{Given, Read, Step, TakeStep, ElectStep, ReadStep, Reply, Gave, Moment}
 use Rattle.esr_core.specs.After.{caller_after, answered, after}
 use Rattle.esr_core.specs.Allowed as allowed
 use Rattle.esr_core.specs.Allowed.{ReadAllows, VerifyAllows, Allows, Allowed}
@@ -42,19 +43,20 @@ module _ (f : Formats) (w : World) (who : ℕ) (step : Step) where
 answered_same : (f : Formats) (w : World) (who : ℕ) (step : Step) (reply : Reply) (image : Option Image) → (answered f w who step reply image).caller ≡ w.caller
 answered_same f w who step reply image = kept f w who step (answered f w who step reply image) (change_of f w who step reply image)
 
--- ---- a step of a ticket, or a take
+-- ---- a step of a ticket, a take, or an election
 
 abbrev pub IsWork : Moment → Type 0
-IsWork m = (m.entry.who ≢ 0) ⊎ (m.entry.step ≡ TakeStep)
+IsWork m = (m.entry.who ≢ 0) ⊎ ((m.entry.step ≡ TakeStep) ⊎ (m.entry.step ≡ ElectStep))
 
--- what is told of a take tells nothing of it
-take_tells : (f : Formats) (c : Caller) (who : ℕ) (step : Step) (reply : Reply) (image : Option Image) → step ≡ TakeStep → caller_after f c who step reply image ≡ c
-take_tells f c who step reply image take = ap (λ (st : Step). caller_after f c who st reply image) take
+-- what is told of a take, or of an election, tells nothing of it
+take_tells : (f : Formats) (c : Caller) (who : ℕ) (step : Step) (reply : Reply) (image : Option Image) → (step ≡ TakeStep) ⊎ (step ≡ ElectStep) → caller_after f c who step reply image ≡ c
+take_tells f c who step reply image (inl take) = ap (λ (st : Step). caller_after f c who st reply image) take
+take_tells f c who step reply image (inr elect) = ap (λ (st : Step). caller_after f c who st reply image) elect
 
 pub caller_stays : (f : Formats) (size : ℕ) (w : World) (m : Moment) → Allowed f size w m → IsWork m → (after f w m).caller ≡ w.caller
 caller_stays f size w m a work = elim work [
   | inl some ↦ frames.caller_stays f size w m a some
-  | inr take ↦ take_tells f (answered f w m.entry.who m.entry.step m.entry.reply m.image).caller m.entry.who m.entry.step m.entry.reply m.image take ∙ answered_same f w m.entry.who m.entry.step m.entry.reply m.image
+  | inr other ↦ take_tells f (answered f w m.entry.who m.entry.step m.entry.reply m.image).caller m.entry.who m.entry.step m.entry.reply m.image other ∙ answered_same f w m.entry.who m.entry.step m.entry.reply m.image
 ]
 
 -- ---- what it is after a step

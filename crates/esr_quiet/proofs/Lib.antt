@@ -2,6 +2,7 @@ pub mod Maps
 pub mod Prefixes
 pub mod Others
 pub mod Callers
+pub mod Taking
 pub mod Askers
 pub mod Numbers
 pub mod Terms

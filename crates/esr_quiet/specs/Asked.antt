@@ -1,13 +1,14 @@
 -- What was asked at lines, by a history.
 use Rattle.std.specs.Prelude.{◌≡◌, ℕ, ◌<◌, ◌==◌, Bool, true, false, ◌&&◌, if◌then◌else◌, List, [], ◌∷◌, ◌++◌, None}
 use Rattle.esr_model.specs.Values.{Bytes, Has}
-use Rattle.esr_core.specs.Entry.{AskedIndex, Snapshot, Clone, DrawTest, Step, AskStep, TakeStep, ReadStep, Entry, Moment}
+use Rattle.esr_core.specs.Entry.{AskedIndex, Snapshot, Clone, DrawTest, Step, AskStep, TakeStep, ElectStep, ReadStep, Entry, Moment}
 use Rattle.esr_desk.specs.Start.{Start, Legal}
 
--- A line asks for the step: it takes no unit, and is no further step of a check or of a verification. What a verification asks for is
--- its draw, with which it begins.
+-- A line asks for the step where it stands: it takes no unit, elects nobody, and is no further step of a check or of a verification.
+-- What a verification asks for is its draw, with which it begins.
 abbrev pub is_line_ask : Step → Bool
 is_line_ask TakeStep = false
+is_line_ask ElectStep = false
 is_line_ask (ReadStep DrawTest) = true
 is_line_ask (ReadStep read) = false
 is_line_ask step = true

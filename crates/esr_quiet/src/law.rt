@@ -2,12 +2,14 @@
 ghost use Rattle.std.specs.Prelude.{◌≡◌, ◌≢◌, ◌⊎◌, ◌∷◌, ◌++◌, [], ℕ, List, true, Some};
 ghost use Rattle.esr_model.specs.Values.{Formats};
 ghost use Rattle.esr_core.specs.World.{World};
-ghost use Rattle.esr_core.specs.Entry.{Read, TakeStep, ReadStep, Given, Gave, Moment};
+ghost use Rattle.esr_core.specs.Entry.{Read, TakeStep, ElectStep, ReadStep, Given, Gave, NothingReady, Moment};
 ghost use Rattle.esr_core.specs.After.{after};
 ghost use Rattle.esr_core.specs.Allowed.{Allowed};
+ghost use Rattle.esr_core.specs.Ready.{AnyReady};
 ghost use Rattle.esr_desk.specs.declared.fault.Fault.{Fault};
 ghost use Rattle.esr_desk.specs.declared.hand.Hand.TheVariants as hands;
-ghost use Rattle.esr_desk.specs.Start.{Start, Legal, ticket_of};
+ghost use Rattle.esr_desk.specs.Start.{Start, Legal, world_of, ticket_of};
+ghost use Rattle.esr_desk.specs.Last.{IsLast};
 ghost use Rattle.esr_desk.specs.Evidence.{Evidence};
 ghost use Rattle.esr_desk.specs.Grew.{AllOf};
 ghost use Rattle.esr_quiet.specs.Caused.{AreCaused, AreVerifyCaused};
@@ -81,9 +83,14 @@ pub fn other_tickets_stay()
     ensures checks { (s : Start) (log : List Moment) (m : Moment) (read : Read) (k : ℕ) → Legal s (log ++ m ∷ []) → m.entry.who ≡ 0 → m.entry.step ≡ ReadStep read → k ≢ 0 → ticket_of s (log ++ m ∷ []) k ≡ ticket_of s log k }
 {}
 
-/// Steps of tickets, and takes of units, leave what who 0 has done of a check or a verification.
+/// Steps of tickets, takes of units, and elections leave what who 0 has done of a check or a verification.
 pub fn work_leaves_the_caller()
-    ensures { (f : Formats) (part_size : ℕ) (w : World) (m : Moment) → Allowed f part_size w m → (m.entry.who ≢ 0) ⊎ (m.entry.step ≡ TakeStep) → (after f w m).caller ≡ w.caller }
+    ensures { (f : Formats) (part_size : ℕ) (w : World) (m : Moment) → Allowed f part_size w m → (m.entry.who ≢ 0) ⊎ ((m.entry.step ≡ TakeStep) ⊎ (m.entry.step ≡ ElectStep)) → (after f w m).caller ≡ w.caller }
+{}
+
+/// After a take that gave nothing no unit is ready.
+pub fn nothing_is_ready_after_an_empty_take()
+    ensures { (s : Start) (log : List Moment) → Legal s log → IsLast log 0 TakeStep NothingReady → AnyReady (world_of s log) → ⊥ }
 {}
 
 /// Where each world of the history is lawful and free, no unit fails.

@@ -11,6 +11,7 @@ pub use damage::{
 };
 pub use law::{
     no_check_fails, no_delete_fails, no_restore_fails, no_unasked_restore_fails, no_unit_fails,
-    no_verification_fails, only_rules_refuse, other_tickets_stay, work_leaves_the_caller,
+    no_verification_fails, nothing_is_ready_after_an_empty_take, only_rules_refuse,
+    other_tickets_stay, work_leaves_the_caller,
 };
-pub use number::{no_step_is_stale, tickets_are_numbered};
+pub use number::tickets_are_numbered;

@@ -26,6 +26,7 @@ pub mod AskedDeletes
 pub mod Clones
 pub mod Doing
 pub mod Taken
+pub mod Ready
 pub mod Reading
 pub mod Verifying
 pub mod Checks

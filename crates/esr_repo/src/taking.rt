@@ -1,9 +1,10 @@
 //! The unit that a take gives.
-ghost use Rattle.std.specs.Prelude.{◌≡◌, ◌<◌, ◌^◌, length, Some, IfOk, IfSome};
+ghost use Rattle.std.specs.Prelude.{◌≡◌, ◌<◌, ◌^◌, true, false, length, Some, IfOk, IfSome};
 ghost use Rattle.std.specs.FinMap as fin;
 ghost use Rattle.esr_model.specs.Values.{Formats};
 ghost use Rattle.esr_core.specs.Entry.{TakeStep};
 ghost use Rattle.esr_core.specs.After.{taken_by};
+ghost use Rattle.esr_core.specs.Ready.{AnyReady};
 ghost use Rattle.esr_progress.specs.Plan.{IsPlanOf};
 ghost use Rattle.esr_progress.specs.Units.{NextUnit, GivesUnit, given_of};
 ghost use Rattle.esr_desk.specs.Entries.{unit_of};
@@ -122,6 +123,19 @@ impl<D: Depot, K: Told> Repo<D, K> {
             Some((progress, unit)) => Ok(Some((progress, based(unit)))),
             None => Ok(None),
         }
+    }
+
+    /// Whether a unit is ready. It answers so after a record swap that failed, too: a take is refused then.
+    pub fn is_ready(&self, alloc: Global) -> Result<bool, AllocError>
+        requires room { length self.now < 2 ^ 41 }
+        ensures ready { IfOk result (λ any. any ≡ true → IsLive K.start self.now → AnyReady (world_of K.start self.now)) }
+        ensures none { IfOk result (λ any. any ≡ false → AnyReady (world_of K.start self.now) → ⊥) }
+    {
+        if self.deposed.is_some() {
+            return Ok(true);
+        }
+        let next = self.ready(alloc)?;
+        Ok(next.is_some())
     }
 
     /// Gives a unit that is ready.

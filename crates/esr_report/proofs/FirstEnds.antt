@@ -22,7 +22,7 @@ first_end_more (x ∷ ends) e op = ap (or_else (end_for x op)) (first_end_more e
 
 -- one entry more was read: its own end is kept, and then those of the ops that it aborts
 pub end_read : (all : List Entry) (ends own new : List OpEnd) (i : ℕ) (e : Entry) (end : Option OpEnd) → i < length all → e ≡ get_or all i e
-    → ((op : ℕ) → ends_at all op e ≡ end_in end op) → ((op : ℕ) → first_end own op ≡ or_else (first_end ends op) (end_in end op))
+    → ((op : ℕ) → ends_at all (take i all) op e ≡ end_in end op) → ((op : ℕ) → first_end own op ≡ or_else (first_end ends op) (end_in end op))
     → ((op : ℕ) → first_end new op ≡ or_else (first_end own op) (aborts_at (take i all) op e))
     → ((op : ℕ) → end_of_op all op [] all ≡ or_else (first_end ends op) (end_of_op all op (take i all) (drop i all)))
     → (op : ℕ) → end_of_op all op [] all ≡ or_else (first_end new op) (end_of_op all op (take (i + 1) all) (drop (i + 1) all))
@@ -30,7 +30,7 @@ end_read all ends own new i e end less is here kept aborted read op =
     let before : List Entry = take i all in
     let rest : List Entry = drop (i + 1) all in
     let so_far : Option Reply = first_end ends op in
-    let this : Option Reply = ends_at all op e in
+    let this : Option Reply = ends_at all before op e in
     let abort : Option Reply = aborts_at before op e in
     let later : Option Reply = end_of_op all op (take (i + 1) all) rest in
     let next : drop i all ≡ e ∷ rest = drop_more all i e less ∙ ap (λ (z : Entry). z ∷ rest) (sym is) in

@@ -5,7 +5,7 @@ use Rattle.esr_model.specs.Places.{places}
 use Rattle.esr_model.specs.Uploads.{same_bytes}
 use Rattle.esr_core.specs.After.{or_else, swaps_record}
 use Rattle.esr_core.specs.Entry as entry
-use Rattle.esr_core.specs.Entry.{Given, GivenShard, GivenFinalize, GivenDrop, GivenRestore, GivenClone, GivenDelete, GivenCleanup, Why, OfDepot, Read, RestoredShard, CheckedAll, VerifiedAll, ReadFails, SettlePruned, DeleteFails, Snapshot, Clone, DeleteSnapshots, Step, AskStep, SettleStep, FailedStep, FinishStep, LookStep, ReadStep, PruneStep, Refusal, DeposedAt, DepotFault, Accepted, AcceptedRestore, Gave, WasSettled, HasEnded, ElectedTerm, Looked, Entry}
+use Rattle.esr_core.specs.Entry.{Given, GivenShard, GivenFinalize, GivenDrop, GivenRestore, GivenClone, GivenDelete, GivenCleanup, Why, OfDepot, Read, RestoredShard, CheckedAll, VerifiedAll, ReadFails, SettlePruned, DeleteFails, Snapshot, Clone, DeleteSnapshots, Step, AskStep, SettleStep, FailedStep, FinishStep, ElectStep, LookStep, ReadStep, PruneStep, Refusal, DeposedAt, DepotFault, Accepted, AcceptedRestore, Gave, WasSettled, HasEnded, ElectedTerm, Looked, Entry}
 use Rattle.esr_script.specs.declared.item.Item.{Item}
 use Rattle.esr_script.specs.declared.item.Item.TheVariants as items
 use Rattle.esr_script.specs.declared.item.ScriptLine.{ScriptLine}
@@ -65,22 +65,59 @@ abbrev pub uuid_of_ticket : List Entry → ℕ → Option ℕ
 uuid_of_ticket [] k = None
 uuid_of_ticket (e ∷ es) k = or_else (uuid_by e.reply k) (uuid_of_ticket es k)
 
+-- ---- what a stale ticket reports
+
+-- such a unit belongs to the term in which it was taken
+abbrev pub is_of_term : Given → Bool
+is_of_term (GivenFinalize info results) = true
+is_of_term (GivenShard index number base) = false
+is_of_term GivenDrop = true
+is_of_term (GivenRestore index number uuid) = false
+is_of_term (GivenClone index number source base) = false
+is_of_term (GivenDelete uuids) = true
+is_of_term GivenCleanup = true
+
+-- a take gave such a unit to this ticket
+abbrev pub takes_of_term : entry.Reply → ℕ → Bool
+takes_of_term (Gave ticket op unit) k = (ticket == k) && is_of_term unit
+takes_of_term reply k = false
+
+abbrev pub begins_term : entry.Reply → Bool
+begins_term (ElectedTerm term) = true
+begins_term reply = false
+
+-- a term begins in one of them
+abbrev pub has_term : List Entry → Bool
+has_term [] = false
+has_term (e ∷ es) = begins_term e.reply || has_term es
+
+-- after these entries the ticket is stale: a term has begun since its take
+abbrev pub is_stale : List Entry → ℕ → Bool
+is_stale [] k = false
+is_stale (e ∷ es) k = if takes_of_term e.reply k then has_term es else is_stale es k
+
 -- ---- the end of an op
 
 abbrev pub is_op : ℕ → Option ℕ → Bool
 is_op op None = false
 is_op op (Some o) = o == op
 
--- What a step of a ticket answers the command of its op: the root is settled, or the unit failed. A delete is answered with its op.
-abbrev pub ends_by : List Entry → ℕ → Step → entry.Reply → Option Reply
-ends_by all who SettleStep WasSettled = option_map Made (uuid_of_ticket all who)
-ends_by all who (FailedStep why) HasEnded = Some (Failed why None)
-ends_by all who (PruneStep SettlePruned) WasSettled = option_map Deleted (op_of_ticket all who)
-ends_by all who (PruneStep (DeleteFails why)) HasEnded = Some (Failed why (op_of_ticket all who))
-ends_by all who step reply = None
+-- what a ticket reports as failed is an answer, unless the ticket is stale: that ends the ticket alone
+abbrev pub fails_by : Bool → Why → Option ℕ → Option Reply
+fails_by true why op = None
+fails_by false why op = Some (Failed why op)
 
-abbrev pub ends_at : List Entry → ℕ → Entry → Option Reply
-ends_at all op e = if is_op op (op_of_ticket all e.who) then ends_by all e.who e.step e.reply else None
+-- What a step of a ticket answers the command of its op: the root is settled, or the unit failed. A delete is answered with its op.
+abbrev pub ends_by : List Entry → Bool → ℕ → Step → entry.Reply → Option Reply
+ends_by all stale who SettleStep WasSettled = option_map Made (uuid_of_ticket all who)
+ends_by all stale who (FailedStep why) HasEnded = fails_by stale why None
+ends_by all stale who (PruneStep SettlePruned) WasSettled = option_map Deleted (op_of_ticket all who)
+ends_by all stale who (PruneStep (DeleteFails why)) HasEnded = fails_by stale why (op_of_ticket all who)
+ends_by all stale who step reply = None
+
+-- the same of the entry after these
+abbrev pub ends_at : List Entry → List Entry → ℕ → Entry → Option Reply
+ends_at all before op e = if is_op op (op_of_ticket all e.who) then ends_by all (is_stale before e.who) e.who e.step e.reply else None
 
 -- ---- a delete that aborts a snapshot
 
@@ -145,7 +182,7 @@ aborts_at before op e = abort_of (name_of_op before op) (final_out before op) e.
 -- the first of these, after those before
 abbrev pub end_of_op : List Entry → ℕ → List Entry → List Entry → Option Reply
 end_of_op all op before [] = None
-end_of_op all op before (e ∷ es) = or_else (ends_at all op e) (or_else (aborts_at before op e) (end_of_op all op (before ++ e ∷ []) es))
+end_of_op all op before (e ∷ es) = or_else (ends_at all before op e) (or_else (aborts_at before op e) (end_of_op all op (before ++ e ∷ []) es))
 
 -- ---- the end of a restore
 
@@ -256,13 +293,17 @@ deposed_by false = None
 
 -- ---- lines
 
+-- a call that failed, a record swap that had failed, a rule, or a number that is spent
+abbrev pub refused_reply : Refusal → Reply
+refused_reply DepotFault = Failed OfDepot None
+refused_reply (DeposedAt place) = Deposed
+refused_reply refusal = Refused refusal
+
 -- an accepted command is answered by the end of its op, a restore by the ends of its shards; else by a record swap that failed
 abbrev pub ask_reply : List Entry → entry.Reply → Option Reply
 ask_reply all (Accepted op) = or_else (end_of_op all op [] all) (deposed_by (has_fallen all))
 ask_reply all (AcceptedRestore op uuid indices) = or_else (restore_reply all op uuid indices) (deposed_by (has_fallen all))
-ask_reply all (entry.Refused DepotFault) = Some (Failed OfDepot None)
-ask_reply all (entry.Refused (DeposedAt place)) = Some Deposed
-ask_reply all (entry.Refused refusal) = Some (Refused refusal)
+ask_reply all (entry.Refused refusal) = Some (refused_reply refusal)
 ask_reply all reply = None
 
 abbrev pub look_reply : entry.Reply → Option Reply
@@ -374,6 +415,40 @@ abbrev pub line_reply : Item → List Entry → List Entry → Option (Reply × 
 line_reply item all [] = None
 line_reply item all (e ∷ es) = option_map (λ (r : Reply). (r, es)) (line_answer item all e.step e.reply)
 
+-- ---- failovers, each of which has the next election
+
+abbrev pub is_failover : Item → Bool
+is_failover items.Failover = true
+is_failover item = false
+
+abbrev pub is_election_step : Step → Bool
+is_election_step ElectStep = true
+is_election_step step = false
+
+abbrev pub is_election : Entry → Bool
+is_election e = (e.who == 0) && is_election_step e.step
+
+-- the entries from the next election on
+abbrev pub from_election : List Entry → List Entry
+from_election [] = []
+from_election (e ∷ es) = if is_election e then e ∷ es else from_election es
+
+abbrev pub election_reply : entry.Reply → Option Reply
+election_reply (ElectedTerm term) = Some (Term term)
+election_reply (entry.Refused refusal) = Some (refused_reply refusal)
+election_reply reply = None
+
+-- what a failover is answered: by the first of these entries, its election, else by a record swap that failed
+abbrev pub failover_reply : Bool → List Entry → Option Reply
+failover_reply down [] = deposed_by down
+failover_reply down (e ∷ es) = election_reply e.reply
+
+abbrev pub past_first : List Entry → List Entry
+past_first [] = []
+past_first (e ∷ es) = es
+
+-- ---- one line after another
+
 -- a record swap failed in the first of them
 abbrev pub falls_first : List Entry → Bool
 falls_first [] = false
@@ -393,16 +468,23 @@ abbrev pub and_more : Option (Reply × List Entry) → (List Entry → List Repl
 and_more None more = []
 and_more (Some p) more = p.0 ∷ more p.1
 
--- `down`: a record swap failed before these entries
-abbrev pub replies_from : List Entry → List ScriptLine → Bool → List Entry → List Reply
-replies_from all [] down rest = []
-replies_from all (line ∷ lines) down rest =
-    if is_wait line.item then wait_reply (down || falls_before rest) ∷ replies_from all lines down rest
-    else and_more (line_reply line.item all (from_item line.item rest)) (replies_from all lines (down || (falls_before rest || falls_first (from_item line.item rest))))
+-- the same where those after it are known
+abbrev pub and_those : Option Reply → List Reply → List Reply
+and_those None those = []
+and_those (Some r) those = r ∷ those
+
+-- `rest`: the entries after those of the lines before; `down`: a record swap failed before them; `later`: the entries after the elections
+-- of the failovers before
+abbrev pub replies_from : List Entry → List ScriptLine → Bool → List Entry → List Entry → List Reply
+replies_from all [] down later rest = []
+replies_from all (line ∷ lines) down later rest =
+    if is_wait line.item then wait_reply (down || falls_before rest) ∷ replies_from all lines down later rest
+    else if is_failover line.item then and_those (failover_reply (has_fallen all) (from_election later)) (replies_from all lines down (past_first (from_election later)) rest)
+    else and_more (line_reply line.item all (from_item line.item rest)) (replies_from all lines (down || (falls_before rest || falls_first (from_item line.item rest))) later)
 
 -- the replies of the lines, in order, as far as there is an answer
 unfoldable pub replies : List ScriptLine → List Entry → List Reply
-replies script history = replies_from history script false history
+replies script history = replies_from history script false history history
 
 -- what the wait at the script's end is answered
 abbrev pub end_reply : List Entry → Reply

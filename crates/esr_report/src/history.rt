@@ -1,8 +1,8 @@
 //! The replies of a script's lines.
-ghost use Rattle.std.specs.Prelude.{◌≡◌, [], Some, map, IfOk, option_map};
-ghost use Rattle.esr_report.specs.Replies.{fails_swap, has_fallen, is_end, is_line_read, is_of_line, from_line, falls_before, deposed_by, ask_reply, look_reply, ended_reply, read_reply, answer_at, is_check, is_looked, is_look_answered, past_look, checked_reply, check_ended, down_reply, check_answer, line_answer, is_wait, wait_reply, replies};
+ghost use Rattle.std.specs.Prelude.{◌≡◌, map, IfOk, option_map};
+ghost use Rattle.esr_report.specs.Replies.{fails_swap, has_fallen, is_end, is_line_read, is_of_line, from_line, falls_before, deposed_by, refused_reply, ask_reply, is_failover, is_election, from_election, election_reply, failover_reply, past_first, look_reply, ended_reply, read_reply, answer_at, is_check, is_looked, is_look_answered, past_look, checked_reply, check_ended, down_reply, check_answer, line_answer, is_wait, wait_reply, replies};
 ghost use Rattle.esr_core.specs.After.{or_else, swaps_record};
-ghost use Rattle.esr_core.specs.Entry.{is_recorded, Refused};
+ghost use Rattle.esr_core.specs.Entry.{is_recorded};
 ghost use Rattle.esr_progress.specs.Asked.{asked_of};
 ghost use Rattle.esr_desk.specs.Refusals.{refusal_of};
 ghost use Rattle.esr_desk.specs.Entries.{read_of, step_of, answer_of};
@@ -136,9 +136,9 @@ fn falls_before(entries: &[Entry]) -> bool
     false
 }
 
-/// What the refusal of an ask answers.
+/// What the refusal of an ask or of an election answers.
 fn refused(refusal: EntryRefusal) -> Reply
-    ensures { Some (reply_of result) ≡ ask_reply [] (Refused (refusal_of refusal)) }
+    ensures { reply_of result ≡ refused_reply (refusal_of refusal) }
 {
     match refusal {
         EntryRefusal::DepotFault => Reply::Failed {
@@ -347,6 +347,66 @@ fn line_answer(
     answer_at(alloc, entries, told, entry)
 }
 
+fn is_failover(item: &Item) -> bool
+    ensures { result ≡ is_failover item.now }
+{
+    matches!(item, Item::Failover)
+}
+
+fn is_election(entry: &Entry) -> bool
+    ensures { result ≡ is_election entry.now }
+{
+    let elects = match &entry.step {
+        Step::Elect => true,
+        _ => false,
+    };
+    entry.who == 0 && elects
+}
+
+/// The entries from the first election on.
+fn from_election(entries: &[Entry]) -> &[Entry]
+    ensures { result.now ≡ from_election entries.now }
+{
+    let mut rest = entries;
+    while let [first, more @ ..] = rest {
+        if is_election(first) {
+            return rest;
+        }
+        rest = more;
+    }
+    rest
+}
+
+/// What an election answers its failover.
+fn election_reply(answer: &Answer) -> Option<Reply>
+    ensures { option_map reply_of result ≡ election_reply (answer_of answer.now) }
+{
+    match answer {
+        Answer::Elected { term } => Some(Reply::Term { term: *term }),
+        Answer::Refused { refusal } => Some(refused(*refusal)),
+        _ => None,
+    }
+}
+
+/// What a failover is answered by the first of these entries, its election; else by a record swap that failed.
+fn failover_reply(fallen: bool, elections: &[Entry]) -> Option<Reply>
+    ensures { option_map reply_of result ≡ failover_reply fallen elections.now }
+{
+    let [first, ..] = elections else {
+        return fallen.then_some(Reply::Deposed);
+    };
+    election_reply(&first.answer)
+}
+
+fn past_first(entries: &[Entry]) -> &[Entry]
+    ensures { result.now ≡ past_first entries.now }
+{
+    let [_, more @ ..] = entries else {
+        return entries;
+    };
+    more
+}
+
 fn is_wait(item: &Item) -> bool
     ensures { result ≡ is_wait item.now }
 {
@@ -367,13 +427,24 @@ pub fn replies(alloc: Global, script: &Script, history: &History) -> Result<Repl
 {
     let entries = history.as_slice();
     let told = told_ends(alloc, entries)?;
+    let fallen = has_fallen(entries);
     let mut rest = entries;
     let mut down = false;
+    let mut later = entries;
     let mut replies = Replies::new(alloc);
     for line in script.as_slice() {
         let falls = down || falls_before(rest);
         if is_wait(&line.item) {
             replies.push(wait_reply(falls))?;
+            continue;
+        }
+        if is_failover(&line.item) {
+            let elections = from_election(later);
+            let Some(reply) = failover_reply(fallen, elections) else {
+                return Ok(replies);
+            };
+            replies.push(reply)?;
+            later = past_first(elections);
             continue;
         }
         let [entry, more @ ..] = past_look(is_check(&line.item), from_line(rest)) else {

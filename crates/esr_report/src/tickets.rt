@@ -2,7 +2,8 @@
 ghost use Rattle.std.specs.Prelude.{◌≡◌, ℕ, option_map, IfOk, OnOk};
 ghost use Rattle.esr_core.specs.After.{or_else};
 ghost use Rattle.esr_formats.specs.Ids.{number_of};
-ghost use Rattle.esr_report.specs.Replies.{op_by, op_of_ticket, uuid_by, uuid_of_ticket, ends_by, ends_at};
+ghost use Rattle.esr_desk.specs.Entries.{unit_of, answer_of, why_of};
+ghost use Rattle.esr_report.specs.Replies.{op_by, op_of_ticket, uuid_by, uuid_of_ticket, is_of_term, takes_of_term, begins_term, has_term, is_stale, fails_by, ends_by, ends_at};
 ghost use Rattle.esr_report.specs.Ends.{reply_of_end, end_in, first_end, AreEnds};
 ghost use Rattle.esr_report.specs.Code.{reply_of};
 
@@ -99,18 +100,84 @@ fn uuid_of_ticket(entries: &[Entry], ticket: u64) -> Option<Id>
     None
 }
 
-/// What a step of a ticket answers the command of its op, if it ends it.
-fn ends_by(entries: &[Entry], entry: &Entry) -> Option<End>
-    ensures { option_map reply_of_end result ≡ ends_by entries.now entry.now.who entry.now.step entry.now.reply }
+/// Such a unit belongs to the term in which it was taken.
+fn is_of_term(unit: &Given) -> bool
+    ensures { result ≡ is_of_term (unit_of unit.now) }
+{
+    match unit {
+        Given::Finalize { .. } => true,
+        Given::Drop => true,
+        Given::Delete { .. } => true,
+        Given::Cleanup => true,
+        _ => false,
+    }
+}
+
+/// A take gave such a unit to this ticket.
+fn takes_of_term(entry: &Entry, ticket: u64) -> bool
+    ensures { result ≡ takes_of_term entry.now.reply ticket }
+{
+    match &entry.answer {
+        Answer::Gave {
+            ticket: given,
+            op: _,
+            unit,
+        } => *given == ticket && is_of_term(unit),
+        _ => false,
+    }
+}
+
+fn begins_term(entry: &Entry) -> bool
+    ensures { result ≡ begins_term entry.now.reply }
+{
+    matches!(&entry.answer, Answer::Elected { .. })
+}
+
+/// A term begins in one of them.
+fn has_term(entries: &[Entry]) -> bool
+    ensures { result ≡ has_term entries.now }
+{
+    for entry in entries {
+        if begins_term(entry) {
+            return true;
+        }
+    }
+    false
+}
+
+/// After these entries the ticket is stale: a term has begun since its take.
+fn is_stale(entries: &[Entry], ticket: u64) -> bool
+    ensures { result ≡ is_stale entries.now ticket }
+{
+    let mut rest = entries;
+    while let [first, more @ ..] = rest {
+        if takes_of_term(first, ticket) {
+            return has_term(more);
+        }
+        rest = more;
+    }
+    false
+}
+
+/// What a ticket reports as failed, unless it is stale.
+fn fails_by(stale: bool, why: Why, op: Option<u64>) -> Option<End>
+    ensures { option_map reply_of_end result ≡ fails_by stale (why_of why) op }
+{
+    if stale {
+        return None;
+    }
+    Some(End::Failed { why, op })
+}
+
+/// What a step of a ticket answers the command of its op, if it ends it, after these entries of all.
+fn ends_by(entries: &[Entry], before: &[Entry], entry: &Entry) -> Option<End>
+    ensures { option_map reply_of_end result ≡ ends_by entries.now (is_stale before.now entry.now.who) entry.now.who entry.now.step entry.now.reply }
 {
     match (&entry.step, &entry.answer) {
         (Step::Settle, Answer::Settled) => {
             uuid_of_ticket(entries, entry.who).map(|uuid| End::Made { uuid })
         }
-        (Step::Failed { why }, Answer::Ended) => Some(End::Failed {
-            why: *why,
-            op: None,
-        }),
+        (Step::Failed { why }, Answer::Ended) => fails_by(is_stale(before, entry.who), *why, None),
         (
             Step::Prune {
                 prune: Prune::Settle,
@@ -122,19 +189,19 @@ fn ends_by(entries: &[Entry], entry: &Entry) -> Option<End>
                 prune: Prune::Failed { why },
             },
             Answer::Ended,
-        ) => Some(End::Failed {
-            why: *why,
-            op: op_of_ticket(entries, entry.who),
-        }),
+        ) => {
+            let op = op_of_ticket(entries, entry.who);
+            fails_by(is_stale(before, entry.who), *why, op)
+        }
         _ => None,
     }
 }
 
-/// The end of an op that an entry tells.
-fn op_end(entries: &[Entry], entry: &Entry) -> Option<OpEnd>
-    ensures { (op : ℕ) → ends_at entries.now op entry.now ≡ end_in result op }
+/// The end of an op that an entry tells, after these of all.
+fn op_end(entries: &[Entry], before: &[Entry], entry: &Entry) -> Option<OpEnd>
+    ensures { (op : ℕ) → ends_at entries.now before.now op entry.now ≡ end_in result op }
 {
-    let end = ends_by(entries, entry)?;
+    let end = ends_by(entries, before, entry)?;
     let op = op_of_ticket(entries, entry.who)?;
     Some(OpEnd { op, end })
 }
@@ -156,7 +223,7 @@ pub fn ends_of(alloc: Global, entries: &[Entry]) -> Result<Vec<OpEnd>, AllocErro
 {
     let mut ends = Vec::new(alloc);
     for (at, entry) in entries.iter().enumerate() {
-        keep(&mut ends, op_end(entries, entry))?;
+        keep(&mut ends, op_end(entries, &entries[..at], entry))?;
         push_aborts(&mut ends, &entries[..at], entry)?;
     }
     Ok(ends)

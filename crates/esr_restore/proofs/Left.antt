@@ -1,10 +1,10 @@
 -- The files of a target whose restore wasn't ended well, and which target is given back.
-use Rattle.std.proofs.Common.{◌≡◌, ◌⊎◌, inl, inr, ℕ, zero, suc, false, List, [], ◌∷◌, ◌++◌, take, map, Option, Some, None, IfSome, Result, Ok, Err, OnErr, option_map, refl, sym, ap, ◌∙◌, subst}
+use Rattle.std.proofs.Common.{◌≡◌, ◌⊎◌, inl, inr, ℕ, zero, suc, false, List, [], ◌∷◌, ◌++◌, append-nil, take, map, Option, Some, None, IfSome, Result, Ok, Err, OnErr, option_map, refl, sym, ap, ◌∙◌, subst}
 use Rattle.esr_names.specs.declared.blob.ShardId.{ShardId}
 use Rattle.esr_model.specs.Values.{Bytes, FileEntry}
 use Rattle.esr_model.specs.Image.{AllPairs}
 use Rattle.esr_core.specs.World.{Reader}
-use Rattle.esr_core.specs.Entry.{OfTarget, RestoredShard, ReadFails, ReadStep, Refusal, Moment}
+use Rattle.esr_core.specs.Entry.{OfTarget, ReadFails, ReadStep, Refusal, Moment}
 use Rattle.esr_source.specs.declared.address.Address.{Address}
 use Rattle.esr_source.specs.Told.{TargetTold}
 use Rattle.esr_shardidx.specs.declared.entry.FileEntry.{FileEntry as CodeEntry}
@@ -14,6 +14,7 @@ use Rattle.esr_desk.specs.declared.hand.Hand.TheVariants as hands
 use Rattle.esr_desk.specs.declared.entry.Why.{Why}
 use Rattle.esr_desk.specs.declared.entry.Why.TheVariants as whys
 use Rattle.esr_desk.specs.declared.fault.By.{By}
+use Rattle.esr_desk.specs.declared.target.RestoredTarget.{RestoredTarget}
 use Rattle.esr_desk.specs.declared.refusal.StepRefusal.{StepRefusal}
 use Rattle.esr_desk.specs.declared.unit.UnitRefusal.{UnitRefusal}
 use Rattle.esr_desk.specs.declared.unit.UnitRefusal.TheVariants as units
@@ -26,8 +27,8 @@ use Rattle.esr_desk.specs.Restore.First.{IsRestoredAs, AreFirst, HasFirst}
 use Rattle.esr_desk.specs.Restore.Shown.{IsFor}
 use Rattle.esr_unit.specs.declared.ending.Ending.TheVariants as endings
 use Rattle.esr_unit.specs.Fail.{GivenUp, IsReported}
-use Rattle.esr_restore.specs.Files.{IsFile}
-use Rattle.esr_restore.specs.Left.{WasEndRefused, IsLeft}
+use Rattle.esr_restore.specs.Files.{IsFile, RestoredAll}
+use Rattle.esr_restore.specs.Left.{WasReportRefused, IsLeft}
 use Rattle.esr_restore.specs.Snapped.{IsAt, HasSnap}
 use Rattle.esr_restore.specs.Worked.{Worked}
 use Rattle.esr_restore.proofs.Pairs.{pairs_map, pairs_of_map}
@@ -78,6 +79,11 @@ first_files s a b at uuid snap k files_old files_mid files_new worked is_at read
     held_first s b at uuid snap (take k snap.files) rest.0 so.held files_old files_new is_at read rest.1
     (pairs_map (IsFile s a at) (IsFile s b at) (stands_more s a b at worked) (take k snap.files) so.held so.each) (same ∙ so.are)
 
+-- all files were ended
+pub first_all : (s : Start) (q : Reader) (at : ShardId) (uuid : ℕ) (snap : SnapValue) (files_old files : Option (List (Bytes × Bytes))) → IsAt q at.index.number at.number uuid → HasSnap s q snap → RestoredAll s q at snap.files files_old files → HasFirst s q files
+first_all s q at uuid snap files_old files is_at read all =
+    held_first s q at uuid snap snap.files [] all.held files_old files is_at read (sym (append-nil (map entry_of snap.files))) all.each all.are
+
 -- ---- where the ticket has ended
 
 of_ended : (q : Reader) (address : Address) → IsFor q address → IsFor (record q { out = false }) address
@@ -99,14 +105,9 @@ first_ended s q files h = record {
 -- ---- which target is given back
 
 -- the report that the target failed was refused
-pub report_refused : (s : Start) (old new : List Moment) (who : ℕ) (refusal : Option Refusal) → Refusing s old new who (ReadStep (ReadFails OfTarget)) refusal → WasEndRefused new who refusal
+pub report_refused : (s : Start) (old new : List Moment) (who : ℕ) (refusal : Option Refusal) → Refusing s old new who (ReadStep (ReadFails OfTarget)) refusal → WasReportRefused new who refusal
 report_refused s old new who None h = tt
-report_refused s old new who (Some refusal) h = inl (record { front = h.front; image = h.image; is = h.is })
-
--- so was the end that took it
-pub end_refused : (s : Start) (old new : List Moment) (who files bytes : ℕ) (refusal : Option Refusal) → Refusing s old new who (ReadStep (RestoredShard files bytes)) refusal → WasEndRefused new who refusal
-end_refused s old new who files bytes None h = tt
-end_refused s old new who files bytes (Some refusal) h = inr (files, bytes, record { front = h.front; image = h.image; is = h.is })
+report_refused s old new who (Some refusal) h = record { front = h.front; image = h.image; is = h.is }
 
 module _ {T : Type 0} (told : T → TargetTold) (s : Start) (old : Reader) (target : T) (of : IsFor old (told target).made_for) (first : HasFirst s old (told target).files) where
   abbrev IsGiven : Reader → Type 0
@@ -118,6 +119,12 @@ module _ {T : Type 0} (told : T → TargetTold) (s : Start) (old : Reader) (targ
 
   pub given_out : (log : List Moment) (who : ℕ) (refusal : UnitRefusal) → reader_of s log who ≡ old → IsLeft told s log who refusal (Some target)
   given_out log who refusal is = subst IsGiven (sym is) (of, first)
+
+-- the end of the ticket was refused, which gave the target back
+pub left_unended : {T : Type 0} (told : T → TargetTold) (s : Start) (q : Reader) (log : List Moment) (who : ℕ) (refusal : UnitRefusal) (made unended : RestoredTarget T) (given : Option T) → IsFor q (told made.target).made_for → HasFirst s q (told made.target).files
+    → reader_of s log who ≡ q → unended ≡ made → given ≡ Some unended.target → IsLeft told s log who refusal given
+left_unended {T} told s q log who refusal made unended given of first same back is =
+    subst (λ (o : Option T). IsLeft told s log who refusal o) (sym (is ∙ ap (λ (r : RestoredTarget T). Some r.target) back)) (given_out told s q made.target of first log who refusal same)
 
 -- it failed for something else
 pub left_given : {S F H T : Type 0} (e : Evidence S F H T) (s : Start) (old new : List Moment) (who : ℕ) (target : T) → IsFor (reader_of s old who) (e.target target).made_for → HasFirst s (reader_of s old who) (e.target target).files
@@ -134,6 +141,6 @@ left_taken e s old new who b (units.Stopped refusal) h report = report_refused s
 left_taken e s old new who b units.Stale h report = absurd h
 
 -- the unit was stopped, and none is given back
-pub stopped_left : {T : Type 0} (told : T → TargetTold) (s : Start) (log : List Moment) (who : ℕ) (refusal : StepRefusal) (result : UnitRefusal) (target : Option T) → result ≡ units.Stopped refusal → target ≡ None → WasEndRefused log who (told_refusal refusal) → IsLeft told s log who result target
+pub stopped_left : {T : Type 0} (told : T → TargetTold) (s : Start) (log : List Moment) (who : ℕ) (refusal : StepRefusal) (result : UnitRefusal) (target : Option T) → result ≡ units.Stopped refusal → target ≡ None → WasReportRefused log who (told_refusal refusal) → IsLeft told s log who result target
 stopped_left {T} told s log who refusal result target is none h =
     subst (λ (r : UnitRefusal). IsLeft told s log who r target) (sym is) (subst (λ (o : Option T). IsLeft told s log who (units.Stopped refusal) o) (sym none) h)

@@ -1,6 +1,6 @@
 -- The target that is given back where a shard isn't restored.
-use Rattle.std.specs.Prelude.{◌≡◌, ◌⊎◌, ℕ, List, Option, Some, None}
-use Rattle.esr_core.specs.Entry.{OfTarget, RestoredShard, ReadFails, ReadStep, Refusal, Refused, Moment}
+use Rattle.std.specs.Prelude.{◌≡◌, ℕ, List, Option, Some, None}
+use Rattle.esr_core.specs.Entry.{OfTarget, ReadFails, ReadStep, Refusal, Refused, Moment}
 use Rattle.esr_source.specs.Told.{TargetTold}
 use Rattle.esr_desk.specs.declared.entry.Why.TheVariants as whys
 use Rattle.esr_desk.specs.declared.unit.UnitRefusal.{UnitRefusal}
@@ -12,17 +12,16 @@ use Rattle.esr_desk.specs.Own.{reader_of}
 use Rattle.esr_desk.specs.Restore.First.{HasFirst}
 use Rattle.esr_desk.specs.Restore.Shown.{IsFor}
 
--- the ticket's last step was refused so, if the history tells it: the report that its target failed, or the end that has the target
-abbrev pub WasEndRefused : List Moment → ℕ → Option Refusal → Type 0
-WasEndRefused log who None = Unit {0}
-WasEndRefused log who (Some refusal) =
-    IsLast log who (ReadStep (ReadFails OfTarget)) (Refused refusal) ⊎ ((files : ℕ) × (bytes : ℕ) × IsLast log who (ReadStep (RestoredShard files bytes)) (Refused refusal))
+-- the ticket's last step, the report that its target failed, was refused so, if the history tells it
+abbrev pub WasReportRefused : List Moment → ℕ → Option Refusal → Type 0
+WasReportRefused log who None = Unit {0}
+WasReportRefused log who (Some refusal) = IsLast log who (ReadStep (ReadFails OfTarget)) (Refused refusal)
 
--- None is given back: the target failed, and the report took it, which ended the ticket or was refused; or it has all files, and the end
--- that took it was refused; or memory was wanting, as where none was made, or turns were spent.
+-- None is given back: the target failed, and the report took it, which ended the ticket or was refused; or memory was wanting, as where
+-- none was made, or turns were spent.
 abbrev pub IsTaken : List Moment → ℕ → UnitRefusal → Type 0
 IsTaken log who (units.Failed why) = why ≡ whys.Target
-IsTaken log who (units.Stopped refusal) = WasEndRefused log who (told_refusal refusal)
+IsTaken log who (units.Stopped refusal) = WasReportRefused log who (told_refusal refusal)
 IsTaken log who units.Stale = ⊥
 
 -- the target that is given back is the shard's own, and has the files that were ended before

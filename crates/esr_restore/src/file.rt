@@ -95,7 +95,7 @@ pub fn restore_file<Q: Desk>(
     ensures reads { OnOk result (ReadsOnly Q.start (Q.seen desk.old) (Q.seen desk.new) ticket (IsPartOf at entry.now)) }
     ensures trouble { IfErr result (IsTrouble (evidence Q.Stage.faults Q.Fetch.faults Q.Shard.faults Q.Target.faults Q.Shard.told Q.Target.told) (Q.Target.faults target.new) (Q.Target.told target.new).is_sure Q.start (Q.seen desk.new) ticket) }
     ensures went { Went Q.start (Q.seen desk.old) (Q.seen desk.new) ticket }
-    ensures calls { HasTaken (Q.calls desk.new) ticket }
+    ensures calls { Q.calls desk.new ≡ Q.calls desk.old }
 {
     begin_file::<Q>(alloc, target, entry)?;
     let mut hasher = Hasher::start();

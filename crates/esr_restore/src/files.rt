@@ -56,7 +56,7 @@ pub fn restore_files<Q: Desk>(
     ensures is_sure { (Q.Target.told target.new).is_sure ≡ (Q.Target.told target.old).is_sure }
     ensures trouble { IfErr result (IsTrouble (evidence Q.Stage.faults Q.Fetch.faults Q.Shard.faults Q.Target.faults Q.Shard.told Q.Target.told) (Q.Target.faults target.new) (Q.Target.told target.new).is_sure Q.start (Q.seen desk.new) ticket) }
     ensures went { Went Q.start (Q.seen desk.old) (Q.seen desk.new) ticket }
-    ensures calls { HasTaken (Q.calls desk.new) ticket }
+    ensures calls { Q.calls desk.new ≡ Q.calls desk.old }
 {
     for entry in snap.files() {
         restore_file(alloc, desk, ticket, at, uuid, entry, target, buf)?;

@@ -55,7 +55,7 @@ fn read_part<Q: Desk>(
     ensures reads { IfOk result (λ w. ReadsOnly Q.start (Q.seen desk.old) (Q.seen desk.new) ticket (λ n. n ≡ name_of name)) }
     ensures trouble { IfErr result (IsTrouble (evidence Q.Stage.faults Q.Fetch.faults Q.Shard.faults Q.Target.faults Q.Shard.told Q.Target.told) (Q.Target.faults target.new) (Q.Target.told target.new).is_sure Q.start (Q.seen desk.new) ticket) }
     ensures went { Went Q.start (Q.seen desk.old) (Q.seen desk.new) ticket }
-    ensures calls { HasTaken (Q.calls desk.new) ticket }
+    ensures calls { Q.calls desk.new ≡ Q.calls desk.old }
 {
     let mut blob = fetch(alloc, desk, ticket, name)?;
     match read_back(&mut blob, target, hasher, size, buf) {
@@ -98,7 +98,7 @@ pub fn read_parts<Q: Desk>(
     ensures reads { IfOk result (λ e. ReadsOnly Q.start (Q.seen desk.old) (Q.seen desk.new) ticket (IsPartOf at entry.now)) }
     ensures trouble { IfErr result (IsTrouble (evidence Q.Stage.faults Q.Fetch.faults Q.Shard.faults Q.Target.faults Q.Shard.told Q.Target.told) (Q.Target.faults target.new) (Q.Target.told target.new).is_sure Q.start (Q.seen desk.new) ticket) }
     ensures went { Went Q.start (Q.seen desk.old) (Q.seen desk.new) ticket }
-    ensures calls { HasTaken (Q.calls desk.new) ticket }
+    ensures calls { Q.calls desk.new ≡ Q.calls desk.old }
 {
     let mut is_exact = true;
     for number in 0..part_count(entry.print.len, entry.part_size) {

@@ -42,7 +42,7 @@ pub fn fetch<Q: Desk>(
     ensures reads { IfOk result (λ f. ReadsOnly Q.start (Q.seen desk.old) (Q.seen desk.new) ticket (λ n. n ≡ name_of name)) }
     ensures trouble { IfErr result (λ e. (n : ℕ) (sure : Bool) → IsTrouble (evidence Q.Stage.faults Q.Fetch.faults Q.Shard.faults Q.Target.faults Q.Shard.told Q.Target.told) n sure Q.start (Q.seen desk.new) ticket e) }
     ensures went { Went Q.start (Q.seen desk.old) (Q.seen desk.new) ticket }
-    ensures calls { HasTaken (Q.calls desk.new) ticket }
+    ensures calls { Q.calls desk.new ≡ Q.calls desk.old }
 {
     esr_core::refusals_are_of_their_steps();
     match desk.fetch(alloc, Hand::Restore, ticket, name)? {
@@ -70,7 +70,7 @@ fn fetch_bytes<Q: Desk>(
     ensures reads { IfOk result (λ b. ReadsOnly Q.start (Q.seen desk.old) (Q.seen desk.new) ticket (λ n. n ≡ SnapName at.index.number at.number uuid.number)) }
     ensures trouble { IfErr result (λ e. (n : ℕ) (sure : Bool) → IsTrouble (evidence Q.Stage.faults Q.Fetch.faults Q.Shard.faults Q.Target.faults Q.Shard.told Q.Target.told) n sure Q.start (Q.seen desk.new) ticket e) }
     ensures went { Went Q.start (Q.seen desk.old) (Q.seen desk.new) ticket }
-    ensures calls { HasTaken (Q.calls desk.new) ticket }
+    ensures calls { Q.calls desk.new ≡ Q.calls desk.old }
 {
     esr_core::refusals_are_of_their_steps();
     let name = BlobName::ShardSnap(at, uuid);
@@ -99,7 +99,7 @@ pub fn fetch_snap<Q: Desk>(
     ensures reads { IfOk result (λ v. ReadsOnly Q.start (Q.seen desk.old) (Q.seen desk.new) ticket (λ n. n ≡ SnapName at.index.number at.number uuid.number)) }
     ensures trouble { IfErr result (λ e. (n : ℕ) (sure : Bool) → IsTrouble (evidence Q.Stage.faults Q.Fetch.faults Q.Shard.faults Q.Target.faults Q.Shard.told Q.Target.told) n sure Q.start (Q.seen desk.new) ticket e) }
     ensures went { Went Q.start (Q.seen desk.old) (Q.seen desk.new) ticket }
-    ensures calls { HasTaken (Q.calls desk.new) ticket }
+    ensures calls { Q.calls desk.new ≡ Q.calls desk.old }
 {
     let bytes = fetch_bytes(alloc, desk, ticket, at, uuid)?;
     match read_shard_snap(alloc, bytes.as_slice()) {

@@ -1,5 +1,5 @@
 //! The unit of a restore's shard.
-ghost use Rattle.std.specs.Prelude.{◌≡◌, ◌<◌, [], None, true, false, length, IfErr, IfOk, IfSome, OnOk, OnErr};
+ghost use Rattle.std.specs.Prelude.{◌≡◌, ◌<◌, [], Some, None, true, false, length, IfErr, IfOk, IfSome, OnOk, OnErr};
 ghost use Rattle.esr_core.specs.Entry.{ReadStep, RestoredShard, HasEnded};
 ghost use Rattle.esr_desk.specs.Own.{made_of, reader_of};
 ghost use Rattle.esr_desk.specs.Calls.{HasTaken};
@@ -10,7 +10,7 @@ ghost use Rattle.esr_desk.specs.declared.unit.UnitRefusal.TheVariants.{Stopped};
 ghost use Rattle.esr_desk.specs.Evidence.{evidence};
 ghost use Rattle.esr_desk.specs.Restore.First.{HasFirst};
 ghost use Rattle.esr_desk.specs.Restore.Shown.{IsFor};
-ghost use Rattle.esr_desk.specs.Restore.Targets.{IsFilled};
+ghost use Rattle.esr_desk.specs.Restore.Targets.{IsFilled, refused_of};
 ghost use Rattle.esr_restore.specs.Files.{sum_files, HasFiles, RestoredAll};
 ghost use Rattle.esr_restore.specs.Snapped.{IsAt, HasSnap};
 ghost use Rattle.esr_restore.specs.Trouble.{IsTrouble};
@@ -22,7 +22,9 @@ ghost use Rattle.esr_restore.specs.Left.{IsLeft};
 use crate::files::{restore_files, sum_of};
 use crate::snap::fetch_snap;
 use crate::unrestored::Unrestored;
-use esr_desk::{By, Desk, FailedObject, Hand, RestoredTarget, StepRefusal, Unit, UnitRefusal, Why};
+use esr_desk::{
+    By, Desk, FailedObject, Hand, RestoredTarget, StepRefusal, Unended, Unit, UnitRefusal, Why,
+};
 use esr_names::{Id, ShardId};
 use esr_progress::{ReadyUnit, Work};
 use esr_shardidx::ShardSnap;
@@ -55,7 +57,7 @@ fn restore<Q: Desk>(
     ensures is_sure { (Q.Target.told target.new).is_sure ≡ (Q.Target.told target.old).is_sure }
     ensures trouble { IfErr result (IsTrouble (evidence Q.Stage.faults Q.Fetch.faults Q.Shard.faults Q.Target.faults Q.Shard.told Q.Target.told) (Q.Target.faults target.new) (Q.Target.told target.new).is_sure Q.start (Q.seen desk.new) ticket) }
     ensures went { Went Q.start (Q.seen desk.old) (Q.seen desk.new) ticket }
-    ensures calls { HasTaken (Q.calls desk.new) ticket }
+    ensures calls { Q.calls desk.new ≡ Q.calls desk.old }
 {
     let mut buf = [0; 65536];
     let snap = fetch_snap(alloc, desk, ticket, at, uuid)?;
@@ -70,15 +72,16 @@ fn finish<Q: Desk>(
     ticket: u64,
     snap: &ShardSnap,
     target: RestoredTarget<Q::Target>,
-) -> Result<(), StepRefusal>
+) -> Result<(), Unended<Q::Target>>
     requires mine { HasTaken (Q.calls desk.old) ticket }
     requires out { (reader_of Q.start (Q.seen desk.old) ticket).out ≡ true }
     requires read { HasFiles Q.start (reader_of Q.start (Q.seen desk.old) ticket) snap.now }
     requires filled { IsFilled (evidence Q.Stage.faults Q.Fetch.faults Q.Shard.faults Q.Target.faults Q.Shard.told Q.Target.told)
         Q.start (reader_of Q.start (Q.seen desk.old) ticket) (length snap.now.files) (sum_files snap.now.files) target }
-    ensures step { Outcome Q.start (Q.seen desk.old) (Q.seen desk.new) ticket (ReadStep (RestoredShard (length snap.now.files) (sum_files snap.now.files))) (λ _. HasEnded) result }
+    ensures step { Outcome Q.start (Q.seen desk.old) (Q.seen desk.new) ticket (ReadStep (RestoredShard (length snap.now.files) (sum_files snap.now.files))) (λ _. HasEnded) (refused_of result) }
     ensures own { OnOk result (reader_of Q.start (Q.seen desk.new) ticket ≡ record (reader_of Q.start (Q.seen desk.old) ticket) { out = false }) }
     ensures kept { OnErr result (reader_of Q.start (Q.seen desk.new) ticket ≡ reader_of Q.start (Q.seen desk.old) ticket) }
+    ensures target { IfErr result (λ u. u.target ≡ target) }
     ensures calls { Q.calls desk.new ≡ Q.calls desk.old }
 {
     let entries = snap.files();
@@ -105,7 +108,7 @@ fn fail<Q: Desk>(
         Q.start (Q.seen desk.old) (Q.seen desk.new) ticket result.refusal }
     ensures left { IsLeft Q.Target.told Q.start (Q.seen desk.new) ticket result.refusal result.target }
     ensures grew { GrewBy Q.start ticket (Q.seen desk.old) (Q.seen desk.new) }
-    ensures calls { HasTaken (Q.calls desk.new) ticket }
+    ensures calls { Q.calls desk.new ≡ Q.calls desk.old }
 {
     match ending_of(trouble) {
         Ending::Failed { why, by } => {
@@ -136,6 +139,19 @@ fn fail<Q: Desk>(
     }
 }
 
+/// The end of the ticket was refused, and the target, which has all files, is given back.
+fn give_back<T: Drop>(unended: Unended<T>) -> Unrestored<T>
+    ensures refusal { result.refusal ≡ Stopped unended.refusal }
+    ensures target { result.target ≡ Some unended.target.target }
+{
+    let Unended { refusal, target } = unended;
+    let RestoredTarget { target, .. } = target;
+    Unrestored {
+        refusal: UnitRefusal::Stopped(refusal),
+        target: Some(target),
+    }
+}
+
 /// The unit is stopped, and there is no target to give back.
 fn stopped<T: Drop>(refusal: StepRefusal) -> Unrestored<T>
     ensures refusal { result.refusal ≡ Stopped refusal }
@@ -150,8 +166,7 @@ fn stopped<T: Drop>(refusal: StepRefusal) -> Unrestored<T>
 /// Reads the snapshot of the unit's shard and the parts of its files, writes the files to a target of their own, and ends the
 /// ticket, by which the target is listed. Where an object failed, a blob is absent or doesn't read, or a file isn't as the
 /// snapshot states, the ticket ends as failed. Where the shard isn't restored the target has the files that were ended before,
-/// the first ones of the snapshot, and is given back; one that failed went to the report of that, and one that has all files to
-/// the end of the ticket, also where that was refused.
+/// the first ones of the snapshot, and is given back; one that failed went to the report of that, also where that was refused.
 pub fn run_unit<Q: Desk, T: Targets<Target = Q::Target>>(
     alloc: Global,
     desk: &mut Q,
@@ -168,7 +183,7 @@ pub fn run_unit<Q: Desk, T: Targets<Target = Q::Target>>(
         Q.start (Q.seen desk.old) (Q.seen desk.new) unit.ready.ticket e.refusal) }
     ensures left { IfErr result (λ e. IsLeft Q.Target.told Q.start (Q.seen desk.new) unit.ready.ticket e.refusal e.target) }
     ensures grew { GrewBy Q.start unit.ready.ticket (Q.seen desk.old) (Q.seen desk.new) }
-    ensures calls { HasTaken (Q.calls desk.new) unit.ready.ticket }
+    ensures calls { Q.calls desk.new ≡ Q.calls desk.old }
 {
     esr_core::refusals_are_of_their_steps();
     let Unit { ready, .. } = unit;
@@ -202,7 +217,7 @@ pub fn run_unit<Q: Desk, T: Targets<Target = Q::Target>>(
             };
             match finish(alloc, desk, ticket, &snap, restored) {
                 Ok(()) => Ok(()),
-                Err(refusal) => Err(stopped(refusal)),
+                Err(unended) => Err(give_back(unended)),
             }
         }
         Err(trouble) => Err(fail(alloc, desk, ticket, target, trouble)),

@@ -1,12 +1,12 @@
 -- What lines add, and that no check ends well by it.
 use Rattle.std.proofs.Common.{◌≡◌, ◌≢◌, ℕ, true, List, [], ◌∷◌, ◌++◌, append-nil, Option, Some, None, Result, Ok, Err, refl, sym, ap, ◌∙◌, subst, inl, inr}
-use Rattle.esr_core.specs.Entry.{Asked, Read, CheckedAll, DrawTest, Step, AskStep, LookStep, TakeStep, ReadStep, Reply, Refusal, Refused, Moment}
+use Rattle.esr_core.specs.Entry.{Asked, Read, CheckedAll, DrawTest, Step, AskStep, LookStep, TakeStep, ElectStep, ReadStep, Reply, Refusal, Refused, Moment}
 use Rattle.esr_desk.specs.declared.refusal.StepRefusal.{StepRefusal}
 use Rattle.esr_desk.specs.Refusals.{told_refusal}
 use Rattle.esr_desk.specs.Start.{Start}
 use Rattle.esr_desk.specs.Outcome.{Stepped, Refusing, Outcome}
 use Rattle.esr_quiet.specs.Smooth.{NoneChecked}
-use Rattle.esr_drive.specs.Works.{IsWork, AllWork}
+use Rattle.esr_drive.specs.Elections.{IsOfWait, AllOfWait}
 use Rattle.esr_verify.specs.Began.{IsFurther, AllFurther}
 use Rattle.esr_run.specs.Made.{AsksLine, AllAsk, AsksOnly}
 
@@ -40,6 +40,9 @@ no_look_end snapshots blobs e = cc
 no_take_end : (snapshots blobs : ℕ) → TakeStep ≢ ReadStep (CheckedAll snapshots blobs)
 no_take_end snapshots blobs e = cc
 
+no_elect_end : (snapshots blobs : ℕ) → ElectStep ≢ ReadStep (CheckedAll snapshots blobs)
+no_elect_end snapshots blobs e = cc
+
 no_draw_end : (snapshots blobs : ℕ) → ReadStep DrawTest ≢ ReadStep (CheckedAll snapshots blobs)
 no_draw_end snapshots blobs e = cc
 
@@ -50,9 +53,10 @@ line_no_end : (step : Step) → AsksLine step → (snapshots blobs : ℕ) → st
 line_no_end step (inl ask) snapshots blobs is = no_ask_end ask.0 snapshots blobs (sym ask.1 ∙ is)
 line_no_end step (inr look) snapshots blobs is = no_look_end snapshots blobs (sym look ∙ is)
 
-work_no_end : (m : Moment) → IsWork m → (snapshots blobs : ℕ) → m.entry.who ≡ 0 → m.entry.step ≢ ReadStep (CheckedAll snapshots blobs)
-work_no_end m (inl some) snapshots blobs who step = some who
-work_no_end m (inr take) snapshots blobs who step = no_take_end snapshots blobs (sym take ∙ step)
+wait_no_end : (m : Moment) → IsOfWait m → (snapshots blobs : ℕ) → m.entry.who ≡ 0 → m.entry.step ≢ ReadStep (CheckedAll snapshots blobs)
+wait_no_end m (inl some) snapshots blobs who step = some who
+wait_no_end m (inr (inl take)) snapshots blobs who step = no_take_end snapshots blobs (sym take ∙ step)
+wait_no_end m (inr (inr elect)) snapshots blobs who step = no_elect_end snapshots blobs (sym elect ∙ step)
 
 -- ---- parts in which no check ends well
 
@@ -61,10 +65,10 @@ all_ask [] all m snapshots blobs none who step = none
 all_ask (x ∷ more) all m snapshots blobs (inl same) who step = line_no_end x.entry.step all.1 snapshots blobs (ap (λ (n : Moment). n.entry.step) same ∙ step)
 all_ask (x ∷ more) all m snapshots blobs (inr later) who step = all_ask more all.2 m snapshots blobs later who step
 
-pub all_work : (more : List Moment) → AllWork more → NoneChecked more
-all_work [] all m snapshots blobs none who step = none
-all_work (x ∷ more) all m snapshots blobs (inl same) who step = work_no_end x all.0 snapshots blobs (ap (λ (n : Moment). n.entry.who) same ∙ who) (ap (λ (n : Moment). n.entry.step) same ∙ step)
-all_work (x ∷ more) all m snapshots blobs (inr later) who step = all_work more all.1 m snapshots blobs later who step
+pub all_wait : (more : List Moment) → AllOfWait more → NoneChecked more
+all_wait [] all m snapshots blobs none who step = none
+all_wait (x ∷ more) all m snapshots blobs (inl same) who step = wait_no_end x all.0 snapshots blobs (ap (λ (n : Moment). n.entry.who) same ∙ who) (ap (λ (n : Moment). n.entry.step) same ∙ step)
+all_wait (x ∷ more) all m snapshots blobs (inr later) who step = all_wait more all.1 m snapshots blobs later who step
 
 all_further : (rest : List Moment) → AllFurther rest → NoneChecked rest
 all_further [] all m snapshots blobs none who step = none

@@ -2,13 +2,13 @@
 use Rattle.std.proofs.Common.{◌≡◌, ◌⊎◌, ℕ, suc, ◌≤◌, Bool, true, List, [], ◌∷◌, ◌++◌, append-nil, append_assoc, length, refl, sym, ap, ◌∙◌, subst, inl, inr, ⊎_elim, arith}
 use Rattle.std.specs.Prelude.{◌&&◌, ◌==◌, if◌then◌else◌}
 use Rattle.esr_model.specs.Values.{Has}
-use Rattle.esr_core.specs.Entry.{Asked, Read, ReadBlob, DrawTest, AskStep, LookStep, TakeStep, ReadStep, Moment}
+use Rattle.esr_core.specs.Entry.{Asked, Read, ReadBlob, DrawTest, AskStep, LookStep, TakeStep, ElectStep, ReadStep, Moment}
 use Rattle.esr_script.specs.declared.item.Item.{Item}
 use Rattle.esr_script.specs.declared.item.Item.TheVariants as items
 use Rattle.esr_desk.specs.Start.{Start}
 use Rattle.esr_desk.specs.Check.Shown.{AllFetches}
 use Rattle.esr_quiet.specs.Asked.{is_line_ask, is_asked, as_asked, asked_steps, GrewAsking}
-use Rattle.esr_drive.specs.Works.{AllWork, WorksOnly}
+use Rattle.esr_drive.specs.Elections.{AllOfWait, WaitsOnly}
 use Rattle.esr_verify.specs.Began.{AllFurther, HasBegun}
 use Rattle.esr_check.specs.Began.{HasEndedCheck}
 use Rattle.esr_complete.specs.Lines.{steps_of_item}
@@ -82,6 +82,9 @@ no_look command e = cc
 no_take : (command : Asked) → TakeStep ≡ AskStep command → ⊥
 no_take command e = cc
 
+no_elect : (command : Asked) → ElectStep ≡ AskStep command → ⊥
+no_elect command e = cc
+
 no_read : (read : Read) (command : Asked) → ReadStep read ≡ AskStep command → ⊥
 no_read read command e = cc
 
@@ -92,9 +95,10 @@ one_more : (x : Moment) (more : List Moment) → ((command : Asked) → x.entry.
 one_more x more here later m command (inl same) who step = here command (ap (λ (y : Moment). y.entry.who) same ∙ who) (ap (λ (y : Moment). y.entry.step) same ∙ step)
 one_more x more here later m command (inr has) who step = later m command has who step
 
-work_none : (more : List Moment) → AllWork more → AsksNone more
-work_none [] all = none_asked
-work_none (x ∷ more) all = one_more x more (λ command who step. ⊎_elim (λ some. some who) (λ take. no_take command (sym take ∙ step)) all.0) (work_none more all.1)
+wait_none : (more : List Moment) → AllOfWait more → AsksNone more
+wait_none [] all = none_asked
+wait_none (x ∷ more) all =
+    one_more x more (λ command who step. elim all.0 [ inl some ↦ some who | inr (inl take) ↦ no_take command (sym take ∙ step) | inr (inr elect) ↦ no_elect command (sym elect ∙ step) ]) (wait_none more all.1)
 
 further_none : (more : List Moment) → AllFurther more → AsksNone more
 further_none [] all = none_asked
@@ -104,8 +108,8 @@ fetches_none : (more last : List Moment) → AllFetches more → AsksNone last �
 fetches_none [] last all none = none
 fetches_none (x ∷ more) last all none = one_more x (more ++ last) (λ command who step. no_read (ReadBlob all.1.0) command (sym all.1.1 ∙ step)) (fetches_none more last all.2 none)
 
-pub works_apart : (s : Start) (old new : List Moment) → WorksOnly old new → AskedApart s old new
-works_apart s old new w = apart_asking_none s old new w.more w.is (work_none w.more w.all)
+pub waits_apart : (s : Start) (old new : List Moment) → WaitsOnly old new → AskedApart s old new
+waits_apart s old new w = apart_asking_none s old new w.more w.is (wait_none w.more w.all)
 
 check_apart : (s : Start) (old new : List Moment) → HasEndedCheck old new → AskedApart s old new
 check_apart s old new e = apart_asking_none s old new (e.look ∷ e.fetches ++ e.end ∷ []) (e.is ∙ append_assoc old (e.look ∷ e.fetches) (e.end ∷ []))
@@ -149,7 +153,7 @@ asks_apart s moment item old new alone rests g a =
 pub line_apart : (s : Start) (moment : ℕ) (item : Item) (old new : List Moment) → s.alone ≡ true → AreIn s old → GrewAsking s (steps_of_item moment item) old new → LinePart item old new → AskedApart s old new
 line_apart s moment items.Check old new alone rests g p = ⊎_elim (λ ended. check_apart s old new ended) (λ refused. look_apart s old new refused) (p.checks refl)
 line_apart s moment items.Verify old new alone rests g p = begun_apart s old new (p.verifies refl)
-line_apart s moment items.Wait old new alone rests g p = works_apart s old new p.only
+line_apart s moment items.Wait old new alone rests g p = waits_apart s old new p.only
 line_apart s moment (items.Snapshot name indices) old new alone rests g p = asks_apart s moment (items.Snapshot name indices) old new alone rests g p.only
 line_apart s moment (items.Clone source name indices) old new alone rests g p = asks_apart s moment (items.Clone source name indices) old new alone rests g p.only
 line_apart s moment (items.Delete names) old new alone rests g p = asks_apart s moment (items.Delete names) old new alone rests g p.only

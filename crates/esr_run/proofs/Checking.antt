@@ -23,10 +23,12 @@ use Rattle.esr_quiet.specs.Asked.{is_line_ask, as_asked, asked_steps, GrewAsking
 use Rattle.esr_quiet.specs.Numbers.{HasNoTickets}
 use Rattle.esr_quiet.proofs.Prefixes.{legal_front}
 use Rattle.esr_drive.specs.Takes.{idle_take, idle_takes, takes_more}
+use Rattle.esr_drive.specs.Elections.{election, elections, elections_more}
 use Rattle.esr_verify.specs.Idle.{IsIdle}
 use Rattle.esr_check.specs.Began.{IsOfCheck, AllOfCheck, HasBegun, BeganOne, NotBegun, Begun, AsksOne, NoneChecked, HasEndedCheck}
 use Rattle.esr_check.proofs.Refusing.{fetched_all}
 use Rattle.esr_check.specs.Checked.{AreFetched, HasChecked}
+use Rattle.esr_check.specs.First.{AreFirst}
 use Rattle.esr_check.specs.Refused.{StopsCheck, IsCheckRefused}
 use Rattle.esr_run.specs.Laws.{StepsStay}
 use Rattle.esr_run.specs.Checked.{AreChecked, HasLooked}
@@ -34,9 +36,9 @@ use Rattle.esr_run.specs.Made.{MadeFirst, AreIn, LineMade, LineRests, LineSpends
 use Rattle.esr_run.specs.Verified.{AreVerified, AreBegun, AreClosed, AreWhole, MayVerify, VerifiesOn}
 use Rattle.esr_run.proofs.Completing.{in_front, in_middle}
 use Rattle.esr_run.proofs.Making.{world_one, legal_one, same_or_not}
-use Rattle.esr_run.proofs.Taking.{no_take}
+use Rattle.esr_run.proofs.Taking.{no_take, no_elect}
 use Rattle.esr_run.proofs.Checks.{split_end, IsNoCheckEnd, checked_more}
-use Rattle.esr_run.proofs.Verifying.{NoShard, AllRead, StandsAfter, TurnsAre, all_asked, none_asked, reads_in, reads_takes, same_read, none_idle, closed_one, begun_one, verified_more}
+use Rattle.esr_run.proofs.Verifying.{NoShard, AllRead, StandsAfter, TurnsAre, all_asked, none_asked, reads_in, reads_takes, reads_elect, same_read, none_idle, closed_one, begun_one, verified_more}
 
 -- the answer of a line by that of its check
 abbrev pub check_result : {X : Type 0} → Result X UnitRefusal → Result Unit StepRefusal
@@ -145,7 +147,7 @@ module _ (laws : StepsStay) (s : Start) (numbered : HasNoTickets s) (ops : Track
   check_rests X old new (Err (units.Failed why)) asks legal alone turns rest = begun_in old new asks legal rest
   check_rests X old new (Err (units.Stopped (steps.Refused refusal))) asks legal alone turns rest = inl (begun_in old new asks legal rest)
   check_rests X old new (Err (units.Stopped steps.Memory)) asks legal alone turns rest = tt
-  check_rests X old new (Err (units.Stopped steps.TurnsSpent)) asks legal alone turns rest = turns alone
+  check_rests X old new (Err (units.Stopped steps.TurnsSpent)) asks legal alone turns rest = turns
   check_rests X old new (Err units.Stale) asks legal alone turns rest = absurd asks
 
 pub check_spends : {X : Type 0} (s : Start) (new : List Moment) (r : Result X UnitRefusal) → s.alone ≡ true → IfErr r (TurnsAre s new) → LineSpends new (check_result r)
@@ -153,7 +155,7 @@ check_spends s new (Ok x) alone t = tt
 check_spends s new (Err (units.Failed why)) alone t = tt
 check_spends s new (Err (units.Stopped (steps.Refused refusal))) alone t = tt
 check_spends s new (Err (units.Stopped steps.Memory)) alone t = tt
-check_spends s new (Err (units.Stopped steps.TurnsSpent)) alone t = t alone
+check_spends s new (Err (units.Stopped steps.TurnsSpent)) alone t = t
 check_spends s new (Err units.Stale) alone t = tt
 
 pub check_turns : {X S F H T : Type 0} (evidence : Evidence S F H T) (s : Start) (old new : List Moment) (r : Result X UnitRefusal) → IfErr r (IsCheckRefused evidence s old new) → IfErr r (TurnsAre s new)
@@ -184,6 +186,27 @@ check_takes old new (Err (units.Stopped (steps.Refused refusal))) h = begun_take
 check_takes old new (Err (units.Stopped steps.Memory)) h = maybe_takes old new h
 check_takes old new (Err (units.Stopped steps.TurnsSpent)) h = maybe_takes old new h
 check_takes old new (Err units.Stale) h = absurd h
+
+-- ---- nor does it elect
+
+begun_elects : (old new : List Moment) → HasBegun old new → elections new ≡ elections old
+begun_elects old new h =
+    let whole : elections new ≡ elections old + (election h.look.entry.who h.look.entry.step + elections h.rest) = elections_more old (h.look ∷ h.rest) new h.is in
+    let look : election h.look.entry.who h.look.entry.step ≡ 0 = ap (λ (k : ℕ). election k h.look.entry.step) h.looker ∙ no_elect h.look.entry.step (inr h.looks) in
+    let rest : elections h.rest ≡ 0 = reads_elect h.rest (check_reads h.rest h.all) in
+    omega (arith, whole, look, rest)
+
+maybe_elects : (old new : List Moment) → BeganOne old new → elections new ≡ elections old
+maybe_elects old new (NotBegun is) = ap elections is
+maybe_elects old new (Begun h) = begun_elects old new h
+
+pub check_elects : {X : Type 0} (old new : List Moment) (r : Result X UnitRefusal) → AsksOne old new r → elections new ≡ elections old
+check_elects old new (Ok x) h = begun_elects old new h
+check_elects old new (Err (units.Failed why)) h = begun_elects old new h
+check_elects old new (Err (units.Stopped (steps.Refused refusal))) h = begun_elects old new h
+check_elects old new (Err (units.Stopped steps.Memory)) h = maybe_elects old new h
+check_elects old new (Err (units.Stopped steps.TurnsSpent)) h = maybe_elects old new h
+check_elects old new (Err units.Stale) h = absurd h
 
 -- ---- and it is whole
 
@@ -269,14 +292,16 @@ ok_checked s old new snapshots blobs h was front back m a b is who step reply =
           front before.0 m a b before.1 who step reply
     ]
 
-pub check_well : (s : Start) (workers : ℕ) (old new : List Moment) (snapshots blobs : ℕ) → HasBegun old new → HasChecked s old new snapshots blobs → (Legal s old → Legal s new) → MayVerify s workers true old → MayVerify s workers true new
-check_well s workers old new snapshots blobs asks ok legal may = record {
+pub check_well : (s : Start) (workers : ℕ) (old new : List Moment) (snapshots blobs : ℕ) → HasBegun old new → HasChecked s old new snapshots blobs → (AreFirst s old → AreFirst s new) → (Legal s old → Legal s new) → MayVerify s workers true old
+    → MayVerify s workers true new
+check_well s workers old new snapshots blobs asks ok first legal may = record {
   whole = record {
     verified = verified_all s workers old new asks may.whole.verified;
     checked = ok_checked s old new snapshots blobs ok may.whole.checked;
     begun = begun_all old new asks may.whole.begun;
     closed = closed_all s old new asks may.idle may.whole.closed;
     unchecked = λ no. absurd (true≢false no);
+    first = first may.whole.first;
   };
   idle = subst IsIdle (sym ok.closed) none_idle;
   legal = legal may.legal;
@@ -284,31 +309,32 @@ check_well s workers old new snapshots blobs asks ok legal may = record {
 
 -- ---- one that didn't
 
-whole_then : (s : Start) (workers : ℕ) (old new : List Moment) → HasBegun old new → NoneChecked old new → MayVerify s workers true old → AreWhole s workers true new
-whole_then s workers old new asks none may = record {
+whole_then : (s : Start) (workers : ℕ) (old new : List Moment) → HasBegun old new → NoneChecked old new → (AreFirst s old → AreFirst s new) → MayVerify s workers true old → AreWhole s workers true new
+whole_then s workers old new asks none first may = record {
   verified = verified_all s workers old new asks may.whole.verified;
   checked = err_checked s old new none may.whole.checked;
   begun = begun_all old new asks may.whole.begun;
   closed = closed_all s old new asks may.idle may.whole.closed;
   unchecked = λ no. absurd (true≢false no);
+  first = first may.whole.first;
 }
 
-whole_maybe : (s : Start) (workers : ℕ) (old new : List Moment) → BeganOne old new → NoneChecked old new → MayVerify s workers true old → AreWhole s workers true new
-whole_maybe s workers old new (NotBegun is) none may = subst (AreWhole s workers true) (sym is) may.whole
-whole_maybe s workers old new (Begun h) none may = whole_then s workers old new h none may
+whole_maybe : (s : Start) (workers : ℕ) (old new : List Moment) → BeganOne old new → NoneChecked old new → (AreFirst s old → AreFirst s new) → MayVerify s workers true old → AreWhole s workers true new
+whole_maybe s workers old new (NotBegun is) none first may = subst (AreWhole s workers true) (sym is) may.whole
+whole_maybe s workers old new (Begun h) none first may = whole_then s workers old new h none first may
 
 deposed_caller : (s : Start) (old new : List Moment) (refusal : EntryRefusal) → StopsCheck s old new (steps.Refused refusal) → caller_of s new ≡ caller_of s old
 deposed_caller s old new (refusals.Deposed entry) h = h.1
 deposed_caller s old new refusal h = absurd h
 
-pub check_refused : (X : Type 0) {S F H T : Type 0} (evidence : Evidence S F H T) (s : Start) (workers : ℕ) (old new : List Moment) (e : UnitRefusal) → AsksOne {X = X} old new (Err e) → IsCheckRefused evidence s old new e → NoneChecked old new → (Legal s old → Legal s new) → MayVerify s workers true old
-    → VerifiesOn s workers true new (check_result {X = X} (Err e))
-check_refused X evidence s workers old new (units.Failed why) asks err none legal may = record { whole = whole_then s workers old new asks none may; idle = subst IsIdle (sym err.0) none_idle; legal = legal may.legal }
-check_refused X evidence s workers old new (units.Stopped (steps.Refused refusal)) asks err none legal may =
-    record { whole = whole_then s workers old new asks none may; idle = subst IsIdle (sym (deposed_caller s old new refusal err)) may.idle; legal = legal may.legal }
-check_refused X evidence s workers old new (units.Stopped steps.Memory) asks err none legal may = whole_maybe s workers old new asks none may
-check_refused X evidence s workers old new (units.Stopped steps.TurnsSpent) asks err none legal may = whole_maybe s workers old new asks none may
-check_refused X evidence s workers old new units.Stale asks err none legal may = absurd asks
+pub check_refused : (X : Type 0) {S F H T : Type 0} (evidence : Evidence S F H T) (s : Start) (workers : ℕ) (old new : List Moment) (e : UnitRefusal) → AsksOne {X = X} old new (Err e) → IsCheckRefused evidence s old new e → NoneChecked old new
+    → (AreFirst s old → AreFirst s new) → (Legal s old → Legal s new) → MayVerify s workers true old → VerifiesOn s workers true new (check_result {X = X} (Err e))
+check_refused X evidence s workers old new (units.Failed why) asks err none first legal may = record { whole = whole_then s workers old new asks none first may; idle = subst IsIdle (sym err.0) none_idle; legal = legal may.legal }
+check_refused X evidence s workers old new (units.Stopped (steps.Refused refusal)) asks err none first legal may =
+    record { whole = whole_then s workers old new asks none first may; idle = subst IsIdle (sym (deposed_caller s old new refusal err)) may.idle; legal = legal may.legal }
+check_refused X evidence s workers old new (units.Stopped steps.Memory) asks err none first legal may = whole_maybe s workers old new asks none first may
+check_refused X evidence s workers old new (units.Stopped steps.TurnsSpent) asks err none first legal may = whole_maybe s workers old new asks none first may
+check_refused X evidence s workers old new units.Stale asks err none first legal may = absurd asks
 
 -- ---- it has ended
 

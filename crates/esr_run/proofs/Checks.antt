@@ -15,7 +15,8 @@ use Rattle.esr_desk.specs.Own.{caller_of}
 use Rattle.esr_quiet.proofs.Callers.{caller_one}
 use Rattle.esr_quiet.proofs.Prefixes.{legal_front}
 use Rattle.esr_verify.specs.Began.{IsFurther, AllFurther, HasBegun, BeganOne, NotBegun, Begun}
-use Rattle.esr_run.specs.Checked.{AreChecked, NoCheckFails}
+use Rattle.esr_check.specs.First.{NamesOne, FirstOf}
+use Rattle.esr_run.specs.Checked.{AreChecked}
 use Rattle.esr_run.proofs.Making.{world_one, legal_one}
 
 -- ---- the last of a list
@@ -173,41 +174,53 @@ module _ (s : Start) (log : List Moment) (m : Moment) (legal : Legal s (log ++ m
 
 -- ---- one moment more
 
-pub fails_other : (s : Start) (log : List Moment) (m : Moment) → ((why : Why) → m.entry.who ≡ 0 → m.entry.step ≡ ReadStep (ReadFails why) → ⊥) → NoCheckFails s log → NoCheckFails s (log ++ m ∷ [])
-fails_other s log m other was front back x why is who step reply is_open = elim (split_end log m front x back is) [
-  | inl last ↦ other why (ap (λ (y : Moment). y.entry.who) last.1 ∙ who) (ap (λ (y : Moment). y.entry.step) last.1 ∙ step)
+-- of the end of each check that failed this holds
+abbrev pub FailAs : (List Moment → Why → Type 0) → Start → List Moment → Type 0
+FailAs P s log = (front back : List Moment) (m : Moment) (why : Why) → log ≡ front ++ m ∷ back → m.entry.who ≡ 0 → m.entry.step ≡ ReadStep (ReadFails why) → m.entry.reply ≡ HasEnded → IsChecking (world_of s front) → P front why
+
+-- nothing does, so that none failed
+abbrev pub Never : List Moment → Why → Type 0
+Never front why = ⊥
+
+-- it names the first blob that is damaged
+abbrev pub NamesFirst : Start → List Moment → Why → Type 0
+NamesFirst s front why = NamesOne (FirstOf s front) why
+
+pub fails_other : (P : List Moment → Why → Type 0) (s : Start) (log : List Moment) (m : Moment) → ((why : Why) → m.entry.who ≡ 0 → m.entry.step ≡ ReadStep (ReadFails why) → ⊥) → FailAs P s log → FailAs P s (log ++ m ∷ [])
+fails_other P s log m other was front back x why is who step reply is_open = elim (split_end log m front x back is) [
+  | inl last ↦ absurd (other why (ap (λ (y : Moment). y.entry.who) last.1 ∙ who) (ap (λ (y : Moment). y.entry.step) last.1 ∙ step))
   | inr before ↦ was front before.0 x why before.1 who step reply is_open
 ]
 
-fails_one : (s : Start) (log : List Moment) (m : Moment) → Legal s (log ++ m ∷ []) → IsSafe s log → NoCheckFails s log → NoCheckFails s (log ++ m ∷ [])
-fails_one s log m legal safe was front back x why is who step reply is_open = elim (split_end log m front x back is) [
-  | inl last ↦ safe_end s log m legal why (ap (λ (y : Moment). y.entry.reply) last.1 ∙ reply) safe (subst (λ (l : List Moment). IsChecking (world_of s l)) last.0 is_open)
+fails_one : (P : List Moment → Why → Type 0) (s : Start) (log : List Moment) (m : Moment) → Legal s (log ++ m ∷ []) → IsSafe s log → FailAs P s log → FailAs P s (log ++ m ∷ [])
+fails_one P s log m legal safe was front back x why is who step reply is_open = elim (split_end log m front x back is) [
+  | inl last ↦ absurd (safe_end s log m legal why (ap (λ (y : Moment). y.entry.reply) last.1 ∙ reply) safe (subst (λ (l : List Moment). IsChecking (world_of s l)) last.0 is_open))
   | inr before ↦ was front before.0 x why before.1 who step reply is_open
 ]
 
-fails_further : (s : Start) (log rest : List Moment) → AllFurther rest → Legal s (log ++ rest) → IsSafe s log → NoCheckFails s log → NoCheckFails s (log ++ rest)
-fails_further s log [] all legal safe was = subst (NoCheckFails s) (sym (append-nil log)) was
-fails_further s log (m ∷ rest) all legal safe was =
+fails_further : (P : List Moment → Why → Type 0) (s : Start) (log rest : List Moment) → AllFurther rest → Legal s (log ++ rest) → IsSafe s log → FailAs P s log → FailAs P s (log ++ rest)
+fails_further P s log [] all legal safe was = subst (FailAs P s) (sym (append-nil log)) was
+fails_further P s log (m ∷ rest) all legal safe was =
     let both : (log ++ m ∷ []) ++ rest ≡ log ++ m ∷ rest = append_assoc log (m ∷ []) rest in
     let whole : Legal s ((log ++ m ∷ []) ++ rest) = subst (Legal s) (sym both) legal in
     let one : Legal s (log ++ m ∷ []) = legal_front (formats_of s) s.part_size (log ++ m ∷ []) rest s.world whole in
-    subst (NoCheckFails s) both (fails_further s (log ++ m ∷ []) rest all.2 whole (safe_further s log m one all.1.0 all.0 all.1.1 all.1.2 safe) (fails_one s log m one safe was))
+    subst (FailAs P s) both (fails_further P s (log ++ m ∷ []) rest all.2 whole (safe_further s log m one all.1.0 all.0 all.1.1 all.1.2 safe) (fails_one P s log m one safe was))
 
 draw_no_end : (why : Why) → ReadStep DrawTest ≡ ReadStep (ReadFails why) → ⊥
 draw_no_end why e = cc
 
 -- a verification ends no check
-pub begun_unchecked : (s : Start) → NoneZero s → (old new : List Moment) → HasBegun old new → Legal s new → NoCheckFails s old → NoCheckFails s new
-begun_unchecked s none_zero old new h legal was =
+pub begun_fails : (P : List Moment → Why → Type 0) (s : Start) → NoneZero s → (old new : List Moment) → HasBegun old new → Legal s new → FailAs P s old → FailAs P s new
+begun_fails P s none_zero old new h legal was =
     let both : (old ++ h.draw ∷ []) ++ h.rest ≡ new = append_assoc old (h.draw ∷ []) h.rest ∙ sym h.is in
     let whole : Legal s ((old ++ h.draw ∷ []) ++ h.rest) = subst (Legal s) (sym both) legal in
     let one : Legal s (old ++ h.draw ∷ []) = legal_front (formats_of s) s.part_size (old ++ h.draw ∷ []) h.rest s.world whole in
-    subst (NoCheckFails s) both
-    (fails_further s (old ++ h.draw ∷ []) h.rest h.all whole (safe_draw s old h.draw one none_zero h.drawer h.drew) (fails_other s old h.draw (λ why who is. draw_no_end why (sym h.drew ∙ is)) was))
+    subst (FailAs P s) both
+    (fails_further P s (old ++ h.draw ∷ []) h.rest h.all whole (safe_draw s old h.draw one none_zero h.drawer h.drew) (fails_other P s old h.draw (λ why who is. draw_no_end why (sym h.drew ∙ is)) was))
 
-pub maybe_unchecked : (s : Start) → NoneZero s → (old new : List Moment) → BeganOne old new → Legal s new → NoCheckFails s old → NoCheckFails s new
-maybe_unchecked s none_zero old new (NotBegun is) legal was = subst (NoCheckFails s) (sym is) was
-maybe_unchecked s none_zero old new (Begun draw rest is drawer drew all) legal was = begun_unchecked s none_zero old new (record { draw = draw; rest = rest; is = is; drawer = drawer; drew = drew; all = all }) legal was
+pub maybe_fails : (P : List Moment → Why → Type 0) (s : Start) → NoneZero s → (old new : List Moment) → BeganOne old new → Legal s new → FailAs P s old → FailAs P s new
+maybe_fails P s none_zero old new (NotBegun is) legal was = subst (FailAs P s) (sym is) was
+maybe_fails P s none_zero old new (Begun draw rest is drawer drew all) legal was = begun_fails P s none_zero old new (record { draw = draw; rest = rest; is = is; drawer = drawer; drew = drew; all = all }) legal was
 
 -- ---- checks that ended well
 

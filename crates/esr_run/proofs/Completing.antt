@@ -30,7 +30,8 @@ use Rattle.esr_repo.specs.Deposed.{FailedSwap, AreDeposedSo}
 use Rattle.esr_quiet.specs.Asked.{is_line_ask, is_asked, as_asked, asked_steps, AreSteady}
 use Rattle.esr_quiet.specs.Smooth.{IsSmooth, IsSpent, AreCalm, AreUnelected, NoneFailed, NoneUndeleted, NoneUnrestored, NoneUnverified, NoneAsked}
 use Rattle.esr_quiet.specs.Refusals.{AreByRule}
-use Rattle.esr_complete.specs.Lines.{index_of_line, steps_of_item, steps_of, AreKnown, entries_of}
+use Rattle.esr_complete.specs.Lines.{index_of_line, steps_of_item, steps_of, IsKnown, AreKnown, entries_of}
+use Rattle.esr_drive.specs.Elections.{election, elections}
 use Rattle.esr_complete.specs.InTurn.{IsInTurn, AreChecksInTurn}
 use Rattle.esr_complete.specs.Answers.{AreAnswered, EndsWell}
 use Rattle.esr_run.specs.Start.{Telling, formats_by, steady_by, start_of}
@@ -38,7 +39,8 @@ use Rattle.esr_run.specs.Images.{TellsAll}
 use Rattle.esr_run.specs.Complete.{AsksRestore, IsQuietFor, IsAnsweredWell, Completes}
 use Rattle.esr_run.specs.Laws.{QuietLaws}
 use Rattle.esr_run.specs.Verified.{AreClosed}
-use Rattle.esr_run.specs.Made.{MadeFirst, AskedApart, HasFallen, AreDone, NoneOpen}
+use Rattle.esr_run.specs.Made.{MadeFirst, AreElected, AskedApart, HasFallen, AreDone, NoneOpen}
+use Rattle.esr_run.specs.Waits.{failovers_in, failovers_of}
 use Rattle.esr_run.proofs.Parts.{are_parts}
 
 -- ---- entries and moments
@@ -191,22 +193,34 @@ of_line moment (line ∷ lines) step h = ⊎_elim
     (λ later. let o = of_line moment lines step later in record { line = o.line; there = inr o.there; step_is = o.step_is })
     (either_list (steps_of_item moment line.item) (steps_of moment lines) step h)
 
-pub no_election : (moment : ℕ) (item : Item) → Has (steps_of_item moment item) ElectStep → ⊥
-no_election moment (items.Snapshot name indices) (inl e) = cc
-no_election moment (items.Snapshot name indices) (inr h) = h
-no_election moment (items.Clone source name indices) (inl e) = cc
-no_election moment (items.Clone source name indices) (inr h) = h
-no_election moment (items.Delete names) (inl e) = cc
-no_election moment (items.Delete names) (inr h) = h
-no_election moment (items.Restore name place) (inl e) = cc
-no_election moment (items.Restore name place) (inr h) = h
-no_election moment items.List (inl e) = cc
-no_election moment items.List (inr h) = h
-no_election moment items.Check (inl e) = cc
-no_election moment items.Check (inr h) = h
-no_election moment items.Verify (inl e) = cc
-no_election moment items.Verify (inr h) = h
-no_election moment item h = h
+-- lines that are known ask for no election
+none_failover : (lines : List ScriptLine) → AreKnown lines → failovers_of lines ≡ 0
+none_failover [] known = refl
+none_failover (line ∷ lines) known =
+    let one : failovers_in line.item ≡ 0 = one_none line.item known.0 in
+    let rest : failovers_of lines ≡ 0 = none_failover lines known.1 in
+    omega (arith, one, rest)
+  where
+    one_none : (item : Item) → IsKnown item → failovers_in item ≡ 0
+    one_none (items.Snapshot name indices) known = refl
+    one_none (items.Clone source name indices) known = refl
+    one_none (items.Delete names) known = refl
+    one_none (items.Restore name place) known = refl
+    one_none items.Wait known = refl
+    one_none items.List known = refl
+    one_none items.Check known = refl
+    one_none items.Verify known = refl
+    one_none items.Cleanup known = absurd known
+    one_none items.Failover known = absurd known
+
+-- an election counts
+one_election : (log : List Moment) (m : Moment) → Has log m → m.entry.who ≡ 0 → m.entry.step ≡ ElectStep → 1 ≤ elections log
+one_election [] m h who is = absurd h
+one_election (x ∷ log) m (inl same) who is =
+    let one : election x.entry.who x.entry.step ≡ 1 =
+    ap (λ (y : Moment). election y.entry.who y.entry.step) same ∙ ap (λ (k : ℕ). election k m.entry.step) who ∙ ap (election 0) is in
+    omega (arith, one)
+one_election (x ∷ log) m (inr h) who is = let rest : 1 ≤ elections log = one_election log m h who is in omega (arith, rest)
 
 -- the indices of a snapshot that was asked are those of the line's
 record OfSnapshot (item : Item) (indices : List AskedIndex) : Type 0 where
@@ -292,12 +306,12 @@ module _ {S F H T : Type 0} (laws : QuietLaws S F H T) (evidence : Evidence S F 
   log = log_of after clock history
 
   module _ (legal : Legal s log) (told : s.tells ≡ true → AreTold log) (shown : AreShown {S = S} {F = F} {H = H} {T = T} evidence s log faults) (once : AreOnce s log) (tested : AreTested s log) (calm : IsCalm true after.sure history) (named : AreDeposedSo history)
-      (made : MadeFirst s (steps_of moment lines) [] log) (apart : AreClosed s log) (quiet_for : IsQuietFor telling before lines) (tells_all : TellsAll (formats_by telling) world log) (few : length history < 2 ^ 40) (unspent : (e : Entry) → Has history e → IsSpent e.reply → ⊥) where
+      (made : MadeFirst s (steps_of moment lines) [] log) (apart : AreClosed s log) (quiet_for : IsQuietFor telling before lines) (tells_all : TellsAll (formats_by telling) world log) (few : length history < 2 ^ 33) (unspent : (e : Entry) → Has history e → IsSpent e.reply → ⊥) where
     entries : entries_of log ≡ history
     entries = entries_are (image_at after) clock history
 
     none_faults : fault_entries history ≡ 0
-    none_faults = (calm refl (let less : length history < 2 ^ 40 = few in omega (arith, less))).0
+    none_faults = (calm refl (let less : length history < 2 ^ 33 = few in omega (arith, less))).0
 
     -- what who 0 asked is what lines ask for
     wanted : (m : Moment) → Has log m → m.entry.who ≡ 0 → is_line_ask m.entry.step ≡ true → OfLine moment lines (as_asked m.entry.step)
@@ -317,10 +331,12 @@ module _ {S F H T : Type 0} (laws : QuietLaws S F H T) (evidence : Evidence S F 
         subst (λ (x : AskedIndex). telling.is_there x.place x.name number ≡ Some true) one.2 (quiet_for.there from.line snap.name snap.line_indices one.0 number from.there snap.item_is one.1 less) in
         is_steady telling a.place a.name number quiet_for.sources there
 
-    unelected : AreUnelected log
-    unelected m h who is =
-        let from = wanted m h who (ap is_line_ask is) in
-        no_election moment from.line.item (subst (λ (step : Step). Has (steps_of_item moment from.line.item) (as_asked step)) is from.step_is)
+    unelected : AreElected lines [] log → AreUnelected log
+    unelected elected m h who is =
+        let some : 1 ≤ elections log = one_election log m h who is in
+        let all : elections log ≡ 0 + failovers_of lines = elected in
+        let none : failovers_of lines ≡ 0 = none_failover lines quiet_for.known in
+        absurd (omega (arith, some, all, none))
 
     tells : s.tells ≡ true
     tells = ap is_some quiet_for.holds.told
@@ -328,8 +344,8 @@ module _ {S F H T : Type 0} (laws : QuietLaws S F H T) (evidence : Evidence S F 
     calm_log : AreCalm log
     calm_log = calm_is log history entries none_faults
 
-    smooth : AskedApart s [] log → IsSmooth s log
-    smooth asked_apart = record {
+    smooth : AreElected lines [] log → AskedApart s [] log → IsSmooth s log
+    smooth elected asked_apart = record {
       tells = tells;
       quiet = refl;
       known = tells_all.known;
@@ -345,7 +361,7 @@ module _ {S F H T : Type 0} (laws : QuietLaws S F H T) (evidence : Evidence S F 
       steady = steady;
       calm = calm_log;
       unspent = λ m h spent. unspent m.entry (subst (λ (l : List Entry). Has l m.entry) entries (has_entry log m h)) spent;
-      unelected = unelected;
+      unelected = unelected elected;
       apart = λ front back m command is who step. (asked_apart.apart front back m command (sym asked_apart.is ∙ is) who step).tickets;
     }
 
@@ -386,14 +402,14 @@ module _ {S F H T : Type 0} (laws : QuietLaws S F H T) (evidence : Evidence S F 
     not_stopped (inl fell) = calm_log fell.1.moment fell.1.there fell.1.failed
     not_stopped (inr all) =
         let many : length history ≡ length log = ap length (sym entries) ∙ as_many log in
-        let most : 2 ^ 40 ≤ length log = all in
-        let less : length history < 2 ^ 40 = few in
+        let most : 2 ^ 33 ≤ length log = all in
+        let less : length history < 2 ^ 33 = few in
         omega (arith, many, most, less)
 
     well : AreKnown lines → AreDone s moment lines [] log → IsAnsweredWell s moment lines log history
     well known done =
         let checks : AreChecksInTurn moment lines log = inr (are_parts s moment lines log refl done.parted (never_deposed log history entries none_faults named)) in
-        let is_smooth : IsSmooth s log = smooth done.apart in
+        let is_smooth : IsSmooth s log = smooth done.elected done.apart in
         let asked : asked_steps log ≡ steps_of moment lines = ap asked_steps done.grew.is ∙ done.grew.asked refl in
         record {
           answered = subst (λ (es : List Entry). AreAnswered lines (replies lines es)) entries (laws.answered s log lines moment is_smooth (none_failed is_smooth) (none_undeleted is_smooth) (none_unrestored is_smooth) (none_unverified is_smooth) checks (rules is_smooth) (in_turn done.closed) done.idle known asked);
@@ -408,8 +424,8 @@ module _ {S F H T : Type 0} (laws : QuietLaws S F H T) (evidence : Evidence S F 
       (λ (spent : Spent history). inl (inl spent))
       (λ (unspent : (e : Entry) → Has history e → IsSpent e.reply → ⊥).
       ⊎_elim
-      (λ (many : 2 ^ 40 ≤ length history). inl (inr many))
-      (λ (few : length history < 2 ^ 40).
+      (λ (many : 2 ^ 33 ≤ length history). inl (inr many))
+      (λ (few : length history < 2 ^ 33).
       inr (
         ⊎_elim
             (λ (all : AreDone s moment lines [] log). well legal told shown once tested calm named made apart quiet_for tells_all few unspent known all)
@@ -417,5 +433,5 @@ module _ {S F H T : Type 0} (laws : QuietLaws S F H T) (evidence : Evidence S F 
             done,
         is,
       ))
-      (many_or_not (length history) (2 ^ 40)))
+      (many_or_not (length history) (2 ^ 33)))
       (find_spent history)

@@ -20,7 +20,7 @@ use Rattle.esr_complete.specs.Lines.{steps_of}
 use Rattle.esr_report.specs.Status.{Ending, AllOk, SomeRefused, SwapFailed, BlobDamaged, NumbersSpent, ending, status_of}
 use Rattle.esr_run.specs.Checked.{asks_check}
 use Rattle.esr_run.specs.Verified.{AreWhole}
-use Rattle.esr_run.specs.Waits.{TakesFew}
+use Rattle.esr_run.specs.Waits.{AreFew}
 use Rattle.esr_run.specs.Made.{MadeFirst, HasFallen, AreDone}
 use Rattle.std.specs.Io.KnownBytes.{Appends}
 use Rattle.esr_opening.specs.Opening.{Kept, known_blobs, world_in, IsFault, IsOpening, IsOpenRefused}
@@ -101,7 +101,7 @@ Begun files size quiet mid k = start_of files size quiet mid (begun_world (now m
 unfoldable pub opened_run : {S F H T : Type 0} (laws : Laws) (kept : KeptLaws S F H T) (evidence : Evidence S F H T) (files : Telling) (size workers moment : ℕ) (lines : List ScriptLine) (quiet : Bool) (before mid after : Look) (k : Kept) (history : List Entry) (faults : List (Fault S F H T)) → IsOpening before mid k → (2 ^ 62 ≤ before.sure → quiet ≡ true)
     → LegalRun (Begun files size quiet mid k) mid.clock after history → IsPast (Begun files size quiet mid k) mid.clock mid.since after history → AreShown evidence (Begun files size quiet mid k) (log_of after mid.clock history) faults
     → AreOnce (Begun files size quiet mid k) (log_of after mid.clock history) → AreTested (Begun files size quiet mid k) (log_of after mid.clock history) → NoneTwice (log_of after mid.clock history) → AreRemovedOnce (log_of after mid.clock history) → IsCalm quiet after.sure history → MadeFirst (Begun files size quiet mid k) (steps_of moment lines) [] (log_of after mid.clock history)
-    → AreWhole (Begun files size quiet mid k) workers (asks_check lines) (log_of after mid.clock history) → TakesFew lines (log_of after mid.clock history)
+    → AreWhole (Begun files size quiet mid k) workers (asks_check lines) (log_of after mid.clock history) → AreFew workers lines (log_of after mid.clock history)
     → IsOpenedRun evidence files size workers moment lines before after history faults
 opened_run {S} {F} {H} {T} laws kept evidence files size workers moment lines quiet before mid after k history faults o quiet_is legal past shown once tested single removed calm made verified takes =
     let is = start_is files size quiet before mid k o in
@@ -130,8 +130,8 @@ opened_run {S} {F} {H} {T} laws kept evidence files size workers moment lines qu
       tidy = every_image_tidy laws files size quiet before mid after k history o run was;
       end_tidy = end_tidy laws files size quiet before mid after k history o run was;
       dooms = each_dooms_exactly laws files size quiet before mid after k history o run was;
-      undamaged = stays_undamaged kept evidence files size moment lines quiet before after (world_in (now before) o.cluster o.root) mid.clock history faults (λ i e. o.opens i _ _ e) run.legal
-          (stays_told files size quiet before after _ mid.clock mid.since history run was) seen single (made.rest, asked);
+      undamaged = stays_undamaged kept evidence files size quiet before after (world_in (now before) o.cluster o.root) mid.clock history faults (λ i e. o.opens i _ _ e) run.legal
+          (stays_told files size quiet before after _ mid.clock mid.since history run was) seen single;
       shown = seen;
       once = subst (λ (s : Start). AreOnce s (log_of after mid.clock history)) is once;
       tested = subst (λ (s : Start). AreTested s (log_of after mid.clock history)) is tested;
@@ -139,7 +139,7 @@ opened_run {S} {F} {H} {T} laws kept evidence files size workers moment lines qu
       removed = removed;
       calm = calm;
       verified = subst (λ (s : Start). AreWhole s workers (asks_check lines) (log_of after mid.clock history)) is verified;
-      takes = takes;
+      few = takes;
       asked = (made.rest, asked);
     }
 
@@ -156,7 +156,7 @@ pub verdict_opening : {S F H T : Type 0} (laws : Laws) (kept : KeptLaws S F H T)
     (old_faults new_faults status : ℕ) (text : Bytes) → IsOpening before mid k → (2 ^ 62 ≤ before.sure → quiet ≡ true)
     → LegalRun (Begun files size quiet mid k) mid.clock after history → IsPast (Begun files size quiet mid k) mid.clock mid.since after history → AreShown evidence (Begun files size quiet mid k) (log_of after mid.clock history) faults
     → AreOnce (Begun files size quiet mid k) (log_of after mid.clock history) → AreTested (Begun files size quiet mid k) (log_of after mid.clock history) → NoneTwice (log_of after mid.clock history) → AreRemovedOnce (log_of after mid.clock history) → IsCalm quiet after.sure history → MadeFirst (Begun files size quiet mid k) (steps_of moment lines) [] (log_of after mid.clock history)
-    → AreWhole (Begun files size quiet mid k) workers (asks_check lines) (log_of after mid.clock history) → TakesFew lines (log_of after mid.clock history)
+    → AreWhole (Begun files size quiet mid k) workers (asks_check lines) (log_of after mid.clock history) → AreFew workers lines (log_of after mid.clock history)
     → IsTold status text (Some (Carried lines history))
     → (status ≡ 8) ⊎ (AreDone (Begun files size quiet mid k) moment lines [] (log_of after mid.clock history) ⊎ HasFallen (Begun files size quiet mid k) moment lines [] (log_of after mid.clock history))
     → IsVerdict status text (IsOpenCause evidence files size workers moment before after old_faults new_faults lines history faults)

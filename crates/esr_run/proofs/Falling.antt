@@ -1,48 +1,25 @@
--- Work that was stopped: a record swap had failed, or all turns were taken.
-use Rattle.std.proofs.Common.{◌≡◌, ◌⊎◌, ℕ, List, [], ◌∷◌, ◌++◌, append_assoc, true, false, Result, Ok, Err, OnOk, refl, sym, ap, ◌∙◌, subst, inl, inr}
+-- Work that was stopped: a record swap had failed, or 2 ^ 33 entries were made.
+use Rattle.std.proofs.Common.{◌≡◌, ◌⊎◌, ℕ, List, [], ◌∷◌, ◌++◌, true, false, Result, Ok, Err, OnOk, refl, sym, ap, subst, inl, inr}
 use Rattle.esr_model.specs.Values.{Has}
 use Rattle.esr_core.specs.World.{World}
-use Rattle.esr_core.specs.Entry.{Step, ElectStep, Refusal, DeposedAt, AbortedBy, Refused, Moment}
+use Rattle.esr_core.specs.Entry.{Step, Refusal, DeposedAt, AbortedBy, Refused, Moment}
 use Rattle.esr_core.specs.After.{swaps_record}
 use Rattle.esr_core.specs.Allowed.{Allowed, Blocks, ByFailedSwap, ByDelete}
 use Rattle.esr_core.specs.Refusing.{MayRefuse, RefusedSo, SwapFailed}
 use Rattle.esr_script.specs.declared.item.ScriptLine.{ScriptLine}
 use Rattle.esr_desk.specs.Start.{Start, Legal, formats_of, world_of}
-use Rattle.esr_quiet.specs.Asked.{is_line_ask, as_asked, asked_steps}
-use Rattle.esr_quiet.specs.Smooth.{AreUnelected}
 use Rattle.esr_quiet.proofs.Prefixes.{legal_rest}
-use Rattle.esr_complete.specs.Lines.{steps_of_item, steps_of}
-use Rattle.esr_drive.specs.Stopped.{StopsWork, SaidDeposed, SettleFell, DropFell, DeleteFell}
+use Rattle.esr_complete.specs.Lines.{steps_of}
+use Rattle.esr_drive.specs.Stopped.{StopsWork, SaidDeposed, SettleFell, DropFell, DeleteFell, WasStopped}
 use Rattle.esr_run.specs.Laws.{Refusals}
-use Rattle.esr_run.specs.Made.{MadeFirst, WasStopped, WasLeft, HasFallen, AreDone}
-use Rattle.esr_run.proofs.Completing.{in_front, in_middle, asked_true, in_asked, in_wanted, of_line, no_election}
+use Rattle.esr_run.specs.Made.{MadeFirst, WasLeft, HasFallen, AreDone}
+use Rattle.esr_run.proofs.Completing.{in_front}
 
 -- where a moment stands
-pub split_at : (l : List Moment) (x : Moment) → Has l x → (a : List Moment) × (b : List Moment) × (l ≡ a ++ x ∷ b)
+split_at : (l : List Moment) (x : Moment) → Has l x → (a : List Moment) × (b : List Moment) × (l ≡ a ++ x ∷ b)
 split_at [] x none = absurd none
 split_at (y ∷ l) x (inl e) = ([], l, ap (λ (z : Moment). z ∷ l) e)
 split_at (y ∷ l) x (inr there) = let r = split_at l x there in (y ∷ r.0, r.1, ap (λ (z : List Moment). y ∷ z) r.2)
-
--- ---- no election
-
--- what was asked is a front of what the lines ask for
-abbrev pub IsAskedFront : ℕ → List ScriptLine → List Moment → Type 0
-IsAskedFront moment lines log = (rest : List Step) × (asked_steps log ++ rest ≡ steps_of moment lines)
-
-module _ (moment : ℕ) (lines : List ScriptLine) (log : List Moment) (asked : IsAskedFront moment lines log) where
-  elected_by : (front back : List Moment) (m : Moment) → log ≡ front ++ m ∷ back → m.entry.who ≡ 0 → m.entry.step ≡ ElectStep → ⊥
-  elected_by front back m is who elects =
-      let there : Has log m = subst (λ (l : List Moment). Has l m) (sym is) (in_middle front back m) in
-      let asks : Step = as_asked m.entry.step in
-      let first : Has (asked_steps log) asks = in_asked log m there (asked_true m.entry who (ap is_line_ask elects)) in
-      let from = of_line moment lines asks (in_wanted (asked_steps log) asked.0 (steps_of moment lines) asks asked.1 first) in
-      no_election moment from.line.item (subst (λ (step : Step). Has (steps_of_item moment from.line.item) (as_asked step)) elects from.step_is)
-
-  -- in a front of the history
-  pub unelected : (front back : List Moment) → log ≡ front ++ back → AreUnelected front
-  unelected front back is m h who elects =
-      let p = split_at front m h in
-      elected_by p.0 (p.1 ++ back) m (is ∙ ap (λ (l : List Moment). l ++ back) p.2 ∙ append_assoc p.0 (m ∷ p.1) back) who elects
 
 -- ---- by the refusal that stopped the work
 
@@ -78,7 +55,7 @@ module _ (laws : Refusals) (s : Start) (alive : s.world.deposed ≡ false) (log 
   fallen_by was = let p = split_at log was.moment was.there in fell_by was.moment was.there was.moment.entry.step was.refusal refl was.refused was.stops p.0 p.1 p.2
 
 -- on the history of a repository, from its beginning on
-pub done_fallen : {X E : Type 0} (laws : Refusals) (s : Start) (moment : ℕ) (lines : List ScriptLine) (old new same : List Moment) (r : Result X E) → OnOk r (AreDone s moment lines [] same ⊎ WasLeft s moment lines [] same) → MadeFirst s (steps_of moment lines) old new → same ≡ new → old ≡ [] → s.world.deposed ≡ false
+pub done_fallen : {X E : Type 0} (laws : Refusals) (s : Start) (moment : ℕ) (lines : List ScriptLine) (old new same : List Moment) (r : Result X E) → OnOk r (AreDone s moment lines [] same ⊎ WasLeft s moment 0 lines [] same) → MadeFirst s (steps_of moment lines) old new → same ≡ new → old ≡ [] → s.world.deposed ≡ false
     → OnOk r (AreDone s moment lines [] same ⊎ HasFallen s moment lines [] same)
 done_fallen {X} {E} laws s moment lines old new same (Err e) done made is begun alive = tt
 done_fallen {X} {E} laws s moment lines old new same (Ok x) done made is begun alive =

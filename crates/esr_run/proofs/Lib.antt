@@ -22,3 +22,5 @@ pub mod Verifying
 pub mod Checking
 pub mod Falling
 pub mod Undamaged
+pub mod Waiting
+pub mod Going

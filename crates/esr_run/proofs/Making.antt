@@ -7,7 +7,7 @@ use Rattle.esr_core.specs.World.{World, Ticket, Reader}
 use Rattle.esr_core.specs.After.{after}
 use Rattle.esr_core.specs.History.{world_from, IsLegal}
 use Rattle.esr_core.specs.Tracked.{Tracked}
-use Rattle.esr_core.specs.Entry.{Given, Gave, Step, TakeStep, NothingReady, Reply, Accepted, AcceptedRestore, Looked, Refusal, Refused, Moment}
+use Rattle.esr_core.specs.Entry.{Given, Gave, Step, Reply, Accepted, AcceptedRestore, Looked, Refusal, Refused, Moment}
 use Rattle.esr_script.specs.declared.item.Item.{Item}
 use Rattle.esr_script.specs.declared.item.Item.TheVariants as items
 use Rattle.esr_script.specs.declared.item.ScriptLine.{ScriptLine}
@@ -17,23 +17,22 @@ use Rattle.esr_desk.specs.declared.refusal.EntryRefusal.{EntryRefusal}
 use Rattle.esr_desk.specs.Refusals.{refusal_of, told_refusal}
 use Rattle.esr_desk.specs.Start.{Start, Legal, formats_of, world_of, or_no_ticket, ticket_of}
 use Rattle.esr_desk.specs.Outcome.{Stepped, Refusing, Outcome}
-use Rattle.esr_desk.specs.Last.{IsLast}
 use Rattle.esr_desk.specs.Grew.{NoneOut}
 use Rattle.esr_desk.specs.Own.{or_no_reader, reader_of}
 use Rattle.esr_quiet.specs.Asked.{GrewAsking}
 use Rattle.esr_quiet.specs.Asking.{asking_none, asking_on, asks_of, asking_refused}
 use Rattle.esr_quiet.specs.Numbers.{HasNoTickets}
-use Rattle.esr_drive.specs.Stopped.{IsStopped}
+use Rattle.esr_drive.specs.Stopped.{WasStopped, StoppedIn}
 use Rattle.esr_complete.specs.Lines.{steps_of_item, steps_of}
 use Rattle.esr_complete.specs.Answers.{NoReaderOut, IsIdle}
 use Rattle.esr_run.specs.Script.{is_carried, first_bad}
 use Rattle.esr_run.specs.Laws.{StepsStay}
-use Rattle.esr_drive.specs.Works.{WorksOnly}
-use Rattle.esr_verify.specs.Began.{HasBegun}
+use Rattle.esr_drive.specs.Elections.{WaitsOnly, elections, HasElected}
 use Rattle.esr_check.specs.Began.{HasEndedCheck}
 use Rattle.esr_run.specs.Checked.{is_check, asks_check}
-use Rattle.esr_run.specs.Made.{MadeFirst, HasStopped, HasNoReaders, AreIn, LineMade, LineRests, WaitEnds, WaitEnded, WaitsEnded, AreMade, AreDone, NoneOpen, WasStopped, WasLeft, AreAsked, LineSpends, WasLookRefused, CheckEnds, CheckEnded, ChecksEnded, VerifyBegins, AsksLine, LinePart, AreInParts, AskedApart}
-use Rattle.esr_run.proofs.Apart.{apart_none, apart_on, works_apart, line_apart}
+use Rattle.esr_run.specs.Waits.{failovers_in, failovers_of, owed_after, LineElects}
+use Rattle.esr_run.specs.Made.{MadeFirst, HasStopped, HasNoReaders, AreIn, LineMade, LineRests, WaitEnds, NoneReady, AreElected, WaitEnded, WaitsEnded, Owes, AreMade, AreDone, NoneOpen, WasLeft, AreAsked, LineSpends, WasLookRefused, CheckEnded, ChecksEnded, AsksLine, LinePart, AreInParts, AskedApart}
+use Rattle.esr_run.proofs.Apart.{apart_none, apart_on, waits_apart, line_apart}
 
 abbrev Readers : Type 0
 Readers = FinMap nat_cmp Reader
@@ -107,7 +106,7 @@ module _ (laws : StepsStay) (s : Start) (numbered : HasNoTickets s) (ops : Track
   pub rests_by : {X : Type 0} (old new : List Moment) (step : Step) (ok : X → Reply) (result : Result X StepRefusal) → AsksLine step → ((x : X) → GivesNone (ok x)) → Outcome s old new 0 step ok result → AreIn s old → LineRests s new result
   rests_by old new step ok (Ok x) asks none h rest = stepped_in old new step (ok x) asks (none x) h rest
   rests_by old new step ok (Err steps.Memory) asks none h rest = tt
-  rests_by old new step ok (Err steps.TurnsSpent) asks none h rest = h.1 alone
+  rests_by old new step ok (Err steps.TurnsSpent) asks none h rest = h.1
   rests_by old new step ok (Err (steps.Refused refusal)) asks none h rest = inl (stepped_in old new step (Refused (refusal_of refusal)) asks (refused_none (refusal_of refusal)) h.0 rest)
 
 -- ---- turns that are spent
@@ -115,13 +114,8 @@ module _ (laws : StepsStay) (s : Start) (numbered : HasNoTickets s) (ops : Track
 pub spent_by : {X : Type 0} (s : Start) (old new : List Moment) (step : Step) (ok : X → Reply) (result : Result X StepRefusal) → s.alone ≡ true → Outcome s old new 0 step ok result → LineSpends new result
 spent_by s old new step ok (Ok x) alone h = tt
 spent_by s old new step ok (Err steps.Memory) alone h = tt
-spent_by s old new step ok (Err steps.TurnsSpent) alone h = h.1 alone
+spent_by s old new step ok (Err steps.TurnsSpent) alone h = h.1
 spent_by s old new step ok (Err (steps.Refused refusal)) alone h = tt
-
-pub spent_waiting : (s : Start) (new : List Moment) (e : StepRefusal) → IsStopped s new e → s.alone ≡ true → LineSpends {X = Unit} new (Err e)
-spent_waiting s new steps.Memory h alone = tt
-spent_waiting s new steps.TurnsSpent h alone = h alone
-spent_waiting s new (steps.Refused refusal) h alone = tt
 
 -- ---- a line that was refused
 
@@ -150,34 +144,17 @@ made_none s old new (Err (steps.Refused refusal)) h = h
 
 -- ---- a wait
 
-has_at : (front back : List Moment) (m : Moment) → Has (front ++ m ∷ back) m
-has_at [] back m = inl refl
-has_at (n ∷ front) back m = inr (has_at front back m)
+pub rests_waiting : (s : Start) (old new : List Moment) (result : Result Unit StepRefusal) → OnOk result (NoneOut s old → NoReaderOut s old → NoneOut s new) → OnOk result (NoneOut s old → NoReaderOut s old → NoReaderOut s new) → IfErr result (StoppedIn s new) → AreIn s old → LineRests s new result
+rests_waiting s old new (Ok x) rest readers stopped none = record { tickets = rest none.tickets none.readers; readers = readers none.tickets none.readers }
+rests_waiting s old new (Err steps.Memory) rest readers stopped none = tt
+rests_waiting s old new (Err steps.TurnsSpent) rest readers stopped none = stopped
+rests_waiting s old new (Err (steps.Refused refusal)) rest readers stopped none = inr (inl stopped)
 
-was_stopped : (s : Start) (new : List Moment) (e : StepRefusal) → s.alone ≡ true → IsStopped s new e → (e ≡ steps.Memory → ⊥) → HasStopped new
-was_stopped s new steps.Memory alone h some = absurd (some refl)
-was_stopped s new steps.TurnsSpent alone h some = inr (h alone)
-was_stopped s new (steps.Refused refusal) alone h some =
-    let m : Moment = record { entry = record { who = h.0; step = h.1; reply = Refused (refusal_of refusal) }; image = h.2.image } in
-    inl (record {
-      moment = m;
-      there = subst (λ (l : List Moment). Has l m) (sym h.2.is) (has_at h.2.front [] m);
-      refusal = refusal_of refusal;
-      refused = refl;
-      step = h.4;
-      stops = h.3;
-    })
-
-pub rests_waiting : (s : Start) (old new : List Moment) (result : Result Unit StepRefusal) → OnOk result (s.alone ≡ true → NoneOut s old → NoneOut s new) → OnOk result (s.alone ≡ true → NoReaderOut s old → NoReaderOut s new)
-    → IfErr result (IsStopped s new) → s.alone ≡ true → AreIn s old → LineRests s new result
-rests_waiting s old new (Ok x) rest readers stopped alone none = record { tickets = rest alone none.tickets; readers = readers alone none.readers }
-rests_waiting s old new (Err steps.Memory) rest readers stopped alone none = tt
-rests_waiting s old new (Err steps.TurnsSpent) rest readers stopped alone none = stopped alone
-rests_waiting s old new (Err (steps.Refused refusal)) rest readers stopped alone none = inr (was_stopped s new (steps.Refused refusal) alone stopped (λ e. cc))
-
-pub spends_waiting : (s : Start) (new : List Moment) (result : Result Unit StepRefusal) → IfErr result (IsStopped s new) → s.alone ≡ true → LineSpends new result
-spends_waiting s new (Ok x) stopped alone = tt
-spends_waiting s new (Err e) stopped alone = spent_waiting s new e stopped alone
+pub spends_waiting : (s : Start) (new : List Moment) (result : Result Unit StepRefusal) → IfErr result (StoppedIn s new) → LineSpends new result
+spends_waiting s new (Ok x) stopped = tt
+spends_waiting s new (Err steps.Memory) stopped = tt
+spends_waiting s new (Err steps.TurnsSpent) stopped = stopped
+spends_waiting s new (Err (steps.Refused refusal)) stopped = tt
 
 pub made_waiting : (s : Start) (old new : List Moment) (result : Result Unit StepRefusal) → GrewAsking s [] old new → LineMade s [] old new result
 made_waiting s old new (Ok x) g = g
@@ -185,11 +162,11 @@ made_waiting s old new (Err steps.Memory) g = record { first = []; rest = []; gr
 made_waiting s old new (Err steps.TurnsSpent) g = record { first = []; rest = []; grew = g; is = refl }
 made_waiting s old new (Err (steps.Refused refusal)) g = g
 
-pub wait_ends : (s : Start) (new : List Moment) (result : Result Unit StepRefusal) → OnOk result (IsLast new 0 TakeStep NothingReady) → IfErr result (IsStopped s new) → s.alone ≡ true → WaitEnds new result
-wait_ends s new (Ok x) idle stopped alone = idle
-wait_ends s new (Err steps.Memory) idle stopped alone = tt
-wait_ends s new (Err steps.TurnsSpent) idle stopped alone = tt
-wait_ends s new (Err (steps.Refused refusal)) idle stopped alone = was_stopped s new (steps.Refused refusal) alone stopped (λ e. cc)
+pub wait_ends : (s : Start) (new : List Moment) (result : Result Unit StepRefusal) → OnOk result (NoneReady s new) → IfErr result (StoppedIn s new) → WaitEnds s new result
+wait_ends s new (Ok x) ready stopped = ready
+wait_ends s new (Err steps.Memory) ready stopped = tt
+wait_ends s new (Err steps.TurnsSpent) ready stopped = tt
+wait_ends s new (Err (steps.Refused refusal)) ready stopped = inl stopped
 
 -- ---- line after line
 
@@ -210,7 +187,7 @@ stopped_stays s asked old new g (inl was) = inl (record {
 })
 stopped_stays s asked old new g (inr all) =
     let whole : length new ≡ length old + length g.more = ap length g.is ∙ length-append old g.more in
-    let most : 2 ^ 40 ≤ length old = all in
+    let most : 2 ^ 33 ≤ length old = all in
     inr (omega (arith, whole, most))
 
 -- ---- waits that have ended
@@ -229,7 +206,7 @@ wait_or_not items.Verify = inr (λ e. cc)
 
 -- no ticket is out after a line, and after a wait no unit is ready, unless the work was stopped
 abbrev pub LineEnded : Start → Item → List Moment → Type 0
-LineEnded s item new = (AreIn s new × (item ≡ items.Wait → IsLast new 0 TakeStep NothingReady)) ⊎ HasStopped new
+LineEnded s item new = (AreIn s new × (item ≡ items.Wait → NoneReady s new)) ⊎ HasStopped new
 
 pub refused_line : (s : Start) (item : Item) (new : List Moment) → AreIn s new ⊎ HasStopped new → (item ≡ items.Wait → HasStopped new) → LineEnded s item new
 refused_line s item new rests stopped =
@@ -238,25 +215,24 @@ refused_line s item new rests stopped =
     (λ (other : item ≢ items.Wait). ⊎_elim (λ (none : AreIn s new). inl (none, λ wait. absurd (other wait))) (λ (was : HasStopped new). inr was) rests)
     (wait_or_not item)
 
-pub ended_refused : (new : List Moment) (e : StepRefusal) (refusal : EntryRefusal) → e ≡ steps.Refused refusal → WaitEnds {X = Unit} new (Err e) → HasStopped new
-ended_refused new e refusal is h = subst (λ (x : StepRefusal). WaitEnds {X = Unit} new (Err x)) is h
-
 wait_on : (s : Start) (moment : ℕ) (before : List ScriptLine) (asked : List Step) (old mid new : List Moment) → GrewAsking s asked mid new → WaitEnded s moment before old mid → WaitEnded s moment before old new
 wait_on s moment before asked old mid new g w = record {
   front = w.front;
   back = w.back ++ g.more;
   is = g.is ∙ ap (λ (log : List Moment). log ++ g.more) w.is ∙ append_assoc w.front w.back g.more;
   grew = w.grew;
+  elected = w.elected;
   idle = w.idle;
 }
 
-wait_here : (s : Start) (moment : ℕ) (done : List ScriptLine) (item : Item) (old mid new : List Moment) → item ≡ items.Wait → GrewAsking s (steps_of moment done) old mid → GrewAsking s (steps_of_item moment item) mid new → AreIn s new → IsLast new 0 TakeStep NothingReady → WaitEnded s moment done old new
-wait_here s moment done item old mid new wait f g none last = record {
+wait_here : (s : Start) (moment : ℕ) (done : List ScriptLine) (item : Item) (old mid new : List Moment) → item ≡ items.Wait → GrewAsking s (steps_of moment done) old mid → GrewAsking s (steps_of_item moment item) mid new → AreElected done old new → AreIn s new → NoneReady s new → WaitEnded s moment done old new
+wait_here s moment done item old mid new wait f g elected none ready = record {
   front = new;
   back = [];
   is = sym (append-nil new);
   grew = subst (λ (l : List Step). GrewAsking s l old new) (ap (λ (i : Item). steps_of moment done ++ steps_of_item moment i) wait ∙ append-nil (steps_of moment done)) (asking_on s (steps_of moment done) (steps_of_item moment item) old mid new f g);
-  idle = record { none_out = none.tickets; no_reader = none.readers; none_ready = last };
+  elected = elected;
+  idle = record { none_out = none.tickets; no_reader = none.readers; none_ready = ready };
 }
 
 -- where a line stands among these and one more: it is the last, or stands before it
@@ -282,12 +258,12 @@ no_waits s moment old new [] after line e wait = absurd cc
 no_waits s moment old new (b ∷ before) after line e wait = absurd cc
 
 waits_next : (s : Start) (moment : ℕ) (done : List ScriptLine) (line : ScriptLine) (old mid new : List Moment) → GrewAsking s (steps_of moment done) old mid → GrewAsking s (steps_of_item moment line.item) mid new → WaitsEnded s moment done old mid
-    → AreIn s new → (line.item ≡ items.Wait → IsLast new 0 TakeStep NothingReady) → WaitsEnded s moment (done ++ line ∷ []) old new
-waits_next s moment done line old mid new f g waits none last before after l is wait =
+    → (line.item ≡ items.Wait → AreElected done old new) → AreIn s new → (line.item ≡ items.Wait → NoneReady s new) → WaitsEnded s moment (done ++ line ∷ []) old new
+waits_next s moment done line old mid new f g waits elected none ready before after l is wait =
     ⊎_elim
     (λ (here : (before ≡ done) × (l ≡ line)).
     let own : line.item ≡ items.Wait = sym (ap (λ (x : ScriptLine). x.item) here.1) ∙ wait in
-    subst (λ (b : List ScriptLine). WaitEnded s moment b old new) (sym here.0) (wait_here s moment done line.item old mid new own f g none (last own)))
+    subst (λ (b : List ScriptLine). WaitEnded s moment b old new) (sym here.0) (wait_here s moment done line.item old mid new own f g (elected own) none (ready own)))
     (λ (earlier : (rest : List ScriptLine) × (done ≡ before ++ l ∷ rest)). wait_on s moment before (steps_of_item moment line.item) old mid new g (waits before earlier.0 l earlier.1 wait))
     (split_last done line before l after is)
 
@@ -327,6 +303,82 @@ parts_next : (s : Start) (moment : ℕ) (done : List ScriptLine) (line : ScriptL
 parts_next s moment [] line old mid new same g p = (new, subst (λ (l : List Moment). GrewAsking s (steps_of_item moment line.item) l new) same g, subst (λ (l : List Moment). LinePart line.item l new) same p, refl)
 parts_next s moment (d ∷ done) line old mid new (first, own, part, rest) g p = (first, own, part, parts_next s moment done line first mid new rest g p)
 
+-- ---- elections
+
+-- after a line so many are still owed
+abbrev pub LineCounts : ℕ → Item → List Moment → List Moment → Type 0
+LineCounts owed item mid new = elections new + owed_after item owed ≡ (elections mid + owed) + failovers_in item
+
+-- the history tells the answer
+abbrev pub IsTold : Result Unit StepRefusal → Type 0
+IsTold (Ok x) = Unit {0}
+IsTold (Err steps.Memory) = ⊥
+IsTold (Err steps.TurnsSpent) = ⊥
+IsTold (Err (steps.Refused refusal)) = Unit {0}
+
+wait_counts : (owed : ℕ) (mid new : List Moment) (r : Result Unit StepRefusal) → IsTold r → HasElected owed mid new r → elections new ≡ elections mid + owed
+wait_counts owed mid new (Ok x) told h = h
+wait_counts owed mid new (Err steps.Memory) told h = absurd told
+wait_counts owed mid new (Err steps.TurnsSpent) told h = absurd told
+wait_counts owed mid new (Err (steps.Refused refusal)) told h = h
+
+-- a line that elects nobody
+other_counts : (owed : ℕ) (mid new : List Moment) → elections new ≡ elections mid → elections new + owed ≡ (elections mid + owed) + 0
+other_counts owed mid new h = let same : elections new ≡ elections mid = h in omega (arith, same)
+
+pub line_counts : (owed : ℕ) (item : Item) (mid new : List Moment) (r : Result Unit StepRefusal) → IsTold r → LineElects owed item mid new r → LineCounts owed item mid new
+line_counts owed items.Wait mid new r told h = let all : elections new ≡ elections mid + owed = wait_counts owed mid new r told h in omega (arith, all)
+line_counts owed items.Failover mid new r told h = let same : elections new ≡ elections mid = h in omega (arith, same)
+line_counts owed (items.Snapshot name indices) mid new r told h = other_counts owed mid new h
+line_counts owed (items.Clone source name indices) mid new r told h = other_counts owed mid new h
+line_counts owed (items.Delete names) mid new r told h = other_counts owed mid new h
+line_counts owed (items.Restore name place) mid new r told h = other_counts owed mid new h
+line_counts owed items.Cleanup mid new r told h = other_counts owed mid new h
+line_counts owed items.List mid new r told h = other_counts owed mid new h
+line_counts owed items.Check mid new r told h = other_counts owed mid new h
+line_counts owed items.Verify mid new r told h = other_counts owed mid new h
+
+-- a line makes no more than are owed
+pub some_counts : (owed : ℕ) (mid new : List Moment) (r : Result Unit StepRefusal) → HasElected owed mid new r → elections new ≤ elections mid + owed
+some_counts owed mid new (Ok x) h = let all : elections new ≡ elections mid + owed = h in omega (arith, all)
+some_counts owed mid new (Err steps.Memory) h = h
+some_counts owed mid new (Err steps.TurnsSpent) h = h
+some_counts owed mid new (Err (steps.Refused refusal)) h = let all : elections new ≡ elections mid + owed = h in omega (arith, all)
+
+none_counts : (owed : ℕ) (mid new : List Moment) → elections new ≡ elections mid → elections new ≤ elections mid + owed
+none_counts owed mid new h = let same : elections new ≡ elections mid = h in omega (arith, same)
+
+pub line_few : (owed : ℕ) (item : Item) (mid new : List Moment) (r : Result Unit StepRefusal) → LineElects owed item mid new r → elections new ≤ elections mid + owed
+line_few owed items.Wait mid new r h = some_counts owed mid new r h
+line_few owed items.Failover mid new r h = none_counts owed mid new h
+line_few owed (items.Snapshot name indices) mid new r h = none_counts owed mid new h
+line_few owed (items.Clone source name indices) mid new r h = none_counts owed mid new h
+line_few owed (items.Delete names) mid new r h = none_counts owed mid new h
+line_few owed (items.Restore name place) mid new r h = none_counts owed mid new h
+line_few owed items.Cleanup mid new r h = none_counts owed mid new h
+line_few owed items.List mid new r h = none_counts owed mid new h
+line_few owed items.Check mid new r h = none_counts owed mid new h
+line_few owed items.Verify mid new r h = none_counts owed mid new h
+
+failovers_append : (a b : List ScriptLine) → failovers_of (a ++ b) ≡ failovers_of a + failovers_of b
+failovers_append [] b = omega arith
+failovers_append (line ∷ a) b = let rest : failovers_of (a ++ b) ≡ failovers_of a + failovers_of b = failovers_append a b in omega (arith, rest)
+
+owes_next : (owed : ℕ) (done : List ScriptLine) (line : ScriptLine) (old mid new : List Moment) → Owes owed done old mid → LineCounts owed line.item mid new → Owes (owed_after line.item owed) (done ++ line ∷ []) old new
+owes_next owed done line old mid new was counts =
+    let before : elections mid + owed ≡ elections old + failovers_of done = was in
+    let one : elections new + owed_after line.item owed ≡ (elections mid + owed) + failovers_in line.item = counts in
+    let all : failovers_of (done ++ line ∷ []) ≡ failovers_of done + failovers_of (line ∷ []) = failovers_append done (line ∷ []) in
+    let last : failovers_of (line ∷ []) ≡ failovers_in line.item + 0 = refl in
+    omega (arith, before, one, all, last)
+
+-- a wait makes all that are owed
+elected_here : (owed : ℕ) (done : List ScriptLine) (item : Item) (old mid new : List Moment) → item ≡ items.Wait → Owes owed done old mid → LineCounts owed item mid new → AreElected done old new
+elected_here owed done item old mid new wait was counts =
+    let before : elections mid + owed ≡ elections old + failovers_of done = was in
+    let one : elections new + 0 ≡ (elections mid + owed) + 0 = subst (λ (i : Item). LineCounts owed i mid new) wait counts in
+    omega (arith, before, one)
+
 -- ---- so many lines were carried out
 
 steps_append : (moment : ℕ) (a b : List ScriptLine) → steps_of moment (a ++ b) ≡ steps_of moment a ++ steps_of moment b
@@ -339,33 +391,35 @@ pub record Rested (s : Start) (moment : ℕ) (done : List ScriptLine) (old new :
   pub waits : WaitsEnded s moment done old new
   pub apart : AskedApart s old new
 
-pub record Front (s : Start) (moment : ℕ) (left lines : List ScriptLine) (old new : List Moment) : Type 0 where
+pub record Front (s : Start) (moment owed : ℕ) (left lines : List ScriptLine) (old new : List Moment) : Type 0 where
   pub done : List ScriptLine
   pub is : done ++ left ≡ lines
   pub grew : GrewAsking s (steps_of moment done) old new
+  pub elected : Owes owed done old new
   pub checks : ChecksEnded s moment done old new
   pub parts : AreInParts s moment done old new
   pub rests : s.alone ≡ true → AreIn s old → Rested s moment done old new ⊎ HasStopped new
 
-pub front_none : (s : Start) (moment : ℕ) (lines : List ScriptLine) (log : List Moment) → Front s moment lines lines log log
-front_none s moment lines log = record { done = []; is = refl; grew = asking_none s log; checks = no_checks s moment log log; parts = refl; rests = λ alone none. inl (record { none_out = none; waits = no_waits s moment log log; apart = apart_none s log }) }
+pub front_none : (s : Start) (moment : ℕ) (lines : List ScriptLine) (log : List Moment) → Front s moment 0 lines lines log log
+front_none s moment lines log = record { done = []; is = refl; grew = asking_none s log; elected = refl; checks = no_checks s moment log log; parts = refl; rests = λ alone none. inl (record { none_out = none; waits = no_waits s moment log log; apart = apart_none s log }) }
 
-pub front_next : (s : Start) (moment : ℕ) (line : ScriptLine) (rest lines : List ScriptLine) (old mid new : List Moment) → Front s moment (line ∷ rest) lines old mid → GrewAsking s (steps_of_item moment line.item) mid new
-    → LinePart line.item mid new → (s.alone ≡ true → AreIn s mid → LineEnded s line.item new) → Front s moment rest lines old new
-front_next s moment line rest lines old mid new f g part ended =
+pub front_next : (s : Start) (moment owed : ℕ) (line : ScriptLine) (rest lines : List ScriptLine) (old mid new : List Moment) → Front s moment owed (line ∷ rest) lines old mid → GrewAsking s (steps_of_item moment line.item) mid new → LineCounts owed line.item mid new
+    → LinePart line.item mid new → (s.alone ≡ true → AreIn s mid → LineEnded s line.item new) → Front s moment (owed_after line.item owed) rest lines old new
+front_next s moment owed line rest lines old mid new f g counts part ended =
     let same : steps_of moment (f.done ++ line ∷ []) ≡ steps_of moment f.done ++ steps_of_item moment line.item =
     steps_append moment f.done (line ∷ []) ∙ ap (λ (l : List Step). steps_of moment f.done ++ l) (append-nil (steps_of_item moment line.item)) in
     record {
       done = f.done ++ line ∷ [];
       is = append_assoc f.done (line ∷ []) rest ∙ f.is;
       grew = subst (λ (l : List Step). GrewAsking s l old new) (sym same) (asking_on s (steps_of moment f.done) (steps_of_item moment line.item) old mid new f.grew g);
+      elected = owes_next owed f.done line old mid new f.elected counts;
       checks = checks_next s moment f.done line old mid new f.grew g f.checks part.checks;
       parts = parts_next s moment f.done line old mid new f.parts g part;
       rests = λ alone none. ⊎_elim
           (λ (r : Rested s moment f.done old mid). ⊎_elim
-          (λ (e : AreIn s new × (line.item ≡ items.Wait → IsLast new 0 TakeStep NothingReady)). inl (record {
+          (λ (e : AreIn s new × (line.item ≡ items.Wait → NoneReady s new)). inl (record {
             none_out = e.0;
-            waits = waits_next s moment f.done line old mid new f.grew g r.waits e.0 e.1;
+            waits = waits_next s moment f.done line old mid new f.grew g r.waits (λ wait. elected_here owed f.done line.item old mid new wait f.elected counts) e.0 e.1;
             apart = apart_on s old mid new r.apart (line_apart s moment line.item mid new alone r.none_out g part);
           }))
           (λ (was : HasStopped new). inr was)
@@ -374,8 +428,8 @@ front_next s moment line rest lines old mid new f g part ended =
           (f.rests alone none);
     }
 
-front_steps : (s : Start) (moment : ℕ) (left lines : List ScriptLine) (old new : List Moment) (f : Front s moment left lines old new) → steps_of moment f.done ++ steps_of moment left ≡ steps_of moment lines
-front_steps s moment left lines old new f = sym (steps_append moment f.done left) ∙ ap (steps_of moment) f.is
+front_steps : (s : Start) (moment owed : ℕ) (left lines : List ScriptLine) (old new : List Moment) (f : Front s moment owed left lines old new) → steps_of moment f.done ++ steps_of moment left ≡ steps_of moment lines
+front_steps s moment owed left lines old new f = sym (steps_append moment f.done left) ∙ ap (steps_of moment) f.is
 
 -- the first of the lines asks for these steps
 abbrev pub AsksFirst : ℕ → List ScriptLine → List Step → Type 0
@@ -386,28 +440,47 @@ asks_first moment line [] some is = absurd (let none : List ScriptLine = [] in l
 asks_first moment line (x ∷ rest) some is = (steps_of moment rest, ap (λ (l : ScriptLine). steps_of_item moment l.item ++ steps_of moment rest) (sym is))
 
 -- a line that added a front of its own
-front_first : (s : Start) (moment : ℕ) (left lines : List ScriptLine) (wanted : List Step) (old mid new : List Moment) → AsksFirst moment left wanted → Front s moment left lines old mid → MadeFirst s wanted mid new → MadeFirst s (steps_of moment lines) old new
-front_first s moment left lines wanted old mid new asks f h = record {
+front_first : (s : Start) (moment owed : ℕ) (left lines : List ScriptLine) (wanted : List Step) (old mid new : List Moment) → AsksFirst moment left wanted → Front s moment owed left lines old mid → MadeFirst s wanted mid new → MadeFirst s (steps_of moment lines) old new
+front_first s moment owed left lines wanted old mid new asks f h = record {
   first = steps_of moment f.done ++ h.first;
   rest = h.rest ++ asks.0;
   grew = asking_on s (steps_of moment f.done) h.first old mid new f.grew h.grew;
   is = append_assoc (steps_of moment f.done) h.first (h.rest ++ asks.0)
       ∙ ap (λ (l : List Step). steps_of moment f.done ++ l) (sym (append_assoc h.first h.rest asks.0) ∙ ap (λ (l : List Step). l ++ asks.0) h.is ∙ sym asks.1)
-      ∙ front_steps s moment left lines old mid f;
+      ∙ front_steps s moment owed left lines old mid f;
 }
 
-pub front_made : (s : Start) (moment : ℕ) (left lines : List ScriptLine) (old new : List Moment) → Front s moment left lines old new → MadeFirst s (steps_of moment lines) old new
-front_made s moment left lines old new f = record { first = steps_of moment f.done; rest = steps_of moment left; grew = f.grew; is = front_steps s moment left lines old new f }
+pub front_made : (s : Start) (moment owed : ℕ) (left lines : List ScriptLine) (old new : List Moment) → Front s moment owed left lines old new → MadeFirst s (steps_of moment lines) old new
+front_made s moment owed left lines old new f = record { first = steps_of moment f.done; rest = steps_of moment left; grew = f.grew; is = front_steps s moment owed left lines old new f }
+
+-- no more elections than the lines ask for
+failovers_front : (done left lines : List ScriptLine) → done ++ left ≡ lines → failovers_of done ≤ failovers_of lines
+failovers_front done left lines is =
+    let whole : failovers_of lines ≡ failovers_of done + failovers_of left = ap failovers_of (sym is) ∙ failovers_append done left in
+    omega (arith, whole)
+
+pub front_owes : (s : Start) (moment owed : ℕ) (left lines : List ScriptLine) (old new : List Moment) → Front s moment owed left lines old new → elections new + owed ≤ elections old + failovers_of lines
+front_owes s moment owed left lines old new f =
+    let few : failovers_of f.done ≤ failovers_of lines = failovers_front f.done left lines f.is in
+    let made : elections new + owed ≡ elections old + failovers_of f.done = f.elected in
+    omega (arith, few, made)
+
+pub front_few : (s : Start) (moment owed : ℕ) (left lines : List ScriptLine) (old mid new : List Moment) → Front s moment owed left lines old mid → elections new ≤ elections mid + owed → elections new ≤ elections old + failovers_of lines
+front_few s moment owed left lines old mid new f last =
+    let all : elections mid + owed ≤ elections old + failovers_of lines = front_owes s moment owed left lines old mid f in
+    let one : elections new ≤ elections mid + owed = last in
+    omega (arith, all, one)
 
 -- all of them
-pub front_all : (s : Start) (moment : ℕ) (left lines : List ScriptLine) (old new : List Moment) → left ≡ [] → Front s moment left lines old new → NoneOpen s new → s.alone ≡ true → AreIn s old → AreMade s moment lines old new ⊎ WasLeft s moment lines old new
-front_all s moment left lines old new none f closed alone out =
+pub front_all : (s : Start) (moment owed : ℕ) (left lines : List ScriptLine) (old new : List Moment) → left ≡ [] → Front s moment owed left lines old new → NoneOpen s new → s.alone ≡ true → AreIn s old → AreMade s moment owed lines old new ⊎ WasLeft s moment owed lines old new
+front_all s moment owed left lines old new none f closed alone out =
     let all : f.done ≡ lines = sym (append-nil f.done) ∙ ap (λ (l : List ScriptLine). f.done ++ l) (sym none) ∙ f.is in
     let grew : GrewAsking s (steps_of moment lines) old new = subst (λ (l : List ScriptLine). GrewAsking s (steps_of moment l) old new) all f.grew in
+    let elected : Owes owed lines old new = subst (λ (l : List ScriptLine). Owes owed l old new) all f.elected in
     let checks : ChecksEnded s moment lines old new = subst (λ (l : List ScriptLine). ChecksEnded s moment l old new) all f.checks in
     elim (f.rests alone out) [
-      | inl r ↦ inl (record { grew = grew; waits = subst (λ (l : List ScriptLine). WaitsEnded s moment l old new) all r.waits; checks = checks; parts = subst (λ (l : List ScriptLine). AreInParts s moment l old new) all f.parts; apart = r.apart; rests = r.none_out; closed = closed })
-      | inr (inl was) ↦ inr (inl (record { grew = grew; checks = checks; closed = closed }, was))
+      | inl r ↦ inl (record { grew = grew; elected = elected; waits = subst (λ (l : List ScriptLine). WaitsEnded s moment l old new) all r.waits; checks = checks; parts = subst (λ (l : List ScriptLine). AreInParts s moment l old new) all f.parts; apart = r.apart; rests = r.none_out; closed = closed })
+      | inr (inl was) ↦ inr (inl (record { grew = grew; elected = elected; checks = checks; closed = closed }, was))
       | inr (inr turns) ↦ inr (inr turns)
     ]
 
@@ -424,51 +497,69 @@ made_then s wanted old mid new f g = record {
 then_asked : (s : Start) (moment : ℕ) (lines : List ScriptLine) (old mid new : List Moment) → GrewAsking s (steps_of moment lines) old mid → GrewAsking s [] mid new → GrewAsking s (steps_of moment lines) old new
 then_asked s moment lines old mid new all g = subst (λ (l : List Step). GrewAsking s l old new) (append-nil (steps_of moment lines)) (asking_on s (steps_of moment lines) [] old mid new all g)
 
-pub done_then : (s : Start) (moment : ℕ) (lines : List ScriptLine) (old mid new : List Moment) → (s.alone ≡ true → AreIn s old → AreMade s moment lines old mid ⊎ WasLeft s moment lines old mid) → GrewAsking s [] mid new → WorksOnly mid new → (s.alone ≡ true → AreIn s mid → IsIdle s new ⊎ HasStopped new)
-    → (NoneOpen s mid → NoneOpen s new) → s.alone ≡ true → AreIn s old → AreDone s moment lines old new ⊎ WasLeft s moment lines old new
-done_then s moment lines old mid new made g works done closes alone none = elim (made alone none) [
-  | inl all ↦ made_well all (done alone all.rests)
-  | inr (inl left) ↦ inr (left_on left (stopped_stays s [] mid new g (inl left.1)))
-  | inr (inr turns) ↦ inr (turns_on turns)
+-- as many elections were made as are owed, or 2 ^ 33 entries
+abbrev pub ElectedOr : ℕ → List Moment → List Moment → Type 0
+ElectedOr owed mid new = (elections new ≡ elections mid + owed) ⊎ (2 ^ 33 ≤ length new)
+
+pub done_then : (s : Start) (moment owed : ℕ) (lines : List ScriptLine) (old mid new : List Moment) → (AreIn s old → AreMade s moment owed lines old mid ⊎ WasLeft s moment owed lines old mid) → GrewAsking s [] mid new → WaitsOnly mid new → ElectedOr owed mid new
+    → (AreIn s mid → IsIdle s new ⊎ HasStopped new) → (NoneOpen s mid → NoneOpen s new) → AreIn s old → AreDone s moment lines old new ⊎ WasLeft s moment 0 lines old new
+done_then s moment owed lines old mid new made g works counts done closes none = elim counts [
+  | inl all ↦ told all (made none)
+  | inr turns ↦ inr (inr turns)
 ]
   where
     checks_then : ChecksEnded s moment lines old mid → ChecksEnded s moment lines old new
     checks_then checks before after line is check = check_on s moment before [] old mid new g (checks before after line is check)
 
-    asked : GrewAsking s (steps_of moment lines) old mid → ChecksEnded s moment lines old mid → NoneOpen s mid → AreAsked s moment lines old new
-    asked all checks closed = record { grew = then_asked s moment lines old mid new all g; checks = checks_then checks; closed = closes closed }
+    elected : elections new ≡ elections mid + owed → Owes owed lines old mid → AreElected lines old new
+    elected all was =
+        let before : elections mid + owed ≡ elections old + failovers_of lines = was in
+        let last : elections new ≡ elections mid + owed = all in
+        omega (arith, before, last)
 
-    made_well : AreMade s moment lines old mid → IsIdle s new ⊎ HasStopped new → AreDone s moment lines old new ⊎ WasLeft s moment lines old new
-    made_well all (inl idle) = inl (record {
-      grew = then_asked s moment lines old mid new all.grew g;
-      waits = λ before after line is wait. wait_on s moment before [] old mid new g (all.waits before after line is wait);
-      checks = checks_then all.checks;
-      parted = record { mid = mid; parts = all.parts; grew = g; works = works };
-      apart = apart_on s old mid new all.apart (works_apart s mid new works);
+    none_owed : elections new ≡ elections mid + owed → Owes owed lines old mid → Owes 0 lines old new
+    none_owed all was = let whole : elections new ≡ elections old + failovers_of lines = elected all was in omega (arith, whole)
+
+    asked : elections new ≡ elections mid + owed → AreAsked s moment owed lines old mid → AreAsked s moment 0 lines old new
+    asked all a = record { grew = then_asked s moment lines old mid new a.grew g; elected = none_owed all a.elected; checks = checks_then a.checks; closed = closes a.closed }
+
+    made_well : elections new ≡ elections mid + owed → AreMade s moment owed lines old mid → IsIdle s new ⊎ HasStopped new → AreDone s moment lines old new ⊎ WasLeft s moment 0 lines old new
+    made_well all a (inl idle) = inl (record {
+      grew = then_asked s moment lines old mid new a.grew g;
+      elected = elected all a.elected;
+      waits = λ before after line is wait. wait_on s moment before [] old mid new g (a.waits before after line is wait);
+      checks = checks_then a.checks;
+      parted = record { mid = mid; parts = a.parts; grew = g; waits = works };
+      apart = apart_on s old mid new a.apart (waits_apart s mid new works);
       idle = idle;
-      closed = closes all.closed;
+      closed = closes a.closed;
     })
-    made_well all (inr (inl was)) = inr (inl (asked all.grew all.checks all.closed, was))
-    made_well all (inr (inr turns)) = inr (inr turns)
+    made_well all a (inr (inl was)) = inr (inl (asked all (record { grew = a.grew; elected = a.elected; checks = a.checks; closed = a.closed }), was))
+    made_well all a (inr (inr turns)) = inr (inr turns)
 
-    left_on : AreAsked s moment lines old mid × WasStopped mid → HasStopped new → WasLeft s moment lines old new
-    left_on left (inl was) = inl (asked left.0.grew left.0.checks left.0.closed, was)
-    left_on left (inr turns) = inr turns
+    left_on : elections new ≡ elections mid + owed → AreAsked s moment owed lines old mid × WasStopped mid → HasStopped new → WasLeft s moment 0 lines old new
+    left_on all left (inl was) = inl (asked all left.0, was)
+    left_on all left (inr turns) = inr turns
 
-    turns_on : 2 ^ 40 ≤ length mid → WasLeft s moment lines old new
+    turns_on : 2 ^ 33 ≤ length mid → WasLeft s moment 0 lines old new
     turns_on turns =
         let whole : length new ≡ length mid + length g.more = ap length g.is ∙ length-append mid g.more in
-        let most : 2 ^ 40 ≤ length mid = turns in
+        let most : 2 ^ 33 ≤ length mid = turns in
         inr (omega (arith, whole, most))
+
+    told : elections new ≡ elections mid + owed → AreMade s moment owed lines old mid ⊎ WasLeft s moment owed lines old mid → AreDone s moment lines old new ⊎ WasLeft s moment 0 lines old new
+    told all (inl a) = made_well all a (done a.rests)
+    told all (inr (inl left)) = inr (left_on all left (stopped_stays s [] mid new g (inl left.1)))
+    told all (inr (inr turns)) = inr (turns_on turns)
 
 -- ---- by the answer of a line
 
 -- a line that stopped
-pub made_stopped : (s : Start) (moment : ℕ) (left lines : List ScriptLine) (wanted : List Step) (old mid new : List Moment) (e : StepRefusal) → AsksFirst moment left wanted → Front s moment left lines old mid → LineMade {X = Unit} s wanted mid new (Err e) → (e ≡ steps.Memory) ⊎ (e ≡ steps.TurnsSpent)
+pub made_stopped : (s : Start) (moment owed : ℕ) (left lines : List ScriptLine) (wanted : List Step) (old mid new : List Moment) (e : StepRefusal) → AsksFirst moment left wanted → Front s moment owed left lines old mid → LineMade {X = Unit} s wanted mid new (Err e) → (e ≡ steps.Memory) ⊎ (e ≡ steps.TurnsSpent)
     → MadeFirst s (steps_of moment lines) old new
-made_stopped s moment left lines wanted old mid new steps.Memory asks f made which = front_first s moment left lines wanted old mid new asks f made
-made_stopped s moment left lines wanted old mid new steps.TurnsSpent asks f made which = front_first s moment left lines wanted old mid new asks f made
-made_stopped s moment left lines wanted old mid new (steps.Refused refusal) asks f made which = absurd (⊎_elim (λ e. no_memory refusal e) (λ e. no_turns refusal e) which)
+made_stopped s moment owed left lines wanted old mid new steps.Memory asks f made which = front_first s moment owed left lines wanted old mid new asks f made
+made_stopped s moment owed left lines wanted old mid new steps.TurnsSpent asks f made which = front_first s moment owed left lines wanted old mid new asks f made
+made_stopped s moment owed left lines wanted old mid new (steps.Refused refusal) asks f made which = absurd (⊎_elim (λ e. no_memory refusal e) (λ e. no_turns refusal e) which)
   where
     no_memory : (refusal : EntryRefusal) → steps.Refused refusal ≡ steps.Memory → ⊥
     no_memory refusal e = cc
@@ -476,29 +567,17 @@ made_stopped s moment left lines wanted old mid new (steps.Refused refusal) asks
     no_turns : (refusal : EntryRefusal) → steps.Refused refusal ≡ steps.TurnsSpent → ⊥
     no_turns refusal e = cc
 
--- the look of a check was refused
-pub look_refused : (mid new : List Moment) (e : StepRefusal) (refusal : EntryRefusal) → e ≡ steps.Refused refusal → CheckEnds {X = Unit} mid new (Err e) → WasLookRefused mid new
-look_refused mid new e refusal is h = subst (λ (x : StepRefusal). CheckEnds {X = Unit} mid new (Err x)) is h
-
--- a verification was refused after its draw
-pub begun_refused : (mid new : List Moment) (e : StepRefusal) (refusal : EntryRefusal) → e ≡ steps.Refused refusal → VerifyBegins {X = Unit} mid new (Err e) → HasBegun mid new
-begun_refused mid new e refusal is h = subst (λ (x : StepRefusal). VerifyBegins {X = Unit} mid new (Err x)) is h
-
--- all turns were taken
-pub spent_turns : (new : List Moment) (e : StepRefusal) → e ≡ steps.TurnsSpent → LineSpends {X = Unit} new (Err e) → 2 ^ 40 ≤ length new
-spent_turns new e is h = subst (λ (x : StepRefusal). LineSpends {X = Unit} new (Err x)) is h
-
 -- on the history of a repository, from its beginning on
-pub done_on : {X E : Type 0} (s : Start) (moment : ℕ) (lines : List ScriptLine) (old new same : List Moment) (r : Result X E) → OnOk r (s.alone ≡ true → AreIn s old → AreDone s moment lines old new ⊎ WasLeft s moment lines old new) → same ≡ new → old ≡ [] → s.alone ≡ true → HasNoTickets s → HasNoReaders s
-    → OnOk r (AreDone s moment lines [] same ⊎ WasLeft s moment lines [] same)
-done_on {X} {E} s moment lines old new same (Err e) done is begun alone numbered unread = tt
-done_on {X} {E} s moment lines old new same (Ok x) done is begun alone numbered unread =
+pub done_on : {X E : Type 0} (s : Start) (moment : ℕ) (lines : List ScriptLine) (old new same : List Moment) (r : Result X E) → OnOk r (AreIn s old → AreDone s moment lines old new ⊎ WasLeft s moment 0 lines old new) → same ≡ new → old ≡ [] → HasNoTickets s → HasNoReaders s
+    → OnOk r (AreDone s moment lines [] same ⊎ WasLeft s moment 0 lines [] same)
+done_on {X} {E} s moment lines old new same (Err e) done is begun numbered unread = tt
+done_on {X} {E} s moment lines old new same (Ok x) done is begun numbered unread =
     let none : AreIn s [] = record {
       tickets = λ k. ap (λ (m : FinMap nat_cmp Ticket). (or_no_ticket (fin.get m k)).out) numbered.none ∙ ap (λ (o : Option Ticket). (or_no_ticket o).out) (fin.get-empty nat_cmp k);
       readers = λ k. ap (λ (m : Readers). (or_no_reader (fin.get m k)).out) unread ∙ ap (λ (o : Option Reader). (or_no_reader o).out) (fin.get-empty nat_cmp k);
     } in
-    subst (λ (l : List Moment). AreDone s moment lines [] l ⊎ WasLeft s moment lines [] l) (sym is)
-    (subst (λ (l : List Moment). AreDone s moment lines l new ⊎ WasLeft s moment lines l new) begun (done alone (subst (AreIn s) (sym begun) none)))
+    subst (λ (l : List Moment). AreDone s moment lines [] l ⊎ WasLeft s moment 0 lines [] l) (sym is)
+    (subst (λ (l : List Moment). AreDone s moment lines l new ⊎ WasLeft s moment 0 lines l new) begun (done (subst (AreIn s) (sym begun) none)))
 
 pub done_or : {X E : Type 0} (P : Type 0) (status : ℕ) (r : Result X E) → OnOk r P → (IsErr r → status ≡ 8) → (status ≡ 8) ⊎ P
 done_or {X} {E} P status (Ok x) h wanting = inr h
@@ -514,11 +593,13 @@ take_rest [] = take_all (length (drop 1 none) - 1) (drop 1 none) (let few : 0 �
     none = []
 take_rest (x ∷ rest) = take_all (length (x ∷ rest) - 1) rest (let le : length rest ≤ suc (length rest) - 1 = omega arith in le)
 
-step_front : (s : Start) (moment : ℕ) (line : ScriptLine) (left lines : List ScriptLine) (old mid new : List Moment) → 1 ≤ length left → line ≡ slice_index_or left 0 line → Front s moment left lines old mid → GrewAsking s (steps_of_item moment line.item) mid new
-    → LinePart line.item mid new → (s.alone ≡ true → AreIn s mid → LineEnded s line.item new) → Front s moment (drop 1 left) lines old new
-step_front s moment line [] lines old mid new some is f g part ended = absurd (let none : List ScriptLine = [] in let le : 1 ≤ length none = some in omega (arith, le))
-step_front s moment line (x ∷ rest) lines old mid new some is f g part ended =
-    front_next s moment x rest lines old mid new f (subst (λ (l : ScriptLine). GrewAsking s (steps_of_item moment l.item) mid new) is g) (subst (λ (l : ScriptLine). LinePart l.item mid new) is part) (subst (λ (l : ScriptLine). s.alone ≡ true → AreIn s mid → LineEnded s l.item new) is ended)
+step_front : (s : Start) (moment owed : ℕ) (line : ScriptLine) (left lines : List ScriptLine) (old mid new : List Moment) → 1 ≤ length left → line ≡ slice_index_or left 0 line → Front s moment owed left lines old mid → GrewAsking s (steps_of_item moment line.item) mid new
+    → LineCounts owed line.item mid new → LinePart line.item mid new → (s.alone ≡ true → AreIn s mid → LineEnded s line.item new) → Front s moment (owed_after line.item owed) (drop 1 left) lines old new
+step_front s moment owed line [] lines old mid new some is f g counts part ended = absurd (let none : List ScriptLine = [] in let le : 1 ≤ length none = some in omega (arith, le))
+step_front s moment owed line (x ∷ rest) lines old mid new some is f g counts part ended =
+    subst (λ (l : ScriptLine). Front s moment (owed_after l.item owed) rest lines old new) (sym is)
+    (front_next s moment owed x rest lines old mid new f (subst (λ (l : ScriptLine). GrewAsking s (steps_of_item moment l.item) mid new) is g) (subst (λ (l : ScriptLine). LineCounts owed l.item mid new) is counts)
+    (subst (λ (l : ScriptLine). LinePart l.item mid new) is part) (subst (λ (l : ScriptLine). s.alone ≡ true → AreIn s mid → LineEnded s l.item new) is ended))
 
 -- a line that is a check is one of these
 asks_has : (done : List ScriptLine) (line : ScriptLine) (rest : List ScriptLine) → is_check line.item ≡ true → asks_check (done ++ line ∷ rest) ≡ true
@@ -537,14 +618,16 @@ first_line : (line : ScriptLine) (left : List ScriptLine) → 1 ≤ length left 
 first_line line [] some is = absurd (let none : List ScriptLine = [] in let le : 1 ≤ length none = some in omega (arith, le))
 first_line line (x ∷ rest) some is = (rest, ap (λ (l : ScriptLine). l ∷ rest) (sym is))
 
-pub asks_here : (s : Start) (moment : ℕ) (line : ScriptLine) (left lines : List ScriptLine) (old mid : List Moment) → 1 ≤ length left → line ≡ slice_index_or left 0 line → Front s moment left lines old mid → is_check line.item ≡ true → asks_check lines ≡ true
-asks_here s moment line left lines old mid some is f check =
+pub asks_here : (s : Start) (moment owed : ℕ) (line : ScriptLine) (left lines : List ScriptLine) (old mid : List Moment) → 1 ≤ length left → line ≡ slice_index_or left 0 line → Front s moment owed left lines old mid → is_check line.item ≡ true → asks_check lines ≡ true
+asks_here s moment owed line left lines old mid some is f check =
     let first = first_line line left some is in
     subst (λ (l : List ScriptLine). asks_check l ≡ true) (ap (λ (l : List ScriptLine). f.done ++ l) (sym first.1) ∙ f.is) (asks_has f.done line first.0 check)
 
-pub front_step : (s : Start) (moment : ℕ) (line : ScriptLine) (left lines : List ScriptLine) (old mid new : List Moment) → 1 ≤ length left → line ≡ slice_index_or left 0 line → Front s moment left lines old mid → GrewAsking s (steps_of_item moment line.item) mid new
-    → LinePart line.item mid new → (s.alone ≡ true → AreIn s mid → LineEnded s line.item new) → Front s moment (take (length left - 1) (drop 1 left)) lines old new
-front_step s moment line left lines old mid new some is f g part ended = subst (λ (l : List ScriptLine). Front s moment l lines old new) (sym (take_rest left)) (step_front s moment line left lines old mid new some is f g part ended)
+pub front_step : (s : Start) (moment owed after : ℕ) (line : ScriptLine) (left lines : List ScriptLine) (old mid new : List Moment) → 1 ≤ length left → line ≡ slice_index_or left 0 line → after ≡ owed_after line.item owed → Front s moment owed left lines old mid
+    → GrewAsking s (steps_of_item moment line.item) mid new → LineCounts owed line.item mid new → LinePart line.item mid new → (s.alone ≡ true → AreIn s mid → LineEnded s line.item new) → Front s moment after (take (length left - 1) (drop 1 left)) lines old new
+front_step s moment owed after line left lines old mid new some is owes f g counts part ended =
+    subst (λ (n : ℕ). Front s moment n (take (length left - 1) (drop 1 left)) lines old new) (sym owes)
+    (subst (λ (l : List ScriptLine). Front s moment (owed_after line.item owed) l lines old new) (sym (take_rest left)) (step_front s moment owed line left lines old mid new some is f g counts part ended))
 
 when_good : (b : Bool) (number : ℕ) (o : Option ℕ) → (if b then o else Some number) ≡ None → o ≡ None
 when_good true number o e = e
@@ -557,15 +640,14 @@ good_rest (x ∷ rest) e = when_good (is_carried x.item) x.number (first_bad res
 pub good_next : (left : List ScriptLine) → first_bad left ≡ None → first_bad (take (length left - 1) (drop 1 left)) ≡ None
 good_next left e = subst (λ (l : List ScriptLine). first_bad l ≡ None) (sym (take_rest left)) (good_rest left e)
 
+is_good : (b : Bool) (number : ℕ) (o : Option ℕ) → (if b then o else Some number) ≡ None → b ≡ true
+is_good true number o e = refl
+is_good false number o e = absurd cc
+
+pub good_line : (line : ScriptLine) (left : List ScriptLine) → 1 ≤ length left → line ≡ slice_index_or left 0 line → first_bad left ≡ None → is_carried line.item ≡ true
+good_line line [] some is e = absurd (let none : List ScriptLine = [] in let le : 1 ≤ length none = some in omega (arith, le))
+good_line line (x ∷ rest) some is e = ap (λ (l : ScriptLine). is_carried l.item) is ∙ is_good (is_carried x.item) x.number (first_bad rest) e
+
 pub none_left : (left : List ScriptLine) → length left < 1 → left ≡ []
 none_left [] less = refl
 none_left (x ∷ rest) less = absurd (let few : suc (length rest) < 1 = less in omega (arith, few))
-
-pub as_refused : (s : Start) (wanted : List Step) (mid new : List Moment) (e : StepRefusal) (refusal : EntryRefusal) → e ≡ steps.Refused refusal → LineMade {X = Unit} s wanted mid new (Err e) → GrewAsking s wanted mid new
-as_refused s wanted mid new e refusal is h = subst (λ (x : StepRefusal). LineMade {X = Unit} s wanted mid new (Err x)) is h
-
-pub rests_refused : (s : Start) (new : List Moment) (e : StepRefusal) (refusal : EntryRefusal) → e ≡ steps.Refused refusal → LineRests {X = Unit} s new (Err e) → AreIn s new ⊎ HasStopped new
-rests_refused s new e refusal is h = subst (λ (x : StepRefusal). LineRests {X = Unit} s new (Err x)) is h
-
-pub rests_spent : (s : Start) (new : List Moment) (e : StepRefusal) → e ≡ steps.TurnsSpent → LineRests {X = Unit} s new (Err e) → LineRests {X = Unit} s new (Err steps.TurnsSpent)
-rests_spent s new e is h = subst (λ (x : StepRefusal). LineRests {X = Unit} s new (Err x)) is h

@@ -8,12 +8,12 @@ use Rattle.esr_script.specs.declared.item.ScriptLine.{ScriptLine}
 use Rattle.esr_desk.specs.Start.{Start}
 use Rattle.esr_quiet.specs.Asked.{asked_steps}
 use Rattle.esr_quiet.specs.Smooth.{NoneChecked}
-use Rattle.esr_drive.specs.Works.{WorksOnly}
+use Rattle.esr_drive.specs.Elections.{WaitsOnly}
 use Rattle.esr_verify.specs.Began.{HasBegun}
 use Rattle.esr_check.specs.Began.{IsCheckEnd, HasEndedCheck}
 use Rattle.esr_complete.specs.InTurn.{IsEndOfCheck, IsCheckPart, IsPart, AreParts}
 use Rattle.esr_run.specs.Made.{WasLookRefused, AsksOnly, LinePart, AreInParts, AreParted}
-use Rattle.esr_run.proofs.Alone.{all_ask, all_work, begun_none}
+use Rattle.esr_run.proofs.Alone.{all_ask, all_wait, begun_none}
 
 tail_same : {A : Type 0} (x : A) (a b : List A) → x ∷ a ≡ x ∷ b → a ≡ b
 tail_same x a b e = cc
@@ -68,8 +68,8 @@ is_part items.Verify old new more is p never =
     let h : HasBegun old new = p.verifies refl in
     subst NoneChecked (cancel old (h.draw ∷ h.rest) more (sym h.is ∙ is)) (begun_none h.draw h.rest h.drew h.all)
 is_part items.Wait old new more is p never =
-    let w : WorksOnly old new = p.only in
-    subst NoneChecked (cancel old w.more more (sym w.is ∙ is)) (all_work w.more w.all)
+    let w : WaitsOnly old new = p.only in
+    subst NoneChecked (cancel old w.more more (sym w.is ∙ is)) (all_wait w.more w.all)
 is_part item old new more is p never =
     let a : AsksOnly old new = p.only in
     subst NoneChecked (cancel old a.more more (sym a.is ∙ is)) (all_ask a.more a.all)
@@ -101,7 +101,7 @@ whole s moment (line ∷ lines) old mid new tail alone (first, g, p, rest) is as
 
 pub are_parts : (s : Start) (moment : ℕ) (lines : List ScriptLine) (log : List Moment) → s.alone ≡ true → AreParted s moment lines [] log → NeverDeposed log → AreParts moment lines log
 are_parts s moment lines log alone p never =
-    let last : WorksOnly p.mid log = p.works in
+    let last : WaitsOnly p.mid log = p.waits in
     let same : last.more ≡ p.grew.more = cancel p.mid last.more p.grew.more (sym last.is ∙ p.grew.is) in
-    let w = whole s moment lines [] p.mid log last.more alone p.parts last.is (ap asked_steps same ∙ p.grew.asked alone) (all_work last.more last.all) never in
+    let w = whole s moment lines [] p.mid log last.more alone p.parts last.is (ap asked_steps same ∙ p.grew.asked alone) (all_wait last.more last.all) never in
     subst (AreParts moment lines) (sym w.is) w.parts

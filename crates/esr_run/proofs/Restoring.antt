@@ -35,7 +35,7 @@ use Rattle.esr_run.proofs.Worlds.{start_is}
 use Rattle.esr_run.proofs.Ending.{Begun, opened_run}
 use Rattle.esr_run.specs.Checked.{asks_check}
 use Rattle.esr_run.specs.Verified.{AreWhole}
-use Rattle.esr_run.specs.Waits.{TakesFew}
+use Rattle.esr_run.specs.Waits.{AreFew}
 
 -- ---- by lines
 
@@ -66,7 +66,7 @@ pub opens_restored : {S F H T : Type 0} (laws : Laws) (kept : KeptLaws S F H T) 
     (o : IsOpening before mid k) → (2 ^ 62 ≤ before.sure → quiet ≡ true)
     → LegalRun (Begun files size quiet mid k) mid.clock after history → IsPast (Begun files size quiet mid k) mid.clock mid.since after history → AreShown evidence (Begun files size quiet mid k) (log_of after mid.clock history) faults
     → AreOnce (Begun files size quiet mid k) (log_of after mid.clock history) → AreTested (Begun files size quiet mid k) (log_of after mid.clock history) → NoneTwice (log_of after mid.clock history) → AreRemovedOnce (log_of after mid.clock history) → IsCalm quiet after.sure history → MadeFirst (Begun files size quiet mid k) (steps_of moment lines) [] (log_of after mid.clock history)
-    → AreWhole (Begun files size quiet mid k) workers (asks_check lines) (log_of after mid.clock history) → TakesFew lines (log_of after mid.clock history)
+    → AreWhole (Begun files size quiet mid k) workers (asks_check lines) (log_of after mid.clock history) → AreFew workers lines (log_of after mid.clock history)
     → (status ≡ 8) ⊎ AreTargetsOfLines evidence (Begun files size quiet mid k) moment lines (log_of after mid.clock history) targets
     → OpensRestored evidence files size workers moment lines before after history faults targets status
 unfolding opened_run

@@ -31,7 +31,7 @@ use Rattle.esr_run.specs.Complete.{IsQuietFor, IsLastTerm}
 use Rattle.esr_run.specs.Laws.{Laws, KeptLaws, QuietLaws}
 use Rattle.esr_run.specs.Checked.{asks_check}
 use Rattle.esr_run.specs.Verified.{AreClosed, AreWhole}
-use Rattle.esr_run.specs.Waits.{TakesFew}
+use Rattle.esr_run.specs.Waits.{AreFew}
 use Rattle.esr_run.specs.Made.{MadeFirst, HasFallen, AreDone}
 use Rattle.esr_run.specs.Stops.{StoppedBy}
 use Rattle.esr_run.specs.Causes.{Given, AreWanted, IsScriptFor, IsScript, IsStoppedFor, OpensWell, IsReadWell, IsComplete, IsTold, IsPrinted, end_of_refusal}
@@ -69,7 +69,7 @@ pub opens_well : {S F H T : Type 0} (laws : Laws) (kept : KeptLaws S F H T) (qui
     (status : ℕ) (text : Bytes) (o : IsOpening before mid k) → (2 ^ 62 ≤ before.sure → quiet ≡ true)
     → LegalRun (Begun files size quiet mid k) mid.clock after history → IsPast (Begun files size quiet mid k) mid.clock mid.since after history → AreShown evidence (Begun files size quiet mid k) (log_of after mid.clock history) faults
     → AreOnce (Begun files size quiet mid k) (log_of after mid.clock history) → AreTested (Begun files size quiet mid k) (log_of after mid.clock history) → NoneTwice (log_of after mid.clock history) → AreRemovedOnce (log_of after mid.clock history) → IsCalm quiet after.sure history → MadeFirst (Begun files size quiet mid k) (steps_of moment lines) [] (log_of after mid.clock history)
-    → AreWhole (Begun files size quiet mid k) workers (asks_check lines) (log_of after mid.clock history) → TakesFew lines (log_of after mid.clock history)
+    → AreWhole (Begun files size quiet mid k) workers (asks_check lines) (log_of after mid.clock history) → AreFew workers lines (log_of after mid.clock history)
     → AreDeposedSo history → IsTold status text (Some (Carried lines history))
     → (status ≡ 8) ⊎ (AreDone (Begun files size quiet mid k) moment lines [] (log_of after mid.clock history) ⊎ HasFallen (Begun files size quiet mid k) moment lines [] (log_of after mid.clock history))
     → OpensWell evidence files size workers moment lines before after history faults status

@@ -1,5 +1,5 @@
 -- Over a kept container that tells a run finds nothing damaged, and no name taken.
-use Rattle.std.proofs.Common.{◌≡◌, ℕ, Bool, List, ◌∷◌, Some, is_some, ap}
+use Rattle.std.proofs.Common.{◌≡◌, ℕ, Bool, List, Some, is_some, ap}
 use Rattle.esr_model.specs.Shelf.{Shelved}
 use Rattle.esr_core.specs.World.{World, Opened}
 use Rattle.esr_core.specs.Entry.{Entry, Moment}
@@ -9,7 +9,6 @@ use Rattle.esr_desk.specs.declared.fault.Fault.{Fault}
 use Rattle.esr_desk.specs.declared.hand.Hand.TheVariants as hands
 use Rattle.esr_desk.specs.Once.{NoneTwice}
 use Rattle.esr_desk.specs.Start.{Start, Legal}
-use Rattle.esr_script.specs.declared.item.ScriptLine.{ScriptLine}
 use Rattle.esr_repo.specs.Log.{image_of, log_of}
 use Rattle.esr_quiet.specs.OverKept.{OverKept}
 use Rattle.esr_desk.specs.Evidence.{Evidence}
@@ -19,9 +18,8 @@ use Rattle.esr_run.specs.Images.{Holds, HonestWork}
 use Rattle.esr_run.specs.Laws.{KeptLaws}
 use Rattle.esr_run.specs.Told.{StaysTold}
 use Rattle.esr_run.specs.Undamaged.{FindsNoDamage, StaysUndamaged}
-use Rattle.esr_run.proofs.Falling.{split_at, IsAskedFront, unelected}
 
-module _ {S F H T : Type 0} (laws : KeptLaws S F H T) (evidence : Evidence S F H T) (files : Telling) (size moment : ℕ) (lines : List ScriptLine) (quiet : Bool) (before after : Look) (world : World) (clock : ℕ) (history : List Entry) (faults : List (Fault S F H T))
+module _ {S F H T : Type 0} (laws : KeptLaws S F H T) (evidence : Evidence S F H T) (files : Telling) (size : ℕ) (quiet : Bool) (before after : Look) (world : World) (clock : ℕ) (history : List Entry) (faults : List (Fault S F H T))
     (opened : (i : Held) → now before ≡ Some i → Opened (formats_by files) (image_of i) world) where
   abbrev s : Start
   s = start_of files size quiet before world
@@ -29,7 +27,7 @@ module _ {S F H T : Type 0} (laws : KeptLaws S F H T) (evidence : Evidence S F H
   abbrev log : List Moment
   log = log_of after clock history
 
-  module _ (legal : Legal s log) (told : StaysTold before clock history after) (shown : AreShown {S = S} {F = F} {H = H} {T = T} evidence s log faults) (single : NoneTwice log) (asked : IsAskedFront moment lines log) where
+  module _ (legal : Legal s log) (told : StaysTold before clock history after) (shown : AreShown {S = S} {F = F} {H = H} {T = T} evidence s log faults) (single : NoneTwice log) where
     over : (shelf : List Shelved) → Holds (formats_by files) before shelf → HonestWork (formats_by files) world log → OverKept s log
     over shelf holds work = record {
       tells = ap is_some holds.told;
@@ -47,9 +45,7 @@ module _ {S F H T : Type 0} (laws : KeptLaws S F H T) (evidence : Evidence S F H
     finds_none kept = record {
       units = laws.units evidence s log faults kept (shown.shown hands.Unit);
       restores = laws.restores evidence s log faults kept (shown.shown hands.Restore);
-      deletes = λ m why has step reply damage.
-          let (front, back, is) = split_at log m has in
-          laws.deletes evidence s log faults kept (shown.shown hands.Delete) front back m why is (unelected moment lines log asked front (m ∷ back) is) step reply damage;
+      deletes = laws.deletes evidence s log faults kept (shown.shown hands.Delete);
       checks = laws.checks evidence s log faults kept (shown.shown hands.Check);
       names = laws.names s log kept single;
     }

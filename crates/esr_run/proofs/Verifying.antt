@@ -6,7 +6,7 @@ use Rattle.esr_model.specs.Values.{Has, Formats}
 use Rattle.esr_model.specs.Names.{BlobName}
 use Rattle.esr_model.specs.Image.{Image}
 use Rattle.esr_core.specs.World.{World, Ticket, Reader, no_caller}
-use Rattle.esr_core.specs.Entry.{Asked, Read, ReadBlob, RestoredShard, DrawTest, BeginTest, CommitTest, RemoveTests, VerifiedAll, ReadFails, Step, AskStep, LookStep, TakeStep, ReadStep, Reply, DeposedAt, AbortedBy, StaleTerm, Refused, HasEnded, DrawnFrom, WasRemoved, Entry, Moment}
+use Rattle.esr_core.specs.Entry.{Asked, Read, ReadBlob, RestoredShard, DrawTest, BeginTest, CommitTest, RemoveTests, VerifiedAll, ReadFails, Step, AskStep, LookStep, TakeStep, ElectStep, ReadStep, Reply, DeposedAt, AbortedBy, StaleTerm, Refused, HasEnded, DrawnFrom, WasRemoved, Entry, Moment}
 use Rattle.esr_core.specs.After.{answered, caller_after, after}
 use Rattle.esr_desk.specs.declared.refusal.StepRefusal.{StepRefusal}
 use Rattle.esr_desk.specs.declared.refusal.StepRefusal.TheVariants as steps
@@ -24,7 +24,7 @@ use Rattle.esr_quiet.specs.Asking.{asking_none}
 use Rattle.esr_quiet.specs.Numbers.{HasNoTickets}
 use Rattle.esr_quiet.specs.Smooth.{HasDrawn}
 use Rattle.esr_quiet.proofs.Prefixes.{legal_front}
-use Rattle.esr_drive.specs.Works.{IsWork, AllWork, WorksOnly}
+use Rattle.esr_drive.specs.Elections.{IsOfWait, AllOfWait, WaitsOnly, election, elections, elections_more}
 use Rattle.esr_drive.specs.Takes.{idle_take, idle_takes, takes_more}
 use Rattle.esr_verify.specs.Idle.{IsIdle}
 use Rattle.esr_verify.specs.Steps.{Answered, test_names, writing, reading, verification}
@@ -38,7 +38,7 @@ use Rattle.esr_run.specs.Checked.{HasLooked}
 use Rattle.esr_run.specs.Verified.{AreVerified, AreBegun, AreClosed, AreWhole, MayVerify, VerifiesOn}
 use Rattle.esr_run.proofs.Completing.{in_front, in_middle}
 use Rattle.esr_run.proofs.Making.{world_one, legal_one, same_or_not}
-use Rattle.esr_run.proofs.Checks.{NoneZero, no_cons, split_end, fails_other, begun_unchecked, maybe_unchecked, begun_checked, maybe_checked}
+use Rattle.esr_run.proofs.Checks.{NoneZero, no_cons, split_end, Never, NamesFirst, fails_other, begun_fails, maybe_fails, begun_checked, maybe_checked}
 
 -- ---- steps that read nothing for who 0
 
@@ -75,7 +75,8 @@ whole_one s workers checks log m aside idle w = record {
     | inr before ↦ w.begun front before.0 x read before.1 who step
   ];
   closed = closed_one s log m idle w.closed;
-  unchecked = λ no. fails_other s log m (λ why who step. not_aside m m _ refl who step aside) (w.unchecked no);
+  unchecked = λ no. fails_other Never s log m (λ why who step. not_aside m m _ refl who step aside) (w.unchecked no);
+  first = fails_other (NamesFirst s) s log m (λ why who step. not_aside m m _ refl who step aside) w.first;
 }
 
 no_ask_read : (command : Asked) (read : Read) → AskStep command ≢ ReadStep read
@@ -86,6 +87,9 @@ no_look_read read e = cc
 
 no_take_read : (read : Read) → TakeStep ≢ ReadStep read
 no_take_read read e = cc
+
+no_elect_read : (read : Read) → ElectStep ≢ ReadStep read
+no_elect_read read e = cc
 
 asks_aside : (step : Step) → AsksLine step → (read : Read) → step ≢ ReadStep read
 asks_aside step (inl ask) read is = no_ask_read ask.0 read (sym ask.1 ∙ is)
@@ -145,19 +149,21 @@ line_verifies s workers checks old new step ok (Err (steps.Refused refusal)) ask
 
 -- ---- a wait
 
-work_aside : (m : Moment) → IsWork m → IsAside m
+work_aside : (m : Moment) → IsOfWait m → IsAside m
 work_aside m (inl some) = inl some
-work_aside m (inr take) = inr (λ read is. no_take_read read (sym take ∙ is))
+work_aside m (inr (inl take)) = inr (λ read is. no_take_read read (sym take ∙ is))
+work_aside m (inr (inr elect)) = inr (λ read is. no_elect_read read (sym elect ∙ is))
 
-work_closed : (s : Start) (log : List Moment) (m : Moment) → IsWork m → AsksClosed s log m
+work_closed : (s : Start) (log : List Moment) (m : Moment) → IsOfWait m → AsksClosed s log m
 work_closed s log m (inl some) who asks = absurd (some who)
-work_closed s log m (inr take) who asks = absurd (true≢false (sym asks ∙ ap is_line_ask take))
+work_closed s log m (inr (inl take)) who asks = absurd (true≢false (sym asks ∙ ap is_line_ask take))
+work_closed s log m (inr (inr elect)) who asks = absurd (true≢false (sym asks ∙ ap is_line_ask elect))
 
-whole_more : (s : Start) (workers : ℕ) (checks : Bool) (log more : List Moment) → AllWork more → AreWhole s workers checks log → AreWhole s workers checks (log ++ more)
+whole_more : (s : Start) (workers : ℕ) (checks : Bool) (log more : List Moment) → AllOfWait more → AreWhole s workers checks log → AreWhole s workers checks (log ++ more)
 whole_more s workers checks log [] work w = subst (AreWhole s workers checks) (sym (append-nil log)) w
 whole_more s workers checks log (m ∷ more) work w = subst (AreWhole s workers checks) (append_assoc log (m ∷ []) more) (whole_more s workers checks (log ++ m ∷ []) more work.1 (whole_one s workers checks log m (work_aside m work.0) (work_closed s log m work.0) w))
 
-caller_worked : (leaves : WorkLeaves) (s : Start) (log more : List Moment) → AllWork more → Legal s (log ++ more) → caller_of s (log ++ more) ≡ caller_of s log
+caller_worked : (leaves : WorkLeaves) (s : Start) (log more : List Moment) → AllOfWait more → Legal s (log ++ more) → caller_of s (log ++ more) ≡ caller_of s log
 caller_worked leaves s log [] work legal = ap (caller_of s) (append-nil log)
 caller_worked leaves s log (m ∷ more) work legal =
     let whole : (log ++ m ∷ []) ++ more ≡ log ++ m ∷ more = append_assoc log (m ∷ []) more in
@@ -166,8 +172,8 @@ caller_worked leaves s log (m ∷ more) work legal =
     ap (caller_of s) (sym whole) ∙ caller_worked leaves s (log ++ m ∷ []) more work.1 all
     ∙ caller_end s log m ∙ leaves (formats_of s) s.part_size (world_of s log) m (legal_one (formats_of s) s.part_size s.world log m one).1.0 work.0
 
-pub works_may : (leaves : WorkLeaves) (s : Start) (workers : ℕ) (checks : Bool) (old new : List Moment) → WorksOnly old new → (Legal s old → Legal s new) → MayVerify s workers checks old → MayVerify s workers checks new
-works_may leaves s workers checks old new w legal may =
+pub waits_may : (leaves : WorkLeaves) (s : Start) (workers : ℕ) (checks : Bool) (old new : List Moment) → WaitsOnly old new → (Legal s old → Legal s new) → MayVerify s workers checks old → MayVerify s workers checks new
+waits_may leaves s workers checks old new w legal may =
     let now : Legal s new = legal may.legal in
     record {
       whole = subst (AreWhole s workers checks) (sym w.is) (whole_more s workers checks old w.more w.all may.whole);
@@ -175,11 +181,11 @@ works_may leaves s workers checks old new w legal may =
       legal = now;
     }
 
-pub works_closed : (leaves : WorkLeaves) (s : Start) (old new : List Moment) → WorksOnly old new → (Legal s old → Legal s new) → Legal s old → NoneOpen s old → NoneOpen s new
-works_closed leaves s old new w legal was closed = subst IsIdle (sym (ap (caller_of s) w.is ∙ caller_worked leaves s old w.more w.all (subst (Legal s) w.is (legal was)))) closed
+pub waits_closed : (leaves : WorkLeaves) (s : Start) (old new : List Moment) → WaitsOnly old new → (Legal s old → Legal s new) → Legal s old → NoneOpen s old → NoneOpen s new
+waits_closed leaves s old new w legal was closed = subst IsIdle (sym (ap (caller_of s) w.is ∙ caller_worked leaves s old w.more w.all (subst (Legal s) w.is (legal was)))) closed
 
-pub works_whole : (s : Start) (workers : ℕ) (checks : Bool) (old new : List Moment) → WorksOnly old new → AreWhole s workers checks old → AreWhole s workers checks new
-works_whole s workers checks old new w was = subst (AreWhole s workers checks) (sym w.is) (whole_more s workers checks old w.more w.all was)
+pub waits_whole : (s : Start) (workers : ℕ) (checks : Bool) (old new : List Moment) → WaitsOnly old new → AreWhole s workers checks old → AreWhole s workers checks new
+waits_whole s workers checks old new w was = subst (AreWhole s workers checks) (sym w.is) (whole_more s workers checks old w.more w.all was)
 
 pub verifies_by : {X : Type 0} (s : Start) (workers : ℕ) (checks : Bool) (new : List Moment) (result : Result X StepRefusal) → MayVerify s workers checks new → VerifiesOn s workers checks new result
 verifies_by s workers checks new (Ok x) may = may
@@ -206,6 +212,7 @@ begun_may s workers checks log empty nobody = subst (MayVerify s workers checks)
     begun = λ front back m read is who step. absurd (no_place front m back is);
     closed = λ front back m is who asks. absurd (no_place front m back is);
     unchecked = λ no front back m why is who step reply is_open. no_place front m back is;
+    first = λ front back m why is who step reply is_open. absurd (no_place front m back is);
   };
   idle = subst IsIdle (sym nobody) none_idle;
   legal = tt;
@@ -320,9 +327,9 @@ asked_reads old new (Err units.Stale) h = absurd h
 
 -- ---- it leaves tickets
 
--- turns are spent only where all were taken
+-- turns are spent only after 2 ^ 33 entries
 abbrev pub TurnsAre : Start → List Moment → UnitRefusal → Type 0
-TurnsAre s new (units.Stopped steps.TurnsSpent) = s.alone ≡ true → 2 ^ 40 ≤ length new
+TurnsAre s new (units.Stopped steps.TurnsSpent) = 2 ^ 33 ≤ length new
 TurnsAre s new (units.Stopped steps.Memory) = Unit {0}
 TurnsAre s new (units.Stopped (steps.Refused refusal)) = Unit {0}
 TurnsAre s new (units.Failed why) = Unit {0}
@@ -364,7 +371,7 @@ module _ (laws : StepsStay) (s : Start) (numbered : HasNoTickets s) where
       by (Err (units.Failed why)) t now = now
       by (Err (units.Stopped (steps.Refused refusal))) t now = inl now
       by (Err (units.Stopped steps.Memory)) t now = tt
-      by (Err (units.Stopped steps.TurnsSpent)) t now = t alone
+      by (Err (units.Stopped steps.TurnsSpent)) t now = t
       by (Err units.Stale) t now = now
 
 pub verify_spends : (s : Start) (new : List Moment) (r : Result Unit UnitRefusal) → s.alone ≡ true → IfErr r (TurnsAre s new) → LineSpends new (line_result r)
@@ -372,7 +379,7 @@ verify_spends s new (Ok x) alone t = tt
 verify_spends s new (Err (units.Failed why)) alone t = tt
 verify_spends s new (Err (units.Stopped (steps.Refused refusal))) alone t = tt
 verify_spends s new (Err (units.Stopped steps.Memory)) alone t = tt
-verify_spends s new (Err (units.Stopped steps.TurnsSpent)) alone t = t alone
+verify_spends s new (Err (units.Stopped steps.TurnsSpent)) alone t = t
 verify_spends s new (Err units.Stale) alone t = tt
 
 -- ---- it takes no unit
@@ -393,6 +400,26 @@ verify_takes old new r asks =
     let h = asked_reads old new r asks in
     let whole : idle_takes new ≡ idle_takes old + idle_takes h.more = takes_more old h.more new h.is in
     let none : idle_takes h.more ≡ 0 = reads_takes h.more h.all in
+    omega (arith, whole, none)
+
+-- ---- nor does it elect
+
+no_elect : (who : ℕ) (step : Step) (read : Read) → step ≡ ReadStep read → election who step ≡ 0
+no_elect zero step read is = ap (election 0) is
+no_elect (suc n) step read is = refl
+
+pub reads_elect : (more : List Moment) → AllRead more → elections more ≡ 0
+reads_elect [] all = refl
+reads_elect (m ∷ more) all =
+    let one : election m.entry.who m.entry.step ≡ 0 = no_elect m.entry.who m.entry.step all.1.0 all.1.1 in
+    let rest : elections more ≡ 0 = reads_elect more all.2 in
+    omega (arith, one, rest)
+
+pub verify_elects : (old new : List Moment) (r : Result Unit UnitRefusal) → AsksOne old new r → elections new ≡ elections old
+verify_elects old new r asks =
+    let h = asked_reads old new r asks in
+    let whole : elections new ≡ elections old + elections h.more = elections_more old h.more new h.is in
+    let none : elections h.more ≡ 0 = reads_elect h.more h.all in
     omega (arith, whole, none)
 
 -- ---- and it is whole
@@ -548,7 +575,8 @@ verify_well s none_zero workers checks old new asks ok legal may = record {
     checked = begun_checked s old new asks may.whole.checked;
     begun = begun_all checks old new asks may.whole.begun;
     closed = closed_all s old new asks may.idle may.whole.closed;
-    unchecked = λ no. begun_unchecked s none_zero old new asks (legal may.legal) (may.whole.unchecked no);
+    unchecked = λ no. begun_fails Never s none_zero old new asks (legal may.legal) (may.whole.unchecked no);
+    first = begun_fails (NamesFirst s) s none_zero old new asks (legal may.legal) may.whole.first;
   };
   idle = subst IsIdle (sym ok.closed) none_idle;
   legal = legal may.legal;
@@ -562,7 +590,8 @@ verify_refused evidence s none_zero workers checks old new (units.Failed why) as
     checked = begun_checked s old new asks may.whole.checked;
     begun = begun_all checks old new asks may.whole.begun;
     closed = closed_all s old new asks may.idle may.whole.closed;
-    unchecked = λ no. begun_unchecked s none_zero old new asks (legal may.legal) (may.whole.unchecked no);
+    unchecked = λ no. begun_fails Never s none_zero old new asks (legal may.legal) (may.whole.unchecked no);
+    first = begun_fails (NamesFirst s) s none_zero old new asks (legal may.legal) may.whole.first;
   };
   idle = subst IsIdle (sym err.0) none_idle;
   legal = legal may.legal;
@@ -573,7 +602,8 @@ verify_refused evidence s none_zero workers checks old new (units.Stopped (steps
     checked = begun_checked s old new asks may.whole.checked;
     begun = begun_all checks old new asks may.whole.begun;
     closed = closed_all s old new asks may.idle may.whole.closed;
-    unchecked = λ no. begun_unchecked s none_zero old new asks (legal may.legal) (may.whole.unchecked no);
+    unchecked = λ no. begun_fails Never s none_zero old new asks (legal may.legal) (may.whole.unchecked no);
+    first = begun_fails (NamesFirst s) s none_zero old new asks (legal may.legal) may.whole.first;
   };
   idle = subst IsIdle (sym (deposed_caller s old new refusal err)) may.idle;
   legal = legal may.legal;
@@ -584,7 +614,8 @@ verify_refused evidence s none_zero workers checks old new (units.Stopped steps.
       checked = maybe_checked s old new asks may.whole.checked;
       begun = begun_maybe checks old new asks may.whole.begun;
       closed = closed_maybe s old new asks may.idle may.whole.closed;
-      unchecked = λ no. maybe_unchecked s none_zero old new asks (legal may.legal) (may.whole.unchecked no);
+      unchecked = λ no. maybe_fails Never s none_zero old new asks (legal may.legal) (may.whole.unchecked no);
+      first = maybe_fails (NamesFirst s) s none_zero old new asks (legal may.legal) may.whole.first;
     }
 verify_refused evidence s none_zero workers checks old new (units.Stopped steps.TurnsSpent) asks err none legal may =
     record {
@@ -592,7 +623,8 @@ verify_refused evidence s none_zero workers checks old new (units.Stopped steps.
       checked = maybe_checked s old new asks may.whole.checked;
       begun = begun_maybe checks old new asks may.whole.begun;
       closed = closed_maybe s old new asks may.idle may.whole.closed;
-      unchecked = λ no. maybe_unchecked s none_zero old new asks (legal may.legal) (may.whole.unchecked no);
+      unchecked = λ no. maybe_fails Never s none_zero old new asks (legal may.legal) (may.whole.unchecked no);
+      first = maybe_fails (NamesFirst s) s none_zero old new asks (legal may.legal) may.whole.first;
     }
 verify_refused evidence s none_zero workers checks old new units.Stale asks err none legal may = absurd asks
 

@@ -39,7 +39,7 @@ use Rattle.esr_run.specs.Sourceless.{NeedsNoSource}
 use Rattle.esr_run.specs.Undamaged.{StaysUndamaged}
 use Rattle.esr_run.specs.Checked.{asks_check}
 use Rattle.esr_run.specs.Verified.{AreWhole}
-use Rattle.esr_run.specs.Waits.{TakesFew}
+use Rattle.esr_run.specs.Waits.{AreFew}
 use Rattle.esr_run.specs.Made.{HasFallen, AreDone}
 use Rattle.esr_run.specs.Complete.{IsQuietFor, IsLastTerm, Completes}
 
@@ -182,13 +182,13 @@ pub record IsOpenedRun {S F H T : Type 0} (evidence : Evidence S F H T) (files :
   -- each verification and each check that ended well is whole; who 0 reads for verifications alone, each after a draw, and where a line
   -- asks for a check for checks, each after a look; and no verification is open where a line asks for something
   pub verified : AreWhole (start_of files size quiet before world) workers (asks_check lines) (log_of after clock history)
-  -- takes found no unit ready at most once for each wait, and once at the end
-  pub takes : TakesFew lines (log_of after clock history)
+  -- takes found no unit ready at most once for each worker in each wait, and at the end; no more elections were made than lines ask for
+  pub few : AreFew workers lines (log_of after clock history)
   -- what was asked is what the lines ask for, in order, as far as they were carried out
   pub asked : (rest : List Step) × (asked_steps (log_of after clock history) ++ rest ≡ steps_of moment lines)
 
--- Each line was carried out, the work of each wait was done when it ended, and at the end no unit is ready or out and no verification
--- is open; or a record swap failed, and each line was asked all the same; or all turns were taken.
+-- Each line was carried out, the work of each wait was done and its elections were made when it ended, and at the end no unit is ready
+-- or out and no verification is open; or a record swap failed, and each line was asked all the same; or 2 ^ 33 entries were made.
 abbrev pub IsWorked : {S F H T : Type 0} (evidence : Evidence S F H T) (files : Telling) (size workers moment : ℕ) (lines : List ScriptLine) (before after : Look) (history : List Entry) (faults : List (Fault S F H T)) → IsOpenedRun evidence files size workers moment lines before after history faults → Type 0
 IsWorked evidence files size workers moment lines before after history faults r =
     AreDone (start_of files size r.quiet before r.world) moment lines [] (log_of after r.clock history) ⊎ HasFallen (start_of files size r.quiet before r.world) moment lines [] (log_of after r.clock history)

@@ -42,9 +42,9 @@ pub record IsQuietFor (telling : Telling) (before : Look) (lines : List ScriptLi
   pub targets : AsksRestore lines → telling.targets_quiet ≡ true
   pub known : AreKnown lines
 
--- a number was spent: a step was refused for that, or all turns were taken
+-- a number was spent: a step was refused for that, or 2 ^ 33 entries were made
 abbrev pub HasSpent : List Entry → Type 0
-HasSpent history = ((e : Entry) × Has history e × IsSpent e.reply) ⊎ (2 ^ 40 ≤ length history)
+HasSpent history = ((e : Entry) × Has history e × IsSpent e.reply) ⊎ (2 ^ 33 ≤ length history)
 
 -- the record has the last term
 abbrev pub IsLastTerm : Look → Type 0

@@ -6,7 +6,7 @@ use Rattle.esr_model.specs.Image.{Image, Blobs}
 use Rattle.esr_model.specs.Kept.{Kept}
 use Rattle.esr_model.specs.Shelf.{Shelved, shelf_after}
 use Rattle.esr_core.specs.World.{World, Ticket, image_of, record_of, opened, Opened}
-use Rattle.esr_core.specs.Entry.{Asked, Read, AskStep, TakeStep, LookStep, ReadStep, Refusal, Refused, Given, Gave, Moment, SettleStep, SettlePruned, PruneStep, WasSettled}
+use Rattle.esr_core.specs.Entry.{Asked, Read, AskStep, TakeStep, ElectStep, LookStep, ReadStep, Refusal, Refused, Given, Gave, Moment, SettleStep, SettlePruned, PruneStep, WasSettled}
 use Rattle.esr_core.specs.After.{after}
 use Rattle.esr_core.specs.History.{world_from, IsLegal, TellsHandedOut, AreTold, committed}
 use Rattle.esr_law.specs.Digests.{HonestUploads, AskNoSnapshot, AreClones}
@@ -61,9 +61,9 @@ pub record StepsStay : Type 0 where
   pub reads : (f : Formats) (w : World) (m : Moment) (read : Read) → m.entry.who ≡ 0 → m.entry.step ≡ ReadStep read → (after f w m).readers ≡ w.readers
   pub looks : (f : Formats) (part_size : ℕ) (w : World) (m : Moment) → Tracked w → Allowed f part_size w m → m.entry.step ≡ LookStep → (after f w m).readers ≡ w.readers
 
--- steps of tickets, and takes of units, leave what who 0 has done of a check or a verification
+-- steps of tickets, takes of units, and elections leave what who 0 has done of a check or a verification
 abbrev pub WorkLeaves : Type 0
-WorkLeaves = (f : Formats) (part_size : ℕ) (w : World) (m : Moment) → Allowed f part_size w m → (m.entry.who ≢ 0) ⊎ (m.entry.step ≡ TakeStep) → (after f w m).caller ≡ w.caller
+WorkLeaves = (f : Formats) (part_size : ℕ) (w : World) (m : Moment) → Allowed f part_size w m → (m.entry.who ≢ 0) ⊎ ((m.entry.step ≡ TakeStep) ⊎ (m.entry.step ≡ ElectStep)) → (after f w m).caller ≡ w.caller
 
 -- why steps may be refused, and which world is deposed
 pub record Refusals : Type 0 where

@@ -1,26 +1,26 @@
 -- How far lines were carried out.
-use Rattle.std.specs.Prelude.{◌≡◌, ◌≢◌, ◌⊎◌, ℕ, ◌^◌, ◌≤◌, List, [], ◌∷◌, ◌++◌, length, Result, Ok, Err}
+use Rattle.std.specs.Prelude.{◌≡◌, ◌⊎◌, ℕ, ◌+◌, ◌^◌, ◌≤◌, List, [], ◌∷◌, ◌++◌, length, Result, Ok, Err}
 use Rattle.std.specs.FinMap as fin
-use Rattle.esr_model.specs.Values.{Has}
-use Rattle.esr_core.specs.Entry.{Asked, Step, AskStep, TakeStep, LookStep, NothingReady, DeposedAt, Refused, Refusal, Moment}
+use Rattle.esr_core.specs.Entry.{Asked, Step, AskStep, LookStep, DeposedAt, Refused, Moment}
+use Rattle.esr_core.specs.Ready.{AnyReady}
 use Rattle.esr_core.specs.Refusing.{SwapFailed}
 use Rattle.esr_script.specs.declared.item.Item.{Item}
 use Rattle.esr_script.specs.declared.item.Item.TheVariants as items
 use Rattle.esr_script.specs.declared.item.ScriptLine.{ScriptLine}
 use Rattle.esr_desk.specs.declared.refusal.StepRefusal.{StepRefusal}
 use Rattle.esr_desk.specs.declared.refusal.StepRefusal.TheVariants as steps
-use Rattle.esr_desk.specs.Start.{Start}
+use Rattle.esr_desk.specs.Start.{Start, world_of}
 use Rattle.esr_desk.specs.Grew.{NoneOut}
-use Rattle.esr_desk.specs.Last.{IsLast}
 use Rattle.esr_desk.specs.Own.{caller_of}
 use Rattle.esr_quiet.specs.Asked.{GrewAsking}
-use Rattle.esr_drive.specs.Stopped.{StopsWork}
-use Rattle.esr_drive.specs.Works.{WorksOnly}
+use Rattle.esr_drive.specs.Stopped.{WasStopped}
+use Rattle.esr_drive.specs.Elections.{WaitsOnly, elections}
 use Rattle.esr_complete.specs.Lines.{steps_of_item, steps_of}
 use Rattle.esr_complete.specs.Answers.{NoReaderOut, IsIdle}
 use Rattle.esr_verify.specs.Idle as verify
 use Rattle.esr_verify.specs.Began.{HasBegun}
 use Rattle.esr_check.specs.Began.{HasEndedCheck}
+use Rattle.esr_run.specs.Waits.{failovers_of}
 
 -- the first of these steps were asked
 pub record MadeFirst (s : Start) (wanted : List Step) (old new : List Moment) : Type 0 where
@@ -29,18 +29,9 @@ pub record MadeFirst (s : Start) (wanted : List Step) (old new : List Moment) : 
   pub grew : GrewAsking s first old new
   pub is : first ++ rest ≡ wanted
 
--- what the code says of itself: a step of a ticket, or a take, was refused, which stops the work
-pub record WasStopped (log : List Moment) : Type 0 where
-  pub moment : Moment
-  pub there : Has log moment
-  pub refusal : Refusal
-  pub refused : moment.entry.reply ≡ Refused refusal
-  pub step : (moment.entry.who ≢ 0) ⊎ (moment.entry.step ≡ TakeStep)
-  pub stops : StopsWork moment.entry.step refusal
-
--- or all turns were taken
+-- the work was stopped, or 2 ^ 33 entries were made
 abbrev pub HasStopped : List Moment → Type 0
-HasStopped log = WasStopped log ⊎ (2 ^ 40 ≤ length log)
+HasStopped log = WasStopped log ⊎ (2 ^ 33 ≤ length log)
 
 -- no ticket of a restore was given when the history began
 abbrev pub HasNoReaders : Start → Type 0
@@ -58,34 +49,43 @@ LineMade s wanted old new (Err steps.Memory) = MadeFirst s wanted old new
 LineMade s wanted old new (Err steps.TurnsSpent) = MadeFirst s wanted old new
 LineMade s wanted old new (Err (steps.Refused refusal)) = GrewAsking s wanted old new
 
--- turns are spent only where all were taken
+-- turns are spent only after 2 ^ 33 entries
 abbrev pub LineSpends : {X : Type 0} → List Moment → Result X StepRefusal → Type 0
 LineSpends new (Ok x) = Unit {0}
 LineSpends new (Err steps.Memory) = Unit {0}
-LineSpends new (Err steps.TurnsSpent) = 2 ^ 40 ≤ length new
+LineSpends new (Err steps.TurnsSpent) = 2 ^ 33 ≤ length new
 LineSpends new (Err (steps.Refused refusal)) = Unit {0}
 
 -- no ticket is out after it, unless the work was stopped
 abbrev pub LineRests : {X : Type 0} → Start → List Moment → Result X StepRefusal → Type 0
 LineRests s new (Ok x) = AreIn s new
 LineRests s new (Err steps.Memory) = Unit {0}
-LineRests s new (Err steps.TurnsSpent) = 2 ^ 40 ≤ length new
+LineRests s new (Err steps.TurnsSpent) = 2 ^ 33 ≤ length new
 LineRests s new (Err (steps.Refused refusal)) = AreIn s new ⊎ HasStopped new
 
--- after a wait no unit is ready, unless the work was stopped
-abbrev pub WaitEnds : {X : Type 0} → List Moment → Result X StepRefusal → Type 0
-WaitEnds new (Ok x) = IsLast new 0 TakeStep NothingReady
-WaitEnds new (Err steps.Memory) = Unit {0}
-WaitEnds new (Err steps.TurnsSpent) = Unit {0}
-WaitEnds new (Err (steps.Refused refusal)) = HasStopped new
+-- no unit is ready
+abbrev pub NoneReady : Start → List Moment → Type 0
+NoneReady s log = AnyReady (world_of s log) → ⊥
 
--- A wait has ended at some point of the history: up to it what the lines before ask for was asked, and nothing else; there no
--- unit is ready, and none is out.
+-- so it is after a wait, unless the work was stopped
+abbrev pub WaitEnds : {X : Type 0} → Start → List Moment → Result X StepRefusal → Type 0
+WaitEnds s new (Ok x) = NoneReady s new
+WaitEnds s new (Err steps.Memory) = Unit {0}
+WaitEnds s new (Err steps.TurnsSpent) = Unit {0}
+WaitEnds s new (Err (steps.Refused refusal)) = HasStopped new
+
+-- as many elections were made as these lines ask for
+abbrev pub AreElected : List ScriptLine → List Moment → List Moment → Type 0
+AreElected lines old new = elections new ≡ elections old + failovers_of lines
+
+-- A wait has ended at some point of the history: up to it what the lines before ask for was asked, and nothing else, and as many
+-- elections were made; there no unit is ready, and none is out.
 pub record WaitEnded (s : Start) (moment : ℕ) (before : List ScriptLine) (old log : List Moment) : Type 0 where
   pub front : List Moment
   pub back : List Moment
   pub is : log ≡ front ++ back
   pub grew : GrewAsking s (steps_of moment before) old front
+  pub elected : AreElected before old front
   pub idle : IsIdle s front
 
 -- so has each wait among the lines
@@ -144,9 +144,9 @@ pub record AsksOnly (old new : List Moment) : Type 0 where
   pub is : new ≡ old ++ more
   pub all : AllAsk more
 
--- what a line adds, but for a check or a verification: a wait takes and steps of tickets alone, another what it asks for alone
+-- what a line adds, but for a check or a verification: a wait elections, takes and steps of tickets alone, another what it asks for alone
 abbrev pub AddsOnly : Item → List Moment → List Moment → Type 0
-AddsOnly items.Wait old new = WorksOnly old new
+AddsOnly items.Wait old new = WaitsOnly old new
 AddsOnly items.Check old new = Unit {0}
 AddsOnly items.Verify old new = Unit {0}
 AddsOnly item old new = AsksOnly old new
@@ -163,12 +163,12 @@ abbrev pub AreInParts : Start → ℕ → List ScriptLine → List Moment → Li
 AreInParts s moment [] old new = new ≡ old
 AreInParts s moment (line ∷ lines) old new = (mid : List Moment) × GrewAsking s (steps_of_item moment line.item) old mid × LinePart line.item old mid × AreInParts s moment lines mid new
 
--- and after these parts units were worked, and nothing else
+-- and after these parts is that of the last wait
 pub record AreParted (s : Start) (moment : ℕ) (lines : List ScriptLine) (old new : List Moment) : Type 0 where
   pub mid : List Moment
   pub parts : AreInParts s moment lines old mid
   pub grew : GrewAsking s [] mid new
-  pub works : WorksOnly mid new
+  pub waits : WaitsOnly mid new
 
 -- among what was added who 0 asked for commands only where no ticket was out
 pub record AskedApart (s : Start) (old new : List Moment) : Type 0 where
@@ -180,10 +180,15 @@ pub record AskedApart (s : Start) (old new : List Moment) : Type 0 where
 abbrev pub NoneOpen : Start → List Moment → Type 0
 NoneOpen s log = verify.IsIdle (caller_of s log)
 
+-- the next wait owes so many of the elections for which these lines ask; the others were made
+abbrev pub Owes : ℕ → List ScriptLine → List Moment → List Moment → Type 0
+Owes owed lines old new = elections new + owed ≡ elections old + failovers_of lines
+
 -- all lines were carried out, each in its part and asked where no ticket was out, each wait and each check has ended, no ticket is out,
 -- and no verification is open
-pub record AreMade (s : Start) (moment : ℕ) (lines : List ScriptLine) (old new : List Moment) : Type 0 where
+pub record AreMade (s : Start) (moment owed : ℕ) (lines : List ScriptLine) (old new : List Moment) : Type 0 where
   pub grew : GrewAsking s (steps_of moment lines) old new
+  pub elected : Owes owed lines old new
   pub waits : WaitsEnded s moment lines old new
   pub checks : ChecksEnded s moment lines old new
   pub parts : AreInParts s moment lines old new
@@ -191,9 +196,10 @@ pub record AreMade (s : Start) (moment : ℕ) (lines : List ScriptLine) (old new
   pub rests : AreIn s new
   pub closed : NoneOpen s new
 
--- and no unit is ready
+-- all elections were made, and no unit is ready
 pub record AreDone (s : Start) (moment : ℕ) (lines : List ScriptLine) (old new : List Moment) : Type 0 where
   pub grew : GrewAsking s (steps_of moment lines) old new
+  pub elected : AreElected lines old new
   pub waits : WaitsEnded s moment lines old new
   pub checks : ChecksEnded s moment lines old new
   pub parted : AreParted s moment lines old new
@@ -201,16 +207,17 @@ pub record AreDone (s : Start) (moment : ℕ) (lines : List ScriptLine) (old new
   pub idle : IsIdle s new
   pub closed : NoneOpen s new
 
--- all lines were asked, each check has ended, and no verification is open
-pub record AreAsked (s : Start) (moment : ℕ) (lines : List ScriptLine) (old new : List Moment) : Type 0 where
+-- all lines were asked and all elections made, but for those that the next wait owes, each check has ended, and no verification is open
+pub record AreAsked (s : Start) (moment owed : ℕ) (lines : List ScriptLine) (old new : List Moment) : Type 0 where
   pub grew : GrewAsking s (steps_of moment lines) old new
+  pub elected : Owes owed lines old new
   pub checks : ChecksEnded s moment lines old new
   pub closed : NoneOpen s new
 
--- the work was stopped, after which the further lines were asked all the same; or all turns were taken
-abbrev pub WasLeft : Start → ℕ → List ScriptLine → List Moment → List Moment → Type 0
-WasLeft s moment lines old new = (AreAsked s moment lines old new × WasStopped new) ⊎ (2 ^ 40 ≤ length new)
+-- the work was stopped, after which the further lines were asked all the same; or 2 ^ 33 entries were made
+abbrev pub WasLeft : Start → ℕ → ℕ → List ScriptLine → List Moment → List Moment → Type 0
+WasLeft s moment owed lines old new = (AreAsked s moment owed lines old new × WasStopped new) ⊎ (2 ^ 33 ≤ length new)
 
--- A record swap failed, and all lines were asked; or all turns were taken. For nothing else the work is left undone.
+-- A record swap failed, and all lines were asked and all elections made; or 2 ^ 33 entries were made. For nothing else the work is left undone.
 abbrev pub HasFallen : Start → ℕ → List ScriptLine → List Moment → List Moment → Type 0
-HasFallen s moment lines old new = (AreAsked s moment lines old new × SwapFailed new) ⊎ (2 ^ 40 ≤ length new)
+HasFallen s moment lines old new = (AreAsked s moment 0 lines old new × SwapFailed new) ⊎ (2 ^ 33 ≤ length new)

@@ -1,20 +1,20 @@
 -- That a run finds nothing damaged, and no name taken.
-use Rattle.std.specs.Prelude.{◌≡◌, List}
-use Rattle.esr_model.specs.Values.{Has, Formats}
+use Rattle.std.specs.Prelude.{List}
+use Rattle.esr_model.specs.Values.{Formats}
 use Rattle.esr_model.specs.Shelf.{Shelved}
 use Rattle.esr_core.specs.World.{World}
-use Rattle.esr_core.specs.Entry.{Why, PruneStep, DeleteFails, HasEnded, Moment}
+use Rattle.esr_core.specs.Entry.{Moment}
 use Rattle.esr_depot.specs.Look.{Look}
-use Rattle.esr_quiet.specs.Undamaged.{IsDamage, NoUnitFindsDamage, NoRestoreFindsDamage, NoCheckFindsDamage}
+use Rattle.esr_quiet.specs.Undamaged.{NoUnitFindsDamage, NoRestoreFindsDamage, NoDeleteFindsDamage, NoCheckFindsDamage}
 use Rattle.esr_quiet.specs.Untaken.{NoneTaken}
 use Rattle.esr_run.specs.Images.{Holds, HonestWork}
 
--- No unit of a snapshot or of a clone, no shard of a restore, no delete and no check failed for damage, and no commit of a ticket was
--- refused since its name was taken.
+-- No unit of a snapshot or of a clone, no shard of a restore, no delete before an election and no check failed for damage, and no commit
+-- of a ticket was refused since its name was taken.
 pub record FindsNoDamage (log : List Moment) : Type 0 where
   pub units : NoUnitFindsDamage log
   pub restores : NoRestoreFindsDamage log
-  pub deletes : (m : Moment) (why : Why) → Has log m → m.entry.step ≡ PruneStep (DeleteFails why) → m.entry.reply ≡ HasEnded → IsDamage why → ⊥
+  pub deletes : NoDeleteFindsDamage log
   pub checks : NoCheckFindsDamage log
   pub names : NoneTaken log
 

@@ -11,6 +11,7 @@ use Rattle.esr_verify.specs.Idle.{IsIdle}
 use Rattle.esr_verify.specs.Verified.{HasVerified}
 use Rattle.esr_verify.specs.Began.{IsFurther}
 use Rattle.esr_check.specs.Began.{IsOfCheck}
+use Rattle.esr_check.specs.First.{AreFirst}
 use Rattle.esr_run.specs.Checked.{AreChecked, NoCheckFails, HasLooked}
 
 -- each that ended well is whole, with the test blobs of so many workers: the steps up to its end, that among them, are just those of a good verification, from its draw on
@@ -34,6 +35,8 @@ pub record AreWhole (s : Start) (workers : ℕ) (checks : Bool) (log : List Mome
   pub begun : AreBegun checks log
   pub closed : AreClosed s log
   pub unchecked : checks ≡ false → NoCheckFails s log
+  -- each check that failed names the first blob that is damaged: all before it, in the order in which a check reads, agree
+  pub first : AreFirst s log
 
 -- and no verification is open, so that who 0 may begin one, or a check
 pub record MayVerify (s : Start) (workers : ℕ) (checks : Bool) (log : List Moment) : Type 0 where

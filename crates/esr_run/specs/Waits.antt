@@ -1,21 +1,44 @@
--- How often the lines of a script let takes find no unit ready.
-use Rattle.std.specs.Prelude.{ℕ, ◌+◌, ◌≤◌, List, [], ◌∷◌}
+-- How often the lines of a script let takes find no unit ready, and how many elections they ask for.
+use Rattle.std.specs.Prelude.{◌≡◌, ℕ, suc, ◌+◌, ◌≤◌, List, [], ◌∷◌, Result}
 use Rattle.esr_core.specs.Entry.{Moment}
 use Rattle.esr_script.specs.declared.item.Item.{Item}
 use Rattle.esr_script.specs.declared.item.Item.TheVariants as items
 use Rattle.esr_script.specs.declared.item.ScriptLine.{ScriptLine}
+use Rattle.esr_desk.specs.declared.refusal.StepRefusal.{StepRefusal}
 use Rattle.esr_drive.specs.Takes.{idle_takes}
+use Rattle.esr_drive.specs.Elections.{elections, HasElected}
 
--- whether a line waits: 1, or 0
-abbrev pub waits_in : Item → ℕ
-waits_in items.Wait = 1
-waits_in item = 0
+-- how many takes a line lets find no unit ready: a wait one for each worker
+abbrev pub waits_in : ℕ → Item → ℕ
+waits_in workers items.Wait = workers
+waits_in workers item = 0
 
--- how many of the lines wait
-abbrev pub waits_of : List ScriptLine → ℕ
-waits_of [] = 0
-waits_of (line ∷ lines) = waits_in line.item + waits_of lines
+abbrev pub waits_of : ℕ → List ScriptLine → ℕ
+waits_of workers [] = 0
+waits_of workers (line ∷ lines) = waits_in workers line.item + waits_of workers lines
 
--- takes found no unit ready at most once for each wait, and once at the end
-abbrev pub TakesFew : List ScriptLine → List Moment → Type 0
-TakesFew lines log = idle_takes log ≤ waits_of lines + 1
+-- whether a line asks for an election: 1, or 0
+abbrev pub failovers_in : Item → ℕ
+failovers_in items.Failover = 1
+failovers_in item = 0
+
+abbrev pub failovers_of : List ScriptLine → ℕ
+failovers_of [] = 0
+failovers_of (line ∷ lines) = failovers_in line.item + failovers_of lines
+
+-- how many elections the next wait makes after a line, by how many it would have made before it
+abbrev pub owed_after : Item → ℕ → ℕ
+owed_after items.Failover owed = suc owed
+owed_after items.Wait owed = 0
+owed_after item owed = owed
+
+-- what a line elects: a wait as often as it owes, another never
+abbrev pub LineElects : {X : Type 0} → ℕ → Item → List Moment → List Moment → Result X StepRefusal → Type 0
+LineElects owed items.Wait old new r = HasElected owed old new r
+LineElects owed item old new r = elections new ≡ elections old
+
+-- Takes found no unit ready at most once for each worker in each wait, and at the end; and at most as many elections were made as the
+-- lines ask for.
+pub record AreFew (workers : ℕ) (lines : List ScriptLine) (log : List Moment) : Type 0 where
+  pub takes : idle_takes log ≤ waits_of workers lines + workers
+  pub elects : elections log ≤ failovers_of lines

@@ -1,5 +1,5 @@
 //! The lines of a script are carried out, in order.
-ghost use Rattle.std.specs.Prelude.{◌≡◌, ◌⊎◌, ◌+◌, ◌<◌, ◌≤◌, ℕ, Bool, ◌^◌, ◌∷◌, ◌++◌, [], true, None, OnOk};
+ghost use Rattle.std.specs.Prelude.{◌≡◌, ◌⊎◌, ◌+◌, ◌<◌, ◌≤◌, ℕ, Bool, ◌^◌, ◌∷◌, ◌++◌, [], true, false, None, IfOk, OnOk, length};
 ghost use Rattle.esr_script.specs.declared.item.Item.TheVariants.{Wait, Check, Verify};
 ghost use Rattle.esr_core.specs.Entry.{Clone, DeleteSnapshots, Restore, DrawTest, AskStep, LookStep, ReadStep};
 ghost use Rattle.esr_core.specs.Restores.{AreOnce};
@@ -10,23 +10,28 @@ ghost use Rattle.esr_quiet.specs.Asked.{GrewAsking};
 ghost use Rattle.esr_quiet.specs.Numbers.{HasNoTickets};
 ghost use Rattle.esr_drive.specs.Outside.{IsOutside};
 ghost use Rattle.esr_drive.specs.Takes.{idle_takes};
-ghost use Rattle.esr_drive.specs.Works.{WorksOnly};
+ghost use Rattle.esr_drive.specs.Elections.{WaitsOnly, elections, HasElected};
+ghost use Rattle.esr_report.specs.Replies.{is_wait};
 ghost use Rattle.esr_complete.specs.Answers.{IsIdle};
 ghost use Rattle.esr_complete.specs.Lines.{command_of_line, steps_of_item, steps_of};
 ghost use Rattle.esr_run.specs.Made.{MadeFirst, HasStopped, WasLeft, NoneOpen, LineSpends, AreIn, LineMade, LineRests, WaitEnds, CheckEnds, VerifyBegins, AsksOnly, AddsOnly, AreMade, AreDone};
 ghost use Rattle.esr_run.specs.Checked.{is_check, asks_check};
 ghost use Rattle.esr_run.specs.Verified.{AreWhole, MayVerify, VerifiesOn};
-ghost use Rattle.esr_run.specs.Waits.{waits_in, waits_of};
+ghost use Rattle.esr_run.specs.Waits.{waits_in, waits_of, failovers_of, owed_after, LineElects};
 ghost use Rattle.esr_run.specs.Script.{is_askable, is_carried, first_bad};
 
 use crate::command::command_of;
+use crate::crew::work_crew;
 use crate::law::{steps_stay, work_leaves};
-use esr_desk::{Client, Desk, StepRefusal, UnitRefusal};
-use esr_drive::work;
+use crate::outside::{Crew, Outside};
+use esr_depot::Depot;
+use esr_desk::{Client, StepRefusal, UnitRefusal};
 use esr_names::{IndexNames, SnapName, SnapNames};
+use esr_repo::Told;
 use esr_script::{AskedIndex, Item, ScriptLine};
 use esr_seq::Text;
-use esr_source::{Gate, Sources, Target, Targets};
+use esr_solo::Solo;
+use esr_source::{Gate, Sources, Targets};
 use std::alloc::{AllocError, Global};
 
 /// Asks for a snapshot.
@@ -142,33 +147,6 @@ fn list<Q: Client>(alloc: Global, desk: &mut Q) -> Result<(), StepRefusal>
     Ok(())
 }
 
-/// Works all units that are ready.
-fn wait<Q: Desk<Shard = S::Shard, Target = T::Target>, S: Sources, T: Targets, G: Gate>(
-    alloc: Global,
-    desk: &mut Q,
-    sources: &S,
-    targets: &T,
-    gate: &G,
-    part_size: u64,
-) -> Result<(), StepRefusal>
-    requires outside { IsOutside Q.start (S.told sources.now) (T.told targets.now) part_size }
-    requires numbered { HasNoTickets Q.start }
-    requires tracked { ReadTracked Q.start.world }
-    requires ops { Tracked Q.start.world }
-    ensures made { LineMade Q.start [] (Q.seen desk.old) (Q.seen desk.new) result }
-    ensures rests { Q.start.alone ≡ true → AreIn Q.start (Q.seen desk.old) → LineRests Q.start (Q.seen desk.new) result }
-    ensures spent { Q.start.alone ≡ true → LineSpends (Q.seen desk.new) result }
-    ensures ended { Q.start.alone ≡ true → WaitEnds (Q.seen desk.new) result }
-    ensures verified { (workers : ℕ) (checks : Bool) → Q.start.alone ≡ true → MayVerify Q.start workers checks (Q.seen desk.old) → VerifiesOn Q.start workers checks (Q.seen desk.new) result }
-    ensures whole { (workers : ℕ) (checks : Bool) → Q.start.alone ≡ true → AreWhole Q.start workers checks (Q.seen desk.old) → AreWhole Q.start workers checks (Q.seen desk.new) }
-    ensures closed { Q.start.alone ≡ true → Legal Q.start (Q.seen desk.old) → NoneOpen Q.start (Q.seen desk.old) → NoneOpen Q.start (Q.seen desk.new) }
-    ensures takes { Q.start.alone ≡ true → idle_takes (Q.seen desk.new) ≤ idle_takes (Q.seen desk.old) + 1 }
-    ensures only { Q.start.alone ≡ true → WorksOnly (Q.seen desk.old) (Q.seen desk.new) }
-{
-    work_leaves();
-    work(alloc, desk, sources, targets, gate, part_size)
-}
-
 /// Verifies the container. A verification that fails is no reason to stop.
 fn verify<Q: Client>(alloc: Global, desk: &mut Q, workers: u32) -> Result<(), StepRefusal>
     requires alone { Q.start.alone ≡ true }
@@ -182,6 +160,7 @@ fn verify<Q: Client>(alloc: Global, desk: &mut Q, workers: u32) -> Result<(), St
     ensures rests { AreIn Q.start (Q.seen desk.old) → LineRests Q.start (Q.seen desk.new) result }
     ensures spent { LineSpends (Q.seen desk.new) result }
     ensures takes { idle_takes (Q.seen desk.new) ≡ idle_takes (Q.seen desk.old) }
+    ensures elects { elections (Q.seen desk.new) ≡ elections (Q.seen desk.old) }
     ensures begun { VerifyBegins (Q.seen desk.old) (Q.seen desk.new) result }
     ensures verified { (checks : Bool) → MayVerify Q.start workers checks (Q.seen desk.old) → VerifiesOn Q.start workers checks (Q.seen desk.new) result }
 {
@@ -204,6 +183,7 @@ fn check<Q: Client>(alloc: Global, desk: &mut Q) -> Result<(), StepRefusal>
     ensures rests { AreIn Q.start (Q.seen desk.old) → LineRests Q.start (Q.seen desk.new) result }
     ensures spent { LineSpends (Q.seen desk.new) result }
     ensures takes { idle_takes (Q.seen desk.new) ≡ idle_takes (Q.seen desk.old) }
+    ensures elects { elections (Q.seen desk.new) ≡ elections (Q.seen desk.old) }
     ensures checked { CheckEnds (Q.seen desk.old) (Q.seen desk.new) result }
     ensures verified { (workers : ℕ) → MayVerify Q.start workers true (Q.seen desk.old) → VerifiesOn Q.start workers true (Q.seen desk.new) result }
 {
@@ -216,33 +196,29 @@ fn check<Q: Client>(alloc: Global, desk: &mut Q) -> Result<(), StepRefusal>
     }
 }
 
-fn carry_line<Q: Client<Shard = S::Shard, Target = T::Target>, S: Sources, T: Targets, G: Gate>(
+/// Carries out a line that is no wait. A failover waits for the next one.
+fn carry_step<Q: Client>(
     alloc: Global,
     desk: &mut Q,
     item: &Item,
-    sources: &S,
-    targets: &T,
-    gate: &G,
-    part_size: u64,
     workers: u32,
     moment: u64,
 ) -> Result<(), StepRefusal>
     requires carried { is_carried item.now ≡ true }
+    requires other { is_wait item.now ≡ false }
     requires alone { Q.start.alone ≡ true }
     requires some { 0 < workers }
     requires few { workers ≤ 64 }
     requires idle { NoneOpen Q.start (Q.seen desk.old) }
     requires legal { Legal Q.start (Q.seen desk.old) }
-    requires outside { IsOutside Q.start (S.told sources.now) (T.told targets.now) part_size }
     requires numbered { HasNoTickets Q.start }
-    requires tracked { ReadTracked Q.start.world }
     requires ops { Tracked Q.start.world }
     ensures made { LineMade Q.start (steps_of_item moment item.now) (Q.seen desk.old) (Q.seen desk.new) result }
-    ensures rests { Q.start.alone ≡ true → AreIn Q.start (Q.seen desk.old) → LineRests Q.start (Q.seen desk.new) result }
-    ensures spent { Q.start.alone ≡ true → LineSpends (Q.seen desk.new) result }
+    ensures rests { AreIn Q.start (Q.seen desk.old) → LineRests Q.start (Q.seen desk.new) result }
+    ensures spent { LineSpends (Q.seen desk.new) result }
     ensures checked { item.now ≡ Check → CheckEnds (Q.seen desk.old) (Q.seen desk.new) result }
-    ensures ended { item.now ≡ Wait → Q.start.alone ≡ true → WaitEnds (Q.seen desk.new) result }
-    ensures takes { idle_takes (Q.seen desk.new) ≤ idle_takes (Q.seen desk.old) + waits_in item.now }
+    ensures takes { idle_takes (Q.seen desk.new) ≡ idle_takes (Q.seen desk.old) }
+    ensures elects { elections (Q.seen desk.new) ≡ elections (Q.seen desk.old) }
     ensures begun { item.now ≡ Verify → VerifyBegins (Q.seen desk.old) (Q.seen desk.new) result }
     ensures only { AddsOnly item.now (Q.seen desk.old) (Q.seen desk.new) }
     ensures verified { (checks : Bool) → (is_check item.now ≡ true → checks ≡ true) → MayVerify Q.start workers checks (Q.seen desk.old) → VerifiesOn Q.start workers checks (Q.seen desk.new) result }
@@ -256,119 +232,220 @@ fn carry_line<Q: Client<Shard = S::Shard, Target = T::Target>, S: Sources, T: Ta
         } => make_clone(alloc, desk, source, name, indices, moment),
         Item::Delete { names } => delete(alloc, desk, names),
         Item::Restore { name, place } => restore(alloc, desk, name, place),
-        Item::Wait => wait(alloc, desk, sources, targets, gate, part_size),
         Item::List => list(alloc, desk),
         Item::Check => check(alloc, desk),
         Item::Verify => verify(alloc, desk, workers),
-        _ => Ok(()),
+        Item::Failover => Ok(()),
+        Item::Cleanup => unreachable!("no cleanup is carried out"),
+        Item::Wait => unreachable!("a wait has a crew"),
     }
 }
 
-/// Carries out the lines. A refusal that the history tells is no reason to stop; none is carried out once the desk's turns
-/// are spent.
-fn carry_lines<Q: Client<Shard = S::Shard, Target = T::Target>, S: Sources, T: Targets, G: Gate>(
+/// Makes the elections of the wait, and works all units that are ready.
+fn wait<D: Depot, K: Told, S: Sources, T: Targets, G: Gate>(
     alloc: Global,
-    desk: &mut Q,
+    desk: Solo<D, K, S::Shard, T::Target>,
+    outside: &Outside<'_, S, T, G>,
+    crew: Crew,
+) -> (Solo<D, K, S::Shard, T::Target>, Result<(), StepRefusal>)
+    requires alone { K.start.alone ≡ true }
+    requires some { 0 < crew.workers }
+    requires few { crew.workers ≤ 64 }
+    requires legal { Legal K.start desk }
+    requires outside { IsOutside K.start (S.told outside.now.sources.now) (T.told outside.now.targets.now) outside.now.part_size }
+    requires tracked { ReadTracked K.start.world }
+    requires ops { Tracked K.start.world }
+    ensures made { LineMade K.start [] desk result.0 result.1 }
+    ensures rests { AreIn K.start desk → LineRests K.start result.0 result.1 }
+    ensures spent { LineSpends result.0 result.1 }
+    ensures ended { WaitEnds K.start result.0 result.1 }
+    ensures verified { (checks : Bool) → MayVerify K.start crew.workers checks desk → VerifiesOn K.start crew.workers checks result.0 result.1 }
+    ensures whole { (workers : ℕ) (checks : Bool) → AreWhole K.start workers checks desk → AreWhole K.start workers checks result.0 }
+    ensures closed { NoneOpen K.start desk → NoneOpen K.start result.0 }
+    ensures takes { idle_takes result.0 ≤ idle_takes desk + crew.workers }
+    ensures elects { HasElected crew.elections desk result.0 result.1 }
+    ensures only { WaitsOnly desk result.0 }
+{
+    work_leaves();
+    work_crew(alloc, desk, outside, crew)
+}
+
+fn is_wait(item: &Item) -> bool
+    ensures { result ≡ is_wait item.now }
+{
+    matches!(item, Item::Wait)
+}
+
+/// Carries out a line: a wait with the crew.
+fn carry_line<D: Depot, K: Told, S: Sources, T: Targets, G: Gate>(
+    alloc: Global,
+    desk: Solo<D, K, S::Shard, T::Target>,
+    item: &Item,
+    outside: &Outside<'_, S, T, G>,
+    crew: Crew,
+    moment: u64,
+) -> (Solo<D, K, S::Shard, T::Target>, Result<(), StepRefusal>)
+    requires carried { is_carried item.now ≡ true }
+    requires alone { K.start.alone ≡ true }
+    requires some { 0 < crew.workers }
+    requires few { crew.workers ≤ 64 }
+    requires idle { NoneOpen K.start desk }
+    requires legal { Legal K.start desk }
+    requires outside { IsOutside K.start (S.told outside.now.sources.now) (T.told outside.now.targets.now) outside.now.part_size }
+    requires numbered { HasNoTickets K.start }
+    requires tracked { ReadTracked K.start.world }
+    requires ops { Tracked K.start.world }
+    ensures made { LineMade K.start (steps_of_item moment item.now) desk result.0 result.1 }
+    ensures rests { AreIn K.start desk → LineRests K.start result.0 result.1 }
+    ensures spent { LineSpends result.0 result.1 }
+    ensures checked { item.now ≡ Check → CheckEnds desk result.0 result.1 }
+    ensures ended { item.now ≡ Wait → WaitEnds K.start result.0 result.1 }
+    ensures takes { idle_takes result.0 ≤ idle_takes desk + waits_in crew.workers item.now }
+    ensures elects { LineElects crew.elections item.now desk result.0 result.1 }
+    ensures begun { item.now ≡ Verify → VerifyBegins desk result.0 result.1 }
+    ensures only { AddsOnly item.now desk result.0 }
+    ensures verified { (checks : Bool) → (is_check item.now ≡ true → checks ≡ true) → MayVerify K.start crew.workers checks desk → VerifiesOn K.start crew.workers checks result.0 result.1 }
+{
+    if is_wait(item) {
+        return wait(alloc, desk, outside, crew);
+    }
+    let mut desk = desk;
+    let answer = carry_step(alloc, &mut desk, item, crew.workers, moment);
+    (desk, answer)
+}
+
+/// A count is below 2 ^ 64.
+fn is_count(_n: usize)
+    ensures { _n < 2 ^ 64 }
+{}
+
+/// How many elections the next wait makes after a line.
+fn owed_after(item: &Item, owed: u64) -> u64
+    requires fits { owed + 1 < 2 ^ 64 }
+    ensures { result ≡ owed_after item.now owed }
+{
+    match item {
+        Item::Failover => owed + 1,
+        Item::Wait => 0,
+        _ => owed,
+    }
+}
+
+/// Carries out the lines, and answers how many elections the next wait makes. A refusal that the history tells is no reason to
+/// stop; none is carried out once the desk's turns are spent.
+fn carry_lines<D: Depot, K: Told, S: Sources, T: Targets, G: Gate>(
+    alloc: Global,
+    desk: Solo<D, K, S::Shard, T::Target>,
     lines: &[ScriptLine],
-    sources: &S,
-    targets: &T,
-    gate: &G,
-    part_size: u64,
+    outside: &Outside<'_, S, T, G>,
     workers: u32,
     moment: u64,
-) -> Result<(), AllocError>
+) -> (Solo<D, K, S::Shard, T::Target>, Result<u64, AllocError>)
     requires carried { first_bad lines.now ≡ None }
-    requires alone { Q.start.alone ≡ true }
+    requires alone { K.start.alone ≡ true }
     requires some { 0 < workers }
     requires few { workers ≤ 64 }
-    requires may { MayVerify Q.start workers (asks_check lines.now) (Q.seen desk.old) }
-    requires outside { IsOutside Q.start (S.told sources.now) (T.told targets.now) part_size }
-    requires numbered { HasNoTickets Q.start }
-    requires tracked { ReadTracked Q.start.world }
-    requires ops { Tracked Q.start.world }
-    ensures made { MadeFirst Q.start (steps_of moment lines.now) (Q.seen desk.old) (Q.seen desk.new) }
-    ensures rests { OnOk result (Q.start.alone ≡ true → AreIn Q.start (Q.seen desk.old) → AreMade Q.start moment lines.now (Q.seen desk.old) (Q.seen desk.new) ⊎ WasLeft Q.start moment lines.now (Q.seen desk.old) (Q.seen desk.new)) }
-    ensures whole { AreWhole Q.start workers (asks_check lines.now) (Q.seen desk.new) }
-    ensures takes { idle_takes (Q.seen desk.new) ≤ idle_takes (Q.seen desk.old) + waits_of lines.now }
+    requires may { MayVerify K.start workers (asks_check lines.now) desk }
+    requires outside { IsOutside K.start (S.told outside.now.sources.now) (T.told outside.now.targets.now) outside.now.part_size }
+    requires numbered { HasNoTickets K.start }
+    requires tracked { ReadTracked K.start.world }
+    requires ops { Tracked K.start.world }
+    ensures made { MadeFirst K.start (steps_of moment lines.now) desk result.0 }
+    ensures rests { IfOk result.1 (λ owed. AreIn K.start desk → AreMade K.start moment owed lines.now desk result.0 ⊎ WasLeft K.start moment owed lines.now desk result.0) }
+    ensures whole { AreWhole K.start workers (asks_check lines.now) result.0 }
+    ensures takes { idle_takes result.0 ≤ idle_takes desk + waits_of workers lines.now }
+    ensures owes { IfOk result.1 (λ owed. elections result.0 + owed ≤ elections desk + failovers_of lines.now) }
+    ensures elects { elections result.0 ≤ elections desk + failovers_of lines.now }
 {
+    is_count(lines.len());
+    let mut desk = desk;
+    let mut owed: u64 = 0;
     let mut left = lines;
     while let [line, rest @ ..] = left {
-        match carry_line(
-            alloc, desk, &line.item, sources, targets, gate, part_size, workers, moment,
-        ) {
+        let crew = Crew {
+            workers,
+            elections: owed,
+        };
+        let (after, answer) = carry_line(alloc, desk, &line.item, outside, crew, moment);
+        desk = after;
+        match answer {
             Ok(()) => {}
-            Err(StepRefusal::Refused(_)) => {}
-            Err(StepRefusal::Memory) => return Err(AllocError),
-            Err(StepRefusal::TurnsSpent) => return Ok(()),
+            Err(refusal) => match refusal {
+                StepRefusal::Refused(_) => {}
+                StepRefusal::Memory => return (desk, Err(AllocError)),
+                StepRefusal::TurnsSpent => return (desk, Ok(0)),
+            },
         }
+        owed = owed_after(&line.item, owed);
         left = rest;
     }
-    Ok(())
+    (desk, Ok(owed))
 }
 
-/// Works all units that are ready after the last line.
-fn work_out<Q: Desk<Shard = S::Shard, Target = T::Target>, S: Sources, T: Targets, G: Gate>(
+/// The wait at the script's end.
+fn work_out<D: Depot, K: Told, S: Sources, T: Targets, G: Gate>(
     alloc: Global,
-    desk: &mut Q,
-    sources: &S,
-    targets: &T,
-    gate: &G,
-    part_size: u64,
-) -> Result<(), AllocError>
-    requires outside { IsOutside Q.start (S.told sources.now) (T.told targets.now) part_size }
-    requires numbered { HasNoTickets Q.start }
-    requires tracked { ReadTracked Q.start.world }
-    requires ops { Tracked Q.start.world }
-    ensures grew { GrewAsking Q.start [] (Q.seen desk.old) (Q.seen desk.new) }
-    ensures done { OnOk result (Q.start.alone ≡ true → AreIn Q.start (Q.seen desk.old) → IsIdle Q.start (Q.seen desk.new) ⊎ HasStopped (Q.seen desk.new)) }
-    ensures whole { (workers : ℕ) (checks : Bool) → Q.start.alone ≡ true → AreWhole Q.start workers checks (Q.seen desk.old) → AreWhole Q.start workers checks (Q.seen desk.new) }
-    ensures closed { Q.start.alone ≡ true → Legal Q.start (Q.seen desk.old) → NoneOpen Q.start (Q.seen desk.old) → NoneOpen Q.start (Q.seen desk.new) }
-    ensures takes { Q.start.alone ≡ true → idle_takes (Q.seen desk.new) ≤ idle_takes (Q.seen desk.old) + 1 }
-    ensures only { Q.start.alone ≡ true → WorksOnly (Q.seen desk.old) (Q.seen desk.new) }
+    desk: Solo<D, K, S::Shard, T::Target>,
+    outside: &Outside<'_, S, T, G>,
+    crew: Crew,
+) -> (Solo<D, K, S::Shard, T::Target>, Result<(), AllocError>)
+    requires alone { K.start.alone ≡ true }
+    requires some { 0 < crew.workers }
+    requires few { crew.workers ≤ 64 }
+    requires legal { Legal K.start desk }
+    requires outside { IsOutside K.start (S.told outside.now.sources.now) (T.told outside.now.targets.now) outside.now.part_size }
+    requires tracked { ReadTracked K.start.world }
+    requires ops { Tracked K.start.world }
+    ensures grew { GrewAsking K.start [] desk result.0 }
+    ensures done { OnOk result.1 (AreIn K.start desk → IsIdle K.start result.0 ⊎ HasStopped result.0) }
+    ensures whole { (workers : ℕ) (checks : Bool) → AreWhole K.start workers checks desk → AreWhole K.start workers checks result.0 }
+    ensures closed { NoneOpen K.start desk → NoneOpen K.start result.0 }
+    ensures takes { idle_takes result.0 ≤ idle_takes desk + crew.workers }
+    ensures elected { OnOk result.1 ((elections result.0 ≡ elections desk + crew.elections) ⊎ (2 ^ 33 ≤ length result.0)) }
+    ensures elects { elections result.0 ≤ elections desk + crew.elections }
+    ensures only { WaitsOnly desk result.0 }
 {
-    match wait(alloc, desk, sources, targets, gate, part_size) {
-        Ok(()) => Ok(()),
-        Err(StepRefusal::Memory) => Err(AllocError),
-        Err(StepRefusal::TurnsSpent) => Ok(()),
-        Err(StepRefusal::Refused(_)) => Ok(()),
+    let (desk, answer) = wait(alloc, desk, outside, crew);
+    match answer {
+        Ok(()) => (desk, Ok(())),
+        Err(refusal) => match refusal {
+            StepRefusal::Memory => (desk, Err(AllocError)),
+            StepRefusal::TurnsSpent => (desk, Ok(())),
+            StepRefusal::Refused(_) => (desk, Ok(())),
+        },
     }
 }
 
 /// Carries out the lines, and works all units that are ready then.
-pub(crate) fn carry<
-    Q: Client<Shard = S::Shard, Target = T::Target>,
-    S: Sources,
-    T: Targets,
-    G: Gate,
->(
+pub(crate) fn carry<D: Depot, K: Told, S: Sources, T: Targets, G: Gate>(
     alloc: Global,
-    desk: &mut Q,
+    desk: Solo<D, K, S::Shard, T::Target>,
     lines: &[ScriptLine],
-    sources: &S,
-    targets: &T,
-    gate: &G,
-    part_size: u64,
+    outside: &Outside<'_, S, T, G>,
     workers: u32,
     moment: u64,
-) -> Result<(), AllocError>
+) -> (Solo<D, K, S::Shard, T::Target>, Result<(), AllocError>)
     requires carried { first_bad lines.now ≡ None }
-    requires alone { Q.start.alone ≡ true }
+    requires alone { K.start.alone ≡ true }
     requires some { 0 < workers }
     requires few { workers ≤ 64 }
-    requires may { MayVerify Q.start workers (asks_check lines.now) (Q.seen desk.old) }
-    requires outside { IsOutside Q.start (S.told sources.now) (T.told targets.now) part_size }
-    requires numbered { HasNoTickets Q.start }
-    requires tracked { ReadTracked Q.start.world }
-    requires ops { Tracked Q.start.world }
-    ensures made { MadeFirst Q.start (steps_of moment lines.now) (Q.seen desk.old) (Q.seen desk.new) }
-    ensures done { OnOk result (Q.start.alone ≡ true → AreIn Q.start (Q.seen desk.old) → AreDone Q.start moment lines.now (Q.seen desk.old) (Q.seen desk.new) ⊎ WasLeft Q.start moment lines.now (Q.seen desk.old) (Q.seen desk.new)) }
-    ensures whole { AreWhole Q.start workers (asks_check lines.now) (Q.seen desk.new) }
-    ensures takes { idle_takes (Q.seen desk.new) ≤ idle_takes (Q.seen desk.old) + (waits_of lines.now + 1) }
+    requires may { MayVerify K.start workers (asks_check lines.now) desk }
+    requires outside { IsOutside K.start (S.told outside.now.sources.now) (T.told outside.now.targets.now) outside.now.part_size }
+    requires numbered { HasNoTickets K.start }
+    requires tracked { ReadTracked K.start.world }
+    requires ops { Tracked K.start.world }
+    ensures made { MadeFirst K.start (steps_of moment lines.now) desk result.0 }
+    ensures done { OnOk result.1 (AreIn K.start desk → AreDone K.start moment lines.now desk result.0 ⊎ WasLeft K.start moment 0 lines.now desk result.0) }
+    ensures whole { AreWhole K.start workers (asks_check lines.now) result.0 }
+    ensures takes { idle_takes result.0 ≤ idle_takes desk + (waits_of workers lines.now + workers) }
+    ensures elects { elections result.0 ≤ elections desk + failovers_of lines.now }
 {
-    match carry_lines(
-        alloc, desk, lines, sources, targets, gate, part_size, workers, moment,
-    ) {
-        Ok(()) => work_out(alloc, desk, sources, targets, gate, part_size),
-        Err(AllocError) => Err(AllocError),
+    let (desk, owed) = carry_lines(alloc, desk, lines, outside, workers, moment);
+    match owed {
+        Ok(elections) => {
+            let crew = Crew { workers, elections };
+            work_out(alloc, desk, outside, crew)
+        }
+        Err(AllocError) => (desk, Err(AllocError)),
     }
 }

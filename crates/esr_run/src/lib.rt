@@ -4,11 +4,13 @@
 mod asked;
 mod carry;
 mod command;
+mod crew;
 mod ended;
 mod fault;
 mod law;
 mod line;
 mod memory;
+mod outside;
 mod read;
 mod stop;
 mod unopened;

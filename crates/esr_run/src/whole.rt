@@ -30,7 +30,7 @@ ghost use Rattle.esr_run.specs.Causes.{Given, IsReadFor, IsTold, IsVerdict, IsUn
 ghost use Rattle.esr_core.specs.World.{no_caller};
 ghost use Rattle.esr_run.specs.Checked.{asks_check};
 ghost use Rattle.esr_run.specs.Verified.{AreWhole};
-ghost use Rattle.esr_run.specs.Waits.{TakesFew};
+ghost use Rattle.esr_run.specs.Waits.{AreFew};
 ghost use Rattle.esr_run.specs.Made.{MadeFirst, HasFallen, HasNoReaders, AreDone};
 
 use crate::asked::{Asked, asked_for};
@@ -38,6 +38,7 @@ use crate::carry::carry;
 use crate::ended::Ended;
 use crate::fault::{faults_of, room_for_one};
 use crate::law::{kept_laws, laws, only_now, quiet_laws, refusals};
+use crate::outside::Outside;
 use crate::stop::Stop;
 use crate::unopened::{ended_at, stop_of};
 use crate::verdict::{Verdict, print_verdict, reported, wanting};
@@ -131,23 +132,19 @@ fn carry_on<D: Depot, S: Sources, T: Targets, G: Gate, K: Told>(
     ensures made { MadeFirst K.start (steps_of moment asked.now.script) [] result.repo }
     ensures done { OnOk result.carried (AreDone K.start moment asked.now.script [] result.repo ⊎ HasFallen K.start moment asked.now.script [] result.repo) }
     ensures whole { AreWhole K.start asked.now.workers (asks_check asked.now.script) result.repo }
-    ensures takes { TakesFew asked.now.script result.repo }
+    ensures few { AreFew asked.now.workers asked.now.script result.repo }
     ensures restored { AreTargetsOf (evidence D.Stage.faults D.Fetch.faults S.Shard.faults T.Target.faults S.Shard.told T.Target.told) K.start result.repo result.restored }
 {
     refusals();
-    let mut desk = Solo::<D, K, S::Shard, T::Target>::new(alloc, repo);
+    let desk = Solo::<D, K, S::Shard, T::Target>::new(alloc, repo);
     let lines = asked.script.as_slice();
-    let carried = carry(
-        alloc,
-        &mut desk,
-        lines,
+    let outside = Outside {
         sources,
         targets,
         gate,
-        asked.part_size,
-        asked.workers,
-        moment,
-    );
+        part_size: asked.part_size,
+    };
+    let (desk, carried) = carry(alloc, desk, lines, &outside, asked.workers, moment);
     let (repo, faults, restored) = desk.into_parts();
     Work {
         repo,
@@ -195,7 +192,7 @@ fn run_told<D: Depot, S: Sources, T: Targets, G: Gate, K: Told>(
     ensures done { (result.0.verdict.status ≡ 8) ⊎ (AreDone K.start moment asked.now.script [] (log_of (D.look result.0.depot) K.clock result.0.history) ⊎ HasFallen K.start moment asked.now.script []
         (log_of (D.look result.0.depot) K.clock result.0.history)) }
     ensures verified { AreWhole K.start asked.now.workers (asks_check asked.now.script) (log_of (D.look result.0.depot) K.clock result.0.history) }
-    ensures takes { TakesFew asked.now.script (log_of (D.look result.0.depot) K.clock result.0.history) }
+    ensures few { AreFew asked.now.workers asked.now.script (log_of (D.look result.0.depot) K.clock result.0.history) }
     ensures told { IsTold result.0.verdict.status result.0.verdict.text (Some (Carried asked.now.script result.0.history)) }
     ensures restored { (result.0.verdict.status ≡ 8) ⊎ AreTargetsOfLines (evidence D.Stage.faults D.Fetch.faults S.Shard.faults T.Target.faults S.Shard.told T.Target.told)
         K.start moment asked.now.script (log_of (D.look result.0.depot) K.clock result.0.history) result.0.targets }
@@ -318,7 +315,8 @@ fn carry_out<D: Depot, S: Sources, T: Targets, G: Gate, I: Lines>(
 /// Carries out the script for which the words ask, or the one command, as a script of that line, on a container into which
 /// nothing was written, or one that an earlier run left, and prints what each line was answered. The script is read to its
 /// end where the words ask for one, and else not at all. `moment` is the time of the snapshots, in milliseconds. The files of
-/// restores go into `targets`; the shards that were restored come back in the result, by line, index and shard.
+/// restores go into `targets`; the shards that were restored come back in the result, by line, index and shard. One
+/// thread works, whatever number of workers the words ask for: a verification writes a test blob for each.
 pub fn run<D: Depot, S: Sources, T: Targets, G: Gate, I: Lines, O: Out>(
     alloc: Global,
     words: &Words,

@@ -1,15 +1,16 @@
 -- The targets of restores are listed as the history goes on.
-use Rattle.std.proofs.Common.{◌≡◌, ℕ, List, [], ◌∷◌, ◌++◌, Result, Ok, Err, refl, sym, ap, ◌∙◌, subst, append-nil, append_assoc}
+use Rattle.std.proofs.Common.{◌≡◌, ℕ, List, [], ◌∷◌, ◌++◌, Result, Ok, Err, OnOk, OnErr, refl, sym, ap, ◌∙◌, subst, append-nil, append_assoc}
 use Rattle.esr_model.specs.Image.{AllPairs}
 use Rattle.esr_core.specs.Entry.{RestoredShard, Step, ReadStep, Reply, Refused, HasEnded, Moment}
 use Rattle.esr_desk.specs.declared.target.RestoredTarget.{RestoredTarget}
+use Rattle.esr_desk.specs.declared.target.Unended.{Unended}
 use Rattle.esr_desk.specs.declared.refusal.StepRefusal.{StepRefusal}
 use Rattle.esr_desk.specs.declared.refusal.StepRefusal.TheVariants as steps
 use Rattle.esr_desk.specs.Refusals.{refusal_of}
 use Rattle.esr_desk.specs.Start.{Start}
 use Rattle.esr_desk.specs.Own.{reader_of}
 use Rattle.esr_desk.specs.Evidence.{Evidence}
-use Rattle.esr_desk.specs.Restore.Targets.{IsFilled, Restoration, restorations_by, restorations_in, IsTargetOf, AreTargetsOf}
+use Rattle.esr_desk.specs.Restore.Targets.{IsFilled, refused_of, Restoration, restorations_by, restorations_in, IsTargetOf, AreTargetsOf}
 use Rattle.esr_repo.specs.Next.{Added, AddedOr, Did}
 use Rattle.esr_solo.specs.Kept.{targets_by}
 
@@ -72,3 +73,13 @@ module _ {S F H T : Type 0} (e : Evidence S F H T) (s : Start) where
 
   pub same_targets : (log : List Moment) (targets same : List (RestoredTarget T)) → same ≡ targets → AreTargetsOf e s log targets → AreTargetsOf e s log same
   same_targets log targets same is h = subst (λ (l : List (RestoredTarget T)). AreTargetsOf e s log l) (sym is) h
+
+-- ---- what the step was answered
+
+pub ok_listed : {T : Type 0} (r : Result Unit (Unended T)) (answer : Result Unit StepRefusal) (P : Type 0) → refused_of r ≡ answer → OnOk answer P → OnOk r P
+ok_listed (Ok x) answer P is h = subst (λ (a : Result Unit StepRefusal). OnOk a P) (sym is) h
+ok_listed (Err u) answer P is h = tt
+
+pub err_listed : {T : Type 0} (r : Result Unit (Unended T)) (answer : Result Unit StepRefusal) (P : Type 0) → refused_of r ≡ answer → OnErr answer P → OnErr r P
+err_listed (Ok x) answer P is h = tt
+err_listed (Err u) answer P is h = subst (λ (a : Result Unit StepRefusal). OnErr a P) (sym is) h

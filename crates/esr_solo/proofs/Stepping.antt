@@ -35,17 +35,17 @@ use Rattle.esr_solo.proofs.Removing.{RemovesBy, removed_did}
 
 -- nothing was added
 pub waited : (s : Start) (own log : List Moment) (who : ℕ) → own ≡ log → Legal s own → Waited s log log who
-waited s own log who e l = record { others = []; grew = sym (append-nil log); alone = refl; besides = λ some m other by made. other; nobody = λ alone. refl; legal = subst (Legal s) e l }
+waited s own log who e l = record { others = []; grew = sym (append-nil log); alone = λ some. refl; besides = λ some m other by made. other; nobody = λ alone. refl; legal = subst (Legal s) e l }
 
 pub waited_as : (s : Start) (own log : List Moment) (who : ℕ) → own ≡ log → Legal s own → Waited s log own who
 waited_as s own log who e l = subst (λ (x : List Moment). Waited s log x who) (sym e) (waited s own log who e l)
 
 -- all turns were taken
-all_taken : (n left all : ℕ) → n + left ≡ all → left ≡ 0 → all ≤ n
-all_taken n left all e none = omega (arith, e, none)
+all_taken : (n left : ℕ) → n + left ≡ 2 ^ 40 → left ≡ 0 → 2 ^ 33 ≤ n
+all_taken n left e none = omega (arith, e, none)
 
-pub spends : (s : Start) (own log : List Moment) (left : ℕ) → own ≡ log → length own + left ≡ 2 ^ 40 → left ≡ 0 → s.alone ≡ true → 2 ^ 40 ≤ length log
-spends s own log left view turns none = λ alone. subst (λ (l : List Moment). 2 ^ 40 ≤ length l) view (all_taken (length own) left (2 ^ 40) turns none)
+pub spends : (s : Start) (own log : List Moment) (left : ℕ) → own ≡ log → length own + left ≡ 2 ^ 40 → left ≡ 0 → 2 ^ 33 ≤ length log
+spends s own log left view turns none = subst (λ (l : List Moment). 2 ^ 33 ≤ length l) view (all_taken (length own) left turns none)
 
 stepped : (s : Start) (own log new : List Moment) (who : ℕ) (step : Step) (reply : Reply) → own ≡ log → Legal s own → Added s own new who step reply → Stepped s log new who step reply
 stepped s own log new who step reply e l a =

@@ -1,5 +1,5 @@
 //! The steps that work on the repository: each is that of the repository, while turns are left.
-ghost use Rattle.std.specs.Prelude.{◌≡◌, false, OnOk, OnErr};
+ghost use Rattle.std.specs.Prelude.{◌≡◌, false, IfErr, OnOk, OnErr};
 ghost use Rattle.esr_core.specs.Entry.{ReadStep, RestoredShard, HasEnded};
 ghost use Rattle.esr_desk.specs.Entries.{why_of};
 ghost use Rattle.esr_desk.specs.Own.{reader_of, own_of};
@@ -8,7 +8,7 @@ ghost use Rattle.esr_desk.specs.Evidence.{evidence};
 ghost use Rattle.esr_desk.specs.Hands.{fail_step, MayFail, own_failed};
 ghost use Rattle.esr_desk.specs.Outcome.{Outcome};
 ghost use Rattle.esr_desk.specs.Restore.Conditions.{CanEndRestore};
-ghost use Rattle.esr_desk.specs.Restore.Targets.{IsFilled};
+ghost use Rattle.esr_desk.specs.Restore.Targets.{IsFilled, refused_of};
 ghost use Rattle.esr_desk.specs.Shown.{IsShown};
 
 use crate::Solo;
@@ -16,7 +16,8 @@ use crate::kept::{keep, list};
 use crate::solo::{TURNS, turns};
 use esr_depot::{Commit, Depot};
 use esr_desk::{
-    By, Desk, Hand, Named, Planned, RestoredTarget, StepRefusal, Unit, Why, each_ticket_is_new,
+    By, Desk, Hand, Named, Planned, RestoredTarget, StepRefusal, Unended, Unit, Why,
+    each_ticket_is_new,
 };
 use esr_names::{BlobName, Id, Ids};
 use esr_repo::Told;
@@ -276,31 +277,31 @@ impl<D: Depot, K: Told, H: Shard, T: Target> Desk for Solo<D, K, H, T> {
         files: u64,
         bytes: u64,
         target: RestoredTarget<T>,
-    ) -> Result<(), StepRefusal>
+    ) -> Result<(), Unended<T>>
         requires mine { HasTaken (calls_at 0 self.old) ticket }
         requires may { CanEndRestore K.start (reader_of K.start self.old ticket) files bytes }
         requires filled { IsFilled (evidence D.Stage.faults D.Fetch.faults H.faults T.faults H.told T.told)
             K.start (reader_of K.start self.old ticket) files bytes target }
-        ensures step { Outcome K.start self.old self.new ticket (ReadStep (RestoredShard files bytes)) (λ _. HasEnded) result }
+        ensures step { Outcome K.start self.old self.new ticket (ReadStep (RestoredShard files bytes)) (λ _. HasEnded) (refused_of result) }
         ensures own { OnOk result (reader_of K.start self.new ticket
             ≡ record (reader_of K.start self.old ticket) { out = false }) }
         ensures kept { OnErr result (reader_of K.start self.new ticket ≡ reader_of K.start self.old ticket) }
+        ensures target { IfErr result (λ u. u.target ≡ target) }
         ensures calls { calls_at 0 self.new ≡ calls_at 0 self.old }
     {
         self.repo.is_legal();
         if self.left == 0 {
-            drop(target);
-            return Err(StepRefusal::TurnsSpent);
+            let refusal = StepRefusal::TurnsSpent;
+            return Err(Unended { refusal, target });
         }
         if self.targets.reserve(1).is_err() {
-            drop(target);
-            return Err(StepRefusal::Memory);
+            let refusal = StepRefusal::Memory;
+            return Err(Unended { refusal, target });
         }
         let answer = self.repo.end_restore(alloc, ticket, files, bytes);
         self.left -= turns(&answer);
         self.repo.grounds();
-        list(&mut self.targets, target, &answer);
-        answer
+        list(&mut self.targets, target, answer)
     }
 
     fn end_delete(&mut self, alloc: Global, ticket: u64) -> Result<(), StepRefusal> {

@@ -37,6 +37,7 @@ fn is_line_ask(step: &Step) -> bool
 {
     match step {
         Step::Take => false,
+        Step::Elect => false,
         Step::Read { read } => matches!(read, Read::DrawTest),
         _ => true,
     }

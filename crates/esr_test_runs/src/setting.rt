@@ -133,9 +133,13 @@ pub fn sources_of(alloc: Global, lines: &str, failing: Failing) -> Result<MemSou
     Ok(MemSources::new(shards, plan))
 }
 
-/// The words of a line.
+/// The words of a line. One worker does the work, unless they say how many.
 fn words_of(alloc: Global, line: &str) -> Result<Words, AllocError> {
     let mut words = Seq::new(alloc);
+    if !line.contains("--workers") {
+        words.push(Text::from_str(alloc, "--workers")?)?;
+        words.push(Text::from_str(alloc, "1")?)?;
+    }
     for word in line.split_whitespace() {
         words.push(Text::from_str(alloc, word)?)?;
     }

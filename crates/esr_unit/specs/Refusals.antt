@@ -20,7 +20,7 @@ use Rattle.esr_desk.specs.Refusals.{refusal_of}
 use Rattle.esr_desk.specs.Start.{Start, Legal, formats_of, world_of, ticket_of}
 use Rattle.esr_desk.specs.Own.{reader_of}
 use Rattle.esr_desk.specs.Outcome.{Stepped, Grounds}
-use Rattle.esr_desk.specs.Made.{own_made}
+use Rattle.esr_desk.specs.Made.{own_made, made_last}
 use Rattle.esr_desk.specs.Conditions.{CanFinish}
 use Rattle.esr_desk.specs.Evidence.{Evidence, HadReply}
 use Rattle.esr_desk.specs.Unit.Shown.{Matters}
@@ -132,28 +132,20 @@ stepped_had s old new who step reply h =
     let last : Moment = record { entry = record { who = who; step = step; reply = reply }; image = h.image } in
     record { image = h.image; there = subst (λ (log : List Moment). Has log last) (sym h.is) (has_last h.front last) }
 
-never_anew : (who : ℕ) (step : Step) → IsSwap step → begins_anew who step ≡ false
-never_anew who RaiseStep is = plain who
-  where
-    plain : (who : ℕ) → begins_anew who RaiseStep ≡ false
-    plain zero = refl
-    plain (suc k) = refl
-never_anew who SettleStep is = plain who
-  where
-    plain : (who : ℕ) → begins_anew who SettleStep ≡ false
-    plain zero = refl
-    plain (suc k) = refl
-never_anew who DroppedStep is = plain who
-  where
-    plain : (who : ℕ) → begins_anew who DroppedStep ≡ false
-    plain zero = refl
-    plain (suc k) = refl
-never_anew who (PruneStep prune) is = plain who
-  where
-    plain : (who : ℕ) → begins_anew who (PruneStep prune) ≡ false
-    plain zero = refl
-    plain (suc k) = refl
-never_anew who step is = absurd is
+never_anew : (who : ℕ) (step : Step) → IsWork step → begins_anew who step ≡ false
+never_anew (suc k) step is = refl
+never_anew zero (DrawStep count) is = refl
+never_anew zero (BeginStep name) is = refl
+never_anew zero (CommitStep name) is = refl
+never_anew zero LatestStep is = refl
+never_anew zero (FetchStep name) is = refl
+never_anew zero ListStep is = refl
+never_anew zero RaiseStep is = refl
+never_anew zero SettleStep is = refl
+never_anew zero DroppedStep is = refl
+never_anew zero (ReadStep (ReadBlob name)) is = refl
+never_anew zero (PruneStep prune) is = refl
+never_anew zero step is = absurd is
 
 -- the ticket is out, and no shard's
 pub record IsMasterOut (s : Start) (log : List Moment) (who : ℕ) : Type 0 where
@@ -161,7 +153,7 @@ pub record IsMasterOut (s : Start) (log : List Moment) (who : ℕ) : Type 0 wher
   pub no_shard : IsShard (ticket_of s log who).work → ⊥
 
 -- its term is over
-pub over : (s : Start) (old new : List Moment) (who : ℕ) (step : Step) (own now : ℕ) → IsSwap step → IsMasterOut s new who → Stepped s old new who step (Refused (StaleTerm own now)) → CanFinish s new who
+pub over : (s : Start) (old new : List Moment) (who : ℕ) (step : Step) (own now : ℕ) → IsWork step → IsMasterOut s new who → Stepped s old new who step (Refused (StaleTerm own now)) → CanFinish s new who
 over s old new who step own now is master h = record {
   out = master.out;
   no_shard = master.no_shard;
@@ -175,22 +167,22 @@ over s old new who step own now is master h = record {
 }
 
 module _ {S F H T : Type 0} (e : Evidence S F H T) (own : Type 0) (s : Start) (old new : List Moment) (who : ℕ) (step : Step) where
-  unit_entry : (x : EntryRefusal) → MayRefuseWork step (refusal_of x) → Stepped s old new who step (Refused (refusal_of x)) → Grounds s new who (steps.Refused x) → (refusal_of x ≡ DepotFault → Matters (ticket_of s new who).work step)
+  unit_entry : (x : EntryRefusal) → IsWork step → MayRefuseWork step (refusal_of x) → Stepped s old new who step (Refused (refusal_of x)) → Grounds s new who (steps.Refused x) → (refusal_of x ≡ DepotFault → Matters (ticket_of s new who).work step)
       → (IsSwap step → IsMasterOut s new who)
       → Shown {S = S} {F = F} {H = H} {T = T} hands.Unit e own s new who (troubles.Step (steps.Refused x))
-  unit_entry (refusals.Deposed entry) may h grounds matters master = (step, record { front = h.front; image = h.image; is = h.is })
-  unit_entry (refusals.Aborted op) may h grounds matters master = (step, stepped_had s old new who step (Refused (AbortedBy op)) h)
-  unit_entry refusals.DepotFault may h grounds matters master = ((step, stepped_had s old new who step (Refused DepotFault) h, matters refl), grounds)
-  unit_entry (refusals.NameTaken name) may h grounds matters master = (step, stepped_had s old new who step (Refused (refusal_of (refusals.NameTaken name))) h)
-  unit_entry (refusals.IdsSpent next) may h grounds matters master = (step, stepped_had s old new who step (Refused (refusal_of (refusals.IdsSpent next))) h)
-  unit_entry (refusals.GenerationsSpent number) may h grounds matters master = (step, stepped_had s old new who step (Refused (refusal_of (refusals.GenerationsSpent number))) h)
-  unit_entry (refusals.StaleTerm of at) may h grounds matters master = over s old new who step of at may (master may) h
-  unit_entry x may h grounds matters master = absurd may
+  unit_entry (refusals.Deposed entry) is may h grounds matters master = (step, record { front = h.front; image = h.image; is = h.is })
+  unit_entry (refusals.Aborted op) is may h grounds matters master = (step, stepped_had s old new who step (Refused (AbortedBy op)) h)
+  unit_entry refusals.DepotFault is may h grounds matters master = ((step, stepped_had s old new who step (Refused DepotFault) h, made_last s old new who step (Refused DepotFault) refl (never_anew who step is) h, matters refl), grounds)
+  unit_entry (refusals.NameTaken name) is may h grounds matters master = (step, stepped_had s old new who step (Refused (refusal_of (refusals.NameTaken name))) h)
+  unit_entry (refusals.IdsSpent next) is may h grounds matters master = (step, stepped_had s old new who step (Refused (refusal_of (refusals.IdsSpent next))) h)
+  unit_entry (refusals.GenerationsSpent number) is may h grounds matters master = (step, stepped_had s old new who step (Refused (refusal_of (refusals.GenerationsSpent number))) h)
+  unit_entry (refusals.StaleTerm of at) is may h grounds matters master = over s old new who step of at is (master may) h
+  unit_entry x is may h grounds matters master = absurd may
 
   -- a step of a snapshot's or a clone's unit was refused; it matters, where the container failed in it
   pub unit_refused_in : RefusesSo → (x : EntryRefusal) → IsWork step → (refusal_of x ≡ DepotFault → Matters (ticket_of s new who).work step) → (IsSwap step → IsMasterOut s new who) → IsRefusedBy s old new who step (steps.Refused x)
       → Shown {S = S} {F = F} {H = H} {T = T} hands.Unit e own s new who (troubles.Step (steps.Refused x))
-  unit_refused_in law x is matters master h = unit_entry x (work_refused law s old new who step (refusal_of x) is h.0) h.0 h.1 matters master
+  unit_refused_in law x is matters master h = unit_entry x is (work_refused law s old new who step (refusal_of x) is h.0) h.0 h.1 matters master
 
   -- a step that matters, whatever it was refused for
   pub unit_refused : RefusesSo → (refusal : StepRefusal) → IsWork step → Matters (ticket_of s new who).work step → (IsSwap step → IsMasterOut s new who) → IsRefusedBy s old new who step refusal
@@ -200,21 +192,22 @@ module _ {S F H T : Type 0} (e : Evidence S F H T) (own : Type 0) (s : Start) (o
   unit_refused law (steps.Refused x) is matters master h = unit_refused_in law x is (λ fault. matters) master h
 
   -- the ticket is a delete's
-  delete_entry : (x : EntryRefusal) → MayRefuseWork step (refusal_of x) → Stepped s old new who step (Refused (refusal_of x)) → Grounds s new who (steps.Refused x) → (refusal_of x ≡ DepotFault → Matters (ticket_of s new who).work step)
+  delete_entry : (x : EntryRefusal) → IsWork step → MayRefuseWork step (refusal_of x) → Stepped s old new who step (Refused (refusal_of x)) → Grounds s new who (steps.Refused x) → (refusal_of x ≡ DepotFault → Matters (ticket_of s new who).work step)
       → (uuids : List ℕ) (plan : Option Swap) → (ticket_of s new who).work ≡ Deleting uuids plan → IsMasterOut s new who → Shown {S = S} {F = F} {H = H} {T = T} hands.Delete e own s new who (troubles.Step (steps.Refused x))
-  delete_entry (refusals.Deposed entry) may h grounds matters uuids plan work master = (step, record { front = h.front; image = h.image; is = h.is })
-  delete_entry (refusals.Aborted op) may h grounds matters uuids plan work master = absurd (grounds.no_delete uuids plan work)
-  delete_entry refusals.DepotFault may h grounds matters uuids plan work master = ((step, stepped_had s old new who step (Refused DepotFault) h, matters refl), grounds)
-  delete_entry (refusals.NameTaken name) may h grounds matters uuids plan work master = (step, stepped_had s old new who step (Refused (refusal_of (refusals.NameTaken name))) h)
-  delete_entry (refusals.IdsSpent next) may h grounds matters uuids plan work master = (step, stepped_had s old new who step (Refused (refusal_of (refusals.IdsSpent next))) h)
-  delete_entry (refusals.GenerationsSpent number) may h grounds matters uuids plan work master = (step, stepped_had s old new who step (Refused (refusal_of (refusals.GenerationsSpent number))) h)
-  delete_entry (refusals.StaleTerm of at) may h grounds matters uuids plan work master = over s old new who step of at may master h
-  delete_entry x may h grounds matters uuids plan work master = absurd may
+  delete_entry (refusals.Deposed entry) is may h grounds matters uuids plan work master = (step, record { front = h.front; image = h.image; is = h.is })
+  delete_entry (refusals.Aborted op) is may h grounds matters uuids plan work master = absurd (grounds.no_delete uuids plan work)
+  delete_entry refusals.DepotFault is may h grounds matters uuids plan work master =
+      ((step, stepped_had s old new who step (Refused DepotFault) h, made_last s old new who step (Refused DepotFault) refl (never_anew who step is) h, matters refl), grounds)
+  delete_entry (refusals.NameTaken name) is may h grounds matters uuids plan work master = (step, stepped_had s old new who step (Refused (refusal_of (refusals.NameTaken name))) h)
+  delete_entry (refusals.IdsSpent next) is may h grounds matters uuids plan work master = (step, stepped_had s old new who step (Refused (refusal_of (refusals.IdsSpent next))) h)
+  delete_entry (refusals.GenerationsSpent number) is may h grounds matters uuids plan work master = (step, stepped_had s old new who step (Refused (refusal_of (refusals.GenerationsSpent number))) h)
+  delete_entry (refusals.StaleTerm of at) is may h grounds matters uuids plan work master = over s old new who step of at is master h
+  delete_entry x is may h grounds matters uuids plan work master = absurd may
 
   -- a step of a delete's ticket was refused; it matters, where the container failed in it
   pub delete_refused_in : RefusesSo → (x : EntryRefusal) → IsWork step → (refusal_of x ≡ DepotFault → Matters (ticket_of s new who).work step) → (uuids : List ℕ) (plan : Option Swap) → (ticket_of s new who).work ≡ Deleting uuids plan
       → IsMasterOut s new who → IsRefusedBy s old new who step (steps.Refused x) → Shown {S = S} {F = F} {H = H} {T = T} hands.Delete e own s new who (troubles.Step (steps.Refused x))
-  delete_refused_in law x is matters uuids plan work master h = delete_entry x (work_refused law s old new who step (refusal_of x) is h.0) h.0 h.1 matters uuids plan work master
+  delete_refused_in law x is matters uuids plan work master h = delete_entry x is (work_refused law s old new who step (refusal_of x) is h.0) h.0 h.1 matters uuids plan work master
 
   -- a step that matters, whatever it was refused for
   pub delete_refused : RefusesSo → (refusal : StepRefusal) → IsWork step → Matters (ticket_of s new who).work step → (uuids : List ℕ) (plan : Option Swap) → (ticket_of s new who).work ≡ Deleting uuids plan → IsMasterOut s new who

@@ -99,53 +99,82 @@ fn plan_files<Q: Desk, S: Shard>(
     }
 }
 
+/// What a shard's unit is of: its ticket, the shard and the snapshot, the base on which it builds, and the length of a part.
+#[derive(Clone, Copy)]
+struct Job {
+    ticket: u64,
+    at: ShardId,
+    uuid: Id,
+    base: Option<Id>,
+    part_size: u64,
+}
+
+/// What is to be stored: the index of the base, what each file reuses of it, and the first of the ids that were drawn.
+#[derive(Clone, Copy)]
+struct Draft<'a> {
+    base: &'a ShardIndex,
+    plans: &'a [Planned],
+    first: Id,
+}
+
 /// Stores the files that reuse nothing, then the shard's snapshot and its next index, and ends the ticket.
 fn store<Q: Desk, S: Shard, G: Gate>(
     alloc: Global,
     desk: &mut Q,
-    ticket: u64,
-    at: ShardId,
-    uuid: Id,
-    generation: Option<Id>,
-    base: &ShardIndex,
+    job: Job,
+    draft: Draft<'_>,
     shard: &mut S,
-    plans: &[Planned],
-    first: Id,
-    part_size: u64,
     gate: &G,
     buf: &mut [u8],
 ) -> Result<(), Trouble<Q::Stage, Q::Fetch>>
-    requires mine { HasTaken (Q.calls desk.old) ticket }
-    requires drawn { HasDrawn Q.start (S.told shard.old).files (S.told shard.old).listed at.index.number at.number uuid base.now plans.now first.number (ticket_of Q.start (Q.seen desk.old) ticket) }
-    requires base { (ticket_of Q.start (Q.seen desk.old) ticket).base ≡ option_map number_of generation }
-    requires fetched { HasFetched (Q.seen desk.old) ticket at.index.number at.number generation }
-    requires room { first.number + (new_count plans.now + 1) < 2 ^ 128 }
-    requires few { at.number < 1024 }
-    requires size { part_size ≡ Q.start.part_size }
-    requires sized { (1 ≤ part_size) × (part_size ≤ 2 ^ 30) }
+    requires mine { HasTaken (Q.calls desk.old) job.ticket }
+    requires drawn { HasDrawn Q.start (S.told shard.old).files (S.told shard.old).listed job.at.index.number job.at.number job.uuid draft.base.now draft.plans.now draft.first.number (ticket_of Q.start (Q.seen desk.old) job.ticket) }
+    requires base { (ticket_of Q.start (Q.seen desk.old) job.ticket).base ≡ option_map number_of job.base }
+    requires fetched { HasFetched (Q.seen desk.old) job.ticket job.at.index.number job.at.number job.base }
+    requires room { draft.first.number + (new_count draft.plans.now + 1) < 2 ^ 128 }
+    requires few { job.at.number < 1024 }
+    requires size { job.part_size ≡ Q.start.part_size }
+    requires sized { (1 ≤ job.part_size) × (job.part_size ≤ 2 ^ 30) }
     requires buffer { 0 < length buf.old }
-    requires tells { TellsAll Q.start (Q.seen desk.old) ticket }
-    ensures ok { OnOk result (HasDone Q.start (Q.seen desk.old) (Q.seen desk.new) ticket) }
-    ensures trouble { IfErr result (Shown (evidence Q.Stage.faults Q.Fetch.faults Q.Shard.faults Q.Target.faults Q.Shard.told Q.Target.told) (S.faults shard.new) (S.told shard.old).files Q.start (Q.seen desk.new) ticket) }
+    requires tells { TellsAll Q.start (Q.seen desk.old) job.ticket }
+    ensures ok { OnOk result (HasDone Q.start (Q.seen desk.old) (Q.seen desk.new) job.ticket) }
+    ensures trouble { IfErr result (Shown (evidence Q.Stage.faults Q.Fetch.faults Q.Shard.faults Q.Target.faults Q.Shard.told Q.Target.told) (S.faults shard.new) (S.told shard.old).files Q.start (Q.seen desk.new) job.ticket) }
     ensures kept { ReadOn (S.told shard.old) (S.told shard.new) }
     ensures steady { (S.told shard.old).is_sure ≡ true → S.faults shard.new ≡ S.faults shard.old }
-    ensures went { IfErr result (λ e. Went Q.start (Q.seen desk.old) (Q.seen desk.new) ticket) }
-    ensures grew { GrewBy Q.start ticket (Q.seen desk.old) (Q.seen desk.new) }
+    ensures went { IfErr result (λ e. Went Q.start (Q.seen desk.old) (Q.seen desk.new) job.ticket) }
+    ensures grew { GrewBy Q.start job.ticket (Q.seen desk.old) (Q.seen desk.new) }
     ensures calls { Q.calls desk.new ≡ Q.calls desk.old }
 {
     let entries = store_files(
-        alloc, desk, ticket, at, shard, plans, first, part_size, gate, buf,
+        alloc,
+        desk,
+        job.ticket,
+        job.at,
+        shard,
+        draft.plans,
+        draft.first,
+        job.part_size,
+        gate,
+        buf,
     )?;
     let outcome = ShardResult {
-        shard: at,
+        shard: job.at,
         generation: Id {
-            number: first.number + u128::from(count_new(plans)),
+            number: draft.first.number + u128::from(count_new(draft.plans)),
         },
-        files: plans.len() as u64,
-        bytes: sum_of(plans),
+        files: draft.plans.len() as u64,
+        bytes: sum_of(draft.plans),
     };
     finish(
-        alloc, desk, ticket, base, entries, uuid, &outcome, generation, first,
+        alloc,
+        desk,
+        job.ticket,
+        draft.base,
+        entries,
+        job.uuid,
+        &outcome,
+        job.base,
+        draft.first,
     )
 }
 
@@ -153,48 +182,35 @@ fn store<Q: Desk, S: Shard, G: Gate>(
 fn work<Q: Desk, S: Shard, G: Gate>(
     alloc: Global,
     desk: &mut Q,
-    ticket: u64,
-    at: ShardId,
-    uuid: Id,
-    base: Option<Id>,
+    job: Job,
     shard: &mut S,
-    part_size: u64,
     gate: &G,
 ) -> Result<(), Trouble<Q::Stage, Q::Fetch>>
-    requires mine { HasTaken (Q.calls desk.old) ticket }
-    requires unit { IsUnit Q.start (S.told shard.old).files (S.told shard.old).is_there at.index.number at.number uuid.number (option_map number_of base) (ticket_of Q.start (Q.seen desk.old) ticket) }
-    requires few { at.number < 1024 }
-    requires size { part_size ≡ Q.start.part_size }
-    requires sized { (1 ≤ part_size) × (part_size ≤ 2 ^ 30) }
-    requires new { made_of Q.start (Q.seen desk.old) ticket ≡ [] }
-    ensures ok { OnOk result (HasDone Q.start (Q.seen desk.old) (Q.seen desk.new) ticket) }
-    ensures trouble { IfErr result (Shown (evidence Q.Stage.faults Q.Fetch.faults Q.Shard.faults Q.Target.faults Q.Shard.told Q.Target.told) (S.faults shard.new) (S.told shard.old).files Q.start (Q.seen desk.new) ticket) }
+    requires mine { HasTaken (Q.calls desk.old) job.ticket }
+    requires unit { IsUnit Q.start (S.told shard.old).files (S.told shard.old).is_there job.at.index.number job.at.number job.uuid.number (option_map number_of job.base) (ticket_of Q.start (Q.seen desk.old) job.ticket) }
+    requires few { job.at.number < 1024 }
+    requires size { job.part_size ≡ Q.start.part_size }
+    requires sized { (1 ≤ job.part_size) × (job.part_size ≤ 2 ^ 30) }
+    requires new { made_of Q.start (Q.seen desk.old) job.ticket ≡ [] }
+    ensures ok { OnOk result (HasDone Q.start (Q.seen desk.old) (Q.seen desk.new) job.ticket) }
+    ensures trouble { IfErr result (Shown (evidence Q.Stage.faults Q.Fetch.faults Q.Shard.faults Q.Target.faults Q.Shard.told Q.Target.told) (S.faults shard.new) (S.told shard.old).files Q.start (Q.seen desk.new) job.ticket) }
     ensures same { SameShard (S.told shard.old) (S.told shard.new) }
     ensures steady { (S.told shard.old).is_sure ≡ true → S.faults shard.new ≡ S.faults shard.old }
-    ensures went { IfErr result (λ e. Went Q.start (Q.seen desk.old) (Q.seen desk.new) ticket) }
-    ensures grew { GrewBy Q.start ticket (Q.seen desk.old) (Q.seen desk.new) }
+    ensures went { IfErr result (λ e. Went Q.start (Q.seen desk.old) (Q.seen desk.new) job.ticket) }
+    ensures grew { GrewBy Q.start job.ticket (Q.seen desk.old) (Q.seen desk.new) }
     ensures calls { Q.calls desk.new ≡ Q.calls desk.old }
 {
     esr_core::refusals_are_of_their_steps();
     let mut buf = [0; 65536];
-    let index = base_of(alloc, desk, ticket, at, uuid, base)?;
+    let index = base_of(alloc, desk, job.ticket, job.at, job.uuid, job.base)?;
     let plans = plan_files::<Q, S>(alloc, shard, &index, &mut buf)?;
-    let first = desk.draw(alloc, ticket, count_new(plans.as_slice()) + 1)?;
-    store(
-        alloc,
-        desk,
-        ticket,
-        at,
-        uuid,
-        base,
-        &index,
-        shard,
-        plans.as_slice(),
+    let first = desk.draw(alloc, job.ticket, count_new(plans.as_slice()) + 1)?;
+    let draft = Draft {
+        base: &index,
+        plans: plans.as_slice(),
         first,
-        part_size,
-        gate,
-        &mut buf,
-    )
+    };
+    store(alloc, desk, job, draft, shard, gate, &mut buf)
 }
 
 /// Stores the files of a shard that its base doesn't have, the snapshot of the shard and its next index, and ends the ticket.
@@ -221,8 +237,6 @@ pub fn run_unit<Q: Desk<Shard = S::Shard>, S: Sources, G: Gate>(
     ensures grew { GrewBy Q.start unit.now.ready.ticket (Q.seen desk.old) (Q.seen desk.new) }
     ensures calls { Q.calls desk.new ≡ Q.calls desk.old }
 {
-    let ticket = unit.ready.ticket;
-    let base = unit.ready.copy.base;
     let Work::Shard {
         uuid,
         shard: at,
@@ -236,15 +250,20 @@ pub fn run_unit<Q: Desk<Shard = S::Shard>, S: Sources, G: Gate>(
         Ok(shard) => shard,
         Err(_) => return Err(UnitRefusal::Stopped(StepRefusal::Memory)),
     };
-    match work(
-        alloc, desk, ticket, *at, *uuid, base, &mut shard, part_size, gate,
-    ) {
+    let job = Job {
+        ticket: unit.ready.ticket,
+        at: *at,
+        uuid: *uuid,
+        base: unit.ready.copy.base,
+        part_size,
+    };
+    match work(alloc, desk, job, &mut shard, gate) {
         Ok(()) => Ok(()),
         Err(trouble) => Err(give_up(
             alloc,
             desk,
             Hand::Unit,
-            ticket,
+            job.ticket,
             with_shard(shard, ending_of(trouble)),
         )),
     }

@@ -74,7 +74,7 @@ still_named s old new who prune reply ticket h name has =
 -- as a delete's ticket ends all is named, whatever others did meanwhile
 pub ended_named : (s : Start) (old new : List Moment) (who : ℕ) → 1 ≤ who → CanEndDelete s old who → Stepped s old new who (PruneStep EndDelete) HasEnded → HasNamed s new who
 ended_named s old new who ticket may h =
-    let own : ticket_of s old who ≡ ticket_of s h.front who = ap (λ (o : Own). o.ticket) (sym h.waited.alone) in
+    let own : ticket_of s old who ≡ ticket_of s h.front who = ap (λ (o : Own). o.ticket) (sym (h.waited.alone ticket)) in
     let made : made_of s old who ≡ made_of s h.front who = sym (waited_made s old h.front who ticket h.waited) in
     record {
       last = record { front = h.front; image = h.image; is = h.is };

@@ -1,5 +1,5 @@
 -- The targets that hold the files of the shards that were restored.
-use Rattle.std.specs.Prelude.{◌≡◌, ℕ, ◌-◌, ◌^◌, true, List, [], ◌∷◌, ◌++◌, length, min, sum_by, Some, None, IsSome}
+use Rattle.std.specs.Prelude.{◌≡◌, ℕ, ◌-◌, ◌^◌, true, List, [], ◌∷◌, ◌++◌, length, min, sum_by, Some, None, IsSome, Result, Ok, Err}
 use Rattle.esr_model.specs.Names.{ShardSnap}
 use Rattle.esr_model.specs.Values.{Bytes, ShardSnapshot, Formats}
 use Rattle.esr_model.specs.Image.{AllPairs, Reads, FileStands}
@@ -7,6 +7,8 @@ use Rattle.esr_core.specs.World.{Reader}
 use Rattle.esr_core.specs.Restores.{WasRead}
 use Rattle.esr_core.specs.Entry.{RestoredShard, Step, ReadStep, Reply, HasEnded, Moment}
 use Rattle.esr_desk.specs.declared.target.RestoredTarget.{RestoredTarget}
+use Rattle.esr_desk.specs.declared.target.Unended.{Unended}
+use Rattle.esr_desk.specs.declared.refusal.StepRefusal.{StepRefusal}
 use Rattle.esr_desk.specs.Start.{Start, formats_of}
 use Rattle.esr_desk.specs.Own.{reader_of}
 use Rattle.esr_desk.specs.Evidence.{Evidence}
@@ -33,6 +35,11 @@ pub record IsFilled {S F H T : Type 0} (e : Evidence S F H T) (s : Start) (q : R
   pub sure : s.sure_targets ≡ true → (e.target r.target).is_sure ≡ true
   pub none_begun : (e.target r.target).begun ≡ None
   pub none_failed : e.target_faults r.target ≡ 0
+
+-- the answer to the end of a ticket, but for the target that is given back
+abbrev pub refused_of : {T : Type 0} → Result Unit (Unended T) → Result Unit StepRefusal
+refused_of (Ok x) = Ok x
+refused_of (Err u) = Err u.refusal
 
 -- after this history a ticket restored its shard: so many files, of so many bytes
 pub record Restoration : Type 0 where

@@ -13,6 +13,7 @@ use Rattle.esr_desk.specs.declared.fault.FailedObject.TheVariants as objects
 use Rattle.esr_desk.specs.declared.fault.By.{By}
 use Rattle.esr_desk.specs.declared.fault.By.TheVariants as by
 use Rattle.esr_desk.specs.Start.{Start, ticket_of}
+use Rattle.esr_desk.specs.Own.{MadeLast}
 use Rattle.esr_desk.specs.Evidence.{Evidence, HadReply, HadRefusal, HadFetch, HasRead, WasUnreadable, DepotShown, ReadShown, StepShown}
 
 -- ---- the container
@@ -28,9 +29,9 @@ abbrev pub Matters : Work → Step → Type 0
 Matters (Shard index number) step = Unit {0}
 Matters work step = is_of_latest step ≡ false
 
--- a step of the ticket that matters was refused, since the container failed in it
+-- the ticket's last step, one that matters, was refused, since the container failed in it
 abbrev pub HadFault : Start → List Moment → ℕ → Type 0
-HadFault s log who = (step : Step) × HadReply log who step (Refused DepotFault) × Matters (ticket_of s log who).work step
+HadFault s log who = (step : Step) × HadReply log who step (Refused DepotFault) × MadeLast s log who step (Refused DepotFault) × Matters (ticket_of s log who).work step
 
 -- ---- the source of a shard
 

@@ -12,6 +12,7 @@ use Rattle.esr_check.specs.Names.{IsAny}
 use Rattle.esr_check.proofs.Living.{look_safe, look_same_safe}
 use Rattle.esr_check.proofs.Counting.{look_so_far, look_unfetched}
 use Rattle.esr_check.proofs.Beginning.{since_look, of_check_on, went_of_check, of_check_grew, outcome_of_check, report_of_check, begun_on, asks_stopped, asks_given, asks_look, unchecked_on, went_unchecked, outcome_unchecked, refusing_unchecked, report_unchecked}
+use Rattle.esr_check.proofs.Firsts.{first_went, first_outcome, first_report}
 use Rattle.esr_check.proofs.Failing.{trouble_shown, may_end, never_stale, ending_shown}
 use Rattle.esr_check.proofs.Closing.{look_as, look_count, went_open, can_end, trouble_ends, end_stops, look_stops, has_checked}
 use Rattle.esr_check.proofs.checking.check.Goals as goal
@@ -93,7 +94,7 @@ returns-in-Err-read_all-clause-refused g c =
     let mid = g.Q.Desk.seen c.read_all.new.desk in
     let new = g.Q.Desk.seen c.give_up.new.desk in
     let e = evidence g.Q.Stage.Counted.faults g.Q.Fetch.Counted.faults g.Q.Shard.Counted.faults g.Q.Target.Counted.faults g.Q.Shard.Shard.told g.Q.Target.Target.told in
-    trouble_ends s old first mid (map root_snap_of c.in-Ok.look.listing) (count_of c.in-Ok.look.safe) c.requires.alone c.in-Ok.ensures.step c.read_all.ensures.went e c.laws.ensures new c.in-Err-read_all.trouble c.ending_of.result c.give_up.result c.ending_of.ensures c.in-Err-read_all.ensures.trouble
+    trouble_ends s old first mid (map root_snap_of c.in-Ok.look.listing) (count_of c.in-Ok.look.safe) c.requires.alone c.in-Ok.ensures.step c.read_all.ensures.went e c.laws.ensures new c.in-Err-read_all.trouble c.ending_of.result c.give_up.result c.ending_of.ensures c.in-Err-read_all.ensures.trouble c.in-Err-read_all.ensures.first
     (trouble_shown e s mid (went_open s old first mid (map root_snap_of c.in-Ok.look.listing) (count_of c.in-Ok.look.safe) c.requires.alone c.in-Ok.ensures.step c.read_all.ensures.went)
     (since_look s old first mid (Looked (map root_snap_of c.in-Ok.look.listing) (count_of c.in-Ok.look.safe)) IsAny c.requires.alone c.in-Ok.ensures.step c.read_all.ensures.went) c.in-Err-read_all.trouble c.in-Err-read_all.ensures.trouble)
     c.give_up.ensures.end c.give_up.ensures.report
@@ -211,3 +212,39 @@ returns-clause-grew g c =
     grew_by_on s 0 old first new (outcome_grew_by s old first 0 LookStep (λ (l : Look). Looked (map root_snap_of l.listing) (count_of l.safe)) c.look.result c.look.ensures.step)
     (of_check_grew s first new
     (of_check_on s first mid new (went_of_check s first mid IsAny c.read_all.ensures.went) (outcome_of_check s mid new (CheckedAll c.listed_count-snapshots.result c.in-Ok-read_all.blobs) (λ x. HasEnded) c.end_check.result c.requires.alone tt c.end_check.ensures.step)))
+
+-- ---- a failed check names the first blob that is damaged
+
+pub returns-in-Err-clause-first : goal.returns-in-Err-clause-first
+returns-in-Err-clause-first g c was =
+    first_outcome g.Q.Desk.start (g.Q.Desk.seen c.args.desk.now) (g.Q.Desk.seen c.look.new.self) LookStep (λ (l : Look). Looked (map root_snap_of l.listing) (count_of l.safe)) c.look.result c.requires.alone (λ why e. cc) c.look.ensures.step was
+
+pub returns-in-Err-read_all-clause-first : goal.returns-in-Err-read_all-clause-first
+returns-in-Err-read_all-clause-first g c was =
+    let s = g.Q.Desk.start in
+    let old = g.Q.Desk.seen c.args.desk.now in
+    let first = g.Q.Desk.seen c.look.new.self in
+    let mid = g.Q.Desk.seen c.read_all.new.desk in
+    first_report s mid (g.Q.Desk.seen c.give_up.new.desk) c.in-Err-read_all.trouble c.ending_of.result c.give_up.result c.requires.alone c.ending_of.ensures c.in-Err-read_all.ensures.first c.give_up.ensures.report
+    (first_went s first mid IsAny c.read_all.ensures.went
+    (first_outcome s old first LookStep (λ (l : Look). Looked (map root_snap_of l.listing) (count_of l.safe)) c.look.result c.requires.alone (λ why e. cc) c.look.ensures.step was))
+
+pub returns-in-Ok-end_check-clause-first : goal.returns-in-Ok-end_check-clause-first
+returns-in-Ok-end_check-clause-first g c was =
+    let s = g.Q.Desk.start in
+    let old = g.Q.Desk.seen c.args.desk.now in
+    let first = g.Q.Desk.seen c.look.new.self in
+    let mid = g.Q.Desk.seen c.read_all.new.desk in
+    first_outcome s mid (g.Q.Desk.seen c.end_check.new.self) (ReadStep (CheckedAll c.listed_count-snapshots.result c.in-Ok-read_all.blobs)) (λ x. HasEnded) c.end_check.result c.requires.alone (λ why e. cc) c.end_check.ensures.step
+    (first_went s first mid IsAny c.read_all.ensures.went
+    (first_outcome s old first LookStep (λ (l : Look). Looked (map root_snap_of l.listing) (count_of l.safe)) c.look.result c.requires.alone (λ why e. cc) c.look.ensures.step was))
+
+pub returns-clause-first : goal.returns-clause-first
+returns-clause-first g c was =
+    let s = g.Q.Desk.start in
+    let old = g.Q.Desk.seen c.args.desk.now in
+    let first = g.Q.Desk.seen c.look.new.self in
+    let mid = g.Q.Desk.seen c.read_all.new.desk in
+    first_outcome s mid (g.Q.Desk.seen c.end_check.new.self) (ReadStep (CheckedAll c.listed_count-snapshots.result c.in-Ok-read_all.blobs)) (λ x. HasEnded) c.end_check.result c.requires.alone (λ why e. cc) c.end_check.ensures.step
+    (first_went s first mid IsAny c.read_all.ensures.went
+    (first_outcome s old first LookStep (λ (l : Look). Looked (map root_snap_of l.listing) (count_of l.safe)) c.look.result c.requires.alone (λ why e. cc) c.look.ensures.step was))

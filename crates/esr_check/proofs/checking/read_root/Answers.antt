@@ -1,4 +1,4 @@
-use Rattle.std.proofs.Common.{List, map, sym, subst}
+use Rattle.std.proofs.Common.{List, map, sym, subst, ◌∙◌}
 use Rattle.esr_meta.specs.Info.{Info}
 use Rattle.esr_model.specs.Names.{Root}
 use Rattle.esr_formats.specs.Infos.{info_of_code}
@@ -11,6 +11,8 @@ use Rattle.esr_check.proofs.Counting.{all_new}
 use Rattle.esr_check.proofs.Ending.{checked_by}
 use Rattle.esr_check.proofs.Naming.{snaps_no_root, shards_no_root, shards_no_snaps}
 use Rattle.esr_check.proofs.Rooted.{are_listed}
+use Rattle.esr_check.specs.First.{FirstOfSnaps, FirstOfIndices, FirstOf, AtRoot, AtSnap, AtShard}
+use Rattle.esr_check.proofs.Telling.{passes}
 use Rattle.esr_check.proofs.checking.read_root.Goals as goal
 
 pub returns-in_err-root-clause-went : goal.returns-in_err-root-clause-went
@@ -80,3 +82,32 @@ returns-clause-read g c =
     (infos_more s (caller_of s next) (caller_of s new) c.check_indices.ensures.went.grown root root.snapshots infos c.in_ok-infos.ensures.infos)
     (subst (λ (l : List Info). HasIndices s (caller_of s new) root (map info_of_code l) root.indices) c.as_slice.ensures c.in_ok-check_indices.ensures.indices)
     (are_listed c.in_ok-root.root c.in_ok-root.ensures.rule) tells
+
+-- ---- the first that is damaged
+
+pub returns-in_err-root-clause-first : goal.returns-in_err-root-clause-first
+returns-in_err-root-clause-first g c =
+    passes (Just (Root c.args.number)) (FirstOf g.Q.Desk.start (g.Q.Desk.seen c.fetch_root.new.desk)) c.from_residual.result c.in_err-root.field-0.0 c.from_residual.ensures.1
+    (λ name is. AtRoot c.args.number (c.fetch_root.ensures.went.same.safe ∙ c.requires.safe) is) c.in_err-root.ensures.first
+
+pub returns-in_err-infos-clause-first : goal.returns-in_err-infos-clause-first
+returns-in_err-infos-clause-first g c =
+    let s = g.Q.Desk.start in
+    let mid = g.Q.Desk.seen c.fetch_root.new.desk in
+    let new = g.Q.Desk.seen c.check_snaps.new.desk in
+    let root = root_of c.in_ok-root.root in
+    passes (FirstOfSnaps s (caller_of s new) root) (FirstOf s new) c.from_residual-in_err-infos.result c.in_err-infos.field-0.0 c.from_residual-in_err-infos.ensures.1
+    (λ name first. AtSnap root (c.args.number, root_on s mid new IsOfAnySnap c.args.number root c.check_snaps.ensures.went c.in_ok-root.ensures.root) first) c.in_err-infos.ensures.first
+
+pub returns-in_err-check_indices-clause-first : goal.returns-in_err-check_indices-clause-first
+returns-in_err-check_indices-clause-first g c =
+    let s = g.Q.Desk.start in
+    let mid = g.Q.Desk.seen c.fetch_root.new.desk in
+    let next = g.Q.Desk.seen c.check_snaps.new.desk in
+    let new = g.Q.Desk.seen c.check_indices.new.desk in
+    let root = root_of c.in_ok-root.root in
+    let infos = map info_of_code c.in_ok-infos.infos in
+    passes (FirstOfIndices s (caller_of s new) root (map info_of_code c.as_slice.result.now)) (FirstOf s new) c.from_residual-in_err-check_indices.result c.in_err-check_indices.field-0.0 c.from_residual-in_err-check_indices.ensures.1
+    (λ name first. AtShard root infos (c.args.number, root_on s next new IsOfAnyShard c.args.number root c.check_indices.ensures.went (root_on s mid next IsOfAnySnap c.args.number root c.check_snaps.ensures.went c.in_ok-root.ensures.root))
+    (infos_more s (caller_of s next) (caller_of s new) c.check_indices.ensures.went.grown root root.snapshots infos c.in_ok-infos.ensures.infos)
+    (subst (λ (l : List Info). FirstOfIndices s (caller_of s new) root (map info_of_code l) name) c.as_slice.ensures first)) c.in_err-check_indices.ensures.first

@@ -10,6 +10,8 @@ use Rattle.esr_unit.specs.declared.trouble.Trouble.TheVariants.{Step}
 use Rattle.esr_check.proofs.Going.{outcome_went}
 use Rattle.esr_check.proofs.Counting.{fetch_came, step_told, caller_own, told_own, is_fresh, count_fits, next_so_far, has_come}
 use Rattle.esr_check.proofs.Refusing.{passed, fetch_refused, absent}
+use Rattle.esr_check.specs.First.{TellsOne}
+use Rattle.esr_check.specs.Names.{Just}
 use Rattle.esr_check.proofs.fetch.fetch.Goals as goal
 
 pub fetch-requires-clause-mine : goal.fetch-requires-clause-mine
@@ -90,3 +92,6 @@ returns-in-None-clause-trouble g c =
 pub returns-in-None-clause-went : goal.returns-in-None-clause-went
 returns-in-None-clause-went g c =
     outcome_went g.Q.Desk.start (g.Q.Desk.seen c.args.desk.now) (g.Q.Desk.seen c.fetch.new.self) (name_of c.args.name) fetch_reply c.fetch.result c.requires.alone c.fetch.ensures.step
+
+pub returns-in_err-fetch-clause-first : goal.returns-in_err-fetch-clause-first
+returns-in_err-fetch-clause-first g c = passed c.from_residual.result (TellsOne (Just (name_of c.args.name))) (Step c.in_err-fetch.field-0.0) c.from_residual.ensures.1 tt

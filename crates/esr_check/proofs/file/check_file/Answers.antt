@@ -1,7 +1,10 @@
-use Rattle.esr_formats.specs.Shards.{shard_index_of}
+use Rattle.esr_formats.specs.Shards.{shard_index_of, entry_of}
 use Rattle.esr_desk.specs.Own.{caller_of}
 use Rattle.esr_check.proofs.Going.{held_more}
 use Rattle.esr_check.proofs.Judging.{judged_so, judged_well, has_file}
+use Rattle.std.proofs.Common.{refl}
+use Rattle.esr_check.specs.First.{FirstOfFile, AtWhole}
+use Rattle.esr_check.proofs.Telling.{judged_tells}
 use Rattle.esr_check.proofs.file.check_file.Goals as goal
 
 pub returns-in-Some-clause-trouble : goal.returns-in-Some-clause-trouble
@@ -21,3 +24,11 @@ returns-clause-file g c =
     let e = c.args.entry.now in
     has_file s (caller_of s (g.Q.Desk.seen c.read_parts.new.desk)) c.read_parts.new.hasher c.args.at e c.end.result c.in_ok-is_exact.is_exact c.in_ok-is_exact.ensures.read c.end.ensures.joined
     (judged_well c.args.at c.args.generation e c.end.result c.in_ok-is_exact.is_exact c.judge.result c.judge.ensures c.in_default.is)
+
+pub returns-in-Some-clause-first : goal.returns-in-Some-clause-first
+returns-in-Some-clause-first g c =
+    let s = g.Q.Desk.start in
+    let at = c.args.at in
+    let e = c.args.entry.now in
+    judged_tells (FirstOfFile s (caller_of s (g.Q.Desk.seen c.read_parts.new.desk)) at.index.number at.number (entry_of e)) at c.args.generation e c.end.result c.in_ok-is_exact.is_exact c.judge.result c.in-Some.why c.judge.ensures c.in-Some.is
+    (AtWhole c.in_ok-is_exact.ensures.read.found refl)

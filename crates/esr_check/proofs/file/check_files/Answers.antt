@@ -13,6 +13,8 @@ use Rattle.esr_check.specs.Pieces.{HasFile, HasFiles}
 use Rattle.esr_check.proofs.Going.{went_none, some_new, held_more, files_more, safe_on}
 use Rattle.esr_check.proofs.Listing.{Any, at_same, all_at, next_new, any_next, any_all, any_then}
 use Rattle.esr_check.proofs.Naming.{FileOf, file_key, file_in}
+use Rattle.esr_check.specs.First.{IsNext, FirstOfFile, FirstOfFiles}
+use Rattle.esr_check.proofs.Telling.{passes, next_at}
 use Rattle.esr_check.proofs.file.check_files.Goals as goal
 
 pub loop-entry-init : goal.loop-entry-init
@@ -94,3 +96,19 @@ returns-clause-went g c =
     let index = c.args.at.index.number in
     let shard = c.args.at.number in
     any_all g.Q.Desk.start (g.Q.Desk.seen c.args.desk.now) (g.Q.Desk.seen c.loop-entry.desk) (FileOf index shard) (IsPieceOf index shard) (map entry_of (take c.loop-entry.entry-index c.files-entry-items.result.now)) (λ e name own. file_in index shard e name own) c.loop-entry.invariant.went
+
+pub returns-in_err-check_file-clause-first : goal.returns-in_err-check_file-clause-first
+returns-in_err-check_file-clause-first g c =
+    let s = g.Q.Desk.start in
+    let mid = caller_of s (g.Q.Desk.seen c.loop-entry.desk) in
+    let new = caller_of s (g.Q.Desk.seen c.check_file.new.desk) in
+    let index = c.args.at.index.number in
+    let shard = c.args.at.number in
+    let xs = c.files-entry-items.result.now in
+    let i = c.loop-entry.entry-index in
+    let own = entry_of c.entry-item.result in
+    let before = map entry_of (take i xs) in
+    let next = subst (λ (es : List CodeEntry). IsNext (map entry_of es) before own) c.files-entry-items.ensures.files (next_at entry_of xs i c.entry-item.result c.loop-entry-test.true c.entry-item.is) in
+    passes (FirstOfFile s new index shard own) (FirstOfFiles s new index shard (shard_index_of c.args.held.now).files) c.from_residual.result c.in_err-check_file.field-0.0 c.from_residual.ensures.1
+    (λ name first. record { before = before; e = own; next = next; agree = files_more s mid new c.check_file.ensures.went.grown index shard before c.loop-entry.invariant.files; first = first })
+    c.in_err-check_file.ensures.first

@@ -15,6 +15,8 @@ use Rattle.esr_check.proofs.Going.{went_none, some_new, infos_more, shards_more,
 use Rattle.esr_check.proofs.Listing.{Any, next_new, any_next, any_all, any_then}
 use Rattle.esr_check.proofs.Naming.{IndexOf, index_key, index_any}
 use Rattle.esr_check.proofs.Snapping.{each_once}
+use Rattle.esr_check.specs.First.{IsNext, FirstOfShards, FirstOfIndices}
+use Rattle.esr_check.proofs.Telling.{passes, next_at}
 use Rattle.esr_check.proofs.index.check_each.Goals as goal
 
 pub loop-index-init : goal.loop-index-init
@@ -91,3 +93,20 @@ returns-clause-indices g c =
 pub returns-clause-went : goal.returns-clause-went
 returns-clause-went g c =
     any_all g.Q.Desk.start (g.Q.Desk.seen c.args.desk.now) (g.Q.Desk.seen c.loop-index.desk) IndexOf IsOfAnyShard (map root_index_of (take c.loop-index.index-index c.as_slice-index-items.result.now)) (λ x name own. index_any x name own) c.loop-index.invariant.went
+
+pub returns-in_err-check_shards-clause-first : goal.returns-in_err-check_shards-clause-first
+returns-in_err-check_shards-clause-first g c =
+    let s = g.Q.Desk.start in
+    let mid = caller_of s (g.Q.Desk.seen c.loop-index.desk) in
+    let new = caller_of s (g.Q.Desk.seen c.check_shards.new.desk) in
+    let root = root_of c.args.root.now in
+    let infos = map info_of_code c.args.infos.now in
+    let xs = c.as_slice-index-items.result.now in
+    let i = c.loop-index.index-index in
+    let own = root_index_of c.index-item.result in
+    let items = c.as_slice-index-items.ensures.items ∙ ap (λ (r : CodeRoot). r.indices) c.root.view_is in
+    let before = map root_index_of (take i xs) in
+    let next = subst (λ (ys : List CodeIndex). IsNext (map root_index_of ys) before own) items (next_at root_index_of xs i c.index-item.result c.loop-index-test.true c.index-item.is) in
+    passes (FirstOfShards s new root infos own) (FirstOfIndices s new root infos) c.from_residual.result c.in_err-check_shards.field-0.0 c.from_residual.ensures.1
+    (λ name first. record { before = before; x = own; next = next; agree = λ x has. shards_more s mid new c.check_shards.ensures.went.grown root infos x (c.loop-index.invariant.indices x has); first = first })
+    c.in_err-check_shards.ensures.first

@@ -8,11 +8,14 @@ use Rattle.esr_desk.specs.Own.{caller_of}
 use Rattle.esr_reach.specs.Names.{AreOnce}
 use Rattle.esr_reach.proofs.Apart.{shard_apart}
 use Rattle.esr_agreement.proofs.Loops.{has_at, every_more, every_all}
-use Rattle.esr_check.specs.Names.{IsSnapOf}
+use Rattle.esr_check.specs.Names.{IsSnapOf, Just}
 use Rattle.esr_check.specs.Pieces.{HasListed, HasLists}
 use Rattle.esr_check.proofs.Going.{went_none, some_new, infos_more, held_more, lists_more, safe_on}
 use Rattle.esr_check.proofs.Listing.{Any, next_new, any_next, any_all, any_then}
 use Rattle.esr_check.proofs.Naming.{ListOf, list_key, list_in}
+use Rattle.esr_model.specs.Names.{ShardSnap}
+use Rattle.esr_check.specs.First.{IsNext, FirstOfLists}
+use Rattle.esr_check.proofs.Telling.{passes, next_at}
 use Rattle.esr_check.proofs.lists.check_lists.Goals as goal
 
 pub loop-list-init : goal.loop-list-init
@@ -100,3 +103,22 @@ returns-clause-went g c =
     let index = c.args.at.index.number in
     let shard = c.args.at.number in
     any_all g.Q.Desk.start (g.Q.Desk.seen c.args.desk.now) (g.Q.Desk.seen c.loop-list.desk) (ListOf index shard) (IsSnapOf index shard) (map snap_list_of (take c.loop-list.list-index c.snapshots-list-items.result.now)) (λ l name own. list_in index shard l name own) c.loop-list.invariant.went
+
+pub returns-in_err-check_listed-clause-first : goal.returns-in_err-check_listed-clause-first
+returns-in_err-check_listed-clause-first g c =
+    let s = g.Q.Desk.start in
+    let mid = caller_of s (g.Q.Desk.seen c.loop-list.desk) in
+    let new = caller_of s (g.Q.Desk.seen c.check_listed.new.desk) in
+    let root = root_of c.args.root.now in
+    let infos = map info_of_code c.args.infos.now in
+    let index = c.args.at.index.number in
+    let shard = c.args.at.number in
+    let held = shard_index_of c.args.held.now in
+    let xs = c.snapshots-list-items.result.now in
+    let i = c.loop-list.list-index in
+    let own = snap_list_of c.list-item.result in
+    let before = map snap_list_of (take i xs) in
+    let next = subst (λ (ls : List CodeList). IsNext (map snap_list_of ls) before own) c.snapshots-list-items.ensures (next_at snap_list_of xs i c.list-item.result c.loop-list-test.true c.list-item.is) in
+    passes (Just (ShardSnap index shard own.uuid)) (FirstOfLists s new root infos index shard held) c.from_residual.result c.in_err-check_listed.field-0.0 c.from_residual.ensures.1
+    (λ name is. record { before = before; l = own; next = next; agree = lists_more s mid new c.check_listed.ensures.went.grown root infos index shard held before c.loop-list.invariant.lists; names = is })
+    c.in_err-check_listed.ensures.first

@@ -3,12 +3,12 @@ use Rattle.esr_names.specs.declared.blob.BlobName.{BlobName as CodeName}
 use Rattle.esr_names.specs.Layout.{IsName}
 use Rattle.esr_formats.specs.Names.{name_of}
 use Rattle.esr_formats.specs.Roots.{root_of}
-use Rattle.esr_formats.specs.Shards.{shard_index_of}
+use Rattle.esr_formats.specs.Shards.{shard_index_of, entry_of}
 use Rattle.esr_shardidx.specs.Parts.{part_count}
 use Rattle.esr_hash.specs.Fed.{fed_count}
 use Rattle.esr_desk.specs.Own.{caller_of}
 use Rattle.esr_desk.specs.Check.Conditions.{CanCheck}
-use Rattle.esr_restore.proofs.Sizes.{part_layout, few_parts, fed_bound}
+use Rattle.esr_restore.proofs.Sizes.{part_layout, few_parts, fed_bound, blob_name}
 use Rattle.esr_restore.proofs.Parts.{and_then, and_else, fed_most}
 use Rattle.esr_check.specs.Names.{Just, IsOfFile}
 use Rattle.esr_check.specs.Parts.{ReadPart}
@@ -16,9 +16,11 @@ use Rattle.esr_check.specs.Went.{Went}
 use Rattle.esr_check.proofs.Going.{went_none, some_new, held_more, safe_on}
 use Rattle.esr_check.proofs.Listing.{Below, below_new, below_next, below_all, below_then}
 use Rattle.esr_check.proofs.Naming.{PartOf, part_apart, part_in}
-use Rattle.esr_check.proofs.Parting.{so_far_none, so_far_flag, so_far_all}
+use Rattle.esr_check.proofs.Parting.{so_far_none, so_far_flag, so_far_all, at_part}
 use Rattle.esr_check.proofs.Reaching.{can_part}
 use Rattle.esr_check.proofs.part.read_parts.Goals.{then-is_exact, else-is_exact}
+use Rattle.esr_check.specs.First.{TellsOne, FirstOfFile}
+use Rattle.esr_check.proofs.Telling.{passes}
 use Rattle.esr_check.proofs.part.read_parts.Goals as goal
 
 pub loop-number-init : goal.loop-number-init
@@ -113,3 +115,17 @@ returns-clause-went g c =
     let e = c.args.entry.now in
     let at = c.args.at in
     below_all g.Q.Desk.start (g.Q.Desk.seen c.args.desk.now) (g.Q.Desk.seen c.loop-number.desk) (PartOf at e) (IsOfFile at.index.number at.number e.name.number) c.loop-number.number (λ k name own. part_in at e k name own) c.loop-number.invariant.went
+
+pub returns-in_err-is_whole-clause-first : goal.returns-in_err-is_whole-clause-first
+returns-in_err-is_whole-clause-first g c =
+    let s = g.Q.Desk.start in
+    let e = c.args.entry.now in
+    let at = c.args.at in
+    let k = c.loop-number.number in
+    let new = caller_of s (g.Q.Desk.seen c.read_part.new.desk) in
+    let went = c.read_part.ensures.went in
+    let test : k < c.part_count-number-end.result = c.loop-number-test.true in
+    let less : k < part_count e.print.len e.part_size = omega (arith, test, c.part_count-number-end.ensures.count) in
+    passes (Just (blob_name at e k)) (FirstOfFile s new at.index.number at.number (entry_of e)) c.from_residual.result c.in_err-is_whole.field-0.0 c.from_residual.ensures.1
+    (λ name is. at_part s new at e k name (λ part has. went.grown.found part.0 (c.loop-number.invariant.parts.found part has)) c.requires.entry.least less is)
+    (subst (λ (n : CodeName). TellsOne (Just (name_of n)) c.in_err-is_whole.field-0.0) c.part_name-name.ensures c.in_err-is_whole.ensures.first)

@@ -8,6 +8,8 @@ use Rattle.esr_check.specs.Names.{IsOfShard}
 use Rattle.esr_check.specs.Pieces.{HasShard, HasPlace}
 use Rattle.esr_check.proofs.Going.{went_none}
 use Rattle.esr_check.proofs.Sharding.{ok_map, has_place, no_place}
+use Rattle.esr_check.specs.First.{FirstOfShard, FirstOfPlace}
+use Rattle.esr_check.proofs.Telling.{if_tells}
 use Rattle.esr_check.proofs.shard.check_place.Goals as goal
 
 pub check_shard-requires-clause-generation : goal.check_shard-requires-clause-generation
@@ -32,3 +34,15 @@ returns-in-None-clause-place g c =
 
 pub returns-in-None-clause-went : goal.returns-in-None-clause-went
 returns-in-None-clause-went g c = went_none g.Q.Desk.start (g.Q.Desk.seen c.args.desk.now) (IsOfShard c.args.at.index.number c.args.at.number)
+
+pub returns-in-Some-clause-first : goal.returns-in-Some-clause-first
+returns-in-Some-clause-first g c =
+    let s = g.Q.Desk.start in
+    let now = caller_of s (g.Q.Desk.seen c.check_shard.new.desk) in
+    let root = root_of c.args.root.now in
+    let infos = map info_of_code c.args.infos.now in
+    let index = c.args.at.index.number in
+    let shard = c.args.at.number in
+    let id = c.in-Some.generation in
+    if_tells (FirstOfShard s now root infos index shard id.number) (FirstOfPlace s now root infos index shard (option_map number_of c.args.generation))
+    (λ name first. record { generation = id.number; is = ap (λ (o : Option Id). option_map number_of o) c.in-Some.is; first = first }) c.check_shard.result c.check_shard.ensures.first

@@ -7,6 +7,8 @@ use Rattle.esr_desk.specs.Own.{caller_of}
 use Rattle.esr_check.specs.Names.{Just, IsOfShard, IsSnapOf, IsPieceOf}
 use Rattle.esr_check.proofs.Going.{went_as, went_both, went_on, some_new, still_new, infos_more, held_more, lists_more, safe_on}
 use Rattle.esr_check.proofs.Naming.{held_of_shard, lists_of_shard, files_of_shard, lists_no_held, files_no_held, files_no_lists}
+use Rattle.esr_check.specs.First.{FirstOfLists, FirstOfFiles, FirstOfShard, AtHeld, AtList, AtFile}
+use Rattle.esr_check.proofs.Telling.{passes}
 use Rattle.esr_check.proofs.shard.check_shard.Goals as goal
 
 pub check_held-requires-clause-new : goal.check_held-requires-clause-new
@@ -125,3 +127,45 @@ returns-clause-shard g c =
       snaps = lists_more s next new c.check_files.ensures.went.grown (root_of c.args.root.now) (map info_of_code c.args.infos.now) index shard held held.snapshots c.in_ok-check_lists.ensures.snaps;
       files = c.in_ok-check_files.ensures.files;
     }
+
+-- ---- the first that is damaged
+
+pub returns-in_err-held-clause-first : goal.returns-in_err-held-clause-first
+returns-in_err-held-clause-first g c =
+    let s = g.Q.Desk.start in
+    let index = c.args.at.index.number in
+    let shard = c.args.at.number in
+    let generation = c.args.generation.number in
+    passes (Just (ShardIndex index shard generation)) (FirstOfShard s (caller_of s (g.Q.Desk.seen c.check_held.new.desk)) (root_of c.args.root.now) (map info_of_code c.args.infos.now) index shard generation)
+    c.from_residual.result c.in_err-held.field-0.0 c.from_residual.ensures.1 (λ name is. AtHeld is) c.in_err-held.ensures.first
+
+pub returns-in_err-check_lists-clause-first : goal.returns-in_err-check_lists-clause-first
+returns-in_err-check_lists-clause-first g c =
+    let s = g.Q.Desk.start in
+    let mid = caller_of s (g.Q.Desk.seen c.check_held.new.desk) in
+    let new = caller_of s (g.Q.Desk.seen c.check_lists.new.desk) in
+    let root = root_of c.args.root.now in
+    let infos = map info_of_code c.args.infos.now in
+    let index = c.args.at.index.number in
+    let shard = c.args.at.number in
+    let generation = c.args.generation.number in
+    let held = shard_index_of c.in_ok-held.held in
+    passes (FirstOfLists s new root infos index shard held) (FirstOfShard s new root infos index shard generation) c.from_residual-in_err-check_lists.result c.in_err-check_lists.field-0.0 c.from_residual-in_err-check_lists.ensures.1
+    (λ name first. AtList held (held_more s mid new c.check_lists.ensures.went.grown index shard generation held c.in_ok-held.ensures.read) c.in_ok-held.ensures.kept first) c.in_err-check_lists.ensures.first
+
+pub returns-in_err-check_files-clause-first : goal.returns-in_err-check_files-clause-first
+returns-in_err-check_files-clause-first g c =
+    let s = g.Q.Desk.start in
+    let mid = caller_of s (g.Q.Desk.seen c.check_held.new.desk) in
+    let next = caller_of s (g.Q.Desk.seen c.check_lists.new.desk) in
+    let new = caller_of s (g.Q.Desk.seen c.check_files.new.desk) in
+    let root = root_of c.args.root.now in
+    let infos = map info_of_code c.args.infos.now in
+    let index = c.args.at.index.number in
+    let shard = c.args.at.number in
+    let generation = c.args.generation.number in
+    let held = shard_index_of c.in_ok-held.held in
+    let grown = c.check_files.ensures.went.grown in
+    passes (FirstOfFiles s new index shard held.files) (FirstOfShard s new root infos index shard generation) c.from_residual-in_err-check_files.result c.in_err-check_files.field-0.0 c.from_residual-in_err-check_files.ensures.1
+    (λ name first. AtFile held (held_more s next new grown index shard generation held (held_more s mid next c.check_lists.ensures.went.grown index shard generation held c.in_ok-held.ensures.read)) c.in_ok-held.ensures.kept
+    (lists_more s next new grown root infos index shard held held.snapshots c.in_ok-check_lists.ensures.snaps) first) c.in_err-check_files.ensures.first

@@ -1,8 +1,8 @@
-use Rattle.std.proofs.Common.{◌≡◌, ◌∙◌, ◌<◌, ℕ, List, Option, Some, map, option_map, length, refl, ap, subst, arith}
+use Rattle.std.proofs.Common.{◌≡◌, ◌∙◌, ◌<◌, ℕ, List, Option, Some, map, option_map, length, refl, ap, subst, arith, sym}
 use Rattle.esr_names.specs.declared.ids.Id.{Id}
 use Rattle.esr_formats.specs.Ids.{number_of}
 use Rattle.esr_formats.specs.Infos.{info_of_code}
-use Rattle.esr_formats.specs.Roots.{root_of}
+use Rattle.esr_formats.specs.Roots.{root_of, root_index_of}
 use Rattle.esr_model.specs.Image.{at_shard}
 use Rattle.esr_desk.specs.Own.{caller_of}
 use Rattle.esr_reach.proofs.Shards.{at_place}
@@ -11,7 +11,7 @@ use Rattle.esr_check.specs.Names.{IsOfShard, IsOfShards}
 use Rattle.esr_check.proofs.Going.{went_none, some_new, infos_more, safe_on}
 use Rattle.esr_check.proofs.Listing.{Below, below_new, below_next, below_all, below_then}
 use Rattle.esr_check.proofs.Naming.{numbers_apart, shard_in}
-use Rattle.esr_check.proofs.Sharding.{HasFirst, first_next}
+use Rattle.esr_check.proofs.Sharding.{HasFirst, first_next, place_passes}
 use Rattle.esr_check.proofs.shard.check_shards.Goals as goal
 
 pub loop-number-init : goal.loop-number-init
@@ -88,3 +88,13 @@ pub returns-clause-went : goal.returns-clause-went
 returns-clause-went g c =
     let index = c.args.index.now.id.number in
     below_all g.Q.Desk.start (g.Q.Desk.seen c.args.desk.now) (g.Q.Desk.seen c.loop-number.desk) (IsOfShard index) (IsOfShards index) c.loop-number.number (λ k name own. shard_in index k name own) c.loop-number.invariant.went
+
+pub returns-in_err-check_place-clause-first : goal.returns-in_err-check_place-clause-first
+returns-in_err-check_place-clause-first g c =
+    let s = g.Q.Desk.start in
+    let xs = c.as_slice-generation-items.result.now in
+    let n = c.loop-number.number in
+    let less = c.loop-number-test.true in
+    place_passes s (caller_of s (g.Q.Desk.seen c.loop-number.desk)) (caller_of s (g.Q.Desk.seen c.check_place.new.desk)) (root_of c.args.root.now) (map info_of_code c.args.infos.now) (root_index_of c.args.index.now) xs n _
+    c.check_place.ensures.went.grown less (item_is xs n _ less) (ap (λ (gs : List (Option Id)). map (option_map number_of) gs) (sym c.as_slice-generation-items.ensures.items)) c.loop-number.invariant.shards
+    c.from_residual.result c.in_err-check_place.field-0.0 c.from_residual.ensures.1 c.in_err-check_place.ensures.first

@@ -1,9 +1,11 @@
+use Rattle.esr_names.specs.declared.blob.BlobName.TheVariants as codes
 use Rattle.esr_model.specs.Names.{ShardIndex}
 use Rattle.esr_formats.specs.Roots.{root_of}
 use Rattle.esr_formats.specs.Shards.{shard_index_of}
 use Rattle.esr_desk.specs.Own.{caller_of}
 use Rattle.esr_check.proofs.Reading.{held_name, as_shard_index, held_unread}
 use Rattle.esr_check.proofs.Reaching.{can_held}
+use Rattle.esr_check.proofs.Telling.{unread_tells}
 use Rattle.esr_check.proofs.shard.fetch_held.Goals as goal
 
 pub fetch_whole-requires-clause-layout : goal.fetch_whole-requires-clause-layout
@@ -23,3 +25,6 @@ returns-in-Ok-clause-read g c =
 pub returns-clause-trouble : goal.returns-clause-trouble
 returns-clause-trouble g c =
     held_unread g.Q.Fetch.Counted.faults g.Q.Desk.start (g.Q.Desk.seen c.fetch_whole.new.desk) c.in_ok-bytes.bytes c.as_slice.result.now c.in-Err.refusal c.unread.result c.as_slice.ensures c.args.at c.args.generation c.unread.ensures c.in_ok-bytes.ensures.fetched c.in-Err.ensures.reason
+
+pub returns-clause-first : goal.returns-clause-first
+returns-clause-first g c = unread_tells (codes.ShardIndex c.args.at c.args.generation) c.in-Err.refusal c.unread.result c.unread.ensures

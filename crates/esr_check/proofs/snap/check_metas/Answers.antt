@@ -2,7 +2,7 @@ use Rattle.std.proofs.Common.{◌∙◌, List, [], map, take, sym, ap, subst}
 use Rattle.esr_meta.specs.Info.{Info}
 use Rattle.esr_meta.specs.Indices.{AreRefs}
 use Rattle.esr_names.specs.declared.index_ref.IndexRef.{IndexRef as CodeRef}
-use Rattle.esr_model.specs.Names.{Snap}
+use Rattle.esr_model.specs.Names.{Snap, IndexMeta}
 use Rattle.esr_model.specs.Values.{Has, IndexRef}
 use Rattle.esr_desk.specs.Start.{formats_of}
 use Rattle.esr_formats.specs.Infos.{info_of_code}
@@ -10,11 +10,13 @@ use Rattle.esr_formats.specs.Refs.{ref_of_code}
 use Rattle.esr_formats.specs.Roots.{root_of}
 use Rattle.esr_desk.specs.Own.{caller_of}
 use Rattle.esr_agreement.proofs.Loops.{has_at, every_more, every_all}
-use Rattle.esr_check.specs.Names.{IsMetaIn}
+use Rattle.esr_check.specs.Names.{IsMetaIn, Just}
 use Rattle.esr_check.specs.Pieces.{HasMeta, HasMetas}
 use Rattle.esr_check.proofs.Going.{went_none, some_new, read_more, metas_more, root_on}
 use Rattle.esr_check.proofs.Listing.{Any, next_new, any_next, any_all, any_then, refs_once}
 use Rattle.esr_check.proofs.Naming.{MetaOf, meta_key, meta_in}
+use Rattle.esr_check.specs.First.{IsNext, FirstOfMetas}
+use Rattle.esr_check.proofs.Telling.{passes, next_at}
 use Rattle.esr_check.proofs.snap.check_metas.Goals as goal
 
 pub loop-index-init : goal.loop-index-init
@@ -85,3 +87,19 @@ pub returns-clause-went : goal.returns-clause-went
 returns-clause-went g c =
     let uuid = c.args.snap.now.uuid.number in
     any_all g.Q.Desk.start (g.Q.Desk.seen c.args.desk.now) (g.Q.Desk.seen c.loop-index.desk) (MetaOf uuid) (IsMetaIn uuid) (map ref_of_code (take c.loop-index.index-index c.as_slice-index-items.result.now)) (λ r name own. meta_in uuid r name own) c.loop-index.invariant.went
+
+pub returns-in_err-check_meta-clause-first : goal.returns-in_err-check_meta-clause-first
+returns-in_err-check_meta-clause-first g c =
+    let s = g.Q.Desk.start in
+    let mid = g.Q.Desk.seen c.loop-index.desk in
+    let new = g.Q.Desk.seen c.check_meta.new.desk in
+    let uuid = c.args.snap.now.uuid.number in
+    let xs = c.as_slice-index-items.result.now in
+    let i = c.loop-index.index-index in
+    let own = c.index-item.result in
+    let items = c.as_slice-index-items.ensures ∙ ap (λ (x : Info). x.indices) c.info.view_is in
+    let before = map ref_of_code (take i xs) in
+    let next = subst (λ (rs : List CodeRef). IsNext (map ref_of_code rs) before (ref_of_code own)) items (next_at ref_of_code xs i own c.loop-index-test.true c.index-item.is) in
+    passes (Just (IndexMeta own.id.number uuid)) (FirstOfMetas s (caller_of s new) uuid (info_of_code c.args.info.now).indices) c.from_residual.result c.in_err-check_meta.field-0.0 c.from_residual.ensures.1
+    (λ name is. record { before = before; r = ref_of_code own; next = next; agree = metas_more s (caller_of s mid) (caller_of s new) c.check_meta.ensures.went.grown uuid before c.loop-index.invariant.metas; names = is })
+    c.in_err-check_meta.ensures.first

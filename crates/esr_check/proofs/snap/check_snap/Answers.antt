@@ -7,6 +7,9 @@ use Rattle.esr_check.specs.Names.{Just, IsOfSnap, IsMetaIn}
 use Rattle.esr_check.proofs.Going.{went_as, went_both, went_on, some_new, still_new, read_more, root_on}
 use Rattle.esr_check.proofs.Naming.{info_of_snap, global_of_snap, metas_of_snap, global_no_info, metas_no_info, metas_no_global}
 use Rattle.esr_check.proofs.Snapping.{has_info}
+use Rattle.esr_model.specs.Image.{global_of}
+use Rattle.esr_check.specs.First.{FirstOfMetas, FirstOfSnap, AtInfo, AtGlobal, AtMeta}
+use Rattle.esr_check.proofs.Telling.{passes}
 use Rattle.esr_check.proofs.snap.check_snap.Goals as goal
 
 pub check_info-requires-clause-new : goal.check_info-requires-clause-new
@@ -95,3 +98,34 @@ returns-clause-info g c =
     let uuid = c.args.snap.now.uuid.number in
     has_info g.Q.Desk.start (g.Q.Desk.seen c.check_info.new.desk) (g.Q.Desk.seen c.check_global.new.desk) (g.Q.Desk.seen c.check_metas.new.desk) (root_of c.args.root.now) (root_snap_of c.args.snap.now) (info_of_code c.in_ok-info.info) (Just (Meta uuid)) (IsMetaIn uuid)
     c.check_global.ensures.went c.check_metas.ensures.went c.in_ok-info.ensures.read c.in_ok-info.ensures.agrees c.in_ok-check_global.ensures.read c.in_ok-check_metas.ensures.metas
+
+-- ---- the first that is damaged
+
+pub returns-in_err-info-clause-first : goal.returns-in_err-info-clause-first
+returns-in_err-info-clause-first g c =
+    let s = g.Q.Desk.start in
+    passes (Just (Snap c.args.snap.now.uuid.number)) (FirstOfSnap s (caller_of s (g.Q.Desk.seen c.check_info.new.desk)) (root_of c.args.root.now) (root_snap_of c.args.snap.now)) c.from_residual.result c.in_err-info.field-0.0 c.from_residual.ensures.1
+    (λ name is. AtInfo is) c.in_err-info.ensures.first
+
+pub returns-in_err-check_global-clause-first : goal.returns-in_err-check_global-clause-first
+returns-in_err-check_global-clause-first g c =
+    let s = g.Q.Desk.start in
+    let mid = caller_of s (g.Q.Desk.seen c.check_info.new.desk) in
+    let new = caller_of s (g.Q.Desk.seen c.check_global.new.desk) in
+    let uuid = c.args.snap.now.uuid.number in
+    let info = info_of_code c.in_ok-info.info in
+    passes (Just (Meta uuid)) (FirstOfSnap s new (root_of c.args.root.now) (root_snap_of c.args.snap.now)) c.from_residual-in_err-check_global.result c.in_err-check_global.field-0.0 c.from_residual-in_err-check_global.ensures.1
+    (λ name is. AtGlobal info (read_more s mid new c.check_global.ensures.went.grown (Snap uuid) (formats_of s).info info c.in_ok-info.ensures.read) c.in_ok-info.ensures.agrees is) c.in_err-check_global.ensures.first
+
+pub returns-in_err-check_metas-clause-first : goal.returns-in_err-check_metas-clause-first
+returns-in_err-check_metas-clause-first g c =
+    let s = g.Q.Desk.start in
+    let mid = caller_of s (g.Q.Desk.seen c.check_info.new.desk) in
+    let next = caller_of s (g.Q.Desk.seen c.check_global.new.desk) in
+    let new = caller_of s (g.Q.Desk.seen c.check_metas.new.desk) in
+    let uuid = c.args.snap.now.uuid.number in
+    let info = info_of_code c.in_ok-info.info in
+    passes (FirstOfMetas s new uuid info.indices) (FirstOfSnap s new (root_of c.args.root.now) (root_snap_of c.args.snap.now)) c.from_residual-in_err-check_metas.result c.in_err-check_metas.field-0.0 c.from_residual-in_err-check_metas.ensures.1
+    (λ name first. AtMeta info
+    (read_more s next new c.check_metas.ensures.went.grown (Snap uuid) (formats_of s).info info (read_more s mid next c.check_global.ensures.went.grown (Snap uuid) (formats_of s).info info c.in_ok-info.ensures.read)) c.in_ok-info.ensures.agrees
+    (read_more s next new c.check_metas.ensures.went.grown (Meta uuid) (formats_of s).global (global_of info) c.in_ok-check_global.ensures.read) first) c.in_err-check_metas.ensures.first

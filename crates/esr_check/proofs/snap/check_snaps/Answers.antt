@@ -11,11 +11,13 @@ use Rattle.esr_reach.proofs.Apart.{snaps_once}
 use Rattle.esr_agreement.proofs.Loops.{has_at, all}
 use Rattle.esr_check.specs.Names.{IsOfAnySnap}
 use Rattle.esr_check.specs.Pieces.{HasInfosOf}
-use Rattle.esr_check.proofs.Going.{went_none, some_new, root_on}
+use Rattle.esr_check.proofs.Going.{went_none, some_new, root_on, infos_more}
 use Rattle.esr_check.proofs.Listing.{Any, next_new, any_next, any_all, any_then}
 use Rattle.esr_check.proofs.Naming.{SnapOf, snap_key, snap_any}
 use Rattle.esr_check.proofs.Refusing.{on_ok}
 use Rattle.esr_check.proofs.Snapping.{infos_next}
+use Rattle.esr_check.specs.First.{IsNext, FirstOfSnap, FirstOfSnaps}
+use Rattle.esr_check.proofs.Telling.{passes, next_at}
 use Rattle.esr_check.proofs.snap.check_snaps.Goals as goal
 
 pub loop-snap-init : goal.loop-snap-init
@@ -87,3 +89,20 @@ returns-clause-infos g c =
 pub returns-clause-went : goal.returns-clause-went
 returns-clause-went g c =
     any_all g.Q.Desk.start (g.Q.Desk.seen c.args.desk.now) (g.Q.Desk.seen c.loop-snap.desk) SnapOf IsOfAnySnap (map root_snap_of (take c.loop-snap.snap-index c.as_slice-snap-items.result.now)) (λ snap name own. snap_any snap name own) c.loop-snap.invariant.went
+
+pub returns-in_err-info-clause-first : goal.returns-in_err-info-clause-first
+returns-in_err-info-clause-first g c =
+    let s = g.Q.Desk.start in
+    let mid = caller_of s (g.Q.Desk.seen c.loop-snap.desk) in
+    let new = caller_of s (g.Q.Desk.seen c.check_snap.new.desk) in
+    let root = root_of c.args.root.now in
+    let xs = c.as_slice-snap-items.result.now in
+    let i = c.loop-snap.snap-index in
+    let own = c.snap-item.result in
+    let items = c.as_slice-snap-items.ensures.items ∙ ap (λ (r : CodeRoot). r.snapshots) c.root.view_is in
+    let before = map root_snap_of (take i xs) in
+    let infos = map info_of_code c.loop-snap.infos in
+    let next = subst (λ (ss : List CodeSnap). IsNext (map root_snap_of ss) before (root_snap_of own)) items (next_at root_snap_of xs i own c.loop-snap-test.true c.snap-item.is) in
+    passes (FirstOfSnap s new root (root_snap_of own)) (FirstOfSnaps s new root) c.from_residual.result c.in_err-info.field-0.0 c.from_residual.ensures.1
+    (λ name first. record { before = before; snap = root_snap_of own; infos = infos; next = next; agree = infos_more s mid new c.check_snap.ensures.went.grown root before infos c.loop-snap.invariant.infos; first = first })
+    c.in_err-info.ensures.first

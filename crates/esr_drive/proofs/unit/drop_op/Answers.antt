@@ -46,6 +46,9 @@ returns-then-is_late-clause-grew g c =
     let who = c.args.unit.now.ready.ticket in
     grew_by_on s who old mid (g.Q.Desk.seen c.end_stale.new.desk) (outcome_grew_by s old mid who DroppedStep (λ x. HasEnded) c.end_drop.result c.end_drop.ensures.step) c.end_stale.ensures.grew
 
+pub returns-then-is_late-clause-calls : goal.returns-then-is_late-clause-calls
+returns-then-is_late-clause-calls g c = c.end_stale.ensures.calls ∙ c.end_drop.ensures.calls
+
 -- ---- it was refused for another reason
 
 pub returns-else-is_late-clause-stopped : goal.returns-else-is_late-clause-stopped

@@ -1,6 +1,8 @@
 use Rattle.std.proofs.Common.{◌≡◌, ◌≤◌, true, [], length}
 use Rattle.esr_desk.specs.Grew.{NoneOut}
 use Rattle.esr_quiet.specs.Asked.{GrewAsking}
+use Rattle.esr_drive.specs.Calls.{TakeCalls}
+use Rattle.esr_drive.specs.Ended.{AllEnded}
 use Rattle.esr_drive.specs.Over.{NoReaderOut}
 use Rattle.esr_drive.specs.Works.{WorksOnly}
 use Rattle.esr_drive.specs.Takes.{idle_takes}
@@ -15,5 +17,7 @@ invariant-loop-round g l =
       readers : g.Q.Desk.start.alone ≡ true → NoReaderOut g.Q.Desk.start (g.Q.Desk.seen l.fn.desk) → NoReaderOut g.Q.Desk.start (g.Q.Desk.seen l.desk);
       only : g.Q.Desk.start.alone ≡ true → WorksOnly (g.Q.Desk.seen l.fn.desk) (g.Q.Desk.seen l.desk);
       takes : g.Q.Desk.start.alone ≡ true → idle_takes (g.Q.Desk.seen l.desk) ≡ idle_takes (g.Q.Desk.seen l.fn.desk);
+      calls : TakeCalls 0 (g.Q.Desk.calls l.fn.desk) (g.Q.Desk.calls l.desk);
+      ended : AllEnded g.Q.Desk.start (g.Q.Desk.seen l.desk) (g.Q.Desk.calls l.fn.desk) (g.Q.Desk.calls l.desk);
       rounds : l._round ≤ length (g.Q.Desk.seen l.desk);
     }

@@ -5,7 +5,7 @@ use Rattle.esr_desk.specs.Outcome.{commit_reply, Stepped}
 use Rattle.esr_desk.specs.Grew.{outcome_grew_by}
 use Rattle.esr_unit.specs.declared.trouble.Trouble.TheVariants.{Step}
 use Rattle.esr_finish.specs.Refused.{IsPutRefused}
-use Rattle.esr_finish.proofs.Runs.{passed, taken_on, went_on, worked_to, worked_not, begin_went}
+use Rattle.esr_finish.proofs.Runs.{passed, taken_on, went_on, worked_to, worked_not, begin_went, commit_went}
 use Rattle.esr_finish.proofs.Stopping.{other_than_latest, writing_refused}
 use Rattle.std.proofs.Common.{◌≡◌, inl, Option, refl, sym, ap, ◌∙◌, subst}
 use Rattle.std.specs.Io.KnownBytes.{append_known}
@@ -38,6 +38,16 @@ returns-in_err-commit-clause-went g c =
     went_on s old mid new who
     (record { grew = outcome_grew_by s old mid who (BeginStep (name_of c.args.name)) (λ stage. WasBegun) c.begin.result c.begin.ensures.step; worked = worked_to t0 t0 t1 (worked_not t0) c.in_ok-named.ensures.own })
     (record { grew = outcome_grew_by s mid new who (CommitStep (name_of c.in_ok-named.named.name)) commit_reply c.commit.result c.commit.ensures.step; worked = worked_to t1 t1 t2 (worked_not t1) c.in_err-commit.ensures.kept })
+
+pub returns-clause-went : goal.returns-clause-went
+returns-clause-went g c =
+    let s = g.Q.Desk.start in
+    let old = g.Q.Desk.seen c.args.desk.now in
+    let mid = g.Q.Desk.seen c.begin.new.self in
+    let new = g.Q.Desk.seen c.commit.new.self in
+    let who = c.args.ticket in
+    went_on s old mid new who (begin_went s old mid who (name_of c.args.name) c.begin.result c.begin.ensures.step c.begin.ensures.own)
+    (commit_went s mid new who (name_of c.in_ok-named.named.name) (g.Q.Stage.Stage.contents c.write.new.self) c.in_ok-commit.field-0 c.in_ok-commit.ensures.step c.in_ok-commit.ensures.own)
 
 pub begin-requires-clause-may : goal.begin-requires-clause-may
 begin-requires-clause-may g c = inl (c.requires.may.0, c.requires.may.2)

@@ -1,7 +1,7 @@
 use Rattle.std.proofs.Common.{◌∙◌, ◌≤◌, List, length, take, refl, subst}
 use Rattle.esr_shardidx.specs.declared.entry.FileEntry.{FileEntry as CodeEntry}
 use Rattle.esr_desk.specs.Own.{reader_of}
-use Rattle.esr_restore.proofs.Going.{went_none, went_on, went_at}
+use Rattle.esr_restore.proofs.Going.{went_none, went_on, went_at, still_mine}
 use Rattle.esr_restore.proofs.Reading.{snap_more}
 use Rattle.esr_restore.proofs.Listing.{entry_at, listed_at, files_none, next_free, files_next, files_all, at_same}
 use Rattle.esr_desk.specs.Restore.First.{HasFirst}
@@ -13,7 +13,7 @@ use Rattle.esr_restore.proofs.files.restore_files.Goals as goal
 
 pub loop-entry-init : goal.loop-entry-init
 loop-entry-init g c = record {
-  holds = c.requires.mine;
+  calls = refl;
   buffer = refl;
   begun = c.requires.none_begun;
   steady = refl;
@@ -23,6 +23,10 @@ loop-entry-init g c = record {
   reads = reads_none g.Q.Desk.start (g.Q.Desk.seen c.args.desk.now) c.args.ticket (IsPartOfAny c.args.at (take 0 c.args.snap.now.files));
   first = files_none g.Q.Desk.start (reader_of g.Q.Desk.start (g.Q.Desk.seen c.args.desk.now) c.args.ticket) c.args.at c.args.snap.now.files (g.Q.Target.Target.told c.args.target.now).files c.requires.empty;
 }
+
+pub restore_file-requires-clause-mine : goal.restore_file-requires-clause-mine
+restore_file-requires-clause-mine g c κs within =
+    still_mine (g.Q.Desk.calls c.args.desk.now) (g.Q.Desk.calls c.loop-entry.desk) c.args.ticket c.loop-entry.invariant.calls c.requires.mine
 
 pub restore_file-requires-clause-entry : goal.restore_file-requires-clause-entry
 restore_file-requires-clause-entry g c κs within =
@@ -63,6 +67,9 @@ returns-in_err-restore_file-clause-first g c =
     (first_files s (reader_of s mid who) (reader_of s new who) at uuid.number c.args.snap.now c.loop-entry.entry-index (g.Q.Target.Target.told c.args.target.now).files (g.Q.Target.Target.told c.loop-entry.target).files files_new c.restore_file.ensures.went.worked
     (went_at s old new who at.index.number at.number uuid.number went c.requires.at) (snap_more s (reader_of s old who) (reader_of s new who) c.args.snap.now went.worked c.requires.snap) c.loop-entry.invariant.first c.in_err-restore_file.ensures.kept)
 
+pub returns-in_err-restore_file-clause-calls : goal.returns-in_err-restore_file-clause-calls
+returns-in_err-restore_file-clause-calls g c = c.restore_file.ensures.calls ∙ c.loop-entry.invariant.calls
+
 pub loop-entry-preserved : goal.loop-entry-preserved
 loop-entry-preserved g c =
     let s = g.Q.Desk.start in
@@ -73,7 +80,7 @@ loop-entry-preserved g c =
     let new = g.Q.Desk.seen c.restore_file.new.desk in
     let here = at_same c.files-entry-items.result.now c.args.snap.now.files c.loop-entry.entry-index c.entry-item.result c.files-entry-items.ensures.files c.loop-entry-test.true c.entry-item.is in
     record {
-      holds = done.calls;
+      calls = done.calls ∙ inv.calls;
       buffer = done.buffer ∙ inv.buffer;
       begun = done.begun;
       steady = done.steady ∙ inv.steady;

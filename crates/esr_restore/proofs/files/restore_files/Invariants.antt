@@ -1,6 +1,6 @@
-use Rattle.std.proofs.Common.{◌≡◌, length, take, None}
+use Rattle.std.proofs.Common.{◌≡◌, List, length, take, None}
 use Rattle.esr_desk.specs.Own.{reader_of}
-use Rattle.esr_desk.specs.Calls.{HasTaken}
+use Rattle.esr_desk.specs.Calls.{Call}
 use Rattle.esr_desk.specs.Made.{ReadsOnly}
 use Rattle.esr_restore.specs.Unread.{IsPartOfAny}
 use Rattle.esr_restore.specs.Went.{Went}
@@ -10,7 +10,7 @@ use Rattle.esr_restore.proofs.files.restore_files.Given as goal
 abbrev pub invariant-loop-entry : goal.invariant-loop-entry
 invariant-loop-entry g l =
     record {
-      holds : HasTaken (g.Q.Desk.calls l.desk) l.ticket;
+      calls : ◌≡◌ {A = List Call} (g.Q.Desk.calls l.desk) (g.Q.Desk.calls l.fn.desk);
       buffer : length l.buf ≡ length l.fn.buf;
       begun : (g.Q.Target.Target.told l.target).begun ≡ None;
       steady : g.Q.Target.Counted.faults l.target ≡ g.Q.Target.Counted.faults l.fn.target;

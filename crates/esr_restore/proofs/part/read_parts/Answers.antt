@@ -9,7 +9,7 @@ use Rattle.esr_desk.specs.Own.{reader_of}
 use Rattle.esr_desk.specs.Once.{IsFresh}
 use Rattle.esr_desk.specs.Restore.Conditions.{CanRead}
 use Rattle.esr_restore.specs.Parts.{ReadPart}
-use Rattle.esr_restore.proofs.Going.{went_none, went_on, went_at}
+use Rattle.esr_restore.proofs.Going.{went_none, went_on, went_at, still_mine}
 use Rattle.esr_restore.proofs.Reading.{listed_more}
 use Rattle.esr_restore.proofs.Sizes.{part_layout, few_parts, fed_bound}
 use Rattle.esr_restore.proofs.Parts.{can_read_part, so_far_none, so_far_flag, and_then, and_else, so_far_all, room_for, fed_most}
@@ -21,7 +21,7 @@ use Rattle.esr_restore.proofs.part.read_parts.Goals as goal
 
 pub loop-number-init : goal.loop-number-init
 loop-number-init g c = record {
-  holds = c.requires.mine;
+  calls = refl;
   buffer = refl;
   files = refl;
   steady = refl;
@@ -31,6 +31,10 @@ loop-number-init g c = record {
   reads = reads_none g.Q.Desk.start (g.Q.Desk.seen c.args.desk.now) c.args.ticket (IsPartBefore c.args.at c.args.entry.now 0);
   so_far = so_far_none g.Q.Desk.start (reader_of g.Q.Desk.start (g.Q.Desk.seen c.args.desk.now) c.args.ticket) c.args.hasher.now (g.Q.Target.Target.told c.args.target.now).begun c.args.at c.args.entry.now c.requires.fresh c.requires.room;
 }
+
+pub read_part-requires-clause-mine : goal.read_part-requires-clause-mine
+read_part-requires-clause-mine g c κs within =
+    still_mine (g.Q.Desk.calls c.args.desk.now) (g.Q.Desk.calls c.loop-number.desk) c.args.ticket c.loop-number.invariant.calls c.requires.mine
 
 pub read_part-requires-clause-layout : goal.read_part-requires-clause-layout
 read_part-requires-clause-layout g c κs within =
@@ -73,6 +77,9 @@ read_part-requires-clause-bound g c κs within =
 pub returns-in_err-is_whole-clause-went : goal.returns-in_err-is_whole-clause-went
 returns-in_err-is_whole-clause-went g c = went_on g.Q.Desk.start (g.Q.Desk.seen c.args.desk.now) (g.Q.Desk.seen c.loop-number.desk) (g.Q.Desk.seen c.read_part.new.desk) c.args.ticket c.loop-number.invariant.went c.read_part.ensures.went
 
+pub returns-in_err-is_whole-clause-calls : goal.returns-in_err-is_whole-clause-calls
+returns-in_err-is_whole-clause-calls g c = c.read_part.ensures.calls ∙ c.loop-number.invariant.calls
+
 pub loop-number-preserved : goal.loop-number-preserved
 loop-number-preserved g c =
     let inv = c.loop-number.invariant in
@@ -95,7 +102,7 @@ loop-number-preserved g c =
     ] in
     let read = subst (λ (n : CodeName). ReadPart s (reader_of s new who) c.loop-number.hasher c.read_part.new.hasher begun_mid begun_new (name_of n) c.part_plan-size.result.1 whole) c.part_name-name.ensures done.read in
     record {
-      holds = done.calls;
+      calls = done.calls ∙ inv.calls;
       buffer = done.buffer ∙ inv.buffer;
       files = done.files ∙ inv.files;
       steady = done.steady ∙ inv.steady;

@@ -1,6 +1,6 @@
-use Rattle.std.proofs.Common.{◌≡◌, length}
+use Rattle.std.proofs.Common.{◌≡◌, List, length}
 use Rattle.esr_desk.specs.Own.{reader_of}
-use Rattle.esr_desk.specs.Calls.{HasTaken}
+use Rattle.esr_desk.specs.Calls.{Call}
 use Rattle.esr_desk.specs.Made.{ReadsOnly}
 use Rattle.esr_restore.specs.Unread.{IsPartBefore}
 use Rattle.esr_restore.specs.Went.{Went}
@@ -10,7 +10,7 @@ use Rattle.esr_restore.proofs.part.read_parts.Given as goal
 abbrev pub invariant-loop-number : goal.invariant-loop-number
 invariant-loop-number g l =
     record {
-      holds : HasTaken (g.Q.Desk.calls l.desk) l.ticket;
+      calls : ◌≡◌ {A = List Call} (g.Q.Desk.calls l.desk) (g.Q.Desk.calls l.fn.desk);
       buffer : length l.buf ≡ length l.fn.buf;
       files : (g.Q.Target.Target.told l.target).files ≡ (g.Q.Target.Target.told l.fn.target).files;
       steady : g.Q.Target.Counted.faults l.target ≡ g.Q.Target.Counted.faults l.fn.target;

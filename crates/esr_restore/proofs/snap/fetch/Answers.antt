@@ -8,7 +8,7 @@ use Rattle.esr_desk.specs.Grew.{outcome_grew_by}
 use Rattle.esr_desk.specs.Made.{read_once}
 use Rattle.esr_unit.specs.declared.trouble.Trouble.TheVariants.{Step}
 use Rattle.esr_restore.specs.Trouble.{IsTrouble}
-use Rattle.esr_restore.proofs.Going.{passed, went_same, read_went, still_mine}
+use Rattle.esr_restore.proofs.Going.{passed, went_same, read_went}
 use Rattle.esr_restore.proofs.Reading.{was_absent, was_fetched, has_come}
 use Rattle.esr_restore.proofs.Ending.{fetch_trouble}
 use Rattle.esr_restore.proofs.snap.fetch.Goals as goal
@@ -36,7 +36,7 @@ returns-in_err-fetch-clause-went g c =
 
 pub returns-in_err-fetch-clause-calls : goal.returns-in_err-fetch-clause-calls
 returns-in_err-fetch-clause-calls g c =
-    still_mine (g.Q.Desk.calls c.args.desk.now) (g.Q.Desk.calls c.fetch.new.self) c.args.ticket c.fetch.ensures.calls c.requires.mine
+    c.fetch.ensures.calls
 
 -- ---- it is there
 
@@ -78,7 +78,7 @@ returns-in-Some-clause-went g c =
 
 pub returns-in-Some-clause-calls : goal.returns-in-Some-clause-calls
 returns-in-Some-clause-calls g c =
-    still_mine (g.Q.Desk.calls c.args.desk.now) (g.Q.Desk.calls c.fetch.new.self) c.args.ticket c.fetch.ensures.calls c.requires.mine
+    c.fetch.ensures.calls
 
 -- ---- there is none
 
@@ -102,4 +102,4 @@ returns-in-None-clause-went g c =
 
 pub returns-in-None-clause-calls : goal.returns-in-None-clause-calls
 returns-in-None-clause-calls g c =
-    still_mine (g.Q.Desk.calls c.args.desk.now) (g.Q.Desk.calls c.fetch.new.self) c.args.ticket c.fetch.ensures.calls c.requires.mine
+    c.fetch.ensures.calls

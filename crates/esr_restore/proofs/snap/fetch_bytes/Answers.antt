@@ -101,3 +101,12 @@ returns-in-None-clause-went g c =
     let new = g.Q.Desk.seen c.fetch_whole.new.desk in
     let name = ShardSnap c.args.at.index.number c.args.at.number c.args.uuid.number in
     read_went (told_bytes s) name c.in_ok-bytes.field-0 s old new who c.fetch_whole.ensures.grew c.in_ok-bytes.ensures.own
+
+pub returns-in_err-bytes-clause-calls : goal.returns-in_err-bytes-clause-calls
+returns-in_err-bytes-clause-calls g c = c.fetch_whole.ensures.others
+
+pub returns-in-Some-clause-calls : goal.returns-in-Some-clause-calls
+returns-in-Some-clause-calls g c = c.fetch_whole.ensures.others
+
+pub returns-in-None-clause-calls : goal.returns-in-None-clause-calls
+returns-in-None-clause-calls g c = c.fetch_whole.ensures.others

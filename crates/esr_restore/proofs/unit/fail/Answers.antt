@@ -50,6 +50,10 @@ returns-in-Failed-clause-left g c =
     let new = g.Q.Desk.seen c.give_up.new.desk in
     left_given e s old new who target c.requires.of c.requires.first c.in-Failed.why c.in-Failed.by c.give_up.result c.give_up.ensures.end
 
+pub returns-in-Failed-clause-calls : goal.returns-in-Failed-clause-calls
+returns-in-Failed-clause-calls g c =
+    c.give_up.ensures.others
+
 -- ---- its target failed
 
 pub give_up-requires-in-Own-clause-may : goal.give_up-requires-in-Own-clause-may
@@ -88,6 +92,10 @@ returns-in-Own-clause-left g c =
     let target = c.args.target in
     let new = g.Q.Desk.seen c.give_up-in-Own.new.desk in
     left_taken e s old new who (shows.Object (objects.Target target)) c.give_up-in-Own.result c.give_up-in-Own.ensures.end c.give_up-in-Own.ensures.report
+
+pub returns-in-Own-clause-calls : goal.returns-in-Own-clause-calls
+returns-in-Own-clause-calls g c =
+    c.give_up-in-Own.ensures.others
 
 -- ---- it has no term
 

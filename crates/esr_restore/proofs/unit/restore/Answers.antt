@@ -1,6 +1,7 @@
+use Rattle.std.proofs.Common.{◌∙◌}
 use Rattle.esr_desk.specs.Own.{reader_of}
 use Rattle.esr_restore.specs.Trouble.{IsTrouble}
-use Rattle.esr_restore.proofs.Going.{passed, went_on}
+use Rattle.esr_restore.proofs.Going.{passed, went_on, still_mine}
 use Rattle.esr_restore.proofs.Reading.{snap_more}
 use Rattle.esr_model.specs.Names.{ShardSnap}
 use Rattle.esr_desk.specs.Restore.First.{HasFirst}
@@ -36,6 +37,15 @@ returns-in_err-restore_files-clause-went g c = went_on g.Q.Desk.start (g.Q.Desk.
 
 pub returns-clause-went : goal.returns-clause-went
 returns-clause-went g c = went_on g.Q.Desk.start (g.Q.Desk.seen c.args.desk.now) (g.Q.Desk.seen c.fetch_snap.new.desk) (g.Q.Desk.seen c.restore_files.new.desk) c.args.ticket c.fetch_snap.ensures.went c.restore_files.ensures.went
+
+pub restore_files-requires-clause-mine : goal.restore_files-requires-clause-mine
+restore_files-requires-clause-mine g c κs within = still_mine (g.Q.Desk.calls c.args.desk.now) (g.Q.Desk.calls c.fetch_snap.new.desk) c.args.ticket c.fetch_snap.ensures.calls c.requires.mine
+
+pub returns-in_err-restore_files-clause-calls : goal.returns-in_err-restore_files-clause-calls
+returns-in_err-restore_files-clause-calls g c = c.restore_files.ensures.calls ∙ c.fetch_snap.ensures.calls
+
+pub returns-clause-calls : goal.returns-clause-calls
+returns-clause-calls g c = c.restore_files.ensures.calls ∙ c.fetch_snap.ensures.calls
 
 pub returns-clause-snap : goal.returns-clause-snap
 returns-clause-snap g c =

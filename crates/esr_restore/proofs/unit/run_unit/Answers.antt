@@ -6,14 +6,14 @@ use Rattle.esr_core.specs.Entry.{ReadStep, RestoredShard, HasEnded}
 use Rattle.esr_desk.specs.Evidence.{evidence}
 use Rattle.esr_desk.specs.Grew.{grew_by_none, grew_by_on, outcome_grew_by}
 use Rattle.esr_desk.specs.Own.{reader_of}
+use Rattle.esr_desk.specs.Restore.Targets.{refused_of}
 use Rattle.esr_desk.specs.declared.refusal.StepRefusal.TheVariants.{Memory}
 use Rattle.esr_desk.specs.declared.unit.UnitRefusal.{UnitRefusal}
-use Rattle.esr_desk.specs.Refusals.{told_refusal}
 use Rattle.esr_restore.specs.Files.{sum_files}
 use Rattle.esr_restore.proofs.Going.{worked_none, worked_same, worked_on, went_at, still_mine}
 use Rattle.esr_restore.proofs.Ending.{end_halts, unit_refused_on}
 use Rattle.esr_restore.specs.Refused.{IsUnitRefused}
-use Rattle.esr_restore.proofs.Left.{end_refused, stopped_left}
+use Rattle.esr_restore.proofs.Left.{first_all, left_unended, stopped_left}
 use Rattle.esr_restore.proofs.Finishing.{has_files, has_restored, filled, took_fresh, took_at, took_of, none_yet}
 use Rattle.esr_restore.proofs.unit.run_unit.Goals as goal
 
@@ -58,6 +58,10 @@ restore-requires-clause-empty g c κs within =
     none_yet (g.T.Targets.told c.args.targets.now).tells (g.Q.Target.Target.told c.in-Ok.target).files c.in-Ok.ensures.files
 
 -- ---- the ticket ends
+
+pub finish-requires-clause-mine : goal.finish-requires-clause-mine
+finish-requires-clause-mine g c κs within =
+    still_mine (g.Q.Desk.calls c.args.desk.now) (g.Q.Desk.calls c.restore.new.desk) c.args.unit.ready.ticket c.restore.ensures.calls c.requires.mine
 
 pub finish-requires-clause-out : goal.finish-requires-clause-out
 finish-requires-clause-out g c κs within =
@@ -122,11 +126,11 @@ returns-in-Ok-finish-clause-grew g c =
     let mid = g.Q.Desk.seen c.restore.new.desk in
     let went = c.restore.ensures.went in
     let new = g.Q.Desk.seen c.finish.new.desk in
-    grew_by_on s who old mid new went.grew (outcome_grew_by s mid new who (ReadStep (RestoredShard (length c.in-Ok-restore.snap.files) (sum_files c.in-Ok-restore.snap.files))) (λ x. HasEnded) c.finish.result c.finish.ensures.step)
+    grew_by_on s who old mid new went.grew (outcome_grew_by s mid new who (ReadStep (RestoredShard (length c.in-Ok-restore.snap.files) (sum_files c.in-Ok-restore.snap.files))) (λ x. HasEnded) (refused_of c.finish.result) c.finish.ensures.step)
 
 pub returns-in-Ok-finish-clause-calls : goal.returns-in-Ok-finish-clause-calls
 returns-in-Ok-finish-clause-calls g c =
-    still_mine (g.Q.Desk.calls c.restore.new.desk) (g.Q.Desk.calls c.finish.new.desk) c.args.unit.ready.ticket c.finish.ensures.calls c.restore.ensures.calls
+    c.finish.ensures.calls ∙ c.restore.ensures.calls
 
 -- ---- the end was refused
 
@@ -143,9 +147,9 @@ returns-in-Ok-restore-clause-refused g c =
     let failed = c.in-Err-finish in
     let e = evidence g.Q.Stage.Counted.faults g.Q.Fetch.Counted.faults g.Q.Shard.Counted.faults g.Q.Target.Counted.faults g.Q.Shard.Shard.told g.Q.Target.Target.told in
     let out = ap (λ (q : Reader). q.out) failed.ensures.kept ∙ (went_at s old mid who r.at.index.number r.at.number r.uuid.number went (took_at ready.work ready.op (reader_of s old who) r.uuid r.at r.index r.place r.is c.requires.fresh)).out in
-    subst (λ (x : UnitRefusal). IsUnitRefused e s old new who x) (sym c.stopped-in-Err-finish.ensures.refusal) (
+    subst (λ (x : UnitRefusal). IsUnitRefused e s old new who x) (sym c.give_back.ensures.refusal) (
       worked_on (reader_of s old who) (reader_of s mid who) (reader_of s new who) went.worked (worked_same (reader_of s mid who) (reader_of s new who) failed.ensures.kept),
-      end_halts c.refusals_are_of_their_steps.ensures s mid new who (length c.in-Ok-restore.snap.files) (sum_files c.in-Ok-restore.snap.files) out failed.refusal failed.ensures.step,
+      end_halts c.refusals_are_of_their_steps.ensures s mid new who (length c.in-Ok-restore.snap.files) (sum_files c.in-Ok-restore.snap.files) out failed.unended.refusal failed.ensures.step,
     )
 
 pub returns-in-Ok-restore-clause-left : goal.returns-in-Ok-restore-clause-left
@@ -158,9 +162,15 @@ returns-in-Ok-restore-clause-left g c =
     let mid = g.Q.Desk.seen c.restore.new.desk in
     let went = c.restore.ensures.went in
     let new = g.Q.Desk.seen c.finish.new.desk in
-    let stop = c.stopped-in-Err-finish in
-    stopped_left g.Q.Target.Target.told s new who c.in-Err-finish.refusal stop.result.refusal stop.result.target stop.ensures.refusal stop.ensures.target
-    (end_refused s mid new who (length c.in-Ok-restore.snap.files) (sum_files c.in-Ok-restore.snap.files) (told_refusal c.in-Err-finish.refusal) c.in-Err-finish.ensures.step.0)
+    let failed = c.in-Err-finish in
+    let target = c.restore.new.target in
+    let at = went_at s old mid who r.at.index.number r.at.number r.uuid.number went (took_at ready.work ready.op (reader_of s old who) r.uuid r.at r.index r.place r.is c.requires.fresh) in
+    let made_is : (g.Q.Target.Target.told target).made_for ≡ address r.place r.index r.at.number =
+    c.restore.ensures.made_for ∙ c.in-Ok.ensures.made_for ∙ ap (λ (p : Bytes). address p c.as_str-2.result.now r.at.number) c.as_str.ensures.text ∙ ap (λ (n : Bytes). address r.place n r.at.number) c.as_str-2.ensures.text in
+    left_unended g.Q.Target.Target.told s (reader_of s mid who) new who c.give_back.result.refusal (record { op = ready.op; index = r.index; shard = r.at.number; target = target }) failed.unended.target c.give_back.result.target
+    (took_of ready.work ready.op (reader_of s old who) (reader_of s mid who) r.uuid r.at r.index r.place (g.Q.Target.Target.told target).made_for r.is c.requires.fresh made_is went.worked)
+    (first_all s (reader_of s mid who) r.at r.uuid.number c.in-Ok-restore.snap (g.Q.Target.Target.told c.in-Ok.target).files (g.Q.Target.Target.told target).files at c.in-Ok-restore.ensures.snap c.in-Ok-restore.ensures.restored)
+    failed.ensures.kept failed.ensures.target c.give_back.ensures.target
 
 pub returns-in-Ok-restore-clause-grew : goal.returns-in-Ok-restore-clause-grew
 returns-in-Ok-restore-clause-grew g c =
@@ -172,13 +182,17 @@ returns-in-Ok-restore-clause-grew g c =
     let mid = g.Q.Desk.seen c.restore.new.desk in
     let went = c.restore.ensures.went in
     let new = g.Q.Desk.seen c.finish.new.desk in
-    grew_by_on s who old mid new went.grew (outcome_grew_by s mid new who (ReadStep (RestoredShard (length c.in-Ok-restore.snap.files) (sum_files c.in-Ok-restore.snap.files))) (λ x. HasEnded) c.finish.result c.finish.ensures.step)
+    grew_by_on s who old mid new went.grew (outcome_grew_by s mid new who (ReadStep (RestoredShard (length c.in-Ok-restore.snap.files) (sum_files c.in-Ok-restore.snap.files))) (λ x. HasEnded) (refused_of c.finish.result) c.finish.ensures.step)
 
 pub returns-in-Ok-restore-clause-calls : goal.returns-in-Ok-restore-clause-calls
 returns-in-Ok-restore-clause-calls g c =
-    still_mine (g.Q.Desk.calls c.restore.new.desk) (g.Q.Desk.calls c.finish.new.desk) c.args.unit.ready.ticket c.finish.ensures.calls c.restore.ensures.calls
+    c.finish.ensures.calls ∙ c.restore.ensures.calls
 
 -- ---- the files aren't restored
+
+pub fail-requires-clause-mine : goal.fail-requires-clause-mine
+fail-requires-clause-mine g c κs within =
+    still_mine (g.Q.Desk.calls c.args.desk.now) (g.Q.Desk.calls c.restore.new.desk) c.args.unit.ready.ticket c.restore.ensures.calls c.requires.mine
 
 pub fail-requires-clause-out : goal.fail-requires-clause-out
 fail-requires-clause-out g c κs within =
@@ -240,3 +254,7 @@ returns-clause-grew g c =
     let went = c.restore.ensures.went in
     let new = g.Q.Desk.seen c.fail.new.desk in
     grew_by_on s who old mid new went.grew c.fail.ensures.grew
+
+pub returns-clause-calls : goal.returns-clause-calls
+returns-clause-calls g c =
+    c.fail.ensures.calls ∙ c.restore.ensures.calls

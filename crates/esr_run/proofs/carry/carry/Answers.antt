@@ -1,36 +1,47 @@
-use Rattle.std.proofs.Common.{◌≡◌, ◌⊎◌, ◌+◌, ◌≤◌, true, Result, Ok, Err, OnOk, arith}
-use Rattle.esr_drive.specs.Takes.{idle_takes}
-use Rattle.esr_run.specs.Waits.{waits_of}
+use Rattle.std.proofs.Common.{◌≡◌, ◌⊎◌, ℕ, ◌+◌, ◌^◌, ◌≤◌, length, Result, Ok, Err, OnOk, arith}
 use Rattle.std.specs.declared.alloc.AllocError.{AllocError}
+use Rattle.esr_drive.specs.Takes.{idle_takes}
+use Rattle.esr_drive.specs.Elections.{elections}
 use Rattle.esr_complete.specs.Answers.{IsIdle}
-use Rattle.esr_run.specs.Checked.{asks_check}
-use Rattle.esr_run.specs.Made.{HasStopped, WasLeft, AreIn, AreDone}
 use Rattle.esr_complete.specs.Lines.{steps_of}
+use Rattle.esr_run.specs.Checked.{asks_check}
+use Rattle.esr_run.specs.Made.{HasStopped, WasLeft, AreIn, AreMade, AreDone}
+use Rattle.esr_run.specs.Waits.{waits_of, failovers_of}
 use Rattle.esr_run.proofs.Making.{made_then, done_then}
+use Rattle.esr_run.proofs.Going.{ok_is}
 use Rattle.esr_run.proofs.carry.carry.Goals as goal
 
+pub work_out-requires-clause-legal : goal.work_out-requires-clause-legal
+work_out-requires-clause-legal g c κs within = c.carry_lines-desk.ensures.made.grew.legal c.requires.may.legal
+
 pub returns-in-Ok-clause-made : goal.returns-in-Ok-clause-made
-returns-in-Ok-clause-made g c = made_then g.Q.Desk.start (steps_of c.args.moment c.args.lines.now) (g.Q.Desk.seen c.args.desk.now) (g.Q.Desk.seen c.carry_lines.new.desk) (g.Q.Desk.seen c.work_out.new.desk) c.carry_lines.ensures.made c.work_out.ensures.grew
+returns-in-Ok-clause-made g c = made_then g.K.Told.start (steps_of c.args.moment c.args.lines.now) c.args.desk c.carry_lines-desk.result.0 c.work_out.result.0 c.carry_lines-desk.ensures.made c.work_out.ensures.grew
 
 pub returns-in-Ok-clause-done : goal.returns-in-Ok-clause-done
-returns-in-Ok-clause-done g c = go c.work_out.result c.work_out.ensures.done
+returns-in-Ok-clause-done g c = go c.work_out.result.1 c.work_out.ensures.done c.work_out.ensures.elected
   where
-    go : (r : Result Unit AllocError) → OnOk r (g.Q.Desk.start.alone ≡ true → AreIn g.Q.Desk.start (g.Q.Desk.seen c.carry_lines.new.desk) → IsIdle g.Q.Desk.start (g.Q.Desk.seen c.work_out.new.desk) ⊎ HasStopped (g.Q.Desk.seen c.work_out.new.desk))
-        → OnOk r (g.Q.Desk.start.alone ≡ true → AreIn g.Q.Desk.start (g.Q.Desk.seen c.args.desk.now) → AreDone g.Q.Desk.start c.args.moment c.args.lines.now (g.Q.Desk.seen c.args.desk.now) (g.Q.Desk.seen c.work_out.new.desk) ⊎ WasLeft g.Q.Desk.start c.args.moment c.args.lines.now (g.Q.Desk.seen c.args.desk.now) (g.Q.Desk.seen c.work_out.new.desk))
-    go (Ok x) done = done_then g.Q.Desk.start c.args.moment c.args.lines.now (g.Q.Desk.seen c.args.desk.now) (g.Q.Desk.seen c.carry_lines.new.desk) (g.Q.Desk.seen c.work_out.new.desk) c.in-Ok.ensures.rests c.work_out.ensures.grew (c.work_out.ensures.only c.requires.alone) done
-        (λ closed. c.work_out.ensures.closed c.requires.alone (c.carry_lines.ensures.made.grew.legal c.requires.may.legal) closed)
-    go (Err e) done = tt
+    go : (r : Result Unit AllocError) → OnOk r (AreIn g.K.Told.start c.carry_lines-desk.result.0 → IsIdle g.K.Told.start c.work_out.result.0 ⊎ HasStopped c.work_out.result.0)
+        → OnOk r ((elections c.work_out.result.0 ≡ elections c.carry_lines-desk.result.0 + c.in-Ok.elections) ⊎ (2 ^ 33 ≤ length c.work_out.result.0))
+        → OnOk r (AreIn g.K.Told.start c.args.desk → AreDone g.K.Told.start c.args.moment c.args.lines.now c.args.desk c.work_out.result.0 ⊎ WasLeft g.K.Told.start c.args.moment 0 c.args.lines.now c.args.desk c.work_out.result.0)
+    go (Ok x) done elected = done_then g.K.Told.start c.args.moment c.in-Ok.elections c.args.lines.now c.args.desk c.carry_lines-desk.result.0 c.work_out.result.0 (ok_is (λ (owed : ℕ). AreIn g.K.Told.start c.args.desk → AreMade g.K.Told.start c.args.moment owed c.args.lines.now c.args.desk c.carry_lines-desk.result.0 ⊎ WasLeft g.K.Told.start c.args.moment owed c.args.lines.now c.args.desk c.carry_lines-desk.result.0) c.carry_lines-desk.result.1 c.in-Ok.elections c.in-Ok.is c.carry_lines-desk.ensures.rests) c.work_out.ensures.grew c.work_out.ensures.only elected done c.work_out.ensures.closed
+    go (Err e) done elected = tt
 
 pub returns-in-Ok-clause-whole : goal.returns-in-Ok-clause-whole
-returns-in-Ok-clause-whole g c = c.work_out.ensures.whole c.args.workers (asks_check c.args.lines.now) c.requires.alone c.carry_lines.ensures.whole
+returns-in-Ok-clause-whole g c = c.work_out.ensures.whole c.args.workers (asks_check c.args.lines.now) c.carry_lines-desk.ensures.whole
 
 pub returns-in-Ok-clause-takes : goal.returns-in-Ok-clause-takes
 returns-in-Ok-clause-takes g c =
-    let few : idle_takes (g.Q.Desk.seen c.carry_lines.new.desk) ≤ idle_takes (g.Q.Desk.seen c.args.desk.now) + waits_of c.args.lines.now = c.carry_lines.ensures.takes in
-    let last : idle_takes (g.Q.Desk.seen c.work_out.new.desk) ≤ idle_takes (g.Q.Desk.seen c.carry_lines.new.desk) + 1 = c.work_out.ensures.takes c.requires.alone in
+    let few : idle_takes c.carry_lines-desk.result.0 ≤ idle_takes c.args.desk + waits_of c.args.workers c.args.lines.now = c.carry_lines-desk.ensures.takes in
+    let last : idle_takes c.work_out.result.0 ≤ idle_takes c.carry_lines-desk.result.0 + c.args.workers = c.work_out.ensures.takes in
+    omega (arith, few, last)
+
+pub returns-in-Ok-clause-elects : goal.returns-in-Ok-clause-elects
+returns-in-Ok-clause-elects g c =
+    let few : elections c.carry_lines-desk.result.0 + c.in-Ok.elections ≤ elections c.args.desk + failovers_of c.args.lines.now = ok_is (λ (owed : ℕ). elections c.carry_lines-desk.result.0 + owed ≤ elections c.args.desk + failovers_of c.args.lines.now) c.carry_lines-desk.result.1 c.in-Ok.elections c.in-Ok.is c.carry_lines-desk.ensures.owes in
+    let last : elections c.work_out.result.0 ≤ elections c.carry_lines-desk.result.0 + c.in-Ok.elections = c.work_out.ensures.elects in
     omega (arith, few, last)
 
 pub returns-in-Err-clause-takes : goal.returns-in-Err-clause-takes
 returns-in-Err-clause-takes g c =
-    let few : idle_takes (g.Q.Desk.seen c.carry_lines.new.desk) ≤ idle_takes (g.Q.Desk.seen c.args.desk.now) + waits_of c.args.lines.now = c.carry_lines.ensures.takes in
+    let few : idle_takes c.carry_lines-desk.result.0 ≤ idle_takes c.args.desk + waits_of c.args.workers c.args.lines.now = c.carry_lines-desk.ensures.takes in
     omega (arith, few)

@@ -3,7 +3,7 @@ use Rattle.esr_core.specs.Entry.{DrawTest, ReadStep}
 use Rattle.esr_desk.specs.declared.unit.UnitRefusal.{UnitRefusal}
 use Rattle.esr_run.specs.Made.{LineMade, LineRests, LineSpends, VerifyBegins}
 use Rattle.esr_run.specs.Verified.{VerifiesOn}
-use Rattle.esr_run.proofs.Verifying.{line_result, turns_of, verify_made, verify_begins, verify_rests, verify_spends, verify_takes, verify_well, verify_refused}
+use Rattle.esr_run.proofs.Verifying.{line_result, turns_of, verify_made, verify_begins, verify_rests, verify_spends, verify_takes, verify_elects, verify_well, verify_refused}
 use Rattle.esr_run.proofs.carry.verify.Goals as goal
 
 pub returns-in-Ok-clause-made : goal.returns-in-Ok-clause-made
@@ -60,3 +60,12 @@ pub returns-in-Err-Stopped-clause-begun : goal.returns-in-Err-Stopped-clause-beg
 returns-in-Err-Stopped-clause-begun g c =
     subst (λ (x : UnitRefusal). VerifyBegins (g.Q.Desk.seen c.args.desk.now) (g.Q.Desk.seen c.verify.new.desk) (line_result (Err x))) c.in-Err-Stopped.field-0-is
     (verify_begins (g.Q.Desk.seen c.args.desk.now) (g.Q.Desk.seen c.verify.new.desk) (Err c.in-Err-Stopped.field-0) c.in-Err-Stopped.ensures.asked)
+
+pub returns-in-Ok-clause-elects : goal.returns-in-Ok-clause-elects
+returns-in-Ok-clause-elects g c = verify_elects (g.Q.Desk.seen c.args.desk.now) (g.Q.Desk.seen c.verify.new.desk) (Ok c.in-Ok.field-0) c.in-Ok.ensures.asked
+
+pub returns-in-Err-Failed-clause-elects : goal.returns-in-Err-Failed-clause-elects
+returns-in-Err-Failed-clause-elects g c = verify_elects (g.Q.Desk.seen c.args.desk.now) (g.Q.Desk.seen c.verify.new.desk) (Err c.in-Err-Failed.field-0) c.in-Err-Failed.ensures.asked
+
+pub returns-in-Err-Stopped-clause-elects : goal.returns-in-Err-Stopped-clause-elects
+returns-in-Err-Stopped-clause-elects g c = verify_elects (g.Q.Desk.seen c.args.desk.now) (g.Q.Desk.seen c.verify.new.desk) (Err c.in-Err-Stopped.field-0) c.in-Err-Stopped.ensures.asked

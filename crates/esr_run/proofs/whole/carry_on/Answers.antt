@@ -6,23 +6,25 @@ use Rattle.esr_run.proofs.Falling.{done_fallen}
 use Rattle.esr_run.specs.Checked.{asks_check}
 use Rattle.esr_run.specs.Verified.{AreWhole}
 use Rattle.esr_run.proofs.Verifying.{begun_may}
-use Rattle.esr_run.proofs.Taking.{takes_few}
+use Rattle.esr_run.proofs.Taking.{are_few}
 use Rattle.esr_run.proofs.whole.carry_on.Goals as goal
 
 pub returns-clause-done : goal.returns-clause-done
 returns-clause-done g c =
-    subst (λ (lines : List ScriptLine). OnOk c.carry-carried.result (AreDone g.K.Told.start c.args.moment lines [] c.into_parts-repo.result.0 ⊎ HasFallen g.K.Told.start c.args.moment lines [] c.into_parts-repo.result.0)) c.as_slice-lines.ensures
-    (done_fallen c.refusals.ensures g.K.Told.start c.args.moment c.as_slice-lines.result.now c.new-desk.result c.carry-carried.new.desk c.into_parts-repo.result.0 c.carry-carried.result
-    (done_on g.K.Told.start c.args.moment c.as_slice-lines.result.now c.new-desk.result c.carry-carried.new.desk c.into_parts-repo.result.0 c.carry-carried.result c.carry-carried.ensures.done c.into_parts-repo.ensures.repo c.new-desk.ensures c.requires.alone c.requires.numbered c.requires.readers)
-    c.carry-carried.ensures.made c.into_parts-repo.ensures.repo c.new-desk.ensures c.requires.alive)
+    subst (λ (lines : List ScriptLine). OnOk c.carry-desk.result.1 (AreDone g.K.Told.start c.args.moment lines [] c.into_parts-repo.result.0 ⊎ HasFallen g.K.Told.start c.args.moment lines [] c.into_parts-repo.result.0)) c.as_slice-lines.ensures
+    (done_fallen c.refusals.ensures g.K.Told.start c.args.moment c.as_slice-lines.result.now c.new-desk.result c.carry-desk.result.0 c.into_parts-repo.result.0 c.carry-desk.result.1
+    (done_on g.K.Told.start c.args.moment c.as_slice-lines.result.now c.new-desk.result c.carry-desk.result.0 c.into_parts-repo.result.0 c.carry-desk.result.1 c.carry-desk.ensures.done c.into_parts-repo.ensures.repo c.new-desk.ensures c.requires.numbered c.requires.readers)
+    c.carry-desk.ensures.made c.into_parts-repo.ensures.repo c.new-desk.ensures c.requires.alive)
 
-pub carry-carried-requires-clause-may : goal.carry-carried-requires-clause-may
-carry-carried-requires-clause-may g c κs within = begun_may g.K.Told.start c.args.asked.now.workers _ c.new-desk.result c.new-desk.ensures c.requires.nobody
+pub carry-desk-requires-clause-may : goal.carry-desk-requires-clause-may
+carry-desk-requires-clause-may g c κs within = begun_may g.K.Told.start c.args.asked.now.workers _ c.new-desk.result c.new-desk.ensures c.requires.nobody
 
 pub returns-clause-whole : goal.returns-clause-whole
 returns-clause-whole g c =
     subst (AreWhole g.K.Told.start c.args.asked.now.workers (asks_check c.args.asked.now.script)) (sym c.into_parts-repo.ensures.repo)
-    (subst (λ (lines : List ScriptLine). AreWhole g.K.Told.start c.args.asked.now.workers (asks_check lines) c.carry-carried.new.desk) c.as_slice-lines.ensures c.carry-carried.ensures.whole)
+    (subst (λ (lines : List ScriptLine). AreWhole g.K.Told.start c.args.asked.now.workers (asks_check lines) c.carry-desk.result.0) c.as_slice-lines.ensures c.carry-desk.ensures.whole)
 
-pub returns-clause-takes : goal.returns-clause-takes
-returns-clause-takes g c = takes_few c.new-desk.result c.carry-carried.new.desk c.into_parts-repo.result.0 c.as_slice-lines.result.now c.args.asked.now.script c.carry-carried.ensures.takes c.into_parts-repo.ensures.repo c.new-desk.ensures c.as_slice-lines.ensures
+pub returns-clause-few : goal.returns-clause-few
+returns-clause-few g c =
+    are_few c.args.asked.now.workers c.new-desk.result c.carry-desk.result.0 c.into_parts-repo.result.0 c.as_slice-lines.result.now c.args.asked.now.script c.carry-desk.ensures.takes c.carry-desk.ensures.elects c.into_parts-repo.ensures.repo c.new-desk.ensures
+    c.as_slice-lines.ensures

@@ -6,7 +6,7 @@ use Rattle.esr_desk.specs.Verify.Tested.{AreTested}
 use Rattle.esr_desk.specs.Evidence.{evidence}
 use Rattle.esr_run.specs.Checked.{asks_check}
 use Rattle.esr_run.specs.Verified.{AreWhole}
-use Rattle.esr_run.specs.Waits.{TakesFew}
+use Rattle.esr_run.specs.Waits.{AreFew}
 use Rattle.esr_run.specs.Made.{HasFallen, AreDone}
 use Rattle.esr_run.proofs.Making.{done_or}
 use Rattle.esr_repo.specs.Log.{image_at, log_of}
@@ -54,5 +54,5 @@ returns-clause-legal g c =
 pub returns-clause-verified : goal.returns-clause-verified
 returns-clause-verified g c = subst (AreWhole g.K.Told.start c.args.asked.now.workers (asks_check c.args.asked.now.script)) (sym c.into_parts-depot.ensures.log) c.carry_on-worked.ensures.whole
 
-pub returns-clause-takes : goal.returns-clause-takes
-returns-clause-takes g c = subst (TakesFew c.args.asked.now.script) (sym c.into_parts-depot.ensures.log) c.carry_on-worked.ensures.takes
+pub returns-clause-few : goal.returns-clause-few
+returns-clause-few g c = subst (AreFew c.args.asked.now.workers c.args.asked.now.script) (sym c.into_parts-depot.ensures.log) c.carry_on-worked.ensures.few

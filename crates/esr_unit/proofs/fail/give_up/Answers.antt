@@ -9,7 +9,8 @@ use Rattle.esr_unit.specs.declared.ending.Ending.{Ending}
 use Rattle.esr_unit.specs.Shown.{EndingShown, MayEnd}
 use Rattle.esr_unit.specs.Fail.{GivenUp, IsReported}
 use Rattle.esr_unit.proofs.Steps.{mine_on, leaves_on, leaves_none}
-use Rattle.esr_unit.proofs.Reports.{shown_on, fail_halts}
+use Rattle.esr_desk.specs.Lasting.{shown_on}
+use Rattle.esr_unit.proofs.Reports.{fail_halts}
 use Rattle.esr_unit.proofs.fail.give_up.Goals as goal
 
 -- ---- it failed
@@ -44,7 +45,7 @@ returns-in-Ok-clause-end g c =
         image = step.image;
         is = step.is;
         by = by;
-        shown = shown_on c.args.hand e s old step.front who (why_of why) by may step.waited shown;
+        shown = shown_on c.args.hand e s (g.Q.Desk.calls c.args.desk.now) old step.front who (why_of why) by c.requires.mine may step.waited shown;
       },
     )
 

@@ -23,10 +23,10 @@ use Rattle.esr_upload.proofs.unit.work.Goals as goal
 
 pub base_of-requires-clause-new : goal.base_of-requires-clause-new
 base_of-requires-clause-new g c κs within =
-    λ generation. none_fresh g.Q.Desk.start (g.Q.Desk.seen c.args.desk.now) c.args.ticket (FetchStep (ShardIndex c.args.at.index.number c.args.at.number generation)) c.requires.new
+    λ generation. none_fresh g.Q.Desk.start (g.Q.Desk.seen c.args.desk.now) c.args.job.ticket (FetchStep (ShardIndex c.args.job.at.index.number c.args.job.at.number generation)) c.requires.new
 
 pub base_of-requires-clause-tells : goal.base_of-requires-clause-tells
-base_of-requires-clause-tells g c κs within = none_tells g.Q.Desk.start (g.Q.Desk.seen c.args.desk.now) c.args.ticket c.requires.new
+base_of-requires-clause-tells g c κs within = none_tells g.Q.Desk.start (g.Q.Desk.seen c.args.desk.now) c.args.job.ticket c.requires.new
 
 pub returns-in_err-index-clause-trouble : goal.returns-in_err-index-clause-trouble
 returns-in_err-index-clause-trouble g c =
@@ -36,7 +36,7 @@ returns-in_err-index-clause-trouble g c =
     let n = g.S.Counted.faults c.args.shard.now in
     let files = (g.S.Shard.told c.args.shard.now).files in
     let trouble = c.in_err-index.field-0.0 in
-    passed c.from_residual.result (Shown e n files s new c.args.ticket) trouble c.from_residual.ensures.1 (shown_any e n files s new c.args.ticket trouble c.in_err-index.ensures.trouble)
+    passed c.from_residual.result (Shown e n files s new c.args.job.ticket) trouble c.from_residual.ensures.1 (shown_any e n files s new c.args.job.ticket trouble c.in_err-index.ensures.trouble)
 
 pub returns-in_err-plans-clause-trouble : goal.returns-in_err-plans-clause-trouble
 returns-in_err-plans-clause-trouble g c =
@@ -46,12 +46,12 @@ returns-in_err-plans-clause-trouble g c =
     let n = g.S.Counted.faults c.plan_files.new.shard in
     let files = (g.S.Shard.told c.args.shard.now).files in
     let trouble = c.in_err-plans.field-0.0 in
-    passed c.from_residual-in_err-plans.result (Shown e n files s log c.args.ticket) trouble c.from_residual-in_err-plans.ensures.1 (read_shown e n files s log c.args.ticket trouble c.in_err-plans.ensures.trouble)
+    passed c.from_residual-in_err-plans.result (Shown e n files s log c.args.job.ticket) trouble c.from_residual-in_err-plans.ensures.1 (read_shown e n files s log c.args.job.ticket trouble c.in_err-plans.ensures.trouble)
 
 pub returns-in_err-first-clause-went : goal.returns-in_err-first-clause-went
 returns-in_err-first-clause-went g c =
     let s = g.Q.Desk.start in
-    let who = c.args.ticket in
+    let who = c.args.job.ticket in
     let old = g.Q.Desk.seen c.args.desk.now in
     let mid = g.Q.Desk.seen c.base_of.new.desk in
     let new = g.Q.Desk.seen c.draw.new.self in
@@ -62,7 +62,7 @@ returns-in_err-first-clause-went g c =
 pub returns-in_err-first-clause-grew : goal.returns-in_err-first-clause-grew
 returns-in_err-first-clause-grew g c =
     let s = g.Q.Desk.start in
-    let who = c.args.ticket in
+    let who = c.args.job.ticket in
     let old = g.Q.Desk.seen c.args.desk.now in
     let mid = g.Q.Desk.seen c.base_of.new.desk in
     let new = g.Q.Desk.seen c.draw.new.self in
@@ -72,11 +72,11 @@ returns-in_err-first-clause-grew g c =
 pub returns-in_err-first-clause-trouble : goal.returns-in_err-first-clause-trouble
 returns-in_err-first-clause-trouble g c =
     let s = g.Q.Desk.start in
-    let who = c.args.ticket in
+    let who = c.args.job.ticket in
     let mid = g.Q.Desk.seen c.base_of.new.desk in
     let new = g.Q.Desk.seen c.draw.new.self in
     let refusal = c.in_err-first.field-0.0 in
-    let at = c.args.at in
+    let at = c.args.job.at in
     let e = evidence g.Q.Stage.Counted.faults g.Q.Fetch.Counted.faults g.Q.Shard.Counted.faults g.Q.Target.Counted.faults g.Q.Shard.Shard.told g.Q.Target.Target.told in
     let n = g.S.Counted.faults c.plan_files.new.shard in
     let files = (g.S.Shard.told c.args.shard.now).files in
@@ -87,7 +87,7 @@ returns-in_err-first-clause-trouble g c =
 pub returns-clause-grew : goal.returns-clause-grew
 returns-clause-grew g c =
     let s = g.Q.Desk.start in
-    let who = c.args.ticket in
+    let who = c.args.job.ticket in
     let old = g.Q.Desk.seen c.args.desk.now in
     let mid = g.Q.Desk.seen c.base_of.new.desk in
     let drawn = g.Q.Desk.seen c.draw.new.self in
@@ -104,7 +104,7 @@ returns-clause-steady g c =
 pub returns-clause-ok : goal.returns-clause-ok
 returns-clause-ok g c =
     let s = g.Q.Desk.start in
-    let who = c.args.ticket in
+    let who = c.args.job.ticket in
     let old = g.Q.Desk.seen c.args.desk.now in
     let mid = g.Q.Desk.seen c.base_of.new.desk in
     let drawn = g.Q.Desk.seen c.draw.new.self in
@@ -116,7 +116,7 @@ returns-clause-ok g c =
 pub returns-clause-went : goal.returns-clause-went
 returns-clause-went g c =
     let s = g.Q.Desk.start in
-    let who = c.args.ticket in
+    let who = c.args.job.ticket in
     let old = g.Q.Desk.seen c.args.desk.now in
     let mid = g.Q.Desk.seen c.base_of.new.desk in
     let drawn = g.Q.Desk.seen c.draw.new.self in
@@ -128,46 +128,46 @@ returns-clause-went g c =
 pub draw-requires-clause-may : goal.draw-requires-clause-may
 draw-requires-clause-may g c =
     let s = g.Q.Desk.start in
-    let who = c.args.ticket in
+    let who = c.args.job.ticket in
     let shard = g.S.Shard.told c.args.shard.now in
-    can_draw s shard.files shard.is_there (g.S.Shard.told c.plan_files.new.shard).listed c.args.at.index.number c.args.at.number c.args.uuid (option_map number_of c.args.base) c.in_ok-index.index c.in_ok-plans.plans
+    can_draw s shard.files shard.is_there (g.S.Shard.told c.plan_files.new.shard).listed c.args.job.at.index.number c.args.job.at.number c.args.job.uuid (option_map number_of c.args.job.base) c.in_ok-index.index c.in_ok-plans.plans
     (ticket_of s (g.Q.Desk.seen c.args.desk.now) who) (ticket_of s (g.Q.Desk.seen c.base_of.new.desk) who) c.requires.unit c.in_ok-index.ensures.based c.in_ok-plans.ensures.planned
     (λ no_place. let failed : false ≡ true = c.in_ok-plans.ensures.absent no_place in cc) c.count_new.result (c.count_new.ensures.count ∙ ap new_count c.as_slice.ensures)
 
 pub store-requires-clause-drawn : goal.store-requires-clause-drawn
 store-requires-clause-drawn g c κs within =
     let s = g.Q.Desk.start in
-    let who = c.args.ticket in
+    let who = c.args.job.ticket in
     let shard = g.S.Shard.told c.args.shard.now in
     let listed = (g.S.Shard.told c.plan_files.new.shard).listed in
-    let i = c.args.at.index.number in
-    let k = c.args.at.number in
+    let i = c.args.job.at.index.number in
+    let k = c.args.job.at.number in
     let index = c.in_ok-index.index in
     let ps = c.in_ok-plans.plans in
     let first = c.in_ok-first.first.number in
     let new = ticket_of s (g.Q.Desk.seen c.draw.new.self) who in
-    drawn_for s listed i k c.args.uuid index ps c.as_slice-2.result.now first new shard.files (g.S.Shard.told c.plan_files.new.shard).files (ap (λ (t : ShardTold). t.files) c.plan_files.ensures.same) c.as_slice-2.ensures
-    (has_drawn s shard.files shard.is_there listed i k c.args.uuid (option_map number_of c.args.base) index ps (ticket_of s (g.Q.Desk.seen c.args.desk.now) who) (ticket_of s (g.Q.Desk.seen c.base_of.new.desk) who)
+    drawn_for s listed i k c.args.job.uuid index ps c.as_slice-2.result.now first new shard.files (g.S.Shard.told c.plan_files.new.shard).files (ap (λ (t : ShardTold). t.files) c.plan_files.ensures.same) c.as_slice-2.ensures
+    (has_drawn s shard.files shard.is_there listed i k c.args.job.uuid (option_map number_of c.args.job.base) index ps (ticket_of s (g.Q.Desk.seen c.args.desk.now) who) (ticket_of s (g.Q.Desk.seen c.base_of.new.desk) who)
     c.requires.unit c.in_ok-index.ensures.based c.in_ok-plans.ensures.planned (λ no_place. let failed : false ≡ true = c.in_ok-plans.ensures.absent no_place in cc)
     first c.count_new.result new (c.count_new.ensures.count ∙ ap new_count c.as_slice.ensures) c.in_ok-first.ensures.own)
 
 pub draw-requires-clause-new : goal.draw-requires-clause-new
 draw-requires-clause-new g c =
-    draw_fresh g.Q.Desk.start (g.Q.Desk.seen c.base_of.new.desk) c.args.ticket (c.count_new.result + 1) c.in_ok-index.ensures.tells (ap (λ (t : Ticket). t.drawn) c.in_ok-index.ensures.based.has_base.is ∙ c.requires.unit.undrawn)
+    draw_fresh g.Q.Desk.start (g.Q.Desk.seen c.base_of.new.desk) c.args.job.ticket (c.count_new.result + 1) c.in_ok-index.ensures.tells (ap (λ (t : Ticket). t.drawn) c.in_ok-index.ensures.based.has_base.is ∙ c.requires.unit.undrawn)
 
 pub store-requires-clause-tells : goal.store-requires-clause-tells
 store-requires-clause-tells g c κs within =
     let n = c.count_new.result + 1 in
     let first = c.in_ok-first.first.number in
-    draw_tells g.Q.Desk.start (g.Q.Desk.seen c.base_of.new.desk) (g.Q.Desk.seen c.draw.new.self) c.args.ticket first n (DrawnFrom first) c.requires.mine.some c.in_ok-index.ensures.tells c.in_ok-first.ensures.step c.in_ok-first.ensures.own (λ none. omega (arith, none))
+    draw_tells g.Q.Desk.start (g.Q.Desk.seen c.base_of.new.desk) (g.Q.Desk.seen c.draw.new.self) c.args.job.ticket first n (DrawnFrom first) c.requires.mine.some c.in_ok-index.ensures.tells c.in_ok-first.ensures.step c.in_ok-first.ensures.own (λ none. omega (arith, none))
 
 -- ---- what it leaves of the shard and of the calls
 
 pub draw-requires-clause-mine : goal.draw-requires-clause-mine
-draw-requires-clause-mine g c = subst (λ (calls : List Call). HasTaken calls c.args.ticket) (sym c.base_of.ensures.calls) c.requires.mine
+draw-requires-clause-mine g c = subst (λ (calls : List Call). HasTaken calls c.args.job.ticket) (sym c.base_of.ensures.calls) c.requires.mine
 
 pub store-requires-clause-mine : goal.store-requires-clause-mine
-store-requires-clause-mine g c κs within = subst (λ (calls : List Call). HasTaken calls c.args.ticket) (sym (c.draw.ensures.calls ∙ c.base_of.ensures.calls)) c.requires.mine
+store-requires-clause-mine g c κs within = subst (λ (calls : List Call). HasTaken calls c.args.job.ticket) (sym (c.draw.ensures.calls ∙ c.base_of.ensures.calls)) c.requires.mine
 
 pub store-requires-clause-base : goal.store-requires-clause-base
 store-requires-clause-base g c κs within = ap (λ (t : Ticket). t.base) (c.in_ok-first.ensures.own) ∙ ap (λ (t : Ticket). t.base) c.in_ok-index.ensures.based.has_base.is ∙ c.requires.unit.base_is
@@ -175,11 +175,11 @@ store-requires-clause-base g c κs within = ap (λ (t : Ticket). t.base) (c.in_o
 pub store-requires-clause-fetched : goal.store-requires-clause-fetched
 store-requires-clause-fetched g c κs within =
     let s = g.Q.Desk.start in
-    let who = c.args.ticket in
+    let who = c.args.job.ticket in
     let mid = g.Q.Desk.seen c.base_of.new.desk in
     let new = g.Q.Desk.seen c.draw.new.self in
     let n = c.count_new.result + 1 in
-    fetched_later s mid new who c.args.at.index.number c.args.at.number c.args.base (outcome_grew_by s mid new who (DrawStep n) (λ (first : Id). DrawnFrom first.number) c.draw.result c.draw.ensures.step) c.in_ok-index.ensures.fetched
+    fetched_later s mid new who c.args.job.at.index.number c.args.job.at.number c.args.job.base (outcome_grew_by s mid new who (DrawStep n) (λ (first : Id). DrawnFrom first.number) c.draw.result c.draw.ensures.step) c.in_ok-index.ensures.fetched
 
 pub returns-clause-same : goal.returns-clause-same
 returns-clause-same g c =
@@ -191,7 +191,7 @@ returns-clause-trouble g c =
     let new = g.Q.Desk.seen c.store.new.desk in
     let e = evidence g.Q.Stage.Counted.faults g.Q.Fetch.Counted.faults g.Q.Shard.Counted.faults g.Q.Target.Counted.faults g.Q.Shard.Shard.told g.Q.Target.Target.told in
     let n = g.S.Counted.faults c.store.new.shard in
-    subst (λ (o : Option FileList). IfErr c.store.result (Shown e n o s new c.args.ticket)) (ap (λ (t : ShardTold). t.files) c.plan_files.ensures.same) c.store.ensures.trouble
+    subst (λ (o : Option FileList). IfErr c.store.result (Shown e n o s new c.args.job.ticket)) (ap (λ (t : ShardTold). t.files) c.plan_files.ensures.same) c.store.ensures.trouble
 
 pub returns-in_err-index-clause-same : goal.returns-in_err-index-clause-same
 returns-in_err-index-clause-same g c = refl
