@@ -1,8 +1,8 @@
 #!/usr/bin/env bash
 # Measures, on a tree of SHARDS shards, MB megabytes in all, in a folder below ROOM, with 1, 2, 4 and as many workers as there are processors: a first snapshot, one without any change, a
-# restore, which is compared with the tree, and a check. In the same run: the kit's own sha2, sha256sum and cp; and restic, borg and rsync, where they are installed, by the same jobs in the
-# same order. These don't compress, and borg doesn't encrypt; with `all read` they read files whose times are as before, as this program always does. Each job begins cold: the system has
-# given up what it held of all files here. One thread works so far, however many workers are asked for, so the goals of several are missed.
+# restore, which is compared with the tree, and a check (which one worker makes, however many there are). In the same run: the kit's own sha2, sha256sum and cp; and restic, borg and rsync,
+# where they are installed, by the same jobs in the same order. These don't compress, and borg doesn't encrypt; with `all read` they read files whose times are as before, as this program
+# always does. Each job begins cold: the system has given up what it held of all files here.
 #
 # Then a file changes, one goes and one comes: a snapshot of that, and restores of both. Then a byte of a blob is changed, and the check must name that blob. Where strace is there, the
 # system calls that sync are counted, in one more first and second snapshot.

@@ -13,6 +13,8 @@ use std::env;
 use std::io::{ErrorKind, IsTerminal};
 use std::process::ExitCode;
 use std::rt::Clock;
+use std::sync::Wait;
+use std::thread::Threads;
 use std::time::{SystemTime, UNIX_EPOCH};
 
 /// The exit status where there is no memory.
@@ -51,14 +53,15 @@ fn has_terminal(rt: &HostRuntime) -> bool {
     }
 }
 
-/// Carries out what the words ask for, and answers the exit status.
-fn status_of(rt: &HostRuntime) -> Result<u8, AllocError> {
+/// Carries out what the words ask for, with workers in threads, and answers the exit status.
+fn status_of<R: Threads + Wait + Sync>(rt: &HostRuntime, threads: &R) -> Result<u8, AllocError> {
     let alloc = rt.alloc();
     let words = words_of(rt)?;
     let dir = repo_place(alloc, &words)?;
     let depot = DirDepot::new(rt, alloc, dir.as_str())?;
     let meter = Meter::new(rt, has_terminal(rt));
     let ended = run(
+        threads,
         alloc,
         &words,
         &mut StdLines::new(rt.stdin()),
@@ -74,5 +77,5 @@ fn status_of(rt: &HostRuntime) -> Result<u8, AllocError> {
 }
 
 fn main(rt: HostRuntime) -> ExitCode {
-    ExitCode::from(status_of(&rt).unwrap_or(WANTING))
+    ExitCode::from(status_of(&rt, &rt).unwrap_or(WANTING))
 }

@@ -1,12 +1,12 @@
 -- The replies along the lines.
-use Rattle.std.proofs.Common.{◌≡◌, ℕ, Bool, true, false, ◌||◌, if◌then◌else◌, List, [], ◌∷◌, ◌++◌, Option, Some, None, map, option_map, refl, sym, ap, ◌∙◌, subst, inl, inr}
+use Rattle.std.proofs.Common.{◌≡◌, ℕ, zero, suc, ◌-◌, Bool, true, false, ◌||◌, if◌then◌else◌, List, [], ◌∷◌, ◌++◌, length, take, Option, Some, None, map, option_map, refl, sym, ap, ◌∙◌, subst, inl, inr}
 use Rattle.esr_model.specs.Values.{Bytes, Has}
 use Rattle.esr_core.specs.Entry as entry
 use Rattle.esr_core.specs.Entry.{Asked, CloneOf, Clone, DeleteSnapshots, AsksNoClone, Restore, CheckedAll, DrawTest, VerifiedAll, Step, AskStep, LookStep, ReadStep, Entry, Moment}
 use Rattle.esr_script.specs.declared.item.Item.{Item}
 use Rattle.esr_script.specs.declared.item.Item.TheVariants as items
 use Rattle.esr_script.specs.declared.item.ScriptLine.{ScriptLine}
-use Rattle.esr_report.specs.Replies.{Reply, fails_swap, answer_at, is_of_line, from_line, falls_before, falls_first, is_check, is_looked, is_look_answered, look_reply, past_look, from_item, check_answer, line_answer, line_reply, wait_reply, is_wait, is_failover, has_fallen, failover_reply, from_election, past_first, and_those, and_more, replies_from, replies}
+use Rattle.esr_report.specs.Replies.{Reply, fails_swap, answer_at, is_of_line, from_line, falls_before, before_election, falls_first, is_check, is_looked, is_look_answered, look_reply, past_look, from_item, check_answer, line_answer, line_reply, wait_reply, is_wait, is_failover, has_fallen, failover_reply, from_election, past_first, and_those, and_more, replies_from, replies}
 use Rattle.esr_quiet.specs.Asked.{is_asked, as_asked, asked_steps}
 use Rattle.esr_complete.specs.Lines.{index_of_line, command_of_line, steps_of_item, steps_of, IsKnown, AreKnown, entries_of}
 use Rattle.esr_complete.specs.Answers.{IsAnswer, AreAnsweredIn, AreAnswered}
@@ -182,6 +182,15 @@ module _ (script : List ScriptLine) (later : List Entry) where
       no_fall (is_of_line x) (fails_swap x.step x.reply || falls_before rest)
       (neither (fails_swap x.step x.reply) (falls_before rest) (facts x (inl refl)).unfallen (unfallen_before all rest (λ y has. facts y (inr has))))
 
+  in_take : (n : ℕ) (rest : List Entry) (x : Entry) → Has (take n rest) x → Has rest x
+  in_take zero rest x has = absurd has
+  in_take (suc n) [] x has = absurd has
+  in_take (suc n) (y ∷ rest) x (inl same) = inl same
+  in_take (suc n) (y ∷ rest) x (inr has) = inr (in_take n rest x has)
+
+  unfallen_then : (all rest : List Entry) → ((x : Entry) → Has rest x → Fact script all x) → falls_before (before_election later rest) ≡ false
+  unfallen_then all rest facts = unfallen_before all (before_election later rest) (λ x has. facts x (in_take (length rest - length (from_election later)) rest x has))
+
   -- ---- a line, and those after it
 
   abbrev IsFirst : Item → List ScriptLine → List Reply → Type 0
@@ -242,7 +251,7 @@ module _ (script : List ScriptLine) (later : List Entry) where
   walk_item : (all rest : List Entry) (moment : ℕ) (item : Item) (lines : List ScriptLine) → ((x : Entry) → Has rest x → Fact script all x) → IsKnown item → InTurn Idle (kinds_of_item item ++ kinds_of lines) rest → steps_asked rest ≡ steps_of_item moment item ++ steps_of moment lines
       → ((es : List Entry) → ((x : Entry) → Has es x → Fact script all x) → InTurn Idle (kinds_of lines) es → steps_asked es ≡ steps_of moment lines → AreAnsweredIn script lines (replies_from all lines false later es))
       → IsFirst item lines
-      (if is_wait item then wait_reply (false || falls_before rest) ∷ replies_from all lines false later rest
+      (if is_wait item then wait_reply (false || falls_before (before_election later rest)) ∷ replies_from all lines false later rest
       else if is_failover item then and_those (failover_reply (has_fallen all) (from_election later)) (replies_from all lines false (past_first (from_election later)) rest)
       else and_more (line_reply item all (from_item item rest)) (replies_from all lines (false || (falls_before rest || falls_first (from_item item rest))) later))
   walk_item all rest moment (items.Snapshot name indices) lines facts known turn e on =
@@ -270,7 +279,7 @@ module _ (script : List ScriptLine) (later : List Entry) where
       (subst (λ (x : Step). IsAnswerOf script (items.Restore name place) (answer_at all x n.e.reply)) (sym n.own) (n.fact.restored name place n.own name place))
       (on n.es n.facts n.turn n.more_is)
   walk_item all rest moment items.Wait lines facts known turn e on =
-      subst (λ (b : Bool). IsFirst items.Wait lines (wait_reply (false || b) ∷ replies_from all lines false later rest)) (sym (unfallen_before all rest facts)) (tt, on rest facts turn e)
+      subst (λ (b : Bool). IsFirst items.Wait lines (wait_reply (false || b) ∷ replies_from all lines false later rest)) (sym (unfallen_then all rest facts)) (tt, on rest facts turn e)
   walk_item all rest moment items.List lines facts known turn e on =
       let n = next_same all LookStep (steps_of moment lines) (kinds_of lines) rest facts look_no_read (λ source called names when taken same. cc) turn e in
       by_entry all rest items.List lines (λ x. x.step ≡ LookStep) (steps_of moment lines) (kinds_of lines) refl facts n

@@ -21,7 +21,7 @@ reply_of_end (ends.Deleted op) = Deleted op
 reply_of_end (ends.Failed why op) = Failed (why_of why) op
 reply_of_end (ends.Aborted by) = Aborted by
 
--- the same where it is the end of this op
+-- what an end answers the command of this op, where it is the end of that one
 abbrev pub end_for : OpEnd → ℕ → Option Reply
 end_for e op = if e.op == op then Some (reply_of_end e.end) else None
 

@@ -1,5 +1,5 @@
 -- What each line of a script was answered, by the history alone.
-use Rattle.std.specs.Prelude.{ℕ, ◌-◌, ◌^◌, min, Bool, true, false, ◌==◌, ◌&&◌, ◌||◌, if◌then◌else◌, List, [], ◌∷◌, ◌++◌, map, sum_by, Option, Some, None, option_map, option_and_then}
+use Rattle.std.specs.Prelude.{ℕ, ◌-◌, ◌^◌, min, Bool, true, false, ◌==◌, ◌&&◌, ◌||◌, if◌then◌else◌, List, [], ◌∷◌, ◌++◌, length, take, map, sum_by, Option, Some, None, option_map, option_and_then}
 use Rattle.esr_model.specs.Values.{Bytes, IndexRef, RootSnap}
 use Rattle.esr_model.specs.Places.{places}
 use Rattle.esr_model.specs.Uploads.{same_bytes}
@@ -115,7 +115,7 @@ ends_by all stale who (PruneStep SettlePruned) WasSettled = option_map Deleted (
 ends_by all stale who (PruneStep (DeleteFails why)) HasEnded = fails_by stale why (op_of_ticket all who)
 ends_by all stale who step reply = None
 
--- the same of the entry after these
+-- what an entry after these answers the command of an op
 abbrev pub ends_at : List Entry → List Entry → ℕ → Entry → Option Reply
 ends_at all before op e = if is_op op (op_of_ticket all e.who) then ends_by all (is_stale before e.who) e.who e.step e.reply else None
 
@@ -336,7 +336,7 @@ is_end (CheckedAll snapshots blobs) = true
 is_end (ReadFails why) = true
 is_end read = false
 
--- it has ended; or it is over, since a step of it was refused as a record swap had failed
+-- a verification or a check has ended; or it is over, since a step of it was refused as a record swap had failed
 abbrev pub is_line_read : Read → entry.Reply → Bool
 is_line_read read HasEnded = is_end read
 is_line_read read (entry.Refused (DeposedAt place)) = true
@@ -459,6 +459,11 @@ abbrev pub wait_reply : Bool → Reply
 wait_reply true = Deposed
 wait_reply false = Waited
 
+-- Of the entries after those of the lines before, those before the next election of a failover after the line: a wait before that
+-- failover had ended by then. `later`: the entries after the elections of the failovers before
+abbrev pub before_election : List Entry → List Entry → List Entry
+before_election later rest = take (length rest - length (from_election later)) rest
+
 abbrev pub is_wait : Item → Bool
 is_wait items.Wait = true
 is_wait item = false
@@ -468,7 +473,7 @@ abbrev pub and_more : Option (Reply × List Entry) → (List Entry → List Repl
 and_more None more = []
 and_more (Some p) more = p.0 ∷ more p.1
 
--- the same where those after it are known
+-- the reply of a line before those of the lines after it; a line without an answer ends the list
 abbrev pub and_those : Option Reply → List Reply → List Reply
 and_those None those = []
 and_those (Some r) those = r ∷ those
@@ -478,7 +483,7 @@ and_those (Some r) those = r ∷ those
 abbrev pub replies_from : List Entry → List ScriptLine → Bool → List Entry → List Entry → List Reply
 replies_from all [] down later rest = []
 replies_from all (line ∷ lines) down later rest =
-    if is_wait line.item then wait_reply (down || falls_before rest) ∷ replies_from all lines down later rest
+    if is_wait line.item then wait_reply (down || falls_before (before_election later rest)) ∷ replies_from all lines down later rest
     else if is_failover line.item then and_those (failover_reply (has_fallen all) (from_election later)) (replies_from all lines down (past_first (from_election later)) rest)
     else and_more (line_reply line.item all (from_item line.item rest)) (replies_from all lines (down || (falls_before rest || falls_first (from_item line.item rest))) later)
 

@@ -66,7 +66,7 @@ fn final_given(op: u64, out: Option<u64>, given: u64, unit: &Given, ticket: u64)
     }
 }
 
-/// The same after a step of who, which ended its ticket or didn't.
+/// The ticket of the op's finalization that is out after a step of who, which ended its ticket or didn't.
 fn final_kept(out: Option<u64>, who: u64, over: bool) -> Option<u64>
     ensures { result ≡ final_kept out who over }
 {
@@ -82,7 +82,7 @@ fn final_kept(out: Option<u64>, who: u64, over: bool) -> Option<u64>
     }
 }
 
-/// The same after an answer: any but a take and an election leaves `kept`.
+/// The ticket of the op's finalization that is out after an answer: any but a take and an election leaves `kept`.
 fn final_by(op: u64, out: Option<u64>, answer: &Answer, kept: Option<u64>) -> Option<u64>
     ensures { result ≡ final_by op out (answer_of answer.now) kept }
 {
@@ -97,7 +97,7 @@ fn final_by(op: u64, out: Option<u64>, answer: &Answer, kept: Option<u64>) -> Op
     }
 }
 
-/// The same after one entry more.
+/// The ticket of the op's finalization that is out after one entry more.
 fn final_step(op: u64, out: Option<u64>, entry: &Entry) -> Option<u64>
     ensures { result ≡ final_by op out entry.now.reply (final_kept out entry.now.who (is_over entry.now.step entry.now.reply)) }
 {

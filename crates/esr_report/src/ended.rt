@@ -67,11 +67,7 @@ fn damaged_name(reply: &Reply) -> Option<BlobName>
             Why::Absent { name } => Some(*name),
             Why::Unreadable { name, reason: _ } => Some(*name),
             Why::Ahead { name, id: _ } => Some(*name),
-            Why::Misprinted {
-                name,
-                stated: _,
-                found: _,
-            } => Some(*name),
+            Why::Misprinted { name, .. } => Some(*name),
             Why::Disagreeing { name, other: _ } => Some(*name),
             _ => None,
         },
@@ -95,17 +91,15 @@ fn is_spent(reply: &Reply) -> bool
     ensures { result ≡ is_spent (reply_of reply.now) }
 {
     match reply {
-        Reply::Refused { refusal } => match refusal {
-            EntryRefusal::GenerationsSpent { number: _ } => true,
-            EntryRefusal::TermsSpent { number: _ } => true,
-            EntryRefusal::IdsSpent { next: _ } => true,
-            _ => false,
-        },
-        Reply::Failed { why, op: _ } => match why {
-            Why::IdsSpent { next: _ } => true,
-            Why::GenerationsSpent { number: _ } => true,
-            _ => false,
-        },
+        Reply::Refused { refusal } => matches!(
+            refusal,
+            EntryRefusal::GenerationsSpent { .. }
+                | EntryRefusal::TermsSpent { .. }
+                | EntryRefusal::IdsSpent { .. }
+        ),
+        Reply::Failed { why, op: _ } => {
+            matches!(why, Why::IdsSpent { .. } | Why::GenerationsSpent { .. })
+        }
         _ => false,
     }
 }
@@ -125,10 +119,8 @@ fn is_ok(reply: &Reply) -> bool
     ensures { result ≡ is_ok (reply_of reply.now) }
 {
     match reply {
-        Reply::Refused { refusal: _ } => false,
-        Reply::Failed { why: _, op: _ } => false,
-        Reply::Aborted { by: _ } => false,
-        Reply::Deposed => false,
+        Reply::Refused { .. } | Reply::Failed { .. } | Reply::Aborted { .. } | Reply::Deposed =>
+            false,
         _ => true,
     }
 }

@@ -1,6 +1,6 @@
 //! The replies of a script's lines.
 ghost use Rattle.std.specs.Prelude.{◌≡◌, map, IfOk, option_map};
-ghost use Rattle.esr_report.specs.Replies.{fails_swap, has_fallen, is_end, is_line_read, is_of_line, from_line, falls_before, deposed_by, refused_reply, ask_reply, is_failover, is_election, from_election, election_reply, failover_reply, past_first, look_reply, ended_reply, read_reply, answer_at, is_check, is_looked, is_look_answered, past_look, checked_reply, check_ended, down_reply, check_answer, line_answer, is_wait, wait_reply, replies};
+ghost use Rattle.esr_report.specs.Replies.{fails_swap, has_fallen, is_end, is_line_read, is_of_line, from_line, falls_before, deposed_by, refused_reply, ask_reply, is_failover, is_election, from_election, before_election, election_reply, failover_reply, past_first, look_reply, ended_reply, read_reply, answer_at, is_check, is_looked, is_look_answered, past_look, checked_reply, check_ended, down_reply, check_answer, line_answer, is_wait, wait_reply, replies};
 ghost use Rattle.esr_core.specs.After.{or_else, swaps_record};
 ghost use Rattle.esr_core.specs.Entry.{is_recorded};
 ghost use Rattle.esr_progress.specs.Asked.{asked_of};
@@ -20,13 +20,7 @@ use std::alloc::{AllocError, Global};
 fn is_recorded(command: &Command) -> bool
     ensures { result ≡ is_recorded (asked_of command.now) }
 {
-    match command {
-        Command::Create { .. } => true,
-        Command::Clone { .. } => true,
-        Command::Delete { .. } => true,
-        Command::Restore { .. } => false,
-        Command::Cleanup => true,
-    }
+    !matches!(command, Command::Restore { .. })
 }
 
 fn swaps_record(step: &Step) -> bool
@@ -34,11 +28,7 @@ fn swaps_record(step: &Step) -> bool
 {
     match step {
         Step::Ask { command } => is_recorded(command),
-        Step::AskClone { .. } => true,
-        Step::Raise => true,
-        Step::Settle => true,
-        Step::Dropped => true,
-        Step::Elect => true,
+        Step::AskClone { .. } | Step::Raise | Step::Settle | Step::Dropped | Step::Elect => true,
         Step::Prune { prune } => matches!(prune, Prune::Settle),
         _ => false,
     }
@@ -72,12 +62,10 @@ pub fn has_fallen(entries: &[Entry]) -> bool
 fn is_end(read: &Read) -> bool
     ensures { result ≡ is_end (read_of read.now) }
 {
-    match read {
-        Read::Verified => true,
-        Read::Checked { .. } => true,
-        Read::Failed { .. } => true,
-        _ => false,
-    }
+    matches!(
+        read,
+        Read::Verified | Read::Checked { .. } | Read::Failed { .. }
+    )
 }
 
 /// A verification or a check has ended, or is over since a step of it was refused as a record swap had failed.
@@ -98,9 +86,7 @@ fn is_of_line(entry: &Entry) -> bool
     ensures { result ≡ is_of_line entry.now }
 {
     let is_line = match &entry.step {
-        Step::Ask { command: _ } => true,
-        Step::AskClone { .. } => true,
-        Step::Look => true,
+        Step::Ask { .. } | Step::AskClone { .. } | Step::Look => true,
         Step::Read { read } => is_line_read(read, &entry.answer),
         _ => false,
     };
@@ -356,11 +342,7 @@ fn is_failover(item: &Item) -> bool
 fn is_election(entry: &Entry) -> bool
     ensures { result ≡ is_election entry.now }
 {
-    let elects = match &entry.step {
-        Step::Elect => true,
-        _ => false,
-    };
-    entry.who == 0 && elects
+    entry.who == 0 && matches!(entry.step, Step::Elect)
 }
 
 /// The entries from the first election on.
@@ -413,6 +395,13 @@ fn is_wait(item: &Item) -> bool
     matches!(item, Item::Wait)
 }
 
+/// Those of `rest` before the next election of a failover, after the elections of the failovers before.
+fn before_election<'a>(later: &[Entry], rest: &'a [Entry]) -> &'a [Entry]
+    ensures { result.now ≡ before_election later.now rest.now }
+{
+    &rest[..rest.len().saturating_sub(from_election(later).len())]
+}
+
 /// What a wait is answered, after which a record swap had failed or not.
 pub fn wait_reply(down: bool) -> Reply
     ensures { reply_of result ≡ wait_reply down }
@@ -433,8 +422,8 @@ pub fn replies(alloc: Global, script: &Script, history: &History) -> Result<Repl
     let mut later = entries;
     let mut replies = Replies::new(alloc);
     for line in script.as_slice() {
-        let falls = down || falls_before(rest);
         if is_wait(&line.item) {
+            let falls = down || falls_before(before_election(later, rest));
             replies.push(wait_reply(falls))?;
             continue;
         }
@@ -454,7 +443,7 @@ pub fn replies(alloc: Global, script: &Script, history: &History) -> Result<Repl
             return Ok(replies);
         };
         replies.push(reply)?;
-        down = falls || fails_swap(entry);
+        down = down || falls_before(rest) || fails_swap(entry);
         rest = more;
     }
     Ok(replies)

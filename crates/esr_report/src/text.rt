@@ -52,10 +52,7 @@ pub fn push_why(out: &mut Bytes, why: &Why) -> Result<(), AllocError>
     match why {
         Why::Depot => push(out, b"depot"),
         Why::Source => push(out, b"source"),
-        Why::Changed {
-            first: _,
-            second: _,
-        } => push(out, b"changed"),
+        Why::Changed { .. } => push(out, b"changed"),
         Why::Absent { name } => push_named(out, b"damaged ", name),
         Why::Unreadable { name, reason: _ } => push_named(out, b"damaged ", name),
         Why::Ahead { name, id: _ } => push_named(out, b"damaged ", name),
@@ -64,11 +61,7 @@ pub fn push_why(out: &mut Bytes, why: &Why) -> Result<(), AllocError>
         Why::IdsSpent { next: _ } => push(out, b"spent"),
         Why::GenerationsSpent { number: _ } => push(out, b"spent"),
         Why::Target => push(out, b"target"),
-        Why::Misprinted {
-            name,
-            stated: _,
-            found: _,
-        } => push_named(out, b"damaged ", name),
+        Why::Misprinted { name, .. } => push_named(out, b"damaged ", name),
         Why::Disagreeing { name, other: _ } => push_named(out, b"damaged ", name),
     }
 }

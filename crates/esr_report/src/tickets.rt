@@ -104,13 +104,10 @@ fn uuid_of_ticket(entries: &[Entry], ticket: u64) -> Option<Id>
 fn is_of_term(unit: &Given) -> bool
     ensures { result ≡ is_of_term (unit_of unit.now) }
 {
-    match unit {
-        Given::Finalize { .. } => true,
-        Given::Drop => true,
-        Given::Delete { .. } => true,
-        Given::Cleanup => true,
-        _ => false,
-    }
+    matches!(
+        unit,
+        Given::Finalize { .. } | Given::Drop | Given::Delete { .. } | Given::Cleanup
+    )
 }
 
 /// A take gave such a unit to this ticket.

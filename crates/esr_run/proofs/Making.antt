@@ -30,7 +30,7 @@ use Rattle.esr_run.specs.Laws.{StepsStay}
 use Rattle.esr_drive.specs.Elections.{WaitsOnly, elections, HasElected}
 use Rattle.esr_check.specs.Began.{HasEndedCheck}
 use Rattle.esr_run.specs.Checked.{is_check, asks_check}
-use Rattle.esr_run.specs.Waits.{failovers_in, failovers_of, owed_after, LineElects}
+use Rattle.esr_run.specs.Waits.{failovers_in, failovers_of, owed_after, owed_then, LineElected, LineElects}
 use Rattle.esr_run.specs.Made.{MadeFirst, HasStopped, HasNoReaders, AreIn, LineMade, LineRests, WaitEnds, NoneReady, AreElected, WaitEnded, WaitsEnded, Owes, AreMade, AreDone, NoneOpen, WasLeft, AreAsked, LineSpends, WasLookRefused, CheckEnded, ChecksEnded, AsksLine, LinePart, AreInParts, AskedApart}
 use Rattle.esr_run.proofs.Apart.{apart_none, apart_on, waits_apart, line_apart}
 
@@ -299,15 +299,36 @@ checks_next s moment done line old mid new f g checks ends before after l is che
 
 -- ---- the parts of lines
 
-parts_next : (s : Start) (moment : ℕ) (done : List ScriptLine) (line : ScriptLine) (old mid new : List Moment) → AreInParts s moment done old mid → GrewAsking s (steps_of_item moment line.item) mid new → LinePart line.item mid new → AreInParts s moment (done ++ line ∷ []) old new
-parts_next s moment [] line old mid new same g p = (new, subst (λ (l : List Moment). GrewAsking s (steps_of_item moment line.item) l new) same g, subst (λ (l : List Moment). LinePart line.item l new) same p, refl)
-parts_next s moment (d ∷ done) line old mid new (first, own, part, rest) g p = (first, own, part, parts_next s moment done line first mid new rest g p)
+parts_next : (s : Start) (moment owed : ℕ) (done : List ScriptLine) (line : ScriptLine) (old mid new : List Moment) → AreInParts s moment owed done old mid → GrewAsking s (steps_of_item moment line.item) mid new → LinePart line.item mid new
+    → LineElected (owed_then owed done) line.item mid new → AreInParts s moment owed (done ++ line ∷ []) old new
+parts_next s moment owed [] line old mid new same g p e =
+    (new, subst (λ (l : List Moment). GrewAsking s (steps_of_item moment line.item) l new) same g, subst (λ (l : List Moment). LinePart line.item l new) same p, subst (λ (l : List Moment). LineElected owed line.item l new) same e, refl)
+parts_next s moment owed (d ∷ done) line old mid new (first, own, part, elects, rest) g p e = (first, own, part, elects, parts_next s moment (owed_after d.item owed) done line first mid new rest g p e)
 
 -- ---- elections
 
 -- after a line so many are still owed
 abbrev pub LineCounts : ℕ → Item → List Moment → List Moment → Type 0
 LineCounts owed item mid new = elections new + owed_after item owed ≡ (elections mid + owed) + failovers_in item
+
+owed_next : (owed : ℕ) (done : List ScriptLine) (line : ScriptLine) → owed_then owed (done ++ line ∷ []) ≡ owed_after line.item (owed_then owed done)
+owed_next owed [] line = refl
+owed_next owed (d ∷ done) line = owed_next (owed_after d.item owed) done line
+
+none_elected : (owed : ℕ) (mid new : List Moment) → elections new + owed ≡ (elections mid + owed) + 0 → elections new ≡ elections mid
+none_elected owed mid new counts = let same : elections new + owed ≡ (elections mid + owed) + 0 = counts in omega (arith, same)
+
+line_elected : (owed : ℕ) (item : Item) (mid new : List Moment) → LineCounts owed item mid new → LineElected owed item mid new
+line_elected owed items.Wait mid new counts = let all : elections new + 0 ≡ (elections mid + owed) + 0 = counts in omega (arith, all)
+line_elected owed items.Failover mid new counts = let same : elections new + suc owed ≡ (elections mid + owed) + 1 = counts in omega (arith, same)
+line_elected owed (items.Snapshot name indices) mid new counts = none_elected owed mid new counts
+line_elected owed (items.Clone source name indices) mid new counts = none_elected owed mid new counts
+line_elected owed (items.Delete names) mid new counts = none_elected owed mid new counts
+line_elected owed (items.Restore name place) mid new counts = none_elected owed mid new counts
+line_elected owed items.Cleanup mid new counts = none_elected owed mid new counts
+line_elected owed items.List mid new counts = none_elected owed mid new counts
+line_elected owed items.Check mid new counts = none_elected owed mid new counts
+line_elected owed items.Verify mid new counts = none_elected owed mid new counts
 
 -- the history tells the answer
 abbrev pub IsTold : Result Unit StepRefusal → Type 0
@@ -397,11 +418,12 @@ pub record Front (s : Start) (moment owed : ℕ) (left lines : List ScriptLine) 
   pub grew : GrewAsking s (steps_of moment done) old new
   pub elected : Owes owed done old new
   pub checks : ChecksEnded s moment done old new
-  pub parts : AreInParts s moment done old new
+  pub owed_is : owed ≡ owed_then 0 done
+  pub parts : AreInParts s moment 0 done old new
   pub rests : s.alone ≡ true → AreIn s old → Rested s moment done old new ⊎ HasStopped new
 
 pub front_none : (s : Start) (moment : ℕ) (lines : List ScriptLine) (log : List Moment) → Front s moment 0 lines lines log log
-front_none s moment lines log = record { done = []; is = refl; grew = asking_none s log; elected = refl; checks = no_checks s moment log log; parts = refl; rests = λ alone none. inl (record { none_out = none; waits = no_waits s moment log log; apart = apart_none s log }) }
+front_none s moment lines log = record { done = []; is = refl; grew = asking_none s log; elected = refl; checks = no_checks s moment log log; owed_is = refl; parts = refl; rests = λ alone none. inl (record { none_out = none; waits = no_waits s moment log log; apart = apart_none s log }) }
 
 pub front_next : (s : Start) (moment owed : ℕ) (line : ScriptLine) (rest lines : List ScriptLine) (old mid new : List Moment) → Front s moment owed (line ∷ rest) lines old mid → GrewAsking s (steps_of_item moment line.item) mid new → LineCounts owed line.item mid new
     → LinePart line.item mid new → (s.alone ≡ true → AreIn s mid → LineEnded s line.item new) → Front s moment (owed_after line.item owed) rest lines old new
@@ -414,7 +436,8 @@ front_next s moment owed line rest lines old mid new f g counts part ended =
       grew = subst (λ (l : List Step). GrewAsking s l old new) (sym same) (asking_on s (steps_of moment f.done) (steps_of_item moment line.item) old mid new f.grew g);
       elected = owes_next owed f.done line old mid new f.elected counts;
       checks = checks_next s moment f.done line old mid new f.grew g f.checks part.checks;
-      parts = parts_next s moment f.done line old mid new f.parts g part;
+      owed_is = ap (owed_after line.item) f.owed_is ∙ sym (owed_next 0 f.done line);
+      parts = parts_next s moment 0 f.done line old mid new f.parts g part (subst (λ (n : ℕ). LineElected n line.item mid new) f.owed_is (line_elected owed line.item mid new counts));
       rests = λ alone none. ⊎_elim
           (λ (r : Rested s moment f.done old mid). ⊎_elim
           (λ (e : AreIn s new × (line.item ≡ items.Wait → NoneReady s new)). inl (record {
@@ -479,7 +502,7 @@ front_all s moment owed left lines old new none f closed alone out =
     let elected : Owes owed lines old new = subst (λ (l : List ScriptLine). Owes owed l old new) all f.elected in
     let checks : ChecksEnded s moment lines old new = subst (λ (l : List ScriptLine). ChecksEnded s moment l old new) all f.checks in
     elim (f.rests alone out) [
-      | inl r ↦ inl (record { grew = grew; elected = elected; waits = subst (λ (l : List ScriptLine). WaitsEnded s moment l old new) all r.waits; checks = checks; parts = subst (λ (l : List ScriptLine). AreInParts s moment l old new) all f.parts; apart = r.apart; rests = r.none_out; closed = closed })
+      | inl r ↦ inl (record { grew = grew; elected = elected; waits = subst (λ (l : List ScriptLine). WaitsEnded s moment l old new) all r.waits; checks = checks; owed_is = f.owed_is ∙ ap (owed_then 0) all; parts = subst (λ (l : List ScriptLine). AreInParts s moment 0 l old new) all f.parts; apart = r.apart; rests = r.none_out; closed = closed })
       | inr (inl was) ↦ inr (inl (record { grew = grew; elected = elected; checks = checks; closed = closed }, was))
       | inr (inr turns) ↦ inr (inr turns)
     ]
@@ -529,7 +552,7 @@ done_then s moment owed lines old mid new made g works counts done closes none =
       elected = elected all a.elected;
       waits = λ before after line is wait. wait_on s moment before [] old mid new g (a.waits before after line is wait);
       checks = checks_then a.checks;
-      parted = record { mid = mid; parts = a.parts; grew = g; waits = works };
+      parted = record { mid = mid; parts = a.parts; elects = all ∙ ap (λ (n : ℕ). elections mid + n) a.owed_is; grew = g; waits = works };
       apart = apart_on s old mid new a.apart (waits_apart s mid new works);
       idle = idle;
       closed = closes a.closed;

@@ -12,6 +12,7 @@ use Rattle.esr_drive.specs.Elections.{WaitsOnly}
 use Rattle.esr_verify.specs.Began.{HasBegun}
 use Rattle.esr_check.specs.Began.{IsCheckEnd, HasEndedCheck}
 use Rattle.esr_complete.specs.InTurn.{IsEndOfCheck, IsCheckPart, IsPart, AreParts}
+use Rattle.esr_run.specs.Waits.{owed_after}
 use Rattle.esr_run.specs.Made.{WasLookRefused, AsksOnly, LinePart, AreInParts, AreParted}
 use Rattle.esr_run.proofs.Alone.{all_ask, all_wait, begun_none}
 
@@ -81,10 +82,10 @@ record Whole (moment : ℕ) (lines : List ScriptLine) (old new : List Moment) : 
   is : new ≡ old ++ all
   parts : AreParts moment lines all
 
-whole : (s : Start) (moment : ℕ) (lines : List ScriptLine) (old mid new tail : List Moment) → s.alone ≡ true → AreInParts s moment lines old mid → new ≡ mid ++ tail → asked_steps tail ≡ [] → NoneChecked tail → NeverDeposed new → Whole moment lines old new
-whole s moment [] old mid new tail alone same is asked none never = record { all = tail; is = is ∙ ap (λ (l : List Moment). l ++ tail) same; parts = (asked, none) }
-whole s moment (line ∷ lines) old mid new tail alone (first, g, p, rest) is asked none never =
-    let w = whole s moment lines first mid new tail alone rest is asked none never in
+whole : (s : Start) (moment owed : ℕ) (lines : List ScriptLine) (old mid new tail : List Moment) → s.alone ≡ true → AreInParts s moment owed lines old mid → new ≡ mid ++ tail → asked_steps tail ≡ [] → NoneChecked tail → NeverDeposed new → Whole moment lines old new
+whole s moment owed [] old mid new tail alone same is asked none never = record { all = tail; is = is ∙ ap (λ (l : List Moment). l ++ tail) same; parts = (asked, none) }
+whole s moment owed (line ∷ lines) old mid new tail alone (first, g, p, elects, rest) is asked none never =
+    let w = whole s moment (owed_after line.item owed) lines first mid new tail alone rest is asked none never in
     let is_all : new ≡ old ++ (g.more ++ w.all) = w.is ∙ ap (λ (l : List Moment). l ++ w.all) g.is ∙ append_assoc old g.more w.all in
     record {
       all = g.more ++ w.all;
@@ -103,5 +104,5 @@ pub are_parts : (s : Start) (moment : ℕ) (lines : List ScriptLine) (log : List
 are_parts s moment lines log alone p never =
     let last : WaitsOnly p.mid log = p.waits in
     let same : last.more ≡ p.grew.more = cancel p.mid last.more p.grew.more (sym last.is ∙ p.grew.is) in
-    let w = whole s moment lines [] p.mid log last.more alone p.parts last.is (ap asked_steps same ∙ p.grew.asked alone) (all_wait last.more last.all) never in
+    let w = whole s moment 0 lines [] p.mid log last.more alone p.parts last.is (ap asked_steps same ∙ p.grew.asked alone) (all_wait last.more last.all) never in
     subst (AreParts moment lines) (sym w.is) w.parts

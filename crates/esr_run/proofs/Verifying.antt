@@ -499,9 +499,6 @@ no_end_append : (a b : List Answered) → NoneEnds a → NoneEnds b → NoneEnds
 no_end_append [] b x y = y
 no_end_append (e ∷ a) b x y = (x.0, no_end_append a b x.1 y)
 
-not_end : (read : Read) → read ≢ VerifiedAll → ReadStep read ≢ ReadStep VerifiedAll
-not_end read other e = other (let same : read ≡ VerifiedAll = cc in same)
-
 none_writing : (names : List BlobName) → NoneEnds (writing names)
 none_writing [] = tt
 none_writing (name ∷ names) = (λ e. cc, (λ e. cc, none_writing names))
@@ -627,8 +624,3 @@ verify_refused evidence s none_zero workers checks old new (units.Stopped steps.
       first = maybe_fails (NamesFirst s) s none_zero old new asks (legal may.legal) may.whole.first;
     }
 verify_refused evidence s none_zero workers checks old new units.Stale asks err none legal may = absurd asks
-
--- ---- by the line that a run carries out
-
-pub refused_may : (s : Start) (workers : ℕ) (checks : Bool) (new : List Moment) (e : StepRefusal) (refusal : EntryRefusal) → e ≡ steps.Refused refusal → VerifiesOn {X = Unit} s workers checks new (Err e) → MayVerify s workers checks new
-refused_may s workers checks new e refusal is h = subst (λ (x : StepRefusal). VerifiesOn {X = Unit} s workers checks new (Err x)) is h

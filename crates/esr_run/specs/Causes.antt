@@ -175,7 +175,7 @@ pub record IsOpenedRun {S F H T : Type 0} (evidence : Evidence S F H T) (files :
   pub tested : AreTested (start_of files size quiet before world) (log_of after clock history)
   -- no ticket makes a step twice
   pub single : NoneTwice (log_of after clock history)
-  -- nor removes a name twice
+  -- no ticket removes a name twice
   pub removed : AreRemovedOnce (log_of after clock history)
   -- a quiet container failed in none of the first 2^41 entries
   pub calm : IsCalm quiet after.sure history
@@ -197,7 +197,7 @@ IsWorked evidence files size workers moment lines before after history faults r 
 pub record IsCarried {S F H T : Type 0} (evidence : Evidence S F H T) (given : Given) (files : Telling) (before after : Look) (history : List Entry) (faults : List (Fault S F H T)) : Type 0 where
   pub size : ℕ
   pub size_is : part_size_of (wanted_of (job_of given.words)) ≡ Some size
-  -- and of as many workers
+  -- with as many workers as the words ask for
   pub workers : ℕ
   pub workers_are : workers_of (job_of given.words) ≡ Some workers
   pub lines : List ScriptLine
@@ -293,7 +293,7 @@ IsVerdict status text Cause = ((status ≡ 8) × (text ≡ [])) ⊎ IsTextOf sta
 abbrev pub IsTold : ℕ → Bytes → Option RunEnd → Type 0
 IsTold status text end = ((status ≡ 8) × (text ≡ [])) ⊎ ((status ≡ exit_at end) × (text ≡ text_at end))
 
--- the same as why a run ended so, from the opening of the container on
+-- why a run ended so, from the opening of the container on
 abbrev pub IsOpenCause : {S F H T : Type 0} → Evidence S F H T → Telling → ℕ → ℕ → ℕ → Look → Look → ℕ → ℕ → List ScriptLine → List Entry → List (Fault S F H T) → RunEnd → Type 0
 IsOpenCause evidence files size workers moment before after old_faults new_faults lines history faults (Carried script entries) =
     (script ≡ lines) × (entries ≡ history) × ((r : IsOpenedRun evidence files size workers moment lines before after history faults) × IsWorked evidence files size workers moment lines before after history faults r)

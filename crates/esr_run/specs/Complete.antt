@@ -57,7 +57,7 @@ pub record IsAnsweredWell (s : Start) (moment : ℕ) (lines : List ScriptLine) (
   pub ends : EndsWell lines history
   pub waits : WaitsEnded s moment lines [] log
 
--- so it is, unless a number was spent, where the digests are honest
+-- each line is answered well, unless a number was spent, where the digests are honest
 abbrev pub Completes : Telling → ℕ → ℕ → List ScriptLine → Look → World → ℕ → Look → List Entry → ℕ → Type 0
 Completes telling size moment lines before world clock after history status =
     TellsAll (formats_by telling) world (log_of after clock history)

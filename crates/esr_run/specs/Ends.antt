@@ -44,7 +44,7 @@ exit_of (Damaged name) = 4
 exit_of NoTerm = 7
 exit_of (Carried script history) = status_of (ending script history)
 
--- the same where memory may be wanting: None, with status 8 and no text
+-- how a run ends where memory may be wanting: None, with status 8 and no text
 
 abbrev pub exit_at : Option RunEnd → ℕ
 exit_at None = 8

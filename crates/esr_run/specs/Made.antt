@@ -20,7 +20,7 @@ use Rattle.esr_complete.specs.Answers.{NoReaderOut, IsIdle}
 use Rattle.esr_verify.specs.Idle as verify
 use Rattle.esr_verify.specs.Began.{HasBegun}
 use Rattle.esr_check.specs.Began.{HasEndedCheck}
-use Rattle.esr_run.specs.Waits.{failovers_of}
+use Rattle.esr_run.specs.Waits.{failovers_of, owed_after, owed_then, LineElected}
 
 -- the first of these steps were asked
 pub record MadeFirst (s : Start) (wanted : List Step) (old new : List Moment) : Type 0 where
@@ -67,7 +67,7 @@ LineRests s new (Err (steps.Refused refusal)) = AreIn s new ⊎ HasStopped new
 abbrev pub NoneReady : Start → List Moment → Type 0
 NoneReady s log = AnyReady (world_of s log) → ⊥
 
--- so it is after a wait, unless the work was stopped
+-- after a wait no unit is ready, unless the work was stopped
 abbrev pub WaitEnds : {X : Type 0} → Start → List Moment → Result X StepRefusal → Type 0
 WaitEnds s new (Ok x) = NoneReady s new
 WaitEnds s new (Err steps.Memory) = Unit {0}
@@ -88,7 +88,7 @@ pub record WaitEnded (s : Start) (moment : ℕ) (before : List ScriptLine) (old 
   pub elected : AreElected before old front
   pub idle : IsIdle s front
 
--- so has each wait among the lines
+-- each wait among the lines has ended
 abbrev pub WaitsEnded : Start → ℕ → List ScriptLine → List Moment → List Moment → Type 0
 WaitsEnded s moment lines old log = (before after : List ScriptLine) (line : ScriptLine) → lines ≡ before ++ line ∷ after → line.item ≡ items.Wait → WaitEnded s moment before old log
 
@@ -118,7 +118,7 @@ pub record CheckEnded (s : Start) (moment : ℕ) (before : List ScriptLine) (old
   pub grew : GrewAsking s (steps_of moment before) old front
   pub ended : HasEndedCheck front mid ⊎ WasLookRefused front mid
 
--- so has each check among the lines
+-- each check among the lines has ended
 abbrev pub ChecksEnded : Start → ℕ → List ScriptLine → List Moment → List Moment → Type 0
 ChecksEnded s moment lines old log = (before after : List ScriptLine) (line : ScriptLine) → lines ≡ before ++ line ∷ after → line.item ≡ items.Check → CheckEnded s moment before old log
 
@@ -158,15 +158,18 @@ pub record LinePart (item : Item) (old new : List Moment) : Type 0 where
   pub verifies : item ≡ items.Verify → HasBegun old new
   pub only : AddsOnly item old new
 
--- each line has its part, one after another, in which what it asks for was asked, and nothing else
-abbrev pub AreInParts : Start → ℕ → List ScriptLine → List Moment → List Moment → Type 0
-AreInParts s moment [] old new = new ≡ old
-AreInParts s moment (line ∷ lines) old new = (mid : List Moment) × GrewAsking s (steps_of_item moment line.item) old mid × LinePart line.item old mid × AreInParts s moment lines mid new
+-- Each line has its part, one after another, in which what it asks for was asked, and nothing else; a wait makes in its part the
+-- elections for which the lines since the wait before ask, the first one also so many that are owed.
+abbrev pub AreInParts : Start → ℕ → ℕ → List ScriptLine → List Moment → List Moment → Type 0
+AreInParts s moment owed [] old new = new ≡ old
+AreInParts s moment owed (line ∷ lines) old new =
+    (mid : List Moment) × GrewAsking s (steps_of_item moment line.item) old mid × LinePart line.item old mid × LineElected owed line.item old mid × AreInParts s moment (owed_after line.item owed) lines mid new
 
--- and after these parts is that of the last wait
+-- the parts of the lines, and after them that of the wait at the script's end
 pub record AreParted (s : Start) (moment : ℕ) (lines : List ScriptLine) (old new : List Moment) : Type 0 where
   pub mid : List Moment
-  pub parts : AreInParts s moment lines old mid
+  pub parts : AreInParts s moment 0 lines old mid
+  pub elects : elections new ≡ elections mid + owed_then 0 lines
   pub grew : GrewAsking s [] mid new
   pub waits : WaitsOnly mid new
 
@@ -191,7 +194,8 @@ pub record AreMade (s : Start) (moment owed : ℕ) (lines : List ScriptLine) (ol
   pub elected : Owes owed lines old new
   pub waits : WaitsEnded s moment lines old new
   pub checks : ChecksEnded s moment lines old new
-  pub parts : AreInParts s moment lines old new
+  pub owed_is : owed ≡ owed_then 0 lines
+  pub parts : AreInParts s moment 0 lines old new
   pub apart : AskedApart s old new
   pub rests : AreIn s new
   pub closed : NoneOpen s new

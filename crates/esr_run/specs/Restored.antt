@@ -21,7 +21,7 @@ OpensRestored evidence files size workers moment lines before after history faul
     (status ≡ 8) ⊎ (NoneRestored history targets ⊎ ((r : IsOpenedRun evidence files size workers moment lines before after history faults)
     × AreTargetsOfLines evidence (start_of files size r.quiet before r.world) moment lines (log_of after r.clock history) targets))
 
--- the same of a whole run
+-- a whole run: memory was wanting, or nothing was carried out, or the targets are those of the lines that restored shards
 abbrev pub HasRestored : {S F H T : Type 0} → Evidence S F H T → Given → Telling → Look → Look → List Entry → List (Fault S F H T) → List (Restored T) → ℕ → Type 0
 HasRestored evidence given files before after history faults targets status =
     (status ≡ 8) ⊎ (NoneRestored history targets ⊎ ((c : IsCarried evidence given files before after history faults)

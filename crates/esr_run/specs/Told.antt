@@ -17,7 +17,7 @@ pub record AllTold (clock : ℕ) (history : List Entry) (after : Look) : Type 0 
   pub moments : AreTold (log_of after clock history)
   pub ends : is_some (now after) ≡ true
 
--- so it is where the container tells as the run begins
+-- each step's image is known where the container tells as the run begins
 abbrev pub StaysTold : Look → ℕ → List Entry → Look → Type 0
 StaysTold before clock history after = is_some (now before) ≡ true → AllTold clock history after
 

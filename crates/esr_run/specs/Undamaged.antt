@@ -18,6 +18,6 @@ pub record FindsNoDamage (log : List Moment) : Type 0 where
   pub checks : NoCheckFindsDamage log
   pub names : NoneTaken log
 
--- so it is over a kept container that tells, with honest sources, whatever calls fail
+-- no damage is found over a kept container that tells, with honest sources, whatever calls fail
 abbrev pub StaysUndamaged : Formats → World → List Moment → Look → Type 0
 StaysUndamaged f world log before = (shelf : List Shelved) → Holds f before shelf → HonestWork f world log → FindsNoDamage log

@@ -38,13 +38,13 @@ pub record AreWhole (s : Start) (workers : ℕ) (checks : Bool) (log : List Mome
   -- each check that failed names the first blob that is damaged: all before it, in the order in which a check reads, agree
   pub first : AreFirst s log
 
--- and no verification is open, so that who 0 may begin one, or a check
+-- the verifications are whole and none is open, so that who 0 may begin one, or a check
 pub record MayVerify (s : Start) (workers : ℕ) (checks : Bool) (log : List Moment) : Type 0 where
   pub whole : AreWhole s workers checks log
   pub idle : IsIdle (caller_of s log)
   pub legal : Legal s log
 
--- so it is after a line; where memory was wanting or turns were spent one may be open
+-- no verification is open after a line; where memory was wanting or turns were spent one may be
 abbrev pub VerifiesOn : {X : Type 0} → Start → ℕ → Bool → List Moment → Result X StepRefusal → Type 0
 VerifiesOn s workers checks new (Ok x) = MayVerify s workers checks new
 VerifiesOn s workers checks new (Err steps.Memory) = AreWhole s workers checks new

@@ -32,7 +32,17 @@ owed_after items.Failover owed = suc owed
 owed_after items.Wait owed = 0
 owed_after item owed = owed
 
--- what a line elects: a wait as often as it owes, another never
+-- how many elections the wait after these lines makes, where so many were owed before them
+abbrev pub owed_then : ℕ → List ScriptLine → ℕ
+owed_then owed [] = owed
+owed_then owed (line ∷ lines) = owed_then (owed_after line.item owed) lines
+
+-- a wait makes the elections that are owed, another line none
+abbrev pub LineElected : ℕ → Item → List Moment → List Moment → Type 0
+LineElected owed items.Wait old new = elections new ≡ elections old + owed
+LineElected owed item old new = elections new ≡ elections old
+
+-- what a line elects by its answer: a wait as often as it owes, another never
 abbrev pub LineElects : {X : Type 0} → ℕ → Item → List Moment → List Moment → Result X StepRefusal → Type 0
 LineElects owed items.Wait old new r = HasElected owed old new r
 LineElects owed item old new r = elections new ≡ elections old

@@ -23,16 +23,18 @@ ghost use Rattle.esr_run.specs.Script.{is_askable, is_carried, first_bad};
 use crate::command::command_of;
 use crate::crew::work_crew;
 use crate::law::{steps_stay, work_leaves};
-use crate::outside::{Crew, Outside};
 use esr_depot::Depot;
 use esr_desk::{Client, StepRefusal, UnitRefusal};
 use esr_names::{IndexNames, SnapName, SnapNames};
 use esr_repo::Told;
 use esr_script::{AskedIndex, Item, ScriptLine};
 use esr_seq::Text;
+use esr_shared::{Crew, Outside};
 use esr_solo::Solo;
 use esr_source::{Gate, Sources, Targets};
 use std::alloc::{AllocError, Global};
+use std::sync::Wait;
+use std::thread::Threads;
 
 /// Asks for a snapshot.
 fn ask<Q: Client>(
@@ -241,13 +243,24 @@ fn carry_step<Q: Client>(
     }
 }
 
-/// Makes the elections of the wait, and works all units that are ready.
-fn wait<D: Depot, K: Told, S: Sources, T: Targets, G: Gate>(
+/// Works all units that are ready with the crew, beside its elections.
+fn wait<
+    D: Depot + Send,
+    K: Told + Send + Sync,
+    S: Sources,
+    T: Targets,
+    G: Gate,
+    R: Threads + Wait + Sync,
+>(
+    rt: &R,
     alloc: Global,
     desk: Solo<D, K, S::Shard, T::Target>,
     outside: &Outside<'_, S, T, G>,
     crew: Crew,
 ) -> (Solo<D, K, S::Shard, T::Target>, Result<(), StepRefusal>)
+where
+    D::Stage: Send,
+    D::Fetch: Send,
     requires alone { K.start.alone ≡ true }
     requires some { 0 < crew.workers }
     requires few { crew.workers ≤ 64 }
@@ -267,7 +280,7 @@ fn wait<D: Depot, K: Told, S: Sources, T: Targets, G: Gate>(
     ensures only { WaitsOnly desk result.0 }
 {
     work_leaves();
-    work_crew(alloc, desk, outside, crew)
+    work_crew(rt, alloc, desk, outside, crew)
 }
 
 fn is_wait(item: &Item) -> bool
@@ -277,7 +290,15 @@ fn is_wait(item: &Item) -> bool
 }
 
 /// Carries out a line: a wait with the crew.
-fn carry_line<D: Depot, K: Told, S: Sources, T: Targets, G: Gate>(
+fn carry_line<
+    D: Depot + Send,
+    K: Told + Send + Sync,
+    S: Sources,
+    T: Targets,
+    G: Gate,
+    R: Threads + Wait + Sync,
+>(
+    rt: &R,
     alloc: Global,
     desk: Solo<D, K, S::Shard, T::Target>,
     item: &Item,
@@ -285,6 +306,9 @@ fn carry_line<D: Depot, K: Told, S: Sources, T: Targets, G: Gate>(
     crew: Crew,
     moment: u64,
 ) -> (Solo<D, K, S::Shard, T::Target>, Result<(), StepRefusal>)
+where
+    D::Stage: Send,
+    D::Fetch: Send,
     requires carried { is_carried item.now ≡ true }
     requires alone { K.start.alone ≡ true }
     requires some { 0 < crew.workers }
@@ -307,7 +331,7 @@ fn carry_line<D: Depot, K: Told, S: Sources, T: Targets, G: Gate>(
     ensures verified { (checks : Bool) → (is_check item.now ≡ true → checks ≡ true) → MayVerify K.start crew.workers checks desk → VerifiesOn K.start crew.workers checks result.0 result.1 }
 {
     if is_wait(item) {
-        return wait(alloc, desk, outside, crew);
+        return wait(rt, alloc, desk, outside, crew);
     }
     let mut desk = desk;
     let answer = carry_step(alloc, &mut desk, item, crew.workers, moment);
@@ -333,7 +357,15 @@ fn owed_after(item: &Item, owed: u64) -> u64
 
 /// Carries out the lines, and answers how many elections the next wait makes. A refusal that the history tells is no reason to
 /// stop; none is carried out once the desk's turns are spent.
-fn carry_lines<D: Depot, K: Told, S: Sources, T: Targets, G: Gate>(
+fn carry_lines<
+    D: Depot + Send,
+    K: Told + Send + Sync,
+    S: Sources,
+    T: Targets,
+    G: Gate,
+    R: Threads + Wait + Sync,
+>(
+    rt: &R,
     alloc: Global,
     desk: Solo<D, K, S::Shard, T::Target>,
     lines: &[ScriptLine],
@@ -341,6 +373,9 @@ fn carry_lines<D: Depot, K: Told, S: Sources, T: Targets, G: Gate>(
     workers: u32,
     moment: u64,
 ) -> (Solo<D, K, S::Shard, T::Target>, Result<u64, AllocError>)
+where
+    D::Stage: Send,
+    D::Fetch: Send,
     requires carried { first_bad lines.now ≡ None }
     requires alone { K.start.alone ≡ true }
     requires some { 0 < workers }
@@ -366,7 +401,7 @@ fn carry_lines<D: Depot, K: Told, S: Sources, T: Targets, G: Gate>(
             workers,
             elections: owed,
         };
-        let (after, answer) = carry_line(alloc, desk, &line.item, outside, crew, moment);
+        let (after, answer) = carry_line(rt, alloc, desk, &line.item, outside, crew, moment);
         desk = after;
         match answer {
             Ok(()) => {}
@@ -383,12 +418,23 @@ fn carry_lines<D: Depot, K: Told, S: Sources, T: Targets, G: Gate>(
 }
 
 /// The wait at the script's end.
-fn work_out<D: Depot, K: Told, S: Sources, T: Targets, G: Gate>(
+fn work_out<
+    D: Depot + Send,
+    K: Told + Send + Sync,
+    S: Sources,
+    T: Targets,
+    G: Gate,
+    R: Threads + Wait + Sync,
+>(
+    rt: &R,
     alloc: Global,
     desk: Solo<D, K, S::Shard, T::Target>,
     outside: &Outside<'_, S, T, G>,
     crew: Crew,
 ) -> (Solo<D, K, S::Shard, T::Target>, Result<(), AllocError>)
+where
+    D::Stage: Send,
+    D::Fetch: Send,
     requires alone { K.start.alone ≡ true }
     requires some { 0 < crew.workers }
     requires few { crew.workers ≤ 64 }
@@ -405,7 +451,7 @@ fn work_out<D: Depot, K: Told, S: Sources, T: Targets, G: Gate>(
     ensures elects { elections result.0 ≤ elections desk + crew.elections }
     ensures only { WaitsOnly desk result.0 }
 {
-    let (desk, answer) = wait(alloc, desk, outside, crew);
+    let (desk, answer) = wait(rt, alloc, desk, outside, crew);
     match answer {
         Ok(()) => (desk, Ok(())),
         Err(refusal) => match refusal {
@@ -417,7 +463,15 @@ fn work_out<D: Depot, K: Told, S: Sources, T: Targets, G: Gate>(
 }
 
 /// Carries out the lines, and works all units that are ready then.
-pub(crate) fn carry<D: Depot, K: Told, S: Sources, T: Targets, G: Gate>(
+pub(crate) fn carry<
+    D: Depot + Send,
+    K: Told + Send + Sync,
+    S: Sources,
+    T: Targets,
+    G: Gate,
+    R: Threads + Wait + Sync,
+>(
+    rt: &R,
     alloc: Global,
     desk: Solo<D, K, S::Shard, T::Target>,
     lines: &[ScriptLine],
@@ -425,6 +479,9 @@ pub(crate) fn carry<D: Depot, K: Told, S: Sources, T: Targets, G: Gate>(
     workers: u32,
     moment: u64,
 ) -> (Solo<D, K, S::Shard, T::Target>, Result<(), AllocError>)
+where
+    D::Stage: Send,
+    D::Fetch: Send,
     requires carried { first_bad lines.now ≡ None }
     requires alone { K.start.alone ≡ true }
     requires some { 0 < workers }
@@ -440,11 +497,11 @@ pub(crate) fn carry<D: Depot, K: Told, S: Sources, T: Targets, G: Gate>(
     ensures takes { idle_takes result.0 ≤ idle_takes desk + (waits_of workers lines.now + workers) }
     ensures elects { elections result.0 ≤ elections desk + failovers_of lines.now }
 {
-    let (desk, owed) = carry_lines(alloc, desk, lines, outside, workers, moment);
+    let (desk, owed) = carry_lines(rt, alloc, desk, lines, outside, workers, moment);
     match owed {
         Ok(elections) => {
             let crew = Crew { workers, elections };
-            work_out(alloc, desk, outside, crew)
+            work_out(rt, alloc, desk, outside, crew)
         }
         Err(AllocError) => (desk, Err(AllocError)),
     }

@@ -1,4 +1,4 @@
-//! The work of a wait.
+//! The work of a wait: by one worker alone, or by several at one desk.
 ghost use Rattle.std.specs.Prelude.{◌≡◌, ◌+◌, ◌<◌, ◌≤◌, true, [], IfErr, OnOk};
 ghost use Rattle.esr_core.specs.Ready.{AnyReady};
 ghost use Rattle.esr_core.specs.Tracked.{Tracked};
@@ -12,22 +12,35 @@ ghost use Rattle.esr_drive.specs.Over.{NoReaderOut};
 ghost use Rattle.esr_drive.specs.Stopped.{StoppedIn};
 ghost use Rattle.esr_drive.specs.Takes.{idle_takes};
 
-use crate::outside::{Crew, Outside};
 use esr_depot::Depot;
 use esr_desk::StepRefusal;
 use esr_drive::work_alone;
 use esr_repo::Told;
+use esr_shared::{Crew, Outside, sit};
 use esr_solo::Solo;
 use esr_source::{Gate, Sources, Targets};
 use std::alloc::Global;
+use std::sync::Wait;
+use std::thread::Threads;
 
-/// Makes the elections of the wait, and does the units of the desk until none is ready.
-pub(crate) fn work_crew<D: Depot, K: Told, S: Sources, T: Targets, G: Gate>(
+/// Does the units of the desk until none is ready, beside the elections of the crew: one worker makes them first.
+pub(crate) fn work_crew<
+    D: Depot + Send,
+    K: Told + Send + Sync,
+    S: Sources,
+    T: Targets,
+    G: Gate,
+    R: Threads + Wait + Sync,
+>(
+    rt: &R,
     alloc: Global,
     desk: Solo<D, K, S::Shard, T::Target>,
     outside: &Outside<'_, S, T, G>,
     crew: Crew,
 ) -> (Solo<D, K, S::Shard, T::Target>, Result<(), StepRefusal>)
+where
+    D::Stage: Send,
+    D::Fetch: Send,
     requires alone { K.start.alone ≡ true }
     requires some { 0 < crew.workers }
     requires few { crew.workers ≤ 64 }
@@ -44,6 +57,9 @@ pub(crate) fn work_crew<D: Depot, K: Told, S: Sources, T: Targets, G: Gate>(
     ensures ready { OnOk result.1 (AnyReady (world_of K.start result.0) → ⊥) }
     ensures stopped { IfErr result.1 (StoppedIn K.start result.0) }
 {
+    if crew.workers > 1 {
+        return sit(rt, alloc, desk, outside, crew);
+    }
     let mut desk = desk;
     let answer = work_alone(
         alloc,

@@ -10,7 +10,6 @@ mod fault;
 mod law;
 mod line;
 mod memory;
-mod outside;
 mod read;
 mod stop;
 mod unopened;

@@ -38,7 +38,6 @@ use crate::carry::carry;
 use crate::ended::Ended;
 use crate::fault::{faults_of, room_for_one};
 use crate::law::{kept_laws, laws, only_now, quiet_laws, refusals};
-use crate::outside::Outside;
 use crate::stop::Stop;
 use crate::unopened::{ended_at, stop_of};
 use crate::verdict::{Verdict, print_verdict, reported, wanting};
@@ -48,11 +47,14 @@ use esr_opening::{Opening, open_container};
 use esr_repo::{Repo, Told};
 use esr_script::{Script, Words};
 use esr_seq::Seq;
+use esr_shared::Outside;
 use esr_solo::Solo;
 use esr_source::{Gate, Lines, Out, Sources, Target, Targets};
 use esr_targets::{TargetList, each_target_is_of_its_line, targets_of};
 use std::alloc::{AllocError, Global};
 use std::marker::Brand;
+use std::sync::Wait;
+use std::thread::Threads;
 
 /// A run that is not printed yet.
 #[derive(Drop)]
@@ -105,7 +107,15 @@ fn verdict_after<T: Drop>(
 }
 
 /// Carries out the script on a desk over the repository.
-fn carry_on<D: Depot, S: Sources, T: Targets, G: Gate, K: Told>(
+fn carry_on<
+    D: Depot + Send,
+    S: Sources,
+    T: Targets,
+    G: Gate,
+    K: Told + Send + Sync,
+    R: Threads + Wait + Sync,
+>(
+    rt: &R,
     alloc: Global,
     repo: Repo<D, K>,
     asked: &Asked,
@@ -114,6 +124,9 @@ fn carry_on<D: Depot, S: Sources, T: Targets, G: Gate, K: Told>(
     gate: &G,
     moment: u64,
 ) -> Work<Repo<D, K>, Faults<D::Stage, D::Fetch, S::Shard, T::Target>, T::Target>
+where
+    D::Stage: Send,
+    D::Fetch: Send,
     requires fresh { repo ≡ [] }
     requires outside { IsOutside K.start (S.told sources.now) (T.told targets.now) asked.now.part_size }
     requires good { first_bad asked.now.script ≡ None }
@@ -144,7 +157,7 @@ fn carry_on<D: Depot, S: Sources, T: Targets, G: Gate, K: Told>(
         gate,
         part_size: asked.part_size,
     };
-    let (desk, carried) = carry(alloc, desk, lines, &outside, asked.workers, moment);
+    let (desk, carried) = carry(rt, alloc, desk, lines, &outside, asked.workers, moment);
     let (repo, faults, restored) = desk.into_parts();
     Work {
         repo,
@@ -155,7 +168,15 @@ fn carry_on<D: Depot, S: Sources, T: Targets, G: Gate, K: Told>(
 }
 
 /// Carries out the script on a container that was opened.
-fn run_told<D: Depot, S: Sources, T: Targets, G: Gate, K: Told>(
+fn run_told<
+    D: Depot + Send,
+    S: Sources,
+    T: Targets,
+    G: Gate,
+    K: Told + Send + Sync,
+    R: Threads + Wait + Sync,
+>(
+    rt: &R,
     alloc: Global,
     opening: Opening<D>,
     asked: &Asked,
@@ -167,6 +188,9 @@ fn run_told<D: Depot, S: Sources, T: Targets, G: Gate, K: Told>(
     Done<D, T::Target>,
     Faults<D::Stage, D::Fetch, S::Shard, T::Target>,
 )
+where
+    D::Stage: Send,
+    D::Fetch: Send,
     requires begun { IsBegun K.start K.clock K.past (D.look opening.depot)
         (record { cluster = opening.cluster; root = opening.root; infos = opening.infos; plan = opening.progress; next = opening.next.number }) }
     requires counted { K.faults ≤ D.faults opening.depot }
@@ -200,7 +224,9 @@ fn run_told<D: Depot, S: Sources, T: Targets, G: Gate, K: Told>(
     each_target_is_of_its_line::<D::Stage, D::Fetch, S::Shard, T::Target>();
     no_step_is_made_twice();
     let repo = Repo::<D, K>::from_opening(alloc, opening);
-    let worked = carry_on::<D, S, T, G, K>(alloc, repo, asked, sources, targets, gate, moment);
+    let worked = carry_on::<D, S, T, G, K, R>(
+        rt, alloc, repo, asked, sources, targets, gate, moment,
+    );
     let Work {
         repo,
         faults,
@@ -220,7 +246,8 @@ fn run_told<D: Depot, S: Sources, T: Targets, G: Gate, K: Told>(
 }
 
 /// Opens the container, and carries out the script on it.
-fn open_and_carry<D: Depot, S: Sources, T: Targets, G: Gate>(
+fn open_and_carry<D: Depot + Send, S: Sources, T: Targets, G: Gate, R: Threads + Wait + Sync>(
+    rt: &R,
     alloc: Global,
     depot: D,
     room: Vec<Fault<D::Stage, D::Fetch, S::Shard, T::Target>>,
@@ -233,6 +260,9 @@ fn open_and_carry<D: Depot, S: Sources, T: Targets, G: Gate>(
     Done<D, T::Target>,
     Faults<D::Stage, D::Fetch, S::Shard, T::Target>,
 )
+where
+    D::Stage: Send,
+    D::Fetch: Send,
     requires empty { room.items ≡ [] }
     requires room { vec_len room < vec_capacity room }
     requires sized { (1 ≤ asked.now.part_size) × (asked.now.part_size ≤ 2 ^ 30) }
@@ -259,7 +289,9 @@ fn open_and_carry<D: Depot, S: Sources, T: Targets, G: Gate>(
     match open_container(alloc, depot) {
         Ok(opening) => {
             only_now(&opening.depot);
-            run_told::<D, S, T, G, Brand>(alloc, opening, asked, sources, targets, gate, moment)
+            run_told::<D, S, T, G, Brand, R>(
+                rt, alloc, opening, asked, sources, targets, gate, moment,
+            )
         }
         Err((depot, refusal)) => {
             let (stop, fetch) = stop_of(refusal);
@@ -269,7 +301,8 @@ fn open_and_carry<D: Depot, S: Sources, T: Targets, G: Gate>(
 }
 
 /// Carries out what the words ask for.
-fn carry_out<D: Depot, S: Sources, T: Targets, G: Gate, I: Lines>(
+fn carry_out<D: Depot + Send, S: Sources, T: Targets, G: Gate, I: Lines, R: Threads + Wait + Sync>(
+    rt: &R,
     alloc: Global,
     words: &Words,
     script: &mut I,
@@ -282,6 +315,9 @@ fn carry_out<D: Depot, S: Sources, T: Targets, G: Gate, I: Lines>(
     Done<D, T::Target>,
     Faults<D::Stage, D::Fetch, S::Shard, T::Target>,
 )
+where
+    D::Stage: Send,
+    D::Fetch: Send,
     ensures run { IsRunOf (evidence D.Stage.faults D.Fetch.faults S.Shard.faults T.Target.faults S.Shard.told T.Target.told)
         (record { words = words.now; script = I.left script.old; faults = I.faults script.old; moment = moment }) (telling (S.told sources.now) (T.told targets.now))
         (D.look depot) (D.look result.0.depot) (D.faults depot) (D.faults result.0.depot) result.0.history result.1 }
@@ -305,8 +341,8 @@ fn carry_out<D: Depot, S: Sources, T: Targets, G: Gate, I: Lines>(
         Err(stop) => return (ended_at(alloc, depot, &stop), Seq::new(alloc)),
     };
     match room_for_one(alloc) {
-        Ok(room) => open_and_carry::<D, S, T, G>(
-            alloc, depot, room, &asked, sources, targets, gate, moment,
+        Ok(room) => open_and_carry::<D, S, T, G, R>(
+            rt, alloc, depot, room, &asked, sources, targets, gate, moment,
         ),
         Err(AllocError) => (ended_at(alloc, depot, &Stop::Memory), Seq::new(alloc)),
     }
@@ -315,9 +351,18 @@ fn carry_out<D: Depot, S: Sources, T: Targets, G: Gate, I: Lines>(
 /// Carries out the script for which the words ask, or the one command, as a script of that line, on a container into which
 /// nothing was written, or one that an earlier run left, and prints what each line was answered. The script is read to its
 /// end where the words ask for one, and else not at all. `moment` is the time of the snapshots, in milliseconds. The files of
-/// restores go into `targets`; the shards that were restored come back in the result, by line, index and shard. One
-/// thread works, whatever number of workers the words ask for: a verification writes a test blob for each.
-pub fn run<D: Depot, S: Sources, T: Targets, G: Gate, I: Lines, O: Out>(
+/// restores go into `targets`; the shards that were restored come back in the result, by line, index and shard. Waits have as
+/// many workers as the words ask for, each in a thread of `rt`.
+pub fn run<
+    D: Depot + Send,
+    S: Sources,
+    T: Targets,
+    G: Gate,
+    I: Lines,
+    O: Out,
+    R: Threads + Wait + Sync,
+>(
+    rt: &R,
     alloc: Global,
     words: &Words,
     script: &mut I,
@@ -328,6 +373,9 @@ pub fn run<D: Depot, S: Sources, T: Targets, G: Gate, I: Lines, O: Out>(
     moment: u64,
     out: &mut O,
 ) -> Ended<D, S::Shard, T::Target>
+where
+    D::Stage: Send,
+    D::Fetch: Send,
     ensures legal { IsRunOf (evidence D.Stage.faults D.Fetch.faults S.Shard.faults T.Target.faults S.Shard.told T.Target.told)
         (record { words = words.now; script = I.left script.old; faults = I.faults script.old; moment = moment }) (telling (S.told sources.now) (T.told targets.now))
         (D.look depot) (D.look result.depot) (D.faults depot) (D.faults result.depot) result.history result.faults }
@@ -345,8 +393,8 @@ pub fn run<D: Depot, S: Sources, T: Targets, G: Gate, I: Lines, O: Out>(
         (record { words = words.now; script = I.left script.old; faults = I.faults script.old; moment = moment }) (telling (S.told sources.now) (T.told targets.now)) (D.look depot)
         (D.look result.depot) result.history result.faults result.targets result.status }
 {
-    let (done, faults) = carry_out::<D, S, T, G, I>(
-        alloc, words, script, depot, sources, targets, gate, moment,
+    let (done, faults) = carry_out::<D, S, T, G, I, R>(
+        rt, alloc, words, script, depot, sources, targets, gate, moment,
     );
     let status = print_verdict(out, &done.verdict);
     Ended {

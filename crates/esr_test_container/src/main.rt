@@ -11,16 +11,19 @@ use esr_seq::{Seq, Text};
 use esr_source::{NoGate, StdLines, StdOut};
 use std::alloc::AllocError;
 use std::process::ExitCode;
+use std::sync::Wait;
+use std::thread::Threads;
 
 /// The exit status where there is no memory.
 const WANTING: u8 = 8;
 
 /// Carries out the script of standard input over a new container, and answers the exit status.
-fn status_of(rt: &HostRuntime) -> Result<u8, AllocError> {
+fn status_of<R: Threads + Wait + Sync>(rt: &HostRuntime, threads: &R) -> Result<u8, AllocError> {
     let alloc = rt.alloc();
     let mut words = Seq::new(alloc);
     words.push(Text::from_str(alloc, "run")?)?;
     let ended = run(
+        threads,
         alloc,
         &words,
         &mut StdLines::new(rt.stdin()),
@@ -35,5 +38,5 @@ fn status_of(rt: &HostRuntime) -> Result<u8, AllocError> {
 }
 
 fn main(rt: HostRuntime) -> ExitCode {
-    ExitCode::from(status_of(&rt).unwrap_or(WANTING))
+    ExitCode::from(status_of(&rt, &rt).unwrap_or(WANTING))
 }

@@ -11,6 +11,8 @@ use esr_seq::Seq;
 use esr_source::{Call, MemOut, MemShard, MemTarget, MemTargets, Shard, Sources};
 use std::alloc::{AllocError, Global};
 use std::fs;
+use std::sync::Wait;
+use std::thread::Threads;
 
 /// The folder of the container.
 pub const REPO: &str = "played";
@@ -117,12 +119,17 @@ fn output_of(alloc: Global, mishaps: &Mishaps) -> Result<MemOut, AllocError> {
 }
 
 /// A run in memory, and what it shows.
-fn run_in_memory(alloc: Global, depot: &mut MemDepot, job: &Job) -> Result<Shown, AllocError> {
+fn run_in_memory<R: Threads + Wait + Sync>(
+    alloc: Global,
+    threads: &R,
+    depot: &mut MemDepot,
+    job: &Job,
+) -> Result<Shown, AllocError> {
     let sources = sources_of(alloc, job.sources, job.mishaps.source)?;
     let targets = MemTargets::new(failing_at(alloc, "out", job.mishaps.target)?);
     let mut out = output_of(alloc, &job.mishaps)?;
     let copy = depot.cut(alloc, u64::MAX, Leaves::Old)?;
-    let left = run_on(alloc, job, copy, &sources, &targets, &mut out)?;
+    let left = run_on(alloc, threads, job, copy, &sources, &targets, &mut out)?;
     let shown = shown_in_memory(alloc, out.as_slice(), &left);
     *depot = left.depot.depot;
     shown
@@ -210,20 +217,30 @@ fn shown_in_folders(
 }
 
 /// A run in folders, and what it shows.
-fn run_in_folders(rt: &HostRuntime, made: &mut String, job: &Job) -> Result<Shown, Trouble> {
+fn run_in_folders<R: Threads + Wait + Sync>(
+    rt: &HostRuntime,
+    threads: &R,
+    made: &mut String,
+    job: &Job,
+) -> Result<Shown, Trouble> {
     let alloc = rt.alloc();
     claim_targets(rt, made, job)?;
     let mut out = output_of(alloc, &job.mishaps)?;
     let depot = DirDepot::new(rt, alloc, REPO)?;
     let (sources, targets) = (DirSources::new(rt), DirTargets::new(rt));
-    let left = run_on(alloc, job, depot, &sources, &targets, &mut out)?;
+    let left = run_on(alloc, threads, job, depot, &sources, &targets, &mut out)?;
     shown_in_folders(rt, job, out.as_slice(), &left)
 }
 
 /// A run, and what it shows.
-pub fn run_there(alloc: Global, ground: &mut Ground, job: &Job) -> Result<Shown, Trouble> {
+pub fn run_there<R: Threads + Wait + Sync>(
+    alloc: Global,
+    threads: &R,
+    ground: &mut Ground,
+    job: &Job,
+) -> Result<Shown, Trouble> {
     match ground {
-        Ground::Memory { depot } => Ok(run_in_memory(alloc, depot, job)?),
-        Ground::Folders { rt, made } => run_in_folders(*rt, made, job),
+        Ground::Memory { depot } => Ok(run_in_memory(alloc, threads, depot, job)?),
+        Ground::Folders { rt, made } => run_in_folders(*rt, threads, made, job),
     }
 }

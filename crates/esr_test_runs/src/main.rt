@@ -15,10 +15,16 @@ use crate::errors::Trouble;
 use crate::play::play_file;
 use std::env;
 use std::process::ExitCode;
+use std::sync::Wait;
+use std::thread::Threads;
 
 /// Plays a file, prints what was found, and tells how many scenes failed.
-fn tell_file(rt: &HostRuntime, path: &str) -> Result<u64, Trouble> {
-    let played = play_file(rt, path)?;
+fn tell_file<R: Threads + Wait + Sync>(
+    rt: &HostRuntime,
+    threads: &R,
+    path: &str,
+) -> Result<u64, Trouble> {
+    let played = play_file(rt, threads, path)?;
     print!(rt; "{}", played.complaints.as_str())?;
     println!(rt;
         "{path}: {} scenes over memory, {} over folders, {} runs, {} lines held",
@@ -28,17 +34,17 @@ fn tell_file(rt: &HostRuntime, path: &str) -> Result<u64, Trouble> {
 }
 
 /// Plays each file that an argument names, and tells how many scenes failed.
-fn tell_all(rt: &HostRuntime) -> Result<u64, Trouble> {
+fn tell_all<R: Threads + Wait + Sync>(rt: &HostRuntime, threads: &R) -> Result<u64, Trouble> {
     let mut failed = 0u64;
     for path in env::args(rt)?.skip(1) {
-        failed = failed.saturating_add(tell_file(rt, path.as_str())?);
+        failed = failed.saturating_add(tell_file(rt, threads, path.as_str())?);
     }
     println!(rt; "{failed} scenes failed")?;
     Ok(failed)
 }
 
 fn main(rt: HostRuntime) -> ExitCode {
-    match tell_all(&rt) {
+    match tell_all(&rt, &rt) {
         Ok(0) => ExitCode::SUCCESS,
         Ok(_) => ExitCode::FAILURE,
         Err(Trouble(why)) => {

@@ -5,6 +5,8 @@ use crate::ground::{clear, in_folders, in_memory};
 use crate::scene::{Scene, begun};
 use crate::text::line_behind;
 use std::fs;
+use std::sync::Wait;
+use std::thread::Threads;
 
 /// More rounds than a scene has.
 const ROUNDS: u64 = 10_000;
@@ -32,9 +34,10 @@ pub struct Played {
 }
 
 /// Over what a scene is played, with which row, and in which way, by its name too.
-#[derive(Clone, Copy)]
-struct Turn<'a> {
+#[derive(Drop)]
+struct Turn<'a, R> {
     rt: &'a HostRuntime,
+    threads: &'a R,
     is_memory: bool,
     row: &'a str,
     way: Way,
@@ -51,14 +54,20 @@ struct Went {
 }
 
 /// Plays these lines, the first of which has that number.
-fn play_lines(scene: &mut Scene, text: &str, at: u64, row: &str) -> Result<(), Trouble> {
+fn play_lines<R: Threads + Wait + Sync>(
+    threads: &R,
+    scene: &mut Scene,
+    text: &str,
+    at: u64,
+    row: &str,
+) -> Result<(), Trouble> {
     for (place, line) in text.lines().enumerate() {
         if scene.is_over || !scene.complaint.is_empty() {
             return Ok(());
         }
         scene.number = at.saturating_add(place as u64);
         let line = line.replace(scene.alloc, "<row>", row)?;
-        if let Err(Trouble(why)) = scene.step(line.as_str()) {
+        if let Err(Trouble(why)) = scene.step(threads, line.as_str()) {
             scene.complain("a line that can be played", why)?;
         }
     }
@@ -66,7 +75,12 @@ fn play_lines(scene: &mut Scene, text: &str, at: u64, row: &str) -> Result<(), T
 }
 
 /// Adds what a round came to, and tells how it went.
-fn note(played: &mut Played, lines: &Lines, turn: &Turn, scene: &Scene) -> Result<Went, Trouble> {
+fn note<R>(
+    played: &mut Played,
+    lines: &Lines,
+    turn: &Turn<R>,
+    scene: &Scene,
+) -> Result<Went, Trouble> {
     played.runs = played.runs.saturating_add(scene.runs);
     played.held = played.held.saturating_add(scene.held);
     let fails = !scene.complaint.is_empty();
@@ -88,9 +102,14 @@ fn note(played: &mut Played, lines: &Lines, turn: &Turn, scene: &Scene) -> Resul
 }
 
 /// Plays the lines that stand before a scene, and its own.
-fn play_whole(scene: &mut Scene, lines: &Lines, row: &str) -> Result<(), Trouble> {
-    play_lines(scene, lines.front, lines.front_at, row)?;
-    play_lines(scene, lines.text, lines.at, row)?;
+fn play_whole<R: Threads + Wait + Sync>(
+    threads: &R,
+    scene: &mut Scene,
+    lines: &Lines,
+    row: &str,
+) -> Result<(), Trouble> {
+    play_lines(threads, scene, lines.front, lines.front_at, row)?;
+    play_lines(threads, scene, lines.text, lines.at, row)?;
     if !scene.is_over && scene.complaint.is_empty() {
         scene.end_shown()?;
     }
@@ -98,14 +117,19 @@ fn play_whole(scene: &mut Scene, lines: &Lines, row: &str) -> Result<(), Trouble
 }
 
 /// Plays a round of a scene.
-fn play_round(played: &mut Played, lines: &Lines, turn: &Turn, nth: u64) -> Result<Went, Trouble> {
+fn play_round<R: Threads + Wait + Sync>(
+    played: &mut Played,
+    lines: &Lines,
+    turn: &Turn<R>,
+    nth: u64,
+) -> Result<Went, Trouble> {
     let ground = if turn.is_memory {
         in_memory(turn.rt.alloc())
     } else {
         in_folders(turn.rt)?
     };
     let mut scene = begun(turn.rt.alloc(), ground, turn.way, nth);
-    let ended = play_whole(&mut scene, lines, turn.row);
+    let ended = play_whole(turn.threads, &mut scene, lines, turn.row);
     clear(&scene.ground);
     match ended {
         Ok(()) => note(played, lines, turn, &scene),
@@ -114,7 +138,11 @@ fn play_round(played: &mut Played, lines: &Lines, turn: &Turn, nth: u64) -> Resu
 }
 
 /// Plays the rounds of a scene in one way, up to the first in which nothing goes wrong.
-fn play_rounds(played: &mut Played, lines: &Lines, turn: &Turn) -> Result<Went, Trouble> {
+fn play_rounds<R: Threads + Wait + Sync>(
+    played: &mut Played,
+    lines: &Lines,
+    turn: &Turn<R>,
+) -> Result<Went, Trouble> {
     let mut met = 0;
     for nth in 1..ROUNDS {
         let went = play_round(played, lines, turn, nth)?;
@@ -127,7 +155,11 @@ fn play_rounds(played: &mut Played, lines: &Lines, turn: &Turn) -> Result<Went, 
 }
 
 /// Plays a scene with a row in each of its ways, and tells whether it fails.
-fn play_ways(played: &mut Played, lines: &Lines, turn: &Turn) -> Result<bool, Trouble> {
+fn play_ways<R: Threads + Wait + Sync>(
+    played: &mut Played,
+    lines: &Lines,
+    turn: &Turn<R>,
+) -> Result<bool, Trouble> {
     let Some(names) = line_behind(lines.text, "each ") else {
         let went = play_round(played, lines, turn, 0)?;
         return Ok(went.fails);
@@ -155,7 +187,11 @@ fn play_ways(played: &mut Played, lines: &Lines, turn: &Turn) -> Result<bool, Tr
 }
 
 /// Plays a scene with each of its rows, and tells whether it fails.
-fn play_rows(played: &mut Played, lines: &Lines, turn: &Turn) -> Result<bool, Trouble> {
+fn play_rows<R: Threads + Wait + Sync>(
+    played: &mut Played,
+    lines: &Lines,
+    turn: &Turn<R>,
+) -> Result<bool, Trouble> {
     let mut has_rows = false;
     let mut fails = false;
     for line in lines.text.lines() {
@@ -179,7 +215,12 @@ fn holds_over(lines: &Lines, place: &str) -> bool {
 }
 
 /// Plays a scene over memory and over folders.
-fn play_scene(rt: &HostRuntime, played: &mut Played, lines: &Lines) -> Result<(), Trouble> {
+fn play_scene<R: Threads + Wait + Sync>(
+    rt: &HostRuntime,
+    threads: &R,
+    played: &mut Played,
+    lines: &Lines,
+) -> Result<(), Trouble> {
     for is_memory in [true, false] {
         let place = if is_memory { "memory" } else { "folders" };
         if !holds_over(lines, place) {
@@ -187,6 +228,7 @@ fn play_scene(rt: &HostRuntime, played: &mut Played, lines: &Lines) -> Result<()
         }
         let turn = Turn {
             rt,
+            threads,
             is_memory,
             row: "",
             way: Way::Once,
@@ -202,7 +244,11 @@ fn play_scene(rt: &HostRuntime, played: &mut Played, lines: &Lines) -> Result<()
 
 /// Plays the scenes of a file. They stand apart by empty lines. One whose title is `front` has the lines that stand before each
 /// scene after it, and one whose title begins with `#` is a remark.
-pub fn play_file(rt: &HostRuntime, path: &str) -> Result<Played, Trouble> {
+pub fn play_file<R: Threads + Wait + Sync>(
+    rt: &HostRuntime,
+    threads: &R,
+    path: &str,
+) -> Result<Played, Trouble> {
     let text = fs::read_to_string(rt, path)?;
     let mut played = Played {
         in_memory: 0,
@@ -229,7 +275,7 @@ pub fn play_file(rt: &HostRuntime, path: &str) -> Result<Played, Trouble> {
                 text,
                 at: below,
             };
-            play_scene(rt, &mut played, &lines)?;
+            play_scene(rt, threads, &mut played, &lines)?;
         }
         at = below.saturating_add(scene.lines().count() as u64);
     }

@@ -7,6 +7,8 @@ use crate::setting::{Job, Mishaps, calm};
 use crate::shown::Shown;
 use crate::text::{front_of, plain};
 use std::alloc::{AllocError, Global};
+use std::sync::Wait;
+use std::thread::Threads;
 
 /// What a scene has come to.
 #[derive(Drop)]
@@ -225,7 +227,11 @@ impl Scene<'_> {
     }
 
     /// Runs the script by these words.
-    fn run_words(&mut self, words: &str) -> Result<Shown, Trouble> {
+    fn run_words<R: Threads + Wait + Sync>(
+        &mut self,
+        threads: &R,
+        words: &str,
+    ) -> Result<Shown, Trouble> {
         if self.is_armed {
             set_round(&mut self.mishaps, self.way, self.nth);
         }
@@ -236,7 +242,7 @@ impl Scene<'_> {
             mishaps: self.mishaps,
             last: self.last.as_str(),
         };
-        let shown = run_there(self.alloc, &mut self.ground, &job)?;
+        let shown = run_there(self.alloc, threads, &mut self.ground, &job)?;
         self.runs = self.runs.saturating_add(1);
         self.script.clear();
         self.last.clear();
@@ -280,10 +286,15 @@ impl Scene<'_> {
     }
 
     /// Runs, and lets nothing go wrong in the next run. A run that tells more failures of the container than it had is a difference.
-    fn run(&mut self, mark: &str, words: &str) -> Result<(), Trouble> {
+    fn run<R: Threads + Wait + Sync>(
+        &mut self,
+        threads: &R,
+        mark: &str,
+        words: &str,
+    ) -> Result<(), Trouble> {
         self.end_shown()?;
         let words = plain(self.alloc, words)?;
-        let shown = self.run_words(words.as_str())?;
+        let shown = self.run_words(threads, words.as_str())?;
         self.keep(mark, shown)?;
         if self.told > self.faults {
             self.complain("no more failures than the container had", "more")?;
@@ -331,9 +342,15 @@ impl Scene<'_> {
     }
 
     /// Plays a line that isn't of a block that doesn't count.
-    fn act(&mut self, mark: &str, rest: &str, line: &str) -> Result<(), Trouble> {
+    fn act<R: Threads + Wait + Sync>(
+        &mut self,
+        threads: &R,
+        mark: &str,
+        rest: &str,
+        line: &str,
+    ) -> Result<(), Trouble> {
         match mark {
-            "$" | "~" => return self.run(mark, rest),
+            "$" | "~" => return self.run(threads, mark, rest),
             "!" => return self.set(rest),
             "?" => return self.ask(rest),
             "=" => return self.add_source(rest),
@@ -349,7 +366,11 @@ impl Scene<'_> {
     }
 
     /// Plays a line.
-    pub fn step(&mut self, line: &str) -> Result<(), Trouble> {
+    pub fn step<R: Threads + Wait + Sync>(
+        &mut self,
+        threads: &R,
+        line: &str,
+    ) -> Result<(), Trouble> {
         let (mark, rest) = line.split_once(' ').unwrap_or((line, ""));
         match mark {
             "when" => {
@@ -362,7 +383,7 @@ impl Scene<'_> {
                 Ok(())
             }
             _ if self.skips => Ok(()),
-            _ => self.act(mark, rest, line),
+            _ => self.act(threads, mark, rest, line),
         }
     }
 }

@@ -9,6 +9,8 @@ use esr_source::{
     Plan, Sources, Targets,
 };
 use std::alloc::{AllocError, Global};
+use std::sync::Wait;
+use std::thread::Threads;
 
 /// Which call of the container, of the source `src`, of the target of `logs` below `out`, which read of the script and which write
 /// of the output fails, each counted from 1, and how many bytes the output takes.
@@ -153,19 +155,24 @@ fn container_of<D: Drop>(alloc: Global, depot: D, job: &Job) -> Result<Faulty<D>
 }
 
 /// Runs over that container.
-pub fn run_on<D: Depot, S: Sources, T: Targets>(
+pub fn run_on<D: Depot + Send, S: Sources, T: Targets, R: Threads + Wait + Sync>(
     alloc: Global,
+    threads: &R,
     job: &Job,
     depot: D,
     sources: &S,
     targets: &T,
     out: &mut MemOut,
-) -> Result<Ended<Faulty<D>, S::Shard, T::Target>, AllocError> {
+) -> Result<Ended<Faulty<D>, S::Shard, T::Target>, AllocError>
+where
+    D::Stage: Send,
+    D::Fetch: Send,
+{
     let words = words_of(alloc, job.words)?;
     let bytes = Bytes::from_slice(alloc, job.script.as_bytes())?;
     let mut lines = MemLines::new(bytes, plan_of(alloc, Call::Read, job.mishaps.read)?);
     let depot = container_of(alloc, depot, job)?;
     Ok(run(
-        alloc, &words, &mut lines, depot, sources, targets, &NoGate, 0, out,
+        threads, alloc, &words, &mut lines, depot, sources, targets, &NoGate, 0, out,
     ))
 }

@@ -1,4 +1,4 @@
-//! What a wait works with, beside the desk.
+//! What workers share beside the desk, and how many there are.
 use esr_source::{Gate, Sources, Targets};
 
 /// The objects outside the repository.
@@ -11,7 +11,7 @@ pub struct Outside<'a, S: Sources, T: Targets, G: Gate> {
     pub part_size: u64,
 }
 
-/// How many workers the words ask for, and how often a wait elects a master.
+/// How many workers do the units, and how often a master is elected meanwhile.
 #[derive(Clone, Copy, Debug)]
 pub struct Crew {
     pub workers: u32,

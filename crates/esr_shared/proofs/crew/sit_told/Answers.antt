@@ -1,0 +1,38 @@
+use Rattle.std.proofs.Common.{◌∙◌, sym, ap, subst, List, Err}
+use Rattle.esr_core.specs.Entry.{Moment}
+use Rattle.esr_desk.specs.Start.{Legal}
+use Rattle.esr_desk.specs.Evidence.{NeverFailed}
+use Rattle.esr_shared.specs.Turned.{Seen}
+use Rattle.esr_shared.specs.Worked.{HasSat, HasWaited}
+use Rattle.esr_shared.proofs.Working.{new_first, none_since}
+use Rattle.esr_shared.proofs.Closing.{waited_stopped, waited_off, waited_alone}
+use Rattle.esr_shared.proofs.crew.sit_told.Goals as goal
+
+pub new-requires-clause-before : goal.new-requires-clause-before
+new-requires-clause-before g c = λ lives within. c.requires.picked
+
+pub new-requires-2 : goal.new-requires-2
+new-requires-2 g c = none_since g.B.Since.before c.new.result (c.new.ensures ∙ sym c.requires.picked)
+
+pub work_at-desk-requires-clause-new : goal.work_at-desk-requires-clause-new
+work_at-desk-requires-clause-new g c = λ lives within.
+    new_first g.K.Told.start g.B.Since.before c.in-Ok.lock c.in-Ok.pass c.new.result c.in-Ok.ensures.ok (subst (Legal g.K.Told.start) (sym c.requires.picked) c.is_legal.ensures.legal)
+    (λ quiet. subst NeverFailed (sym c.requires.picked) (c.never_fails.ensures quiet))
+
+pub work_at-desk-requires-clause-all : goal.work_at-desk-requires-clause-all
+work_at-desk-requires-clause-all g c = λ lives within. ap (λ (p : Seen). p.left) c.in-Ok.ensures.ok
+
+pub returns-in-Err-answer : goal.returns-in-Err-answer
+returns-in-Err-answer g c = subst (λ (old : List Moment). HasWaited g.K.Told.start old c.work_at-desk.result.0 c.args.crew.workers c.args.crew.elections (Err c.in-Err-answer.refusal)) c.requires.picked
+    (waited_stopped g.K.Told.start g.B.Since.before c.work_at-desk.result.0 c.args.crew.workers c.args.crew.elections c.in-Err-answer.refusal
+    (subst (HasSat g.K.Told.start g.B.Since.before c.work_at-desk.result.0 c.args.crew.workers c.args.crew.elections) c.in-Err-answer.is c.work_at-desk.ensures))
+
+pub returns-in-Ok-answer : goal.returns-in-Ok-answer
+returns-in-Ok-answer g c = subst (λ (old : List Moment). HasWaited g.K.Told.start old c.work_off-answer.new.desk c.args.crew.workers c.args.crew.elections c.work_off-answer.result) c.requires.picked
+    (waited_off c.ended_tickets_stay.ensures.tickets c.ended_tickets_stay.ensures.readers g.K.Told.start g.B.Since.before c.work_at-desk.result.0 c.work_off-answer.new.desk c.args.crew.workers c.args.crew.elections c.work_off-answer.result c.requires.alone
+    (subst (HasSat g.K.Told.start g.B.Since.before c.work_at-desk.result.0 c.args.crew.workers c.args.crew.elections) c.in-Ok-answer.is c.work_at-desk.ensures) c.work_off-answer.ensures.grew c.work_off-answer.ensures.only c.work_off-answer.ensures.takes c.work_off-answer.ensures.rest c.work_off-answer.ensures.readers c.work_off-answer.ensures.ready c.work_off-answer.ensures.stopped)
+
+pub returns-in-Err : goal.returns-in-Err
+returns-in-Err g c =
+    waited_alone g.K.Told.start c.args.desk c.into_desk-desk.result c.work_alone-answer.new.desk c.args.crew.workers c.args.crew.elections c.work_alone-answer.result (c.into_desk-desk.ensures ∙ c.in-Err.ensures.err ∙ c.new.ensures) c.requires.some
+    c.work_alone-answer.ensures.grew c.work_alone-answer.ensures.only c.work_alone-answer.ensures.takes c.work_alone-answer.ensures.elects c.work_alone-answer.ensures.rest c.work_alone-answer.ensures.readers c.work_alone-answer.ensures.ready c.work_alone-answer.ensures.stopped
