@@ -1,20 +1,21 @@
--- Each delete that a history tells as asked for is one for which a line of the script asks.
+-- Each delete that a history tells as asked for is one for which a line of the script asks, and so is a cleanup.
 use Rattle.std.proofs.Common.{◌≡◌, ℕ, true, ◌==◌, ◌&&◌, List, ◌∷◌, sym, ap, ◌∙◌, subst, inl, inr}
 use Rattle.esr_model.specs.Values.{Bytes, Has}
-use Rattle.esr_core.specs.Entry.{DeleteSnapshots, Step, AskStep, Entry, Moment}
+use Rattle.esr_core.specs.Entry.{DeleteSnapshots, Cleanup, Step, AskStep, Entry, Moment}
 use Rattle.esr_core.proofs.Reading.{Has-mapped}
+use Rattle.esr_script.specs.declared.item.Item.TheVariants as items
 use Rattle.esr_script.specs.declared.item.ScriptLine.{ScriptLine}
 use Rattle.esr_desk.specs.Start.{Start, formats_of, world_of}
 use Rattle.esr_quiet.specs.Asked.{is_line_ask, is_asked, as_asked, asked_steps}
 use Rattle.esr_quiet.specs.Smooth.{IsSmooth}
-use Rattle.esr_quiet.specs.Refusals.{AreByRule}
+use Rattle.esr_quiet.specs.Refusals.{HasAskedCleanup, AreByRule}
 use Rattle.esr_quiet.proofs.Askers.{AsksOrElects, asker}
 use Rattle.esr_quiet.proofs.Rules.{rule_unblocked}
 use Rattle.esr_quiet.proofs.Passing.{quiet_at, legal_at}
 use Rattle.esr_quiet.proofs.Prefixes.{place_of}
 use Rattle.esr_complete.specs.Lines.{steps_of, entries_of}
 use Rattle.esr_complete.proofs.Facts.{AsksAll}
-use Rattle.esr_complete.proofs.InTurn.{in_asked, lines_delete}
+use Rattle.esr_complete.proofs.InTurn.{in_asked, lines_delete, lines_cleanup}
 
 module _ (s : Start) (log : List Moment) (lines : List ScriptLine) (moment : ℕ) (smooth : IsSmooth s log) (by_rule : AreByRule log) (asked : asked_steps log ≡ steps_of moment lines) where
   -- who 0 asks
@@ -34,3 +35,8 @@ module _ (s : Start) (log : List Moment) (lines : List ScriptLine) (moment : ℕ
       let own : m.entry.step ≡ AskStep (DeleteSnapshots names) = ap (λ (y : Entry). y.step) is ∙ step in
       let by_who : is_asked m.entry ≡ true = (λ i. (nobody m names there own i == 0) && is_line_ask (own i)) in
       lines_delete moment lines names (subst (λ (l : List Step). Has l (AskStep (DeleteSnapshots names))) asked (subst (λ (step : Step). Has (asked_steps log) (as_asked step)) own (in_asked log m there by_who)))
+
+  pub asks_cleanup : HasAskedCleanup log → (line : ScriptLine) × Has lines line × (line.item ≡ items.Cleanup)
+  asks_cleanup (m, there, who, step) =
+      let by_who : is_asked m.entry ≡ true = (λ i. (who i == 0) && is_line_ask (step i)) in
+      lines_cleanup moment lines (subst (λ (l : List Step). Has l (AskStep Cleanup)) asked (subst (λ (x : Step). Has (asked_steps log) (as_asked x)) step (in_asked log m there by_who)))

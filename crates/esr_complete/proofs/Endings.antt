@@ -5,18 +5,19 @@ use Rattle.std.proofs.lemmas.Bool.{le-ltb}
 use Rattle.esr_model.specs.Names.{BlobName}
 use Rattle.esr_model.specs.Values.{Has}
 use Rattle.esr_core.specs.After.{or_else}
-use Rattle.esr_core.specs.Entry.{Refusal, NameInUse, TooMany, NoSnapshot, NoIndex, BeingDeleted, CloneRunning, RestoreRunning, Entry}
+use Rattle.esr_core.specs.Entry.{Refusal, CleanupRunning, NameInUse, TooMany, NoSnapshot, NoIndex, BeingDeleted, CloneRunning, RestoreRunning, BusyOp, BusyTicket, Entry}
 use Rattle.esr_script.specs.declared.item.Item.{Item}
 use Rattle.esr_script.specs.declared.item.Item.TheVariants as items
 use Rattle.esr_script.specs.declared.item.ScriptLine.{ScriptLine}
-use Rattle.esr_report.specs.Replies.{Reply, Made, Deleted, Restored, Waited, Listed, Checked, Verified, Refused, Aborted, fails_swap, has_fallen, wait_reply, end_reply, replies}
+use Rattle.esr_report.specs.Replies.{Reply, Made, Deleted, Restored, Cleaned, Waited, Listed, Checked, Verified, Refused, Aborted, fails_swap, has_fallen, wait_reply, end_reply, replies}
 use Rattle.esr_report.specs.Status.{is_deposed, damaged_name, first_damaged, is_spent, are_ok, AllOk, SomeRefused, SwapFailed, ending_by, ending}
-use Rattle.esr_quiet.specs.Refusals.{RefusesSnapshot, RefusesRestore, RefusesClone, RefusesDelete}
+use Rattle.esr_quiet.specs.Refusals.{RefusesSnapshot, RefusesRestore, RefusesClone, RefusesDelete, RefusesCleanup}
 use Rattle.esr_complete.specs.Answers.{IsAnswer, AreAnsweredIn, AreAnswered, EndsWell}
 use Rattle.esr_complete.proofs.Facts.{Fact}
 
 -- a rule of accepting refused a command
 abbrev IsRuled : Refusal → Type 0
+IsRuled (CleanupRunning op) = Unit {0}
 IsRuled (NameInUse uuid) = Unit {0}
 IsRuled (TooMany limit) = Unit {0}
 IsRuled (NoSnapshot place) = Unit {0}
@@ -24,9 +25,12 @@ IsRuled (NoIndex place) = Unit {0}
 IsRuled (BeingDeleted op) = Unit {0}
 IsRuled (CloneRunning op) = Unit {0}
 IsRuled (RestoreRunning op) = Unit {0}
+IsRuled (BusyOp op) = Unit {0}
+IsRuled (BusyTicket ticket) = Unit {0}
 IsRuled refusal = ⊥
 
 ruled_snapshot : (refusal : Refusal) → RefusesSnapshot refusal → IsRuled refusal
+ruled_snapshot (CleanupRunning op) h = tt
 ruled_snapshot (NameInUse uuid) h = tt
 ruled_snapshot (TooMany limit) h = tt
 ruled_snapshot refusal h = absurd h
@@ -38,6 +42,7 @@ ruled_restore (TooMany limit) h = tt
 ruled_restore refusal h = absurd h
 
 ruled_clone : (refusal : Refusal) → RefusesClone refusal → IsRuled refusal
+ruled_clone (CleanupRunning op) h = tt
 ruled_clone (NameInUse uuid) h = tt
 ruled_clone (NoSnapshot place) h = tt
 ruled_clone (BeingDeleted op) h = tt
@@ -46,11 +51,18 @@ ruled_clone (TooMany limit) h = tt
 ruled_clone refusal h = absurd h
 
 ruled_delete : (refusal : Refusal) → RefusesDelete refusal → IsRuled refusal
+ruled_delete (CleanupRunning op) h = tt
 ruled_delete (NoSnapshot place) h = tt
 ruled_delete (CloneRunning op) h = tt
 ruled_delete (RestoreRunning op) h = tt
 ruled_delete (TooMany limit) h = tt
 ruled_delete refusal h = absurd h
+
+ruled_cleanup : (refusal : Refusal) → RefusesCleanup refusal → IsRuled refusal
+ruled_cleanup (CleanupRunning op) h = tt
+ruled_cleanup (BusyOp op) h = tt
+ruled_cleanup (BusyTicket ticket) h = tt
+ruled_cleanup refusal h = absurd h
 
 -- a reply that ends no run
 abbrev IsFine : Reply → Type 0
@@ -58,6 +70,7 @@ IsFine (Made uuid) = Unit {0}
 IsFine (Deleted op) = Unit {0}
 IsFine (Aborted by) = Unit {0}
 IsFine (Restored files bytes) = Unit {0}
+IsFine (Cleaned blobs bytes) = Unit {0}
 IsFine Waited = Unit {0}
 IsFine (Listed snapshots) = Unit {0}
 IsFine (Checked snapshots blobs) = Unit {0}
@@ -68,14 +81,16 @@ IsFine reply = ⊥
 fine_answer : (script : List ScriptLine) (item : Item) (reply : Reply) → IsAnswer script item reply → IsFine reply
 fine_answer script (items.Snapshot name indices) (Made uuid) h = tt
 fine_answer script (items.Snapshot name indices) (Aborted by) h = tt
-fine_answer script (items.Snapshot name indices) (Refused refusal) h = ruled_snapshot refusal h
+fine_answer script (items.Snapshot name indices) (Refused refusal) h = ruled_snapshot refusal h.0
 fine_answer script (items.Clone source name indices) (Made uuid) h = tt
 fine_answer script (items.Clone source name indices) (Aborted by) h = tt
-fine_answer script (items.Clone source name indices) (Refused refusal) h = ruled_clone refusal h
+fine_answer script (items.Clone source name indices) (Refused refusal) h = ruled_clone refusal h.0
 fine_answer script (items.Delete names) (Deleted op) h = tt
-fine_answer script (items.Delete names) (Refused refusal) h = ruled_delete refusal h
+fine_answer script (items.Delete names) (Refused refusal) h = ruled_delete refusal h.0
 fine_answer script (items.Restore name place) (Restored files bytes) h = tt
 fine_answer script (items.Restore name place) (Refused refusal) h = ruled_restore refusal h
+fine_answer script items.Cleanup (Cleaned blobs bytes) h = tt
+fine_answer script items.Cleanup (Refused refusal) h = ruled_cleanup refusal h.0
 fine_answer script items.Wait Waited h = tt
 fine_answer script items.List (Listed snapshots) h = tt
 fine_answer script items.Check (Checked snapshots blobs) h = tt
@@ -92,10 +107,12 @@ calm_reply (Made uuid) fine = record { undeposed = refl; undamaged = refl; unspe
 calm_reply (Deleted op) fine = record { undeposed = refl; undamaged = refl; unspent = refl }
 calm_reply (Aborted by) fine = record { undeposed = refl; undamaged = refl; unspent = refl }
 calm_reply (Restored files bytes) fine = record { undeposed = refl; undamaged = refl; unspent = refl }
+calm_reply (Cleaned blobs bytes) fine = record { undeposed = refl; undamaged = refl; unspent = refl }
 calm_reply Waited fine = record { undeposed = refl; undamaged = refl; unspent = refl }
 calm_reply (Listed snapshots) fine = record { undeposed = refl; undamaged = refl; unspent = refl }
 calm_reply (Checked snapshots blobs) fine = record { undeposed = refl; undamaged = refl; unspent = refl }
 calm_reply Verified fine = record { undeposed = refl; undamaged = refl; unspent = refl }
+calm_reply (Refused (CleanupRunning op)) fine = record { undeposed = refl; undamaged = refl; unspent = refl }
 calm_reply (Refused (NameInUse uuid)) fine = record { undeposed = refl; undamaged = refl; unspent = refl }
 calm_reply (Refused (TooMany limit)) fine = record { undeposed = refl; undamaged = refl; unspent = refl }
 calm_reply (Refused (NoSnapshot place)) fine = record { undeposed = refl; undamaged = refl; unspent = refl }
@@ -103,6 +120,8 @@ calm_reply (Refused (NoIndex place)) fine = record { undeposed = refl; undamaged
 calm_reply (Refused (BeingDeleted op)) fine = record { undeposed = refl; undamaged = refl; unspent = refl }
 calm_reply (Refused (CloneRunning op)) fine = record { undeposed = refl; undamaged = refl; unspent = refl }
 calm_reply (Refused (RestoreRunning op)) fine = record { undeposed = refl; undamaged = refl; unspent = refl }
+calm_reply (Refused (BusyOp op)) fine = record { undeposed = refl; undamaged = refl; unspent = refl }
+calm_reply (Refused (BusyTicket ticket)) fine = record { undeposed = refl; undamaged = refl; unspent = refl }
 calm_reply (Refused refusal) fine = absurd fine
 calm_reply reply fine = absurd fine
 

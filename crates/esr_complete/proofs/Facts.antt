@@ -2,7 +2,7 @@
 use Rattle.std.proofs.Common.{◌≡◌, ◌||◌, ℕ, Bool, true, false, true≢false, List, [], ◌∷◌, Option, Some, None, refl, sym, ap, ◌∙◌, subst, inl, inr}
 use Rattle.esr_model.specs.Values.{Bytes, Has}
 use Rattle.esr_core.specs.Entry as entry
-use Rattle.esr_core.specs.Entry.{AskedIndex, CloneOf, Asked, Snapshot, Clone, DeleteSnapshots, SettlePruned, Restore, Step, AskStep, SettleStep, LookStep, PruneStep, Refusal, NameInUse, TooMany, NoSnapshot, NoIndex, BeingDeleted, CloneRunning, RestoreRunning, Accepted, WasSettled, AcceptedRestore, Looked, Entry, Moment}
+use Rattle.esr_core.specs.Entry.{AskedIndex, CloneOf, Asked, Snapshot, Clone, DeleteSnapshots, Cleanup, SettlePruned, Restore, Step, AskStep, SettleStep, DroppedStep, LookStep, PruneStep, Refusal, CleanupRunning, NameInUse, TooMany, NoSnapshot, NoIndex, BeingDeleted, CloneRunning, RestoreRunning, BusyOp, BusyTicket, Accepted, WasSettled, HasEnded, AcceptedRestore, Looked, Entry, Moment}
 use Rattle.esr_core.specs.After.{or_else}
 use Rattle.esr_core.specs.Ready.{IsOpen}
 use Rattle.esr_core.specs.World.{World}
@@ -10,18 +10,19 @@ use Rattle.esr_script.specs.declared.item.AskedIndex.{AskedIndex as LineIndex}
 use Rattle.esr_script.specs.declared.item.Item.{Item}
 use Rattle.esr_script.specs.declared.item.Item.TheVariants as items
 use Rattle.esr_script.specs.declared.item.ScriptLine.{ScriptLine}
-use Rattle.esr_report.specs.Replies.{Reply, name_by, name_of_op, has_name, fails_swap, has_fallen, deposed_by, end_of_op, restore_reply, ask_reply, look_reply}
+use Rattle.esr_report.specs.Cleaned.{is_cleanup_ticket}
+use Rattle.esr_report.specs.Replies.{Reply, Deleted, Cleaned, name_by, name_of_op, has_name, fails_swap, has_fallen, deposed_by, end_of_op, restore_reply, ask_reply, look_reply}
 use Rattle.esr_desk.specs.Start.{Start, world_of}
-use Rattle.esr_quiet.specs.Refusals.{IsByRule, AreByRule}
+use Rattle.esr_quiet.specs.Refusals.{IsByRule, HasAskedCleanup, IsOfCleanup, AreByRule}
 use Rattle.esr_quiet.specs.Smooth.{IsSmooth, NoneFailed, NoneUndeleted, NoneUnrestored}
 use Rattle.esr_complete.specs.Lines.{entries_of}
-use Rattle.esr_complete.specs.Answers.{IsIdle, IsDeletedBy, IsAnswer}
+use Rattle.esr_complete.specs.Answers.{IsIdle, IsDeletedBy, IsCleaningBy, IsAnswer}
 use Rattle.esr_core.proofs.Accepting.{same_one}
 use Rattle.esr_core.proofs.Reading.{some_same, Has-mapped}
 use Rattle.esr_core.proofs.Results.{choose_true}
-use Rattle.esr_complete.proofs.Tickets.{same_op}
-use Rattle.esr_complete.proofs.OpEnds.{IsCalm, IsPruned, IsSettled, IsDeleted, WasAborted, IsEnded, EndsIn, aborted_in, end_found, settled_in, delete_found, prune_deleted}
-use Rattle.esr_complete.proofs.Following.{IsSaid, snapshot_of, delete_of, HasName, FollowsIn}
+use Rattle.esr_complete.proofs.Tickets.{is_cleanup_op, same_op}
+use Rattle.esr_complete.proofs.OpEnds.{IsCalm, IsPruned, IsSettled, IsDropped, IsOver, IsOverBy, IsOfKind, WasAborted, IsEnded, EndsIn, aborted_in, end_found, settled_in, over_found, prune_deleted, drop_cleaned}
+use Rattle.esr_complete.proofs.Following.{IsSaid, snapshot_of, delete_of, HasName, IsNameless, IsOverIn, FollowsIn}
 use Rattle.esr_complete.proofs.Steps.{apart_name}
 use Rattle.esr_complete.proofs.RestoreTickets.{IsRestoredReply, restored_reply}
 use Rattle.esr_complete.proofs.FollowingRestores.{AskedRestore, opens}
@@ -38,10 +39,12 @@ pub record Fact (script : List ScriptLine) (all : List Entry) (e : Entry) : Type
   pub asked : (of : Bytes) (refs : List AskedIndex) (moment : ℕ) → e.step ≡ AskStep (Snapshot of refs moment) → (indices : List LineIndex) → IsAnswerOf script (items.Snapshot of indices) (ask_reply all e.reply)
   pub cloned : (source of : Bytes) (names : List Bytes) (moment : ℕ) (taken : Option CloneOf) → e.step ≡ AskStep (Clone source of names moment taken) → (from : Bytes) (indices : List Bytes) → IsAnswerOf script (items.Clone from of indices) (ask_reply all e.reply)
   pub deleted : (names : List Bytes) → e.step ≡ AskStep (DeleteSnapshots names) → IsAnswerOf script (items.Delete names) (ask_reply all e.reply)
+  pub cleaned : e.step ≡ AskStep Cleanup → IsAnswerOf script items.Cleanup (ask_reply all e.reply)
   pub restored : (of place : Bytes) → e.step ≡ AskStep (Restore of place) → (name at : Bytes) → IsAnswerOf script (items.Restore name at) (ask_reply all e.reply)
   pub looked : e.step ≡ LookStep → IsAnswerOf script items.List (look_reply e.reply)
 
 unfallen_rule : (command : Asked) (refusal : Refusal) → IsByRule command refusal → fails_swap (AskStep command) (entry.Refused refusal) ≡ false
+unfallen_rule (Snapshot name indices moment) (CleanupRunning op) rule = refl
 unfallen_rule (Snapshot name indices moment) (NameInUse uuid) rule = refl
 unfallen_rule (Snapshot name indices moment) (TooMany limit) rule = refl
 unfallen_rule (Snapshot name indices moment) refusal rule = absurd rule
@@ -49,18 +52,23 @@ unfallen_rule (Restore name place) (NoSnapshot at) rule = refl
 unfallen_rule (Restore name place) (BeingDeleted op) rule = refl
 unfallen_rule (Restore name place) (TooMany limit) rule = refl
 unfallen_rule (Restore name place) refusal rule = absurd rule
+unfallen_rule (Clone source name names moment taken) (CleanupRunning op) rule = refl
 unfallen_rule (Clone source name names moment taken) (NameInUse uuid) rule = refl
 unfallen_rule (Clone source name names moment taken) (NoSnapshot at) rule = refl
 unfallen_rule (Clone source name names moment taken) (BeingDeleted op) rule = refl
 unfallen_rule (Clone source name names moment taken) (NoIndex at) rule = refl
 unfallen_rule (Clone source name names moment taken) (TooMany limit) rule = refl
 unfallen_rule (Clone source name names moment taken) refusal rule = absurd rule
+unfallen_rule (DeleteSnapshots names) (CleanupRunning op) rule = refl
 unfallen_rule (DeleteSnapshots names) (NoSnapshot place) rule = refl
 unfallen_rule (DeleteSnapshots names) (CloneRunning op) rule = refl
 unfallen_rule (DeleteSnapshots names) (RestoreRunning op) rule = refl
 unfallen_rule (DeleteSnapshots names) (TooMany limit) rule = refl
 unfallen_rule (DeleteSnapshots names) refusal rule = absurd rule
-unfallen_rule command refusal rule = absurd rule
+unfallen_rule Cleanup (CleanupRunning op) rule = refl
+unfallen_rule Cleanup (BusyOp op) rule = refl
+unfallen_rule Cleanup (BusyTicket ticket) rule = refl
+unfallen_rule Cleanup refusal rule = absurd rule
 
 unfallen_by : (step : Step) (reply : entry.Reply) → IsCalm reply step → fails_swap step reply ≡ false
 unfallen_by (AskStep command) (entry.Refused refusal) calm = unfallen_rule command refusal calm
@@ -69,9 +77,18 @@ unfallen_by step reply calm = refl
 
 -- ---- commands
 
+untrue : (b : Bool) → (b ≡ true → ⊥) → b ≡ false
+untrue true none = absurd (none refl)
+untrue false none = refl
+
 -- what is asked of deletes are lines of the script
 abbrev pub AsksAll : List ScriptLine → List Entry → Type 0
 AsksAll script all = (e : Entry) (names : List Bytes) → Has all e → e.step ≡ AskStep (DeleteSnapshots names) → (line : ScriptLine) × Has script line × (line.item ≡ items.Delete names)
+
+-- a cleanup that runs is one for which the script asks
+abbrev IsCleaningIn : List ScriptLine → entry.Reply → Type 0
+IsCleaningIn script (entry.Refused refusal) = IsCleaningBy script refusal
+IsCleaningIn script reply = Unit {0}
 
 -- the snapshot or the clone of each that was accepted was made or aborted
 abbrev AreEnded : List Entry → Step → entry.Reply → Type 0
@@ -88,49 +105,73 @@ deleted_line script all o name answer asks is h =
     let (line, there, item) = asks h.e h.names h.has h.step in
     (line, h.names, there, item, has_has h.names name (subst (λ (n : Bytes). has_name h.names n ≡ true) same h.named))
 
-asked_by : (script : List ScriptLine) (all : List Entry) (of : Bytes) (refs : List AskedIndex) (moment : ℕ) (reply : entry.Reply) (indices : List LineIndex) → IsCalm reply (AskStep (Snapshot of refs moment)) → IsSaid (AskStep (Snapshot of refs moment)) reply → AsksAll script all
+asked_by : (script : List ScriptLine) (all : List Entry) (of : Bytes) (refs : List AskedIndex) (moment : ℕ) (reply : entry.Reply) (indices : List LineIndex) → IsCalm reply (AskStep (Snapshot of refs moment)) → IsSaid (AskStep (Snapshot of refs moment)) reply → IsCleaningIn script reply → AsksAll script all
     → AreEnded all (AskStep (Snapshot of refs moment)) reply → IsAnswerOf script (items.Snapshot of indices) (ask_reply all reply)
-asked_by script all of refs moment (Accepted op) indices calm said asks ended =
+asked_by script all of refs moment (Accepted op) indices calm said cleaning asks ended =
     let (name, by, is, how) = ended op refl in
     let same : of ≡ name = some_same of name (sym (choose_true _ _ _ (same_op op)) ∙ by) in
     elim how [
       | inl made ↦ subst (λ (a : Option Reply). IsAnswerOf script (items.Snapshot of indices) (or_else a (deposed_by (has_fallen all)))) (sym made.is) tt
       | inr aborted ↦ subst (λ (a : Option Reply). IsAnswerOf script (items.Snapshot of indices) (or_else a (deposed_by (has_fallen all)))) (sym aborted.is) (subst (IsDeletedBy script) (sym same) (deleted_line script all op name (end_of_op all op [] all) asks is aborted))
     ]
-asked_by script all of refs moment (entry.Refused (NameInUse uuid)) indices calm said asks ended = tt
-asked_by script all of refs moment (entry.Refused (TooMany limit)) indices calm said asks ended = tt
-asked_by script all of refs moment (entry.Refused refusal) indices calm said asks ended = absurd calm
-asked_by script all of refs moment reply indices calm said asks ended = absurd said
+asked_by script all of refs moment (entry.Refused (CleanupRunning op)) indices calm said cleaning asks ended = (tt, cleaning)
+asked_by script all of refs moment (entry.Refused (NameInUse uuid)) indices calm said cleaning asks ended = (tt, tt)
+asked_by script all of refs moment (entry.Refused (TooMany limit)) indices calm said cleaning asks ended = (tt, tt)
+asked_by script all of refs moment (entry.Refused refusal) indices calm said cleaning asks ended = absurd calm
+asked_by script all of refs moment reply indices calm said cleaning asks ended = absurd said
 
 cloned_by : (script : List ScriptLine) (all : List Entry) (source of : Bytes) (names : List Bytes) (moment : ℕ) (taken : Option CloneOf) (reply : entry.Reply) (from : Bytes) (indices : List Bytes) → IsCalm reply (AskStep (Clone source of names moment taken))
-    → IsSaid (AskStep (Clone source of names moment taken)) reply → AsksAll script all → AreEnded all (AskStep (Clone source of names moment taken)) reply → IsAnswerOf script (items.Clone from of indices) (ask_reply all reply)
-cloned_by script all source of names moment (Some taken) (Accepted op) from indices calm said asks ended =
+    → IsSaid (AskStep (Clone source of names moment taken)) reply → IsCleaningIn script reply → AsksAll script all → AreEnded all (AskStep (Clone source of names moment taken)) reply → IsAnswerOf script (items.Clone from of indices) (ask_reply all reply)
+cloned_by script all source of names moment (Some taken) (Accepted op) from indices calm said cleaning asks ended =
     let (name, by, is, how) = ended op refl in
     let same : of ≡ name = some_same of name (sym (choose_true _ _ _ (same_op op)) ∙ by) in
     elim how [
       | inl made ↦ subst (λ (a : Option Reply). IsAnswerOf script (items.Clone from of indices) (or_else a (deposed_by (has_fallen all)))) (sym made.is) tt
       | inr aborted ↦ subst (λ (a : Option Reply). IsAnswerOf script (items.Clone from of indices) (or_else a (deposed_by (has_fallen all)))) (sym aborted.is) (subst (IsDeletedBy script) (sym same) (deleted_line script all op name (end_of_op all op [] all) asks is aborted))
     ]
-cloned_by script all source of names moment taken (entry.Refused (NameInUse uuid)) from indices calm said asks ended = tt
-cloned_by script all source of names moment taken (entry.Refused (NoSnapshot at)) from indices calm said asks ended = tt
-cloned_by script all source of names moment taken (entry.Refused (BeingDeleted op)) from indices calm said asks ended = tt
-cloned_by script all source of names moment taken (entry.Refused (NoIndex at)) from indices calm said asks ended = tt
-cloned_by script all source of names moment taken (entry.Refused (TooMany limit)) from indices calm said asks ended = tt
-cloned_by script all source of names moment taken (entry.Refused refusal) from indices calm said asks ended = absurd calm
-cloned_by script all source of names moment taken reply from indices calm said asks ended = absurd said
+cloned_by script all source of names moment taken (entry.Refused (CleanupRunning op)) from indices calm said cleaning asks ended = (tt, cleaning)
+cloned_by script all source of names moment taken (entry.Refused (NameInUse uuid)) from indices calm said cleaning asks ended = (tt, tt)
+cloned_by script all source of names moment taken (entry.Refused (NoSnapshot at)) from indices calm said cleaning asks ended = (tt, tt)
+cloned_by script all source of names moment taken (entry.Refused (BeingDeleted op)) from indices calm said cleaning asks ended = (tt, tt)
+cloned_by script all source of names moment taken (entry.Refused (NoIndex at)) from indices calm said cleaning asks ended = (tt, tt)
+cloned_by script all source of names moment taken (entry.Refused (TooMany limit)) from indices calm said cleaning asks ended = (tt, tt)
+cloned_by script all source of names moment taken (entry.Refused refusal) from indices calm said cleaning asks ended = absurd calm
+cloned_by script all source of names moment taken reply from indices calm said cleaning asks ended = absurd said
 
--- the delete of each that was accepted was carried out
+-- the delete of each that was accepted was carried out, and the cleanup came to its end
 abbrev AreDeleted : List Entry → Step → entry.Reply → Type 0
-AreDeleted all step reply = (d : ℕ) → delete_of step reply ≡ Some d → IsDeleted (end_of_op all d [] all)
+AreDeleted all step reply = (cleans : Bool) (d : ℕ) → delete_of step reply ≡ Some (cleans, d) → IsOverBy cleans (end_of_op all d [] all)
 
-deleted_by : (script : List ScriptLine) (all : List Entry) (names : List Bytes) (reply : entry.Reply) → IsCalm reply (AskStep (DeleteSnapshots names)) → IsSaid (AskStep (DeleteSnapshots names)) reply → AreDeleted all (AskStep (DeleteSnapshots names)) reply → IsAnswerOf script (items.Delete names) (ask_reply all reply)
-deleted_by script all names (Accepted op) calm said deleted = subst (λ (a : Option Reply). IsAnswerOf script (items.Delete names) (or_else a (deposed_by (has_fallen all)))) (sym (deleted op refl).is) tt
-deleted_by script all names (entry.Refused (NoSnapshot place)) calm said deleted = tt
-deleted_by script all names (entry.Refused (CloneRunning op)) calm said deleted = tt
-deleted_by script all names (entry.Refused (RestoreRunning op)) calm said deleted = tt
-deleted_by script all names (entry.Refused (TooMany limit)) calm said deleted = tt
-deleted_by script all names (entry.Refused refusal) calm said deleted = absurd calm
-deleted_by script all names reply calm said deleted = absurd said
+delete_answer : (script : List ScriptLine) (names : List Bytes) (reply : Reply) → IsOver false reply → IsAnswer script (items.Delete names) reply
+delete_answer script names (Deleted op) over = tt
+delete_answer script names reply over = absurd over
+
+cleanup_answer : (script : List ScriptLine) (reply : Reply) → IsOver true reply → IsAnswer script items.Cleanup reply
+cleanup_answer script (Cleaned blobs bytes) over = tt
+cleanup_answer script reply over = absurd over
+
+deleted_by : (script : List ScriptLine) (all : List Entry) (names : List Bytes) (reply : entry.Reply) → IsCalm reply (AskStep (DeleteSnapshots names)) → IsSaid (AskStep (DeleteSnapshots names)) reply → IsCleaningIn script reply → AreDeleted all (AskStep (DeleteSnapshots names)) reply
+    → IsAnswerOf script (items.Delete names) (ask_reply all reply)
+deleted_by script all names (Accepted op) calm said cleaning deleted =
+    let h = deleted false op refl in
+    subst (λ (a : Option Reply). IsAnswerOf script (items.Delete names) (or_else a (deposed_by (has_fallen all)))) (sym h.is) (delete_answer script names h.reply h.over)
+deleted_by script all names (entry.Refused (CleanupRunning op)) calm said cleaning deleted = (tt, cleaning)
+deleted_by script all names (entry.Refused (NoSnapshot place)) calm said cleaning deleted = (tt, tt)
+deleted_by script all names (entry.Refused (CloneRunning op)) calm said cleaning deleted = (tt, tt)
+deleted_by script all names (entry.Refused (RestoreRunning op)) calm said cleaning deleted = (tt, tt)
+deleted_by script all names (entry.Refused (TooMany limit)) calm said cleaning deleted = (tt, tt)
+deleted_by script all names (entry.Refused refusal) calm said cleaning deleted = absurd calm
+deleted_by script all names reply calm said cleaning deleted = absurd said
+
+cleaned_by : (script : List ScriptLine) (all : List Entry) (reply : entry.Reply) → IsCalm reply (AskStep Cleanup) → IsSaid (AskStep Cleanup) reply → IsCleaningIn script reply → AreDeleted all (AskStep Cleanup) reply → IsAnswerOf script items.Cleanup (ask_reply all reply)
+cleaned_by script all (Accepted op) calm said cleaning deleted =
+    let h = deleted true op refl in
+    subst (λ (a : Option Reply). IsAnswerOf script items.Cleanup (or_else a (deposed_by (has_fallen all)))) (sym h.is) (cleanup_answer script h.reply h.over)
+cleaned_by script all (entry.Refused (CleanupRunning op)) calm said cleaning deleted = (tt, cleaning)
+cleaned_by script all (entry.Refused (BusyOp op)) calm said cleaning deleted = (tt, tt)
+cleaned_by script all (entry.Refused (BusyTicket ticket)) calm said cleaning deleted = (tt, tt)
+cleaned_by script all (entry.Refused refusal) calm said cleaning deleted = absurd calm
+cleaned_by script all reply calm said cleaning deleted = absurd said
 
 -- the restore of each that was accepted is answered
 abbrev IsAnswered : List Entry → entry.Reply → Type 0
@@ -149,14 +190,15 @@ looked_by : (script : List ScriptLine) (reply : entry.Reply) → IsSaid LookStep
 looked_by script (Looked snapshots safe) said = tt
 looked_by script reply said = absurd said
 
-fact_by : (script : List ScriptLine) (all : List Entry) (e : Entry) → IsCalm e.reply e.step → IsSaid e.step e.reply → AsksAll script all → AreEnded all e.step e.reply → AreDeleted all e.step e.reply → IsAnswered all e.reply → Fact script all e
-fact_by script all e calm said asks ended deleted answered =
+fact_by : (script : List ScriptLine) (all : List Entry) (e : Entry) → IsCalm e.reply e.step → IsSaid e.step e.reply → IsCleaningIn script e.reply → AsksAll script all → AreEnded all e.step e.reply → AreDeleted all e.step e.reply → IsAnswered all e.reply → Fact script all e
+fact_by script all e calm said cleaning asks ended deleted answered =
     record {
       unfallen = unfallen_by e.step e.reply calm;
-      asked = λ of refs moment is indices. asked_by script all of refs moment e.reply indices (subst (IsCalm e.reply) is calm) (subst (λ (step : Step). IsSaid step e.reply) is said) asks (subst (λ (step : Step). AreEnded all step e.reply) is ended);
+      asked = λ of refs moment is indices. asked_by script all of refs moment e.reply indices (subst (IsCalm e.reply) is calm) (subst (λ (step : Step). IsSaid step e.reply) is said) cleaning asks (subst (λ (step : Step). AreEnded all step e.reply) is ended);
       cloned = λ source of names moment taken is from indices.
-          cloned_by script all source of names moment taken e.reply from indices (subst (IsCalm e.reply) is calm) (subst (λ (step : Step). IsSaid step e.reply) is said) asks (subst (λ (step : Step). AreEnded all step e.reply) is ended);
-      deleted = λ names is. deleted_by script all names e.reply (subst (IsCalm e.reply) is calm) (subst (λ (step : Step). IsSaid step e.reply) is said) (subst (λ (step : Step). AreDeleted all step e.reply) is deleted);
+          cloned_by script all source of names moment taken e.reply from indices (subst (IsCalm e.reply) is calm) (subst (λ (step : Step). IsSaid step e.reply) is said) cleaning asks (subst (λ (step : Step). AreEnded all step e.reply) is ended);
+      deleted = λ names is. deleted_by script all names e.reply (subst (IsCalm e.reply) is calm) (subst (λ (step : Step). IsSaid step e.reply) is said) cleaning (subst (λ (step : Step). AreDeleted all step e.reply) is deleted);
+      cleaned = λ is. cleaned_by script all e.reply (subst (IsCalm e.reply) is calm) (subst (λ (step : Step). IsSaid step e.reply) is said) cleaning (subst (λ (step : Step). AreDeleted all step e.reply) is deleted);
       restored = λ of place is name at. restored_by script all of place e.reply name at (subst (IsCalm e.reply) is calm) (subst (λ (step : Step). IsSaid step e.reply) is said) answered;
       looked = λ is. looked_by script e.reply (subst (λ (step : Step). IsSaid step e.reply) is said);
     }
@@ -171,6 +213,10 @@ settled_is : (step : Step) (reply : entry.Reply) → IsSettled step reply → (s
 settled_is SettleStep WasSettled is = (refl, refl)
 settled_is step reply is = absurd is
 
+dropped_is : (step : Step) (reply : entry.Reply) → IsDropped step reply → (step ≡ DroppedStep) × (reply ≡ HasEnded)
+dropped_is DroppedStep HasEnded is = (refl, refl)
+dropped_is step reply is = absurd is
+
 module _ (w : World) (all : List Entry) (h : FollowsIn w all) (calm : (e : Entry) → Has all e → IsCalm e.reply e.step) (closed : (o : ℕ) → IsOpen w o → ⊥) where
   -- an op with a name ends as a snapshot
   ends_named : (o : ℕ) → HasName all o → EndsIn all o [] all → IsEnded all o (end_of_op all o [] all)
@@ -179,7 +225,11 @@ module _ (w : World) (all : List Entry) (h : FollowsIn w all) (calm : (e : Entry
       (λ e has of pruned.
       let is = pruned_is e.step e.reply pruned in
       let (d, op, nameless) = h.prunes e has is.0 is.1 in
-      apart_name all w.next_op o d name nameless (some_same o d (sym of ∙ op)))
+      apart_name all w.next_op (is_cleanup_ticket all e.who) o d name nameless (some_same o d (sym of ∙ op)))
+      (λ e has of dropped.
+      let is = dropped_is e.step e.reply dropped in
+      let (d, op, nameless) = h.leaves e has is.0 is.1 in
+      untrue (is_cleanup_ticket all e.who) (λ cleans. apart_name all w.next_op true o d name (nameless cleans) (some_same o d (sym of ∙ op))))
       ends
 
   ended : (e : Entry) → Has all e → AreEnded all e.step e.reply
@@ -197,23 +247,47 @@ module _ (w : World) (all : List Entry) (h : FollowsIn w all) (calm : (e : Entry
         ]),
       )
 
+  -- what each entry answers an op without a name
+  kind_of : (cleans : Bool) (d : ℕ) → IsNameless all w.next_op cleans d → (e : Entry) → Has all e → IsOfKind cleans all d e
+  kind_of cleans d nameless e has =
+      record {
+        calm = calm e has;
+        unsettled = λ of settled.
+            let is = settled_is e.step e.reply settled in
+            let (o, op, name) = h.settles e has is.0 is.1 in
+            apart_name all w.next_op cleans o d name nameless (some_same o d (sym op ∙ of));
+        pruned = λ of pruned.
+            let is = pruned_is e.step e.reply pruned in
+            let (o, op, other) = h.prunes e has is.0 is.1 in
+            sym other.kind ∙ ap (is_cleanup_op all) (some_same o d (sym op ∙ of)) ∙ nameless.kind;
+        dropped = λ of dropped is_cleanup.
+            let is = dropped_is e.step e.reply dropped in
+            let (o, op, other) = h.leaves e has is.0 is.1 in
+            sym nameless.kind ∙ ap (is_cleanup_op all) (some_same d o (sym of ∙ op)) ∙ (other is_cleanup).kind;
+      }
+
+  over_in : (cleans : Bool) (d : ℕ) → IsNameless all w.next_op cleans d → IsOverIn all cleans d → IsOverBy cleans (end_of_op all d [] all)
+  over_in false d nameless p = over_found false all d [] all refl nameless.unnamed (kind_of false d nameless) p.e p.has (prune_deleted all d p.e p.op_is p.deletes p.step p.reply)
+  over_in true d nameless p = over_found true all d [] all refl nameless.unnamed (kind_of true d nameless) p.e p.has (drop_cleaned all d p.e p.op_is p.cleans p.step p.reply)
+
   deleted : (e : Entry) → Has all e → AreDeleted all e.step e.reply
-  deleted e has d accepted =
-      let (nameless, how) = h.deleted e d has accepted in
+  deleted e has cleans d accepted =
+      let (nameless, how) = h.deleted e cleans d has accepted in
       elim how [
         | inl stands ↦ absurd (closed d (inr stands))
-        | inr p ↦
-            delete_found all d [] all refl nameless.unnamed calm
-            (λ x x_has of settled.
-            let is = settled_is x.step x.reply settled in
-            let (o, op, name) = h.settles x x_has is.0 is.1 in
-            apart_name all w.next_op o d name nameless (some_same o d (sym op ∙ of)))
-            p.e p.has (prune_deleted all d p.e p.op_is p.step p.reply)
+        | inr over ↦ over_in cleans d nameless over
       ]
 
-pub facts : Laws → (script : List ScriptLine) (s : Start) (log : List Moment) → IsSmooth s log → NoneFailed log → NoneUndeleted log → NoneUnrestored log → AreByRule log → IsIdle s log → AsksAll script (entries_of log) → (e : Entry) → Has (entries_of log) e → Fact script (entries_of log) e
-facts laws script s log smooth none undeleted unrestored by_rule idle asks e has =
-    fact_by script (entries_of log) e (calm e has) (h.said e has) asks (ended (world_of s log) (entries_of log) h calm closed e has) (deleted (world_of s log) (entries_of log) h calm closed e has)
+-- a cleanup runs only where a line asks for one
+cleaning_in : (script : List ScriptLine) (log : List Moment) → (HasAskedCleanup log → (line : ScriptLine) × Has script line × (line.item ≡ items.Cleanup)) → (reply : entry.Reply) → ((refusal : Refusal) → reply ≡ entry.Refused refusal → IsOfCleanup log refusal) → IsCleaningIn script reply
+cleaning_in script log asked (entry.Refused (CleanupRunning op)) by_rule = asked (by_rule (CleanupRunning op) refl)
+cleaning_in script log asked (entry.Refused refusal) by_rule = tt
+cleaning_in script log asked reply by_rule = tt
+
+pub facts : Laws → (script : List ScriptLine) (s : Start) (log : List Moment) → IsSmooth s log → NoneFailed log → NoneUndeleted log → NoneUnrestored log → AreByRule log → IsIdle s log → AsksAll script (entries_of log)
+    → (HasAskedCleanup log → (line : ScriptLine) × Has script line × (line.item ≡ items.Cleanup)) → (e : Entry) → Has (entries_of log) e → Fact script (entries_of log) e
+facts laws script s log smooth none undeleted unrestored by_rule idle asks cleanup e has =
+    fact_by script (entries_of log) e (calm e has) (h.said e has) cleaning asks (ended (world_of s log) (entries_of log) h calm closed e has) (deleted (world_of s log) (entries_of log) h calm closed e has)
     (λ a opened. restored_reply (entries_of log) a.op a.uuid a.indices (all_restored laws s log smooth none undeleted unrestored by_rule idle e a has opened))
   where
     h : FollowsIn (world_of s log) (entries_of log)
@@ -224,3 +298,8 @@ facts laws script s log smooth none undeleted unrestored by_rule idle asks e has
 
     closed : (o : ℕ) → IsOpen (world_of s log) o → ⊥
     closed o stands = all_closed laws s log smooth idle o stands
+
+    cleaning : IsCleaningIn script e.reply
+    cleaning =
+        let (moment, there, is) = Has-mapped (λ (y : Moment). y.entry) log e has in
+        subst (λ (y : Entry). IsCleaningIn script y.reply) is (cleaning_in script log cleanup moment.entry.reply (λ refusal refused. (by_rule moment refusal there refused).2))

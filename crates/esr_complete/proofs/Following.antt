@@ -5,13 +5,14 @@ use Rattle.std.specs.FinMap as fin
 use Rattle.esr_model.specs.Values.{Bytes, Has, SnapInfo, ShardResult}
 use Rattle.esr_model.specs.Shelf.{Command}
 use Rattle.esr_core.specs.World.{World, Op, Deletion, Work, Finalize, Deleting, Drop, Swap, Ticket}
-use Rattle.esr_core.specs.Entry.{Snapshot, Clone, DeleteSnapshots, Restore, SettlePruned, Given, Step, AskStep, TakeStep, SettleStep, LookStep, PruneStep, Reply, Accepted, Gave, WasSettled, Looked, Refused, AcceptedRestore, Entry}
+use Rattle.esr_core.specs.Entry.{Snapshot, Clone, DeleteSnapshots, Restore, Cleanup, SettlePruned, Given, Step, AskStep, TakeStep, SettleStep, DroppedStep, LookStep, PruneStep, Reply, Accepted, Gave, WasSettled, HasEnded, Looked, Refused, AcceptedRestore, Entry}
+use Rattle.esr_report.specs.Cleaned.{is_cleanup, cleanup_by, is_cleanup_ticket}
 use Rattle.esr_report.specs.Replies as report
-use Rattle.esr_report.specs.Replies.{op_by, op_of_ticket, uuid_of_unit, uuid_by, uuid_of_ticket, name_by, name_of_op, is_over, final_out, aborts_at}
+use Rattle.esr_report.specs.Replies.{op_by, op_of_ticket, is_op, uuid_of_unit, uuid_by, uuid_of_ticket, name_by, name_of_op, is_over, final_out, aborts_at}
 use Rattle.esr_core.proofs.Besides.{Aside}
 use Rattle.esr_core.proofs.Reading.{Has-left, Has-append}
 use Rattle.esr_core.proofs.Queues.{Ops, Deletes, Tickets, was_in, same_in, other_in, split_at}
-use Rattle.esr_complete.proofs.Tickets.{op_stays, uuid_stays, op_given, uuid_given, name_stays, name_given, IsGiftless, IsFinalGiven, final_on, final_was, final_gave}
+use Rattle.esr_complete.proofs.Tickets.{op_stays, uuid_stays, op_given, uuid_given, cleanup_given, cleanup_stays, cleanup_same, cleanup_other, cleanup_of, is_cleanup_op, cleans_stays, name_stays, name_given, IsGiftless, IsFinalGiven, final_on, final_was, final_gave}
 
 -- what may be answered to a command or a look
 abbrev pub IsSaid : Step → Reply → Type 0
@@ -27,19 +28,22 @@ IsSaid (AskStep (DeleteSnapshots names)) reply = ⊥
 IsSaid (AskStep (Restore name place)) (AcceptedRestore op uuid indices) = Unit {0}
 IsSaid (AskStep (Restore name place)) (Refused refusal) = Unit {0}
 IsSaid (AskStep (Restore name place)) reply = ⊥
-IsSaid (AskStep command) reply = Unit {0}
+IsSaid (AskStep Cleanup) (Accepted op) = Unit {0}
+IsSaid (AskStep Cleanup) (Refused refusal) = Unit {0}
+IsSaid (AskStep Cleanup) reply = ⊥
 IsSaid LookStep (Looked snapshots safe) = Unit {0}
 IsSaid LookStep reply = ⊥
 IsSaid step reply = Unit {0}
 
--- the op as which a snapshot or a clone was accepted, and the one by which a delete is answered
+-- the op as which a snapshot or a clone was accepted, and the one by which a delete or, where this is true, a cleanup is answered
 abbrev pub snapshot_of : Step → Reply → Option ℕ
 snapshot_of (AskStep (Snapshot name indices moment)) (Accepted op) = Some op
 snapshot_of (AskStep (Clone source name indices moment (Some taken))) (Accepted op) = Some op
 snapshot_of step reply = None
 
-abbrev pub delete_of : Step → Reply → Option ℕ
-delete_of (AskStep (DeleteSnapshots names)) (Accepted op) = Some op
+abbrev pub delete_of : Step → Reply → Option (Bool × ℕ)
+delete_of (AskStep (DeleteSnapshots names)) (Accepted op) = Some (false, op)
+delete_of (AskStep Cleanup) (Accepted op) = Some (true, op)
 delete_of step reply = None
 
 abbrev pub IsOpenIn : Ops → ℕ → Type 0
@@ -65,6 +69,21 @@ pub record IsPrunedIn (es : List Entry) (d : ℕ) : Type 0 where
   pub step : e.step ≡ PruneStep SettlePruned
   pub reply : e.reply ≡ WasSettled
   pub op_is : op_of_ticket es e.who ≡ Some d
+  pub deletes : is_cleanup_ticket es e.who ≡ false
+
+-- the op of a cleanup left by its ticket
+pub record IsCleanedIn (es : List Entry) (d : ℕ) : Type 0 where
+  pub e : Entry
+  pub has : Has es e
+  pub step : e.step ≡ DroppedStep
+  pub reply : e.reply ≡ HasEnded
+  pub op_is : op_of_ticket es e.who ≡ Some d
+  pub cleans : is_cleanup_ticket es e.who ≡ true
+
+-- a delete is over with its settle, a cleanup with the drop
+abbrev pub IsOverIn : List Entry → Bool → ℕ → Type 0
+IsOverIn es false d = IsPrunedIn es d
+IsOverIn es true d = IsCleanedIn es d
 
 -- a delete aborted the op
 pub record IsAbortedIn (es : List Entry) (o : ℕ) : Type 0 where
@@ -75,13 +94,14 @@ pub record IsAbortedIn (es : List Entry) (o : ℕ) : Type 0 where
   pub answer : report.Reply
   pub aborts : aborts_at front o e ≡ Some answer
 
--- a snapshot or a clone was accepted as this op; or none was, nor will be
+-- a snapshot or a clone was accepted as this op; or none was, nor will be, and a cleanup was or wasn't
 abbrev pub HasName : List Entry → ℕ → Type 0
 HasName es o = (name : Bytes) × (name_of_op es o ≡ Some name)
 
-pub record IsNameless (es : List Entry) (next o : ℕ) : Type 0 where
+pub record IsNameless (es : List Entry) (next : ℕ) (cleans : Bool) (o : ℕ) : Type 0 where
   pub unnamed : name_of_op es o ≡ None
   pub below : o < next
+  pub kind : is_cleanup_op es o ≡ cleans
 
 -- an open op has not failed, and where it was aborted the history tells of it
 pub record IsToldOp (es : List Entry) (next o : ℕ) (op : Op) : Type 0 where
@@ -92,13 +112,13 @@ pub record IsToldOp (es : List Entry) (next o : ℕ) (op : Op) : Type 0 where
 
 pub record IsToldDelete (es : List Entry) (next d : ℕ) (x : Deletion) : Type 0 where
   pub unfailed : x.failed ≡ false
-  pub nameless : IsNameless es next d
+  pub nameless : IsNameless es next x.clean d
 
--- a drop is of an op that was aborted, a finalization of one with a name, and the unit of a delete of one without
+-- a drop is of an op that was aborted, a finalization of one with a name, and the unit of a delete or cleanup of one without
 pub record IsToldTicket (es : List Entry) (next : ℕ) (t : Ticket) : Type 0 where
-  pub drops : t.work ≡ Drop → IsAbortedIn es t.op
+  pub drops : t.work ≡ Drop → IsAbortedIn es t.op × (t.clean ≡ false)
   pub finals : (info : SnapInfo) (results : List ShardResult) (made : Command) → t.work ≡ Finalize info results made → HasName es t.op
-  pub deletes : (uuids : List ℕ) (plan : Option Swap) → t.work ≡ Deleting uuids plan → IsNameless es next t.op
+  pub deletes : (uuids : List ℕ) (plan : Option Swap) → t.work ≡ Deleting uuids plan → IsNameless es next t.clean t.op
 
 abbrev pub IsFinal : Work → Type 0
 IsFinal (Finalize info results made) = Unit {0}
@@ -116,42 +136,47 @@ pub record IsFinalOut (tickets : Tickets) (o k : ℕ) : Type 0 where
   pub op_is : t.op ≡ o
   pub is : IsOutFinal t
 
--- a settle is of an op with a name, that of a delete of one without
+-- a settle is of an op with a name, that of a delete or cleanup of one without, and so is the drop of a cleanup
 abbrev pub SettlesNamed : List Entry → Entry → Type 0
 SettlesNamed es e = e.step ≡ SettleStep → e.reply ≡ WasSettled → (o : ℕ) × (op_of_ticket es e.who ≡ Some o) × HasName es o
 
 abbrev pub PrunesNameless : List Entry → ℕ → Entry → Type 0
-PrunesNameless es next e = e.step ≡ PruneStep SettlePruned → e.reply ≡ WasSettled → (d : ℕ) × (op_of_ticket es e.who ≡ Some d) × IsNameless es next d
+PrunesNameless es next e = e.step ≡ PruneStep SettlePruned → e.reply ≡ WasSettled → (d : ℕ) × (op_of_ticket es e.who ≡ Some d) × IsNameless es next (is_cleanup_ticket es e.who) d
+
+abbrev pub CleansNameless : List Entry → ℕ → Entry → Type 0
+CleansNameless es next e = e.step ≡ DroppedStep → e.reply ≡ HasEnded → (d : ℕ) × (op_of_ticket es e.who ≡ Some d) × (is_cleanup_ticket es e.who ≡ true → IsNameless es next true d)
 
 -- under this name the entry accepted a snapshot or a clone as the op
 abbrev pub IsNamedBy : List Entry → ℕ → Entry → Type 0
 IsNamedBy es o e = (name : Bytes) × (name_by o e.step e.reply ≡ Some name) × (name_of_op es o ≡ Some name)
 
--- how it stands with an op as which a snapshot or a clone was accepted, and with one by which a delete is answered
+-- how it stands with an op as which a snapshot or a clone was accepted, and with one by which a delete or a cleanup is answered
 abbrev pub IsEndedOr : Ops → List Entry → ℕ → Type 0
 IsEndedOr ops es o = IsOpenIn ops o ⊎ (IsSettledIn es o ⊎ IsAbortedIn es o)
 
-abbrev pub IsDeletedOr : Deletes → List Entry → ℕ → Type 0
-IsDeletedOr deletes es d = IsDeleteIn deletes d ⊎ IsPrunedIn es d
+abbrev pub IsDeletedOr : Deletes → List Entry → Bool → ℕ → Type 0
+IsDeletedOr deletes es cleans d = IsDeleteIn deletes d ⊎ IsOverIn es cleans d
 
--- The history tells the op of each ticket, the uuid of each that finalizes, the name of each open op, and the finalizations that are
--- out. Each op as which a snapshot or a clone was accepted is open, a ticket of it settled, or a delete aborted it; each by which a delete is
--- answered is open, or its ticket settled. No op has failed.
+-- The history tells the op of each ticket and whether it is a cleanup's, the uuid of each that finalizes, the name of each open op, and the
+-- finalizations that are out. Each op as which a snapshot or a clone was accepted is open, a ticket of it settled, or a delete aborted it;
+-- each by which a delete is answered is open, or its ticket settled; each of a cleanup is open, or left by its ticket. No op has failed.
 pub record Follows (deposed : Bool) (open_ops : Ops) (open_deletes : Deletes) (tickets : Tickets) (next next_op : ℕ) (es : List Entry) : Type 0 where
   pub live : deposed ≡ false
   pub ops : (o : ℕ) (op : Op) → fin.get open_ops o ≡ Some op → IsToldOp es next_op o op
   pub deletes : (d : ℕ) (x : Deletion) → fin.get open_deletes d ≡ Some x → IsToldDelete es next_op d x
-  pub coming : (o : ℕ) → next_op ≤ o → name_of_op es o ≡ None
+  pub coming : (o : ℕ) → next_op ≤ o → (name_of_op es o ≡ None) × (is_cleanup_op es o ≡ false)
   pub op_of : (k : ℕ) (t : Ticket) → fin.get tickets k ≡ Some t → op_of_ticket es k ≡ Some t.op
   pub uuid_of : (k : ℕ) (t : Ticket) (info : SnapInfo) (results : List ShardResult) (made : Command) → fin.get tickets k ≡ Some t → t.work ≡ Finalize info results made → uuid_of_ticket es k ≡ Some info.uuid
-  pub fresh : (k : ℕ) → next ≤ k → (op_of_ticket es k ≡ None) × (uuid_of_ticket es k ≡ None)
+  pub cleans : (k : ℕ) (t : Ticket) → fin.get tickets k ≡ Some t → is_cleanup_ticket es k ≡ t.clean
+  pub fresh : (k : ℕ) → next ≤ k → (op_of_ticket es k ≡ None) × (uuid_of_ticket es k ≡ None) × (is_cleanup_ticket es k ≡ false)
   pub units : (k : ℕ) (t : Ticket) → fin.get tickets k ≡ Some t → IsToldTicket es next_op t
   pub final : (o k : ℕ) → final_out es o ≡ Some k → IsFinalOut tickets o k
   pub said : (e : Entry) → Has es e → IsSaid e.step e.reply
   pub settles : (e : Entry) → Has es e → SettlesNamed es e
   pub prunes : (e : Entry) → Has es e → PrunesNameless es next_op e
+  pub leaves : (e : Entry) → Has es e → CleansNameless es next_op e
   pub ended : (e : Entry) (o : ℕ) → Has es e → snapshot_of e.step e.reply ≡ Some o → IsNamedBy es o e × IsEndedOr open_ops es o
-  pub deleted : (e : Entry) (d : ℕ) → Has es e → delete_of e.step e.reply ≡ Some d → IsNameless es next_op d × IsDeletedOr open_deletes es d
+  pub deleted : (e : Entry) (cleans : Bool) (d : ℕ) → Has es e → delete_of e.step e.reply ≡ Some (cleans, d) → IsNameless es next_op cleans d × IsDeletedOr open_deletes es cleans d
 
 abbrev pub FollowsIn : World → List Entry → Type 0
 FollowsIn w es = Follows w.deposed w.ops w.deletes w.tickets w.next_ticket w.next_op es
@@ -188,19 +213,45 @@ module _ (es : List Entry) (x : Entry) where
         uuid_is = uuid_stays es (x ∷ []) h.e.who h.uuid h.uuid_is;
       }
 
-  pub pruned_on : (d : ℕ) → IsPrunedIn es d → IsPrunedIn (es ++ x ∷ []) d
-  pruned_on d h = record { e = h.e; has = Has-left es (x ∷ []) h.e h.has; step = h.step; reply = h.reply; op_is = op_stays es (x ∷ []) h.e.who d h.op_is }
-
   pub aborted_on : (o : ℕ) → IsAbortedIn es o → IsAbortedIn (es ++ x ∷ []) o
   aborted_on o h = record { front = h.front; e = h.e; back = h.back ++ x ∷ []; is = ap (λ (l : List Entry). l ++ x ∷ []) h.is ∙ append_assoc h.front (h.e ∷ h.back) (x ∷ []); answer = h.answer; aborts = h.aborts }
 
   pub named_on : (o : ℕ) → HasName es o → HasName (es ++ x ∷ []) o
   named_on o h = (h.0, name_stays es (x ∷ []) o h.0 h.1)
 
-  -- the entry accepts a snapshot as no op that was there, and as none from the next one on
-  module _ (next more : ℕ) (up : next ≤ more) (none : (o : ℕ) → (o < next) ⊎ (more ≤ o) → name_by o x.step x.reply ≡ None) where
-    pub nameless_on : (o : ℕ) → IsNameless es next o → IsNameless (es ++ x ∷ []) more o
-    nameless_on o h = record { unnamed = name_given es x o h.unnamed ∙ none o (inl h.below); below = let lt : o < next = h.below in omega (arith, lt, up) }
+  -- a ticket of which something is told is of a cleanup where it was
+  abbrev pub SameTickets : Type 0
+  SameTickets = (k o : ℕ) → op_of_ticket es k ≡ Some o → cleanup_by x.reply k ≡ false
+
+  pub over_on : SameTickets → (cleans : Bool) (d : ℕ) → IsOverIn es cleans d → IsOverIn (es ++ x ∷ []) cleans d
+  over_on same false d h =
+      record {
+        e = h.e;
+        has = Has-left es (x ∷ []) h.e h.has;
+        step = h.step;
+        reply = h.reply;
+        op_is = op_stays es (x ∷ []) h.e.who d h.op_is;
+        deletes = cleanup_stays es x h.e.who (same h.e.who d h.op_is) ∙ h.deletes;
+      }
+  over_on same true d h =
+      record {
+        e = h.e;
+        has = Has-left es (x ∷ []) h.e h.has;
+        step = h.step;
+        reply = h.reply;
+        op_is = op_stays es (x ∷ []) h.e.who d h.op_is;
+        cleans = cleanup_stays es x h.e.who (same h.e.who d h.op_is) ∙ h.cleans;
+      }
+
+  -- the entry accepts a snapshot, a clone or a cleanup as no op that was there, and as none from the next one on
+  module _ (next more : ℕ) (up : next ≤ more) (none : (o : ℕ) → (o < next) ⊎ (more ≤ o) → (name_by o x.step x.reply ≡ None) × (is_op o (cleanup_of x.step x.reply) ≡ false)) where
+    pub nameless_on : (cleans : Bool) (o : ℕ) → IsNameless es next cleans o → IsNameless (es ++ x ∷ []) more cleans o
+    nameless_on cleans o h =
+        record {
+          unnamed = name_given es x o h.unnamed ∙ (none o (inl h.below)).0;
+          below = let lt : o < next = h.below in omega (arith, lt, up);
+          kind = cleans_stays es x o (none o (inl h.below)).1 ∙ h.kind;
+        }
 
     pub op_on : (o : ℕ) (old op : Op) → IsToldOp es next o old → op.failed ≡ old.failed → op.aborted ≡ old.aborted → op.name ≡ old.name → IsToldOp (es ++ x ∷ []) more o op
     op_on o old op h failed aborted name =
@@ -211,18 +262,20 @@ module _ (es : List Entry) (x : Entry) where
           below = let lt : o < next = h.below in omega (arith, lt, up);
         }
 
-    pub delete_told_on : (d : ℕ) (old y : Deletion) → IsToldDelete es next d old → y.failed ≡ old.failed → IsToldDelete (es ++ x ∷ []) more d y
-    delete_told_on d old y h failed = record { unfailed = failed ∙ h.unfailed; nameless = nameless_on d h.nameless }
+    pub delete_told_on : (d : ℕ) (old y : Deletion) → IsToldDelete es next d old → y.failed ≡ old.failed → y.clean ≡ old.clean → IsToldDelete (es ++ x ∷ []) more d y
+    delete_told_on d old y h failed clean = record { unfailed = failed ∙ h.unfailed; nameless = subst (λ (b : Bool). IsNameless (es ++ x ∷ []) more b d) (sym clean) (nameless_on old.clean d h.nameless) }
 
     -- of a ticket for what another was for
-    pub unit_on : (was t : Ticket) → IsToldTicket es next was → was.op ≡ t.op → (t.work ≡ Drop → was.work ≡ Drop)
+    pub unit_on : (was t : Ticket) → IsToldTicket es next was → was.op ≡ t.op → was.clean ≡ t.clean → (t.work ≡ Drop → was.work ≡ Drop)
         → ((info : SnapInfo) (results : List ShardResult) (made : Command) → t.work ≡ Finalize info results made → was.work ≡ Finalize info results made)
         → ((uuids : List ℕ) (plan : Option Swap) → t.work ≡ Deleting uuids plan → (p : Option Swap) × (was.work ≡ Deleting uuids p)) → IsToldTicket (es ++ x ∷ []) more t
-    unit_on was t h op drops finals deletes =
+    unit_on was t h op clean drops finals deletes =
         record {
-          drops = λ e. subst (IsAbortedIn (es ++ x ∷ [])) op (aborted_on was.op (h.drops (drops e)));
+          drops = λ e. let d = h.drops (drops e) in (subst (IsAbortedIn (es ++ x ∷ [])) op (aborted_on was.op d.0), sym clean ∙ d.1);
           finals = λ info results made e. subst (HasName (es ++ x ∷ [])) op (named_on was.op (h.finals info results made (finals info results made e)));
-          deletes = λ uuids plan e. let d = deletes uuids plan e in subst (IsNameless (es ++ x ∷ []) more) op (nameless_on was.op (h.deletes uuids d.0 d.1));
+          deletes = λ uuids plan e.
+              let d = deletes uuids plan e in
+              subst (λ (p : Bool × ℕ). IsNameless (es ++ x ∷ []) more p.0 p.1) (λ i. (clean i, op i)) (nameless_on was.clean was.op (h.deletes uuids d.0 d.1));
         }
 
     settles_on : ((e : Entry) → Has es e → SettlesNamed es e) → SettlesNamed (es ++ x ∷ []) x → (e : Entry) → Has (es ++ x ∷ []) e → SettlesNamed (es ++ x ∷ []) e
@@ -231,10 +284,23 @@ module _ (es : List Entry) (x : Entry) where
       | inr is ↦ subst (SettlesNamed (es ++ x ∷ [])) is new
     ]
 
-    prunes_on : ((e : Entry) → Has es e → PrunesNameless es next e) → PrunesNameless (es ++ x ∷ []) more x → (e : Entry) → Has (es ++ x ∷ []) e → PrunesNameless (es ++ x ∷ []) more e
-    prunes_on was new e has = elim (Has-append es x e has) [
-      | inl before ↦ λ step reply. let (d, of, nameless) = was e before step reply in (d, op_stays es (x ∷ []) e.who d of, nameless_on d nameless)
+    prunes_on : SameTickets → ((e : Entry) → Has es e → PrunesNameless es next e) → PrunesNameless (es ++ x ∷ []) more x → (e : Entry) → Has (es ++ x ∷ []) e → PrunesNameless (es ++ x ∷ []) more e
+    prunes_on same was new e has = elim (Has-append es x e has) [
+      | inl before ↦ λ step reply.
+          let (d, of, nameless) = was e before step reply in (
+            d,
+            op_stays es (x ∷ []) e.who d of,
+            subst (λ (b : Bool). IsNameless (es ++ x ∷ []) more b d) (sym (cleanup_stays es x e.who (same e.who d of))) (nameless_on (is_cleanup_ticket es e.who) d nameless),
+          )
       | inr is ↦ subst (PrunesNameless (es ++ x ∷ []) more) is new
+    ]
+
+    leaves_on : SameTickets → ((e : Entry) → Has es e → CleansNameless es next e) → CleansNameless (es ++ x ∷ []) more x → (e : Entry) → Has (es ++ x ∷ []) e → CleansNameless (es ++ x ∷ []) more e
+    leaves_on same was new e has = elim (Has-append es x e has) [
+      | inl before ↦ λ step reply.
+          let (d, of, nameless) = was e before step reply in
+          (d, op_stays es (x ∷ []) e.who d of, λ cleans. nameless_on true d (nameless (sym (cleanup_stays es x e.who (same e.who d of)) ∙ cleans)))
+      | inr is ↦ subst (CleansNameless (es ++ x ∷ []) more) is new
     ]
 
     -- what was told before, and what one more entry tells
@@ -253,14 +319,15 @@ module _ (es : List Entry) (x : Entry) where
       | inr is ↦ let (name, stands) = new o (ap (λ (y : Entry). snapshot_of y.step y.reply) is ∙ accepted) in (subst (IsNamedBy (es ++ x ∷ []) o) is name, inl stands)
     ]
 
-    deleted_on : (deletes left : Deletes) → ((e : Entry) (d : ℕ) → Has es e → delete_of e.step e.reply ≡ Some d → IsNameless es next d × IsDeletedOr deletes es d)
-        → ((d : ℕ) → IsNameless es next d → IsDeleteIn deletes d → IsDeletedOr left (es ++ x ∷ []) d) → ((d : ℕ) → delete_of x.step x.reply ≡ Some d → IsNameless (es ++ x ∷ []) more d × IsDeleteIn left d)
-        → (e : Entry) (d : ℕ) → Has (es ++ x ∷ []) e → delete_of e.step e.reply ≡ Some d → IsNameless (es ++ x ∷ []) more d × IsDeletedOr left (es ++ x ∷ []) d
-    deleted_on deletes left was kept new e d has accepted = elim (Has-append es x e has) [
+    deleted_on : SameTickets → (deletes left : Deletes) → ((e : Entry) (cleans : Bool) (d : ℕ) → Has es e → delete_of e.step e.reply ≡ Some (cleans, d) → IsNameless es next cleans d × IsDeletedOr deletes es cleans d)
+        → ((cleans : Bool) (d : ℕ) → IsNameless es next cleans d → IsDeleteIn deletes d → IsDeletedOr left (es ++ x ∷ []) cleans d)
+        → ((cleans : Bool) (d : ℕ) → delete_of x.step x.reply ≡ Some (cleans, d) → IsNameless (es ++ x ∷ []) more cleans d × IsDeleteIn left d)
+        → (e : Entry) (cleans : Bool) (d : ℕ) → Has (es ++ x ∷ []) e → delete_of e.step e.reply ≡ Some (cleans, d) → IsNameless (es ++ x ∷ []) more cleans d × IsDeletedOr left (es ++ x ∷ []) cleans d
+    deleted_on same deletes left was kept new e cleans d has accepted = elim (Has-append es x e has) [
       | inl before ↦
-          let (nameless, how) = was e d before accepted in
-          (nameless_on d nameless, elim how [ inl stands ↦ kept d nameless stands | inr pruned ↦ inr (pruned_on d pruned) ])
-      | inr is ↦ let (nameless, stands) = new d (ap (λ (y : Entry). delete_of y.step y.reply) is ∙ accepted) in (nameless, inl stands)
+          let (nameless, how) = was e cleans d before accepted in
+          (nameless_on cleans d nameless, elim how [ inl stands ↦ kept cleans d nameless stands | inr over ↦ inr (over_on same cleans d over) ])
+      | inr is ↦ let (nameless, stands) = new cleans d (ap (λ (y : Entry). delete_of y.step y.reply) is ∙ accepted) in (nameless, inl stands)
     ]
 
   said_on : ((e : Entry) → Has es e → IsSaid e.step e.reply) → IsSaid x.step x.reply → (e : Entry) → Has (es ++ x ∷ []) e → IsSaid e.step e.reply
@@ -273,18 +340,27 @@ pub record IsKin (tickets : Tickets) (k : ℕ) (t : Ticket) : Type 0 where
   pub was : Ticket
   pub there : fin.get tickets k ≡ Some was
   pub op_is : was.op ≡ t.op
+  pub clean_is : was.clean ≡ t.clean
   pub drops : t.work ≡ Drop → was.work ≡ Drop
   pub finals : (info : SnapInfo) (results : List ShardResult) (made : Command) → t.work ≡ Finalize info results made → was.work ≡ Finalize info results made
   pub deletes : (uuids : List ℕ) (plan : Option Swap) → t.work ≡ Deleting uuids plan → (p : Option Swap) × (was.work ≡ Deleting uuids p)
 
 pub kin_same : (tickets : Tickets) (k : ℕ) (t : Ticket) → fin.get tickets k ≡ Some t → IsKin tickets k t
-kin_same tickets k t e = record { was = t; there = e; op_is = refl; drops = λ is. is; finals = λ info results made is. is; deletes = λ uuids plan is. (plan, is) }
+kin_same tickets k t e = record { was = t; there = e; op_is = refl; clean_is = refl; drops = λ is. is; finals = λ info results made is. is; deletes = λ uuids plan is. (plan, is) }
 
-pub kin_on : (tickets : Tickets) (key : ℕ) (old new : Ticket) → fin.get tickets key ≡ Some old → new.op ≡ old.op → new.work ≡ old.work → (k : ℕ) (t : Ticket) → fin.get (fin.insert tickets key new) k ≡ Some t → IsKin tickets k t
-kin_on tickets key old new there op work k t e = elim (was_in tickets key new k t e) [
+pub kin_on : (tickets : Tickets) (key : ℕ) (old new : Ticket) → fin.get tickets key ≡ Some old → new.op ≡ old.op → new.clean ≡ old.clean → new.work ≡ old.work → (k : ℕ) (t : Ticket) → fin.get (fin.insert tickets key new) k ≡ Some t → IsKin tickets k t
+kin_on tickets key old new there op clean work k t e = elim (was_in tickets key new k t e) [
   | inl is ↦
       let same : old.work ≡ t.work = sym work ∙ ap (λ (y : Ticket). y.work) is.1 in
-      record { was = old; there = ap (fin.get tickets) is.0 ∙ there; op_is = sym op ∙ ap (λ (y : Ticket). y.op) is.1; drops = λ d. same ∙ d; finals = λ info results made f. same ∙ f; deletes = λ uuids plan d. (plan, same ∙ d) }
+      record {
+        was = old;
+        there = ap (fin.get tickets) is.0 ∙ there;
+        op_is = sym op ∙ ap (λ (y : Ticket). y.op) is.1;
+        clean_is = sym clean ∙ ap (λ (y : Ticket). y.clean) is.1;
+        drops = λ d. same ∙ d;
+        finals = λ info results made f. same ∙ f;
+        deletes = λ uuids plan d. (plan, same ∙ d);
+      }
   | inr is ↦ kin_same tickets k t is.1
 ]
 
@@ -329,11 +405,12 @@ final_stays tickets later es x giftless was stays o k e =
 pub record IsOne (es : List Entry) (next more : ℕ) (x : Entry) : Type 0 where
   pub up : next ≤ more
   pub giftless : IsGiftless x.reply
-  pub no_ticket : (k : ℕ) → (op_by x.reply k ≡ None) × (uuid_by x.reply k ≡ None)
-  pub no_name : (o : ℕ) → (o < next) ⊎ (more ≤ o) → name_by o x.step x.reply ≡ None
+  pub no_ticket : (k : ℕ) → (op_by x.reply k ≡ None) × (uuid_by x.reply k ≡ None) × (cleanup_by x.reply k ≡ false)
+  pub no_name : (o : ℕ) → (o < next) ⊎ (more ≤ o) → (name_by o x.step x.reply ≡ None) × (is_op o (cleanup_of x.step x.reply) ≡ false)
   pub said : IsSaid x.step x.reply
   pub settles : SettlesNamed (es ++ x ∷ []) x
   pub prunes : PrunesNameless (es ++ x ∷ []) more x
+  pub leaves : CleansNameless (es ++ x ∷ []) more x
 
 pub goes_on : (deposed : Bool) (ops now : Ops) (deletes left : Deletes) (tickets later : Tickets) (next next_op more : ℕ) (es : List Entry) (x : Entry) → Follows deposed ops deletes tickets next next_op es → IsOne es next_op more x
     → ((o : ℕ) (op : Op) → fin.get now o ≡ Some op → IsToldOp (es ++ x ∷ []) more o op)
@@ -341,26 +418,32 @@ pub goes_on : (deposed : Bool) (ops now : Ops) (deletes left : Deletes) (tickets
     → ((k : ℕ) (t : Ticket) → fin.get later k ≡ Some t → IsKin tickets k t)
     → StaysOut tickets later x
     → ((o : ℕ) → HasName es o → IsOpenIn ops o → IsEndedOr now (es ++ x ∷ []) o)
-    → ((d : ℕ) → IsNameless es next_op d → IsDeleteIn deletes d → IsDeletedOr left (es ++ x ∷ []) d)
+    → ((cleans : Bool) (d : ℕ) → IsNameless es next_op cleans d → IsDeleteIn deletes d → IsDeletedOr left (es ++ x ∷ []) cleans d)
     → ((o : ℕ) → snapshot_of x.step x.reply ≡ Some o → IsNamedBy (es ++ x ∷ []) o x × IsOpenIn now o)
-    → ((d : ℕ) → delete_of x.step x.reply ≡ Some d → IsNameless (es ++ x ∷ []) more d × IsDeleteIn left d)
+    → ((cleans : Bool) (d : ℕ) → delete_of x.step x.reply ≡ Some (cleans, d) → IsNameless (es ++ x ∷ []) more cleans d × IsDeleteIn left d)
     → Follows deposed now left later next more (es ++ x ∷ [])
 goes_on deposed ops now deletes left tickets later next next_op more es x h one told_ops told_deletes kin out kept kept_deletes new new_delete =
+    let same : SameTickets es x = λ k o of. (one.no_ticket k).2 in
     record {
       live = h.live;
       ops = told_ops;
       deletes = told_deletes;
-      coming = λ o le. let up : next_op ≤ more = one.up in name_given es x o (h.coming o (omega (arith, up, le))) ∙ one.no_name o (inr le);
+      coming = λ o le.
+          let up : next_op ≤ more = one.up in
+          let was = h.coming o (omega (arith, up, le)) in
+          (name_given es x o was.0 ∙ (one.no_name o (inr le)).0, cleans_stays es x o (one.no_name o (inr le)).1 ∙ was.1);
       op_of = λ k t e. let q = kin k t e in op_stays es (x ∷ []) k t.op (h.op_of k q.was q.there ∙ ap Some q.op_is);
       uuid_of = λ k t info results made e is. let q = kin k t e in uuid_stays es (x ∷ []) k info.uuid (h.uuid_of k q.was info results made q.there (q.finals info results made is));
-      fresh = λ k le. let f = h.fresh k le in (op_given es x k f.0 ∙ (one.no_ticket k).0, uuid_given es x k f.1 ∙ (one.no_ticket k).1);
-      units = λ k t e. let q = kin k t e in unit_on es x next_op more one.up one.no_name q.was t (h.units k q.was q.there) q.op_is q.drops q.finals q.deletes;
+      cleans = λ k t e. let q = kin k t e in cleanup_stays es x k (one.no_ticket k).2 ∙ h.cleans k q.was q.there ∙ q.clean_is;
+      fresh = λ k le. let f = h.fresh k le in let n = one.no_ticket k in (op_given es x k f.0 ∙ n.0, uuid_given es x k f.1 ∙ n.1, cleanup_stays es x k n.2 ∙ f.2);
+      units = λ k t e. let q = kin k t e in unit_on es x next_op more one.up one.no_name q.was t (h.units k q.was q.there) q.op_is q.clean_is q.drops q.finals q.deletes;
       final = final_stays tickets later es x one.giftless h.final out;
       said = said_on es x h.said one.said;
       settles = settles_on es x next_op more one.up one.no_name h.settles one.settles;
-      prunes = prunes_on es x next_op more one.up one.no_name h.prunes one.prunes;
+      prunes = prunes_on es x next_op more one.up one.no_name same h.prunes one.prunes;
+      leaves = leaves_on es x next_op more one.up one.no_name same h.leaves one.leaves;
       ended = ended_on es x next_op more one.up one.no_name ops now h.ended kept new;
-      deleted = deleted_on es x next_op more one.up one.no_name deletes left h.deleted kept_deletes new_delete;
+      deleted = deleted_on es x next_op more one.up one.no_name same deletes left h.deleted kept_deletes new_delete;
     }
 
 -- ---- a step that gives one
@@ -377,10 +460,10 @@ op_by_same ticket op unit = elim (eqb_tells ticket ticket) [ inl h ↦ ap (λ (b
 uuid_by_same : (ticket op : ℕ) (unit : Given) → uuid_by (Gave ticket op unit) ticket ≡ uuid_of_unit unit
 uuid_by_same ticket op unit = elim (eqb_tells ticket ticket) [ inl h ↦ ap (λ (b : Bool). if b then uuid_of_unit unit else None) h.0 | inr h ↦ absurd (h.1 refl) ]
 
-by_other : (ticket op : ℕ) (unit : Given) (k : ℕ) → suc ticket ≤ k → (op_by (Gave ticket op unit) k ≡ None) × (uuid_by (Gave ticket op unit) k ≡ None)
+by_other : (ticket op : ℕ) (unit : Given) (k : ℕ) → suc ticket ≤ k → (op_by (Gave ticket op unit) k ≡ None) × (uuid_by (Gave ticket op unit) k ≡ None) × (cleanup_by (Gave ticket op unit) k ≡ false)
 by_other ticket op unit k le = elim (eqb_tells ticket k) [
   | inl h ↦ absurd (let e : ticket ≡ k = h.1 in omega (arith, le, e))
-  | inr h ↦ (ap (λ (b : Bool). if b then Some op else None) h.0, ap (λ (b : Bool). if b then uuid_of_unit unit else None) h.0)
+  | inr h ↦ (ap (λ (b : Bool). if b then Some op else None) h.0, ap (λ (b : Bool). if b then uuid_of_unit unit else None) h.0, cleanup_other ticket op unit k h.1)
 ]
 
 none_some : (o : ℕ) → ◌≡◌ {A = Option ℕ} None (Some o) → ⊥
@@ -392,6 +475,16 @@ no_settle e = cc
 no_prune : TakeStep ≡ PruneStep SettlePruned → ⊥
 no_prune e = cc
 
+no_drop : TakeStep ≡ DroppedStep → ⊥
+no_drop e = cc
+
+no_delete : (p : Bool × ℕ) → ◌≡◌ {A = Option (Bool × ℕ)} None (Some p) → ⊥
+no_delete p e = cc
+
+-- no ticket that is told has the number of the next one
+untaken : (es : List Entry) (next op : ℕ) (unit : Given) → op_of_ticket es next ≡ None → (k o : ℕ) → op_of_ticket es k ≡ Some o → cleanup_by (Gave next op unit) k ≡ false
+untaken es next op unit none k o of = cleanup_other next op unit k (λ same. none_some o (sym none ∙ ap (op_of_ticket es) same ∙ of))
+
 module _ (deposed : Bool) (ops now : Ops) (open_deletes : Deletes) (tickets : Tickets) (next next_op : ℕ) (es : List Entry) (op : ℕ) (unit : Given) (h : Follows deposed ops open_deletes tickets next next_op es)
     (told_ops : (o : ℕ) (q : Op) → fin.get now o ≡ Some q → IsToldOp (es ++ gave next op unit ∷ []) next_op o q) (kept : (o : ℕ) → IsOpenIn ops o → IsOpenIn now o) where
   abbrev x : Entry
@@ -400,26 +493,29 @@ module _ (deposed : Bool) (ops now : Ops) (open_deletes : Deletes) (tickets : Ti
   same_next : next_op ≤ next_op
   same_next = omega arith
 
-  no_name : (o : ℕ) → (o < next_op) ⊎ (next_op ≤ o) → name_by o (gave next op unit).step (gave next op unit).reply ≡ None
-  no_name o any = refl
+  no_name : (o : ℕ) → (o < next_op) ⊎ (next_op ≤ o) → (name_by o (gave next op unit).step (gave next op unit).reply ≡ None) × (is_op o (cleanup_of (gave next op unit).step (gave next op unit).reply) ≡ false)
+  no_name o any = (refl, refl)
 
-  later_is : (k : ℕ) → suc next ≤ k → (op_of_ticket (es ++ gave next op unit ∷ []) k ≡ None) × (uuid_of_ticket (es ++ gave next op unit ∷ []) k ≡ None)
-  later_is k le = let g = h.fresh k (omega (arith, le)) in let n = by_other next op unit k le in (op_given es x k g.0 ∙ n.0, uuid_given es x k g.1 ∙ n.1)
+  later_is : (k : ℕ) → suc next ≤ k → (op_of_ticket (es ++ gave next op unit ∷ []) k ≡ None) × (uuid_of_ticket (es ++ gave next op unit ∷ []) k ≡ None) × (is_cleanup_ticket (es ++ gave next op unit ∷ []) k ≡ false)
+  later_is k le = let g = h.fresh k (omega (arith, le)) in let n = by_other next op unit k le in (op_given es x k g.0 ∙ n.0, uuid_given es x k g.1 ∙ n.1, cleanup_stays es x k n.2 ∙ g.2)
 
   delete_told : (d : ℕ) (y : Deletion) → fin.get open_deletes d ≡ Some y → IsToldDelete (es ++ gave next op unit ∷ []) next_op d y
-  delete_told d y e = delete_told_on es x next_op next_op same_next no_name d y y (h.deletes d y e) refl
+  delete_told d y e = delete_told_on es x next_op next_op same_next no_name d y y (h.deletes d y e) refl refl
 
-  pub given_on : (t : Ticket) → t.op ≡ op → (t.work ≡ Drop → IsAbortedIn es op) → ((info : SnapInfo) (results : List ShardResult) (made : Command) → t.work ≡ Finalize info results made → HasName es op)
-      → ((uuids : List ℕ) (plan : Option Swap) → t.work ≡ Deleting uuids plan → IsNameless es next_op op) → (IsFinalGiven unit → IsOutFinal t)
+  known : SameTickets es (gave next op unit)
+  known = untaken es next op unit (h.fresh next (omega arith)).0
+
+  pub given_on : (t : Ticket) → t.op ≡ op → t.clean ≡ is_cleanup unit → (t.work ≡ Drop → IsAbortedIn es op × (t.clean ≡ false)) → ((info : SnapInfo) (results : List ShardResult) (made : Command) → t.work ≡ Finalize info results made → HasName es op)
+      → ((uuids : List ℕ) (plan : Option Swap) → t.work ≡ Deleting uuids plan → IsNameless es next_op t.clean op) → (IsFinalGiven unit → IsOutFinal t)
       → ((info : SnapInfo) (results : List ShardResult) (made : Command) → t.work ≡ Finalize info results made → uuid_of_unit unit ≡ Some info.uuid)
       → Follows deposed now open_deletes (fin.insert tickets next t) (suc next) next_op (es ++ gave next op unit ∷ [])
-  given_on t op_is drops finals deletes outs uuids_are =
+  given_on t op_is clean_is drops finals deletes outs uuids_are =
       let f = h.fresh next (omega arith) in
       record {
         live = h.live;
         ops = told_ops;
         deletes = delete_told;
-        coming = λ o le. name_given es x o (h.coming o le);
+        coming = λ o le. let was = h.coming o le in (name_given es x o was.0, cleans_stays es x o refl ∙ was.1);
         op_of = λ k u e. elim (was_in tickets next t k u e) [
           | inl m ↦ subst (λ (j : ℕ). op_of_ticket (es ++ x ∷ []) j ≡ Some u.op) (sym m.0) (op_given es x next f.0 ∙ op_by_same next op unit ∙ ap Some (sym op_is ∙ ap (λ (y : Ticket). y.op) m.1))
           | inr m ↦ op_stays es (x ∷ []) k u.op (h.op_of k u m.1)
@@ -428,14 +524,18 @@ module _ (deposed : Bool) (ops now : Ops) (open_deletes : Deletes) (tickets : Ti
           | inl m ↦ subst (λ (j : ℕ). uuid_of_ticket (es ++ x ∷ []) j ≡ Some info.uuid) (sym m.0) (uuid_given es x next f.1 ∙ uuid_by_same next op unit ∙ uuids_are info results made (ap (λ (y : Ticket). y.work) m.1 ∙ is))
           | inr m ↦ uuid_stays es (x ∷ []) k info.uuid (h.uuid_of k u info results made m.1 is)
         ];
+        cleans = λ k u e. elim (was_in tickets next t k u e) [
+          | inl m ↦ subst (λ (j : ℕ). is_cleanup_ticket (es ++ x ∷ []) j ≡ u.clean) (sym m.0) (cleanup_given es x next f.2 ∙ cleanup_same next op unit ∙ sym clean_is ∙ ap (λ (y : Ticket). y.clean) m.1)
+          | inr m ↦ cleanup_stays es x k (known k u.op (h.op_of k u m.1)) ∙ h.cleans k u m.1
+        ];
         fresh = later_is;
         units = λ k u e. elim (was_in tickets next t k u e) [
           | inl m ↦ subst (IsToldTicket (es ++ x ∷ []) next_op) m.1 (record {
-            drops = λ is. subst (IsAbortedIn (es ++ x ∷ [])) (sym op_is) (aborted_on es x op (drops is));
+            drops = λ is. let d = drops is in (subst (IsAbortedIn (es ++ x ∷ [])) (sym op_is) (aborted_on es x op d.0), d.1);
             finals = λ info results made is. subst (HasName (es ++ x ∷ [])) (sym op_is) (named_on es x op (finals info results made is));
-            deletes = λ uuids plan is. subst (IsNameless (es ++ x ∷ []) next_op) (sym op_is) (nameless_on es x next_op next_op same_next no_name op (deletes uuids plan is));
+            deletes = λ uuids plan is. subst (IsNameless (es ++ x ∷ []) next_op t.clean) (sym op_is) (nameless_on es x next_op next_op same_next no_name t.clean op (deletes uuids plan is));
           })
-          | inr m ↦ unit_on es x next_op next_op same_next no_name u u (h.units k u m.1) refl (λ is. is) (λ info results made is. is) (λ uuids plan is. (plan, is))
+          | inr m ↦ unit_on es x next_op next_op same_next no_name u u (h.units k u m.1) refl refl (λ is. is) (λ info results made is. is) (λ uuids plan is. (plan, is))
         ];
         final = λ o k e. elim (final_gave o (final_out es o) op unit next k (sym (final_on o es x) ∙ e)) [
           | inl before ↦
@@ -448,9 +548,10 @@ module _ (deposed : Bool) (ops now : Ops) (open_deletes : Deletes) (tickets : Ti
         ];
         said = said_on es x h.said tt;
         settles = settles_on es x next_op next_op same_next no_name h.settles (λ step. absurd (no_settle step));
-        prunes = prunes_on es x next_op next_op same_next no_name h.prunes (λ step. absurd (no_prune step));
+        prunes = prunes_on es x next_op next_op same_next no_name known h.prunes (λ step. absurd (no_prune step));
+        leaves = leaves_on es x next_op next_op same_next no_name known h.leaves (λ step. absurd (no_drop step));
         ended = ended_on es x next_op next_op same_next no_name ops now h.ended (λ o name was. inl (kept o was)) (λ o e. absurd (none_some o e));
-        deleted = deleted_on es x next_op next_op same_next no_name open_deletes open_deletes h.deleted (λ d nameless was. inl was) (λ d e. absurd (none_some d e));
+        deleted = deleted_on es x next_op next_op same_next no_name known open_deletes open_deletes h.deleted (λ cleans d nameless was. inl was) (λ cleans d e. absurd (no_delete (cleans, d) e));
       }
     where
       -- no ticket had this number
@@ -463,22 +564,25 @@ pub handed_on : (deposed : Bool) (ops : Ops) (deletes : Deletes) (tickets : Tick
 handed_on deposed ops deletes tickets next next_op es op unit no_final h =
     let x : Entry = gave next op unit in
     let same : next_op ≤ next_op = omega arith in
-    let none : (o : ℕ) → (o < next_op) ⊎ (next_op ≤ o) → name_by o x.step x.reply ≡ None = λ o any. refl in
+    let none : (o : ℕ) → (o < next_op) ⊎ (next_op ≤ o) → (name_by o x.step x.reply ≡ None) × (is_op o (cleanup_of x.step x.reply) ≡ false) = λ o any. (refl, refl) in
+    let known : SameTickets es x = untaken es next op unit (h.fresh next (omega arith)).0 in
     record {
       live = h.live;
       ops = λ o q e. op_on es x next_op next_op same none o q q (h.ops o q e) refl refl refl;
-      deletes = λ d y e. delete_told_on es x next_op next_op same none d y y (h.deletes d y e) refl;
-      coming = λ o le. name_given es x o (h.coming o le);
+      deletes = λ d y e. delete_told_on es x next_op next_op same none d y y (h.deletes d y e) refl refl;
+      coming = λ o le. let was = h.coming o le in (name_given es x o was.0, cleans_stays es x o refl ∙ was.1);
       op_of = λ k u e. op_stays es (x ∷ []) k u.op (h.op_of k u e);
       uuid_of = λ k u info results made e is. uuid_stays es (x ∷ []) k info.uuid (h.uuid_of k u info results made e is);
-      fresh = λ k le. let g = h.fresh k (omega (arith, le)) in let n = by_other next op unit k le in (op_given es x k g.0 ∙ n.0, uuid_given es x k g.1 ∙ n.1);
-      units = λ k u e. unit_on es x next_op next_op same none u u (h.units k u e) refl (λ is. is) (λ info results made is. is) (λ uuids plan is. (plan, is));
+      cleans = λ k u e. cleanup_stays es x k (known k u.op (h.op_of k u e)) ∙ h.cleans k u e;
+      fresh = λ k le. let g = h.fresh k (omega (arith, le)) in let n = by_other next op unit k le in (op_given es x k g.0 ∙ n.0, uuid_given es x k g.1 ∙ n.1, cleanup_stays es x k n.2 ∙ g.2);
+      units = λ k u e. unit_on es x next_op next_op same none u u (h.units k u e) refl refl (λ is. is) (λ info results made is. is) (λ uuids plan is. (plan, is));
       final = λ o k e. elim (final_gave o (final_out es o) op unit next k (sym (final_on o es x) ∙ e)) [ inl before ↦ h.final o k before | inr mine ↦ absurd (no_final mine.2) ];
       said = said_on es x h.said tt;
       settles = settles_on es x next_op next_op same none h.settles (λ step. absurd (no_settle step));
-      prunes = prunes_on es x next_op next_op same none h.prunes (λ step. absurd (no_prune step));
+      prunes = prunes_on es x next_op next_op same none known h.prunes (λ step. absurd (no_prune step));
+      leaves = leaves_on es x next_op next_op same none known h.leaves (λ step. absurd (no_drop step));
       ended = ended_on es x next_op next_op same none ops ops h.ended (λ o name was. inl was) (λ o e. absurd (none_some o e));
-      deleted = deleted_on es x next_op next_op same none deletes deletes h.deleted (λ d nameless was. inl was) (λ d e. absurd (none_some d e));
+      deleted = deleted_on es x next_op next_op same none known deletes deletes h.deleted (λ cleans d nameless was. inl was) (λ cleans d e. absurd (no_delete (cleans, d) e));
     }
 
 -- restores and their tickets aside, with more numbers
@@ -487,19 +591,21 @@ follows_aside w new es a h =
     subst (λ (v : World). FollowsIn v es) (sym a.new_is) (record {
       live = h.live;
       ops = λ o op e. let t = h.ops o op e in let lt : o < w.next_op = t.below in let up : w.next_op ≤ a.next_op = a.ops in record { unfailed = t.unfailed; aborted = t.aborted; named = t.named; below = omega (arith, lt, up) };
-      deletes = λ d x e. let t = h.deletes d x e in record { unfailed = t.unfailed; nameless = later d t.nameless };
+      deletes = λ d x e. let t = h.deletes d x e in record { unfailed = t.unfailed; nameless = later x.clean d t.nameless };
       coming = λ o le. let up : w.next_op ≤ a.next_op = a.ops in h.coming o (omega (arith, up, le));
       op_of = h.op_of;
       uuid_of = h.uuid_of;
+      cleans = h.cleans;
       fresh = λ k le. let up : w.next_ticket ≤ a.next_ticket = a.tickets in h.fresh k (omega (arith, up, le));
-      units = λ k t e. let u = h.units k t e in record { drops = u.drops; finals = u.finals; deletes = λ uuids plan is. later t.op (u.deletes uuids plan is) };
+      units = λ k t e. let u = h.units k t e in record { drops = u.drops; finals = u.finals; deletes = λ uuids plan is. later t.clean t.op (u.deletes uuids plan is) };
       final = h.final;
       said = h.said;
       settles = h.settles;
-      prunes = λ e has step reply. let (d, of, nameless) = h.prunes e has step reply in (d, of, later d nameless);
+      prunes = λ e has step reply. let (d, of, nameless) = h.prunes e has step reply in (d, of, later (is_cleanup_ticket es e.who) d nameless);
+      leaves = λ e has step reply. let (d, of, nameless) = h.leaves e has step reply in (d, of, λ cleans. later true d (nameless cleans));
       ended = h.ended;
-      deleted = λ e d has accepted. let (nameless, how) = h.deleted e d has accepted in (later d nameless, how);
+      deleted = λ e cleans d has accepted. let (nameless, how) = h.deleted e cleans d has accepted in (later cleans d nameless, how);
     })
   where
-    later : (o : ℕ) → IsNameless es w.next_op o → IsNameless es a.next_op o
-    later o n = record { unnamed = n.unnamed; below = let lt : o < w.next_op = n.below in let up : w.next_op ≤ a.next_op = a.ops in omega (arith, lt, up) }
+    later : (cleans : Bool) (o : ℕ) → IsNameless es w.next_op cleans o → IsNameless es a.next_op cleans o
+    later cleans o n = record { unnamed = n.unnamed; below = let lt : o < w.next_op = n.below in let up : w.next_op ≤ a.next_op = a.ops in omega (arith, lt, up); kind = n.kind }

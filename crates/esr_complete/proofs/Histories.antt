@@ -34,11 +34,11 @@ use Rattle.esr_complete.proofs.Steps.{IsSafe, follows_step}
 -- ---- from the opened world on
 
 -- the deletes that opening keeps
-numbered_told : (number : ℕ) (kept : List (List ℕ)) (d : ℕ) (x : Deletion) → fin.get (numbered_deletes number kept) d ≡ Some x → (x.failed ≡ false) × (d < number + length kept)
+numbered_told : (number : ℕ) (kept : List (List ℕ)) (d : ℕ) (x : Deletion) → fin.get (numbered_deletes number kept) d ≡ Some x → (x.failed ≡ false) × (x.clean ≡ false) × (d < number + length kept)
 numbered_told number [] d x e = absurd (nothing d x e)
 numbered_told number (uuids ∷ kept) d x e = elim (was_in (numbered_deletes (suc number) kept) number (record { uuids = uuids; clean = false; failed = false }) d x e) [
-  | inl is ↦ (ap (λ (y : Deletion). y.failed) (sym is.1), let same : d ≡ number = is.0 in omega (arith, same))
-  | inr is ↦ let rest = numbered_told (suc number) kept d x is.1 in (rest.0, let below : d < suc number + length kept = rest.1 in omega (arith, below))
+  | inl is ↦ (ap (λ (y : Deletion). y.failed) (sym is.1), ap (λ (y : Deletion). y.clean) (sym is.1), let same : d ≡ number = is.0 in omega (arith, same))
+  | inr is ↦ let rest = numbered_told (suc number) kept d x is.1 in (rest.0, rest.1, let below : d < suc number + length kept = rest.2 in omega (arith, below))
 ]
 
 follows_opened : (blobs : Blobs) (cluster : ClusterRecord) (root : RootData) → FollowsIn (opened blobs cluster root) []
@@ -48,18 +48,20 @@ follows_opened blobs cluster root =
       ops = λ o op e. absurd (nothing o op e);
       deletes = λ d x e.
           let t = numbered_told 1 (kept_deletes cluster.ops) d x e in
-          record { unfailed = t.0; nameless = record { unnamed = refl; below = let below : d < 1 + length (kept_deletes cluster.ops) = t.1 in omega (arith, below) } };
-      coming = λ o le. refl;
+          record { unfailed = t.0; nameless = record { unnamed = refl; below = let below : d < 1 + length (kept_deletes cluster.ops) = t.2 in omega (arith, below); kind = sym t.1 } };
+      coming = λ o le. (refl, refl);
       op_of = λ k t e. absurd (nothing k t e);
       uuid_of = λ k t info results made e is. absurd (nothing k t e);
-      fresh = λ k le. (refl, refl);
+      cleans = λ k t e. absurd (nothing k t e);
+      fresh = λ k le. (refl, refl, refl);
       units = λ k t e. absurd (nothing k t e);
       final = λ o k e. absurd (none_some k e);
       said = λ e has. absurd has;
       settles = λ e has. absurd has;
       prunes = λ e has. absurd has;
+      leaves = λ e has. absurd has;
       ended = λ e o has accepted. absurd has;
-      deleted = λ e d has accepted. absurd has;
+      deleted = λ e cleans d has accepted. absurd has;
     }
 
 pub follows_start : (f : Formats) (image : Image) (w : World) → Opened f image w → FollowsIn w []
@@ -78,7 +80,7 @@ calm_by HasEnded (PruneStep (DeleteFails why)) none undeleted by_rule = absurd (
 calm_by reply step none undeleted by_rule = tt
 
 pub all_calm : (log : List Moment) → NoneFailed log → NoneUndeleted log → AreByRule log → AreCalm log
-all_calm log none undeleted by_rule m has = calm_by m.entry.reply m.entry.step (λ why is. none m why has is) (λ why is. undeleted m why has is) (λ refusal is. by_rule m refusal has is)
+all_calm log none undeleted by_rule m has = calm_by m.entry.reply m.entry.step (λ why is. none m why has is) (λ why is. undeleted m why has is) (λ refusal is. let x = by_rule m refusal has is in (x.0, x.1))
 
 -- each world that the history passes is lawful, and its tickets are of the present term
 abbrev pub AreSafe : Formats → World → List Moment → Type 0

@@ -6,7 +6,7 @@ use Rattle.esr_model.specs.Names.{BlobName}
 use Rattle.esr_model.specs.Values.{Bytes, Has, Formats}
 use Rattle.esr_model.specs.Image.{Image}
 use Rattle.esr_core.specs.World.{World, Caller, no_caller, Opened, OpenedEmpty, OpenedRecord}
-use Rattle.esr_core.specs.Entry.{DeleteSnapshots, Read, ReadBlob, CheckedAll, DrawTest, VerifiedAll, ReadFails, Why, Step, AskStep, TakeStep, ElectStep, LookStep, ReadStep, HasEnded, Reply, Refused, Entry, Moment}
+use Rattle.esr_core.specs.Entry.{DeleteSnapshots, Cleanup, Read, ReadBlob, CheckedAll, DrawTest, VerifiedAll, ReadFails, Why, Step, AskStep, TakeStep, ElectStep, LookStep, ReadStep, HasEnded, Reply, Refused, Entry, Moment}
 use Rattle.esr_core.specs.After.{told_blob, is_heard, caller_told, caller_wrote, caller_read, caller_after}
 use Rattle.esr_core.specs.Allowed as allowed
 use Rattle.esr_core.specs.Allowed.{ReadAllows, ReadFound, ReadMissing, ReadFault, RestoringShard, ReaderFailing, CheckingAll, CheckFailing, VerifyAllows, DrawingTest, TestSpent, BeginningTest, BeginTestFails, CommittingTest, TestTaken, CommitTestFails, RemovingTests, RemoveTestsFails, VerifyingAll, VerifyFailing, Allows, Allowed}
@@ -53,6 +53,7 @@ kinds_of_item (items.Snapshot name indices) = false ∷ []
 kinds_of_item (items.Clone source name indices) = false ∷ []
 kinds_of_item (items.Delete names) = false ∷ []
 kinds_of_item (items.Restore name place) = false ∷ []
+kinds_of_item items.Cleanup = false ∷ []
 kinds_of_item items.List = false ∷ []
 kinds_of_item items.Check = true ∷ []
 kinds_of_item items.Verify = false ∷ []
@@ -107,6 +108,8 @@ item_step moment (items.Delete names) step (inl e) = subst IsLineStep e tt
 item_step moment (items.Delete names) step (inr h) = absurd h
 item_step moment (items.Restore name place) step (inl e) = subst IsLineStep e tt
 item_step moment (items.Restore name place) step (inr h) = absurd h
+item_step moment items.Cleanup step (inl e) = subst IsLineStep e tt
+item_step moment items.Cleanup step (inr h) = absurd h
 item_step moment items.List step (inl e) = subst IsLineStep e tt
 item_step moment items.List step (inr h) = absurd h
 item_step moment items.Check step (inl e) = subst IsLineStep e tt
@@ -132,6 +135,8 @@ item_delete moment (items.Delete called) names (inl e) = let same : called ≡ n
 item_delete moment (items.Delete called) names (inr h) = absurd h
 item_delete moment (items.Restore name place) names (inl e) = absurd cc
 item_delete moment (items.Restore name place) names (inr h) = absurd h
+item_delete moment items.Cleanup names (inl e) = absurd cc
+item_delete moment items.Cleanup names (inr h) = absurd h
 item_delete moment items.List names (inl e) = absurd cc
 item_delete moment items.List names (inr h) = absurd h
 item_delete moment items.Check names (inl e) = absurd cc
@@ -145,6 +150,32 @@ lines_delete moment [] names h = absurd h
 lines_delete moment (line ∷ lines) names h = elim (either_list (steps_of_item moment line.item) (steps_of moment lines) (AskStep (DeleteSnapshots names)) h) [
   | inl own ↦ (line, inl refl, item_delete moment line.item names own)
   | inr later ↦ let (found, there, is) = lines_delete moment lines names later in (found, inr there, is)
+]
+
+-- so is a cleanup
+item_cleanup : (moment : ℕ) (item : Item) → Has (steps_of_item moment item) (AskStep Cleanup) → item ≡ items.Cleanup
+item_cleanup moment (items.Snapshot name indices) (inl e) = absurd cc
+item_cleanup moment (items.Snapshot name indices) (inr h) = absurd h
+item_cleanup moment (items.Clone source name indices) (inl e) = absurd cc
+item_cleanup moment (items.Clone source name indices) (inr h) = absurd h
+item_cleanup moment (items.Delete names) (inl e) = absurd cc
+item_cleanup moment (items.Delete names) (inr h) = absurd h
+item_cleanup moment (items.Restore name place) (inl e) = absurd cc
+item_cleanup moment (items.Restore name place) (inr h) = absurd h
+item_cleanup moment items.Cleanup has = refl
+item_cleanup moment items.List (inl e) = absurd cc
+item_cleanup moment items.List (inr h) = absurd h
+item_cleanup moment items.Check (inl e) = absurd cc
+item_cleanup moment items.Check (inr h) = absurd h
+item_cleanup moment items.Verify (inl e) = absurd cc
+item_cleanup moment items.Verify (inr h) = absurd h
+item_cleanup moment item h = absurd h
+
+pub lines_cleanup : (moment : ℕ) (lines : List ScriptLine) → Has (steps_of moment lines) (AskStep Cleanup) → (line : ScriptLine) × Has lines line × (line.item ≡ items.Cleanup)
+lines_cleanup moment [] h = absurd h
+lines_cleanup moment (line ∷ lines) h = elim (either_list (steps_of_item moment line.item) (steps_of moment lines) (AskStep Cleanup) h) [
+  | inl own ↦ (line, inl refl, item_cleanup moment line.item own)
+  | inr later ↦ let (found, there, is) = lines_cleanup moment lines later in (found, inr there, is)
 ]
 
 -- as it is asked for

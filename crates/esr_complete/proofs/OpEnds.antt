@@ -1,8 +1,8 @@
--- How the op of a snapshot and that of a delete end where nothing fails.
-use Rattle.std.proofs.Common.{◌≡◌, ◌⊎◌, ℕ, Bool, true, false, List, [], ◌∷◌, ◌++◌, append-nil, append_assoc, Option, Some, None, option_map, if◌then◌else◌, refl, sym, ap, ◌∙◌, subst, inl, inr}
+-- How the op of a snapshot and that of a delete or a cleanup end where nothing fails.
+use Rattle.std.proofs.Common.{◌≡◌, ◌⊎◌, ℕ, Bool, true, false, true≢false, List, [], ◌∷◌, ◌++◌, append-nil, append_assoc, Option, Some, None, option_map, if◌then◌else◌, refl, sym, ap, ◌∙◌, subst, inl, inr}
 use Rattle.std.proofs.lemmas.Bool.{eqb-true}
 use Rattle.esr_model.specs.Values.{Bytes, Has}
-use Rattle.esr_core.specs.Entry.{DeleteSnapshots, DeleteFails, SettlePruned, Step, AskStep, SettleStep, FailedStep, PruneStep, Refusal, Reply, Accepted, WasSettled, HasEnded, Refused, Entry}
+use Rattle.esr_core.specs.Entry.{DeleteSnapshots, DeleteFails, SettlePruned, Step, AskStep, SettleStep, FailedStep, DroppedStep, PruneStep, Refusal, Reply, Accepted, WasSettled, HasEnded, Refused, Entry}
 use Rattle.esr_core.specs.World.{World}
 use Rattle.esr_core.specs.Allowed.{Blocks}
 use Rattle.esr_core.specs.After.{or_else}
@@ -10,11 +10,12 @@ use Rattle.esr_core.proofs.Results.{choose_true, choose_false}
 use Rattle.esr_core.proofs.Deleting.{bool_told}
 use Rattle.esr_quiet.specs.Refusals.{IsByRule}
 use Rattle.esr_quiet.proofs.Rules.{rule_unblocked}
+use Rattle.esr_report.specs.Cleaned.{is_cleanup_ticket, blobs_gone, bytes_gone}
 use Rattle.esr_report.specs.Replies as report
-use Rattle.esr_report.specs.Replies.{Made, Deleted, Aborted, op_of_ticket, uuid_of_ticket, is_op, is_stale, ends_by, ends_at, name_of_op, final_out, has_name, abort_of, aborts_at, end_of_op}
+use Rattle.esr_report.specs.Replies.{Made, Deleted, Cleaned, Aborted, op_of_ticket, uuid_of_ticket, is_op, is_stale, cleaned_by, ends_by, ends_at, name_of_op, final_out, has_name, abort_of, aborts_at, end_of_op}
 use Rattle.esr_complete.proofs.Tickets.{none_some, name_stays, name_before, same_op}
 
--- no unit failed by this entry, nor a delete, and no refusal but that of a command by a rule
+-- no unit failed by this entry, nor a delete or a cleanup, and no refusal but that of a command by a rule
 abbrev pub IsCalm : Reply → Step → Type 0
 IsCalm (Refused refusal) (AskStep command) = IsByRule command refusal
 IsCalm (Refused refusal) step = ⊥
@@ -29,7 +30,7 @@ calm_unblocked w who step refusal alive calm blocks = calm
 
 -- ---- what an entry answers an op
 
--- the entry settles the root of a delete
+-- the entry settles the root of a delete or a cleanup
 abbrev pub IsPruned : Step → Reply → Type 0
 IsPruned (PruneStep SettlePruned) WasSettled = Unit {0}
 IsPruned step reply = ⊥
@@ -39,47 +40,67 @@ abbrev pub IsSettled : Step → Reply → Type 0
 IsSettled SettleStep WasSettled = Unit {0}
 IsSettled step reply = ⊥
 
+-- or an op leaves by it
+abbrev pub IsDropped : Step → Reply → Type 0
+IsDropped DroppedStep HasEnded = Unit {0}
+IsDropped step reply = ⊥
+
 -- the snapshot was made
 pub record IsMade (answer : Option report.Reply) : Type 0 where
   pub uuid : ℕ
   pub is : answer ≡ Some (Made uuid)
 
--- the delete was carried out
-pub record IsDeleted (answer : Option report.Reply) : Type 0 where
-  pub op : ℕ
-  pub is : answer ≡ Some (Deleted op)
+-- the reply says that the delete was carried out, or where this is true that the cleanup came to its end
+abbrev pub IsOver : Bool → report.Reply → Type 0
+IsOver false (Deleted op) = Unit {0}
+IsOver true (Cleaned blobs bytes) = Unit {0}
+IsOver cleans reply = ⊥
+
+pub record IsOverBy (cleans : Bool) (answer : Option report.Reply) : Type 0 where
+  pub reply : report.Reply
+  pub is : answer ≡ Some reply
+  pub over : IsOver cleans reply
 
 abbrev MadeOrNone : Option report.Reply → Type 0
 MadeOrNone None = Unit {0}
 MadeOrNone (Some (Made uuid)) = Unit {0}
 MadeOrNone (Some reply) = ⊥
 
-abbrev DeletedOrNone : Option report.Reply → Type 0
-DeletedOrNone None = Unit {0}
-DeletedOrNone (Some (Deleted op)) = Unit {0}
-DeletedOrNone (Some reply) = ⊥
+abbrev OverOrNone : Bool → Option report.Reply → Type 0
+OverOrNone cleans None = Unit {0}
+OverOrNone cleans (Some reply) = IsOver cleans reply
 
 of_uuid : (uuid : Option ℕ) → MadeOrNone (option_map Made uuid)
 of_uuid None = tt
 of_uuid (Some u) = tt
 
-of_op : (op : Option ℕ) → DeletedOrNone (option_map Deleted op)
-of_op None = tt
-of_op (Some o) = tt
+-- of a cleanup's settle nothing is answered
+of_op : (cleans : Bool) (op : Option ℕ) → OverOrNone cleans (option_map Deleted (if cleans then None else op))
+of_op true op = tt
+of_op false None = tt
+of_op false (Some o) = tt
 
-made_by : (all : List Entry) (stale : Bool) (who : ℕ) (step : Step) (reply : Reply) → IsCalm reply step → (IsPruned step reply → ⊥) → MadeOrNone (ends_by all stale who step reply)
-made_by all stale who SettleStep WasSettled calm other = of_uuid (uuid_of_ticket all who)
-made_by all stale who (FailedStep why) HasEnded calm other = absurd calm
-made_by all stale who (PruneStep SettlePruned) WasSettled calm other = absurd (other tt)
-made_by all stale who (PruneStep (DeleteFails why)) HasEnded calm other = absurd calm
-made_by all stale who step reply calm other = tt
+of_drop : (all : List Entry) (who : ℕ) (cleans is_cleanup : Bool) → (is_cleanup ≡ true → cleans ≡ true) → OverOrNone cleans (cleaned_by all who is_cleanup)
+of_drop all who true true cleans_is = tt
+of_drop all who false true cleans_is = absurd (true≢false (sym (cleans_is refl)))
+of_drop all who cleans false cleans_is = tt
 
-deleted_by : (all : List Entry) (stale : Bool) (who : ℕ) (step : Step) (reply : Reply) → IsCalm reply step → (IsSettled step reply → ⊥) → DeletedOrNone (ends_by all stale who step reply)
-deleted_by all stale who SettleStep WasSettled calm other = absurd (other tt)
-deleted_by all stale who (FailedStep why) HasEnded calm other = absurd calm
-deleted_by all stale who (PruneStep SettlePruned) WasSettled calm other = of_op (op_of_ticket all who)
-deleted_by all stale who (PruneStep (DeleteFails why)) HasEnded calm other = absurd calm
-deleted_by all stale who step reply calm other = tt
+made_by : (all : List Entry) (stale : Bool) (who : ℕ) (step : Step) (reply : Reply) → IsCalm reply step → (IsPruned step reply → ⊥) → (IsDropped step reply → is_cleanup_ticket all who ≡ false) → MadeOrNone (ends_by all stale who step reply)
+made_by all stale who SettleStep WasSettled calm other left = of_uuid (uuid_of_ticket all who)
+made_by all stale who (FailedStep why) HasEnded calm other left = absurd calm
+made_by all stale who (PruneStep SettlePruned) WasSettled calm other left = absurd (other tt)
+made_by all stale who (PruneStep (DeleteFails why)) HasEnded calm other left = absurd calm
+made_by all stale who DroppedStep HasEnded calm other left = subst (λ (b : Bool). MadeOrNone (cleaned_by all who b)) (sym (left tt)) tt
+made_by all stale who step reply calm other left = tt
+
+over_by : (cleans : Bool) (all : List Entry) (stale : Bool) (who : ℕ) (step : Step) (reply : Reply) → IsCalm reply step → (IsSettled step reply → ⊥) → (IsPruned step reply → is_cleanup_ticket all who ≡ cleans) → (IsDropped step reply → is_cleanup_ticket all who ≡ true → cleans ≡ true)
+    → OverOrNone cleans (ends_by all stale who step reply)
+over_by cleans all stale who SettleStep WasSettled calm other pruned left = absurd (other tt)
+over_by cleans all stale who (FailedStep why) HasEnded calm other pruned left = absurd calm
+over_by cleans all stale who (PruneStep SettlePruned) WasSettled calm other pruned left = subst (λ (b : Bool). OverOrNone cleans (option_map Deleted (if b then None else op_of_ticket all who))) (sym (pruned tt)) (of_op cleans (op_of_ticket all who))
+over_by cleans all stale who (PruneStep (DeleteFails why)) HasEnded calm other pruned left = absurd calm
+over_by cleans all stale who DroppedStep HasEnded calm other pruned left = of_drop all who cleans (is_cleanup_ticket all who) (left tt)
+over_by cleans all stale who step reply calm other pruned left = tt
 
 -- a ticket of the op
 is_own : (o : ℕ) (found : Option ℕ) → is_op o found ≡ true → found ≡ Some o
@@ -89,16 +110,27 @@ is_own o None e = absurd (no_op e)
     no_op h = cc
 is_own o (Some p) e = ap (λ (n : ℕ). Some n) (eqb-true p o e)
 
-made_at : (all before : List Entry) (o : ℕ) (e : Entry) → IsCalm e.reply e.step → (op_of_ticket all e.who ≡ Some o → IsPruned e.step e.reply → ⊥) → MadeOrNone (ends_at all before o e)
-made_at all before o e calm other = elim (bool_told (is_op o (op_of_ticket all e.who))) [
-  | inl own ↦ subst MadeOrNone (sym (choose_true _ _ _ own)) (made_by all (is_stale before e.who) e.who e.step e.reply calm (other (is_own o (op_of_ticket all e.who) own)))
+made_at : (all before : List Entry) (o : ℕ) (e : Entry) → IsCalm e.reply e.step → (op_of_ticket all e.who ≡ Some o → IsPruned e.step e.reply → ⊥) → (op_of_ticket all e.who ≡ Some o → IsDropped e.step e.reply → is_cleanup_ticket all e.who ≡ false) → MadeOrNone (ends_at all before o e)
+made_at all before o e calm other left = elim (bool_told (is_op o (op_of_ticket all e.who))) [
+  | inl own ↦
+      let of : op_of_ticket all e.who ≡ Some o = is_own o (op_of_ticket all e.who) own in
+      subst MadeOrNone (sym (choose_true _ _ _ own)) (made_by all (is_stale before e.who) e.who e.step e.reply calm (other of) (left of))
   | inr none ↦ subst MadeOrNone (sym (choose_false _ _ _ none)) tt
 ]
 
-deleted_at : (all before : List Entry) (o : ℕ) (e : Entry) → IsCalm e.reply e.step → (op_of_ticket all e.who ≡ Some o → IsSettled e.step e.reply → ⊥) → DeletedOrNone (ends_at all before o e)
-deleted_at all before o e calm other = elim (bool_told (is_op o (op_of_ticket all e.who))) [
-  | inl own ↦ subst DeletedOrNone (sym (choose_true _ _ _ own)) (deleted_by all (is_stale before e.who) e.who e.step e.reply calm (other (is_own o (op_of_ticket all e.who) own)))
-  | inr none ↦ subst DeletedOrNone (sym (choose_false _ _ _ none)) tt
+-- what the entries of a delete's or a cleanup's ticket are
+pub record IsOfKind (cleans : Bool) (all : List Entry) (o : ℕ) (e : Entry) : Type 0 where
+  pub calm : IsCalm e.reply e.step
+  pub unsettled : op_of_ticket all e.who ≡ Some o → IsSettled e.step e.reply → ⊥
+  pub pruned : op_of_ticket all e.who ≡ Some o → IsPruned e.step e.reply → is_cleanup_ticket all e.who ≡ cleans
+  pub dropped : op_of_ticket all e.who ≡ Some o → IsDropped e.step e.reply → is_cleanup_ticket all e.who ≡ true → cleans ≡ true
+
+over_at : (cleans : Bool) (all before : List Entry) (o : ℕ) (e : Entry) → IsOfKind cleans all o e → OverOrNone cleans (ends_at all before o e)
+over_at cleans all before o e h = elim (bool_told (is_op o (op_of_ticket all e.who))) [
+  | inl own ↦
+      let of : op_of_ticket all e.who ≡ Some o = is_own o (op_of_ticket all e.who) own in
+      subst (OverOrNone cleans) (sym (choose_true _ _ _ own)) (over_by cleans all (is_stale before e.who) e.who e.step e.reply h.calm (h.unsettled of) (h.pruned of) (h.dropped of))
+  | inr none ↦ subst (OverOrNone cleans) (sym (choose_false _ _ _ none)) tt
 ]
 
 -- ---- aborts
@@ -171,11 +203,11 @@ aborted_in all o before (x ∷ front) e back answer is = inr (inr (aborted_in al
 
 -- the first of these answers it
 pub end_found : (all : List Entry) (o : ℕ) (before es : List Entry) → all ≡ before ++ es → ((e : Entry) → Has es e → IsCalm e.reply e.step) → ((e : Entry) → Has es e → op_of_ticket all e.who ≡ Some o → IsPruned e.step e.reply → ⊥)
-    → EndsIn all o before es → IsEnded all o (end_of_op all o before es)
-end_found all o before [] is calm other found = absurd found
-end_found all o before (x ∷ es) is calm other found =
-    by_end (λ behind. end_found all o (before ++ x ∷ []) es (is ∙ sym (append_assoc before (x ∷ []) es)) (λ e m. calm e (inr m)) (λ e m. other e (inr m)) behind)
-    (ends_at all before o x) refl (made_at all before o x (calm x (inl refl)) (other x (inl refl)))
+    → ((e : Entry) → Has es e → op_of_ticket all e.who ≡ Some o → IsDropped e.step e.reply → is_cleanup_ticket all e.who ≡ false) → EndsIn all o before es → IsEnded all o (end_of_op all o before es)
+end_found all o before [] is calm other left found = absurd found
+end_found all o before (x ∷ es) is calm other left found =
+    by_end (λ behind. end_found all o (before ++ x ∷ []) es (is ∙ sym (append_assoc before (x ∷ []) es)) (λ e m. calm e (inr m)) (λ e m. other e (inr m)) (λ e m. left e (inr m)) behind)
+    (ends_at all before o x) refl (made_at all before o x (calm x (inl refl)) (other x (inl refl)) (left x (inl refl)))
   where
     later : (EndsIn all o (before ++ x ∷ []) es → IsEnded all o (end_of_op all o (before ++ x ∷ []) es)) → (ends_at all before o x ≡ None) → (aborts_at before o x ≡ None) → IsEnded all o (end_of_op all o (before ++ x ∷ []) es)
     later on none unaborted = elim found [
@@ -225,38 +257,56 @@ settle_made all o uuid e op_is uuid_is step reply b =
 pub settled_in : (all : List Entry) (o uuid : ℕ) (e : Entry) → Has all e → op_of_ticket all e.who ≡ Some o → uuid_of_ticket all e.who ≡ Some uuid → e.step ≡ SettleStep → e.reply ≡ WasSettled → EndsIn all o [] all
 settled_in all o uuid e has op_is uuid_is step reply = made_in all o [] all e has (settle_made all o uuid e op_is uuid_is step reply)
 
--- ---- the end of a delete
+-- ---- the end of a delete or a cleanup
 
-pub delete_found : (all : List Entry) (o : ℕ) (before es : List Entry) → all ≡ before ++ es → name_of_op all o ≡ None → ((e : Entry) → Has es e → IsCalm e.reply e.step) → ((e : Entry) → Has es e → op_of_ticket all e.who ≡ Some o → IsSettled e.step e.reply → ⊥)
-    → (e : Entry) → Has es e → ((b : List Entry) → IsDeleted (ends_at all b o e)) → IsDeleted (end_of_op all o before es)
-delete_found all o before [] is unnamed calm other e has deleted = absurd has
-delete_found all o before (x ∷ es) is unnamed calm other e has deleted =
-    by_end (λ behind. delete_found all o (before ++ x ∷ []) es (is ∙ sym (append_assoc before (x ∷ []) es)) unnamed (λ y m. calm y (inr m)) (λ y m. other y (inr m)) e behind deleted)
-    (ends_at all before o x) refl (deleted_at all before o x (calm x (inl refl)) (other x (inl refl)))
+pub over_found : (cleans : Bool) (all : List Entry) (o : ℕ) (before es : List Entry) → all ≡ before ++ es → name_of_op all o ≡ None → ((e : Entry) → Has es e → IsOfKind cleans all o e)
+    → (e : Entry) → Has es e → ((b : List Entry) → IsOverBy cleans (ends_at all b o e)) → IsOverBy cleans (end_of_op all o before es)
+over_found cleans all o before [] is unnamed kinds e has over = absurd has
+over_found cleans all o before (x ∷ es) is unnamed kinds e has over =
+    by_end (λ behind. over_found cleans all o (before ++ x ∷ []) es (is ∙ sym (append_assoc before (x ∷ []) es)) unnamed (λ y m. kinds y (inr m)) e behind over)
+    (ends_at all before o x) refl (over_at cleans all before o x (kinds x (inl refl)))
   where
     unaborted : aborts_at before o x ≡ None
     unaborted = unnamed_abort (name_of_op before o) (final_out before o) x.step x.reply (name_before before (x ∷ es) o (ap (λ (l : List Entry). name_of_op l o) (sym is) ∙ unnamed))
 
-    later : (Has es e → IsDeleted (end_of_op all o (before ++ x ∷ []) es)) → ends_at all before o x ≡ None → IsDeleted (end_of_op all o (before ++ x ∷ []) es)
+    later : (Has es e → IsOverBy cleans (end_of_op all o (before ++ x ∷ []) es)) → ends_at all before o x ≡ None → IsOverBy cleans (end_of_op all o (before ++ x ∷ []) es)
     later on none = elim has [
-      | inl same ↦ absurd (none_some (Deleted (deleted before).op) (sym none ∙ ap (λ (y : Entry). ends_at all before o y) same ∙ (deleted before).is))
+      | inl same ↦ absurd (none_some (over before).reply (sym none ∙ ap (λ (y : Entry). ends_at all before o y) same ∙ (over before).is))
       | inr behind ↦ on behind
     ]
 
-    by_end : (Has es e → IsDeleted (end_of_op all o (before ++ x ∷ []) es)) → (a : Option report.Reply) → ends_at all before o x ≡ a → DeletedOrNone a → IsDeleted (or_else a (or_else (aborts_at before o x) (end_of_op all o (before ++ x ∷ []) es)))
-    by_end on None none ok = subst (λ (a : Option report.Reply). IsDeleted (or_else a (end_of_op all o (before ++ x ∷ []) es))) (sym unaborted) (later on none)
-    by_end on (Some (Deleted d)) ends ok = record { op = d; is = refl }
-    by_end on (Some answer) ends ok = absurd ok
+    by_end : (Has es e → IsOverBy cleans (end_of_op all o (before ++ x ∷ []) es)) → (a : Option report.Reply) → ends_at all before o x ≡ a → OverOrNone cleans a → IsOverBy cleans (or_else a (or_else (aborts_at before o x) (end_of_op all o (before ++ x ∷ []) es)))
+    by_end on None none ok = subst (λ (a : Option report.Reply). IsOverBy cleans (or_else a (end_of_op all o (before ++ x ∷ []) es))) (sym unaborted) (later on none)
+    by_end on (Some answer) ends ok = record { reply = answer; is = refl; over = ok }
 
--- the settle of its ticket carries it out
-pub prune_deleted : (all : List Entry) (o : ℕ) (e : Entry) → op_of_ticket all e.who ≡ Some o → e.step ≡ PruneStep SettlePruned → e.reply ≡ WasSettled → (b : List Entry) → IsDeleted (ends_at all b o e)
-prune_deleted all o e op_is step reply b =
+-- what an entry of the ticket of an op answers
+own_end : (all : List Entry) (o : ℕ) (e : Entry) (b : List Entry) → op_of_ticket all e.who ≡ Some o → ends_at all b o e ≡ ends_by all (is_stale b e.who) e.who e.step e.reply
+own_end all o e b op_is =
+    ap (λ (a : Option ℕ). if is_op o a then ends_by all (is_stale b e.who) e.who e.step e.reply else None) op_is ∙ ap (λ (own : Bool). if own then ends_by all (is_stale b e.who) e.who e.step e.reply else None) (same_op o)
+
+-- the settle of its ticket carries a delete out
+pub prune_deleted : (all : List Entry) (o : ℕ) (e : Entry) → op_of_ticket all e.who ≡ Some o → is_cleanup_ticket all e.who ≡ false → e.step ≡ PruneStep SettlePruned → e.reply ≡ WasSettled → (b : List Entry) → IsOverBy false (ends_at all b o e)
+prune_deleted all o e op_is deletes step reply b =
     record {
-      op = o;
+      reply = Deleted o;
       is =
-          ap (λ (a : Option ℕ). if is_op o a then ends_by all (is_stale b e.who) e.who e.step e.reply else None) op_is
-          ∙ ap (λ (own : Bool). if own then ends_by all (is_stale b e.who) e.who e.step e.reply else None) (same_op o)
+          own_end all o e b op_is
           ∙ ap (λ (x : Step). ends_by all (is_stale b e.who) e.who x e.reply) step
           ∙ ap (λ (x : Reply). ends_by all (is_stale b e.who) e.who (PruneStep SettlePruned) x) reply
+          ∙ ap (λ (c : Bool). option_map Deleted (if c then None else op_of_ticket all e.who)) deletes
           ∙ ap (option_map Deleted) op_is;
+      over = tt;
+    }
+
+-- and the drop of its op ends a cleanup
+pub drop_cleaned : (all : List Entry) (o : ℕ) (e : Entry) → op_of_ticket all e.who ≡ Some o → is_cleanup_ticket all e.who ≡ true → e.step ≡ DroppedStep → e.reply ≡ HasEnded → (b : List Entry) → IsOverBy true (ends_at all b o e)
+drop_cleaned all o e op_is cleans step reply b =
+    record {
+      reply = Cleaned (blobs_gone all e.who) (bytes_gone all e.who);
+      is =
+          own_end all o e b op_is
+          ∙ ap (λ (x : Step). ends_by all (is_stale b e.who) e.who x e.reply) step
+          ∙ ap (λ (x : Reply). ends_by all (is_stale b e.who) e.who DroppedStep x) reply
+          ∙ ap (cleaned_by all e.who) cleans;
+      over = tt;
     }

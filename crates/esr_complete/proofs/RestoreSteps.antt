@@ -10,11 +10,11 @@ use Rattle.esr_model.specs.Image.{Image}
 use Rattle.esr_core.specs.World.{World, Restored, RestoreShard, Restoring, Reader}
 use Rattle.esr_core.specs.Restores.{IsReading, restore_shard, read_more}
 use Rattle.esr_core.specs.ReadTracked.{ReaderTracked, RestoresTracked}
-use Rattle.esr_core.specs.Entry.{Asked, Snapshot, Restore, Clone, CloneOf, DeleteSnapshots, Cleanup, is_recorded, Given, GivenShard, GivenFinalize, GivenDrop, GivenRestore, GivenClone, GivenDelete, GivenCleanup, Why, Read, ReadBlob, RestoredShard, CheckedAll, CommitTest, ReadFails, Prune, SettlePruned, Step, AskStep, TakeStep, ReadStep, PruneStep, NameInUse, NoSnapshot, NoIndex, BeingDeleted, TooMany, IdsSpent, DepotFault, CleanupRunning, CloneRunning, RestoreRunning, Reply, Accepted, Gave, WasSettled, WasFetched, WasAbsent, HasEnded, Refused, AcceptedRestore, Entry, Moment}
+use Rattle.esr_core.specs.Entry.{Asked, Snapshot, Restore, Clone, CloneOf, DeleteSnapshots, Cleanup, is_recorded, Given, GivenShard, GivenFinalize, GivenDrop, GivenRestore, GivenClone, GivenDelete, GivenCleanup, Why, Read, ReadBlob, RestoredShard, CheckedAll, CommitTest, ReadFails, Prune, SettlePruned, Step, AskStep, TakeStep, ReadStep, PruneStep, NameInUse, NoSnapshot, NoIndex, BeingDeleted, TooMany, IdsSpent, DepotFault, CleanupRunning, CloneRunning, RestoreRunning, BusyOp, BusyTicket, Reply, Accepted, Gave, WasSettled, WasFetched, WasAbsent, HasEnded, Refused, AcceptedRestore, Entry, Moment}
 use Rattle.esr_core.specs.Deletes.{delete_number}
 use Rattle.esr_core.specs.After.{told_blob, taken_restore, taken_restore_shard, read_told, shard_over, read_over, read_by, test_left, answered, after}
 use Rattle.esr_core.specs.Allowed as allowed
-use Rattle.esr_core.specs.Allowed.{Gives, GivesRestore, CloneAllows, OpeningClone, CloneUsed, SourceNotListed, SourceDeleted, IndexMissing, FullOfClones, CloneSpent, CloneFault, DeleteAllows, GoingInto, NotNamed, CloneStands, RestoreStands, FullOfOps, DeleteFault, RestoreAllows, OpeningRestore, NotListed, NamedByDelete, FullOfRestores, ReadAllows, ReadFound, ReadMissing, ReadFault, RestoringShard, ReaderFailing, CheckingAll, CheckFailing, VerifyAllows, CommitTestFails, SettlingDelete, PruneAllows, Allows, Allowed}
+use Rattle.esr_core.specs.Allowed.{Gives, GivesRestore, CloneAllows, OpeningClone, CloneUsed, SourceNotListed, SourceDeleted, IndexMissing, FullOfClones, CloneSpent, CloneFault, DeleteAllows, GoingInto, NotNamed, CloneStands, RestoreStands, FullOfOps, DeleteFault, CleanupAllows, OpeningCleanup, OpStands, TicketStands, CleanupFault, RestoreAllows, OpeningRestore, NotListed, NamedByDelete, FullOfRestores, ReadAllows, ReadFound, ReadMissing, ReadFault, RestoringShard, ReaderFailing, CheckingAll, CheckFailing, VerifyAllows, CommitTestFails, SettlingDelete, PruneAllows, Allows, Allowed}
 use Rattle.esr_report.specs.Replies.{ReadShard, shard_ticket_by, shard_end_by}
 use Rattle.esr_core.proofs.Going.{IsOld, goes_answered}
 use Rattle.esr_core.proofs.Reading.{some_same}
@@ -90,7 +90,14 @@ module _ (f : Formats) (size : ℕ) (w : World) (es : List Entry) (h : RestoresI
   asks_delete names reply image (FullOfOps may new full) = aside 0 (AskStep (DeleteSnapshots names)) (Refused (TooMany 1000)) image tt (λ y. refl) refl refl
   asks_delete names reply image (DeleteFault acc) = aside 0 (AskStep (DeleteSnapshots names)) (Refused DepotFault) image tt (λ y. refl) refl refl
 
-  -- and so does a clone
+  -- so does a cleanup
+  asks_cleanup : (reply : Reply) (image : Option Image) → CleanupAllows w reply → RestoresIn (answered f w 0 (AskStep Cleanup) reply image) (es ++ told 0 (AskStep Cleanup) reply ∷ [])
+  asks_cleanup reply image (OpeningCleanup acc) = aside 0 (AskStep Cleanup) (Accepted w.next_op) image tt (λ y. refl) refl refl
+  asks_cleanup reply image (OpStands o clear lowest) = aside 0 (AskStep Cleanup) (Refused (BusyOp o)) image tt (λ y. refl) refl refl
+  asks_cleanup reply image (TicketStands k none lowest) = aside 0 (AskStep Cleanup) (Refused (BusyTicket k)) image tt (λ y. refl) refl refl
+  asks_cleanup reply image (CleanupFault acc) = aside 0 (AskStep Cleanup) (Refused DepotFault) image tt (λ y. refl) refl refl
+
+  -- a clone leaves them, too
   asks_clone : (source name : Bytes) (names : List Bytes) (time : ℕ) (taken : Option CloneOf) (reply : Reply) (image : Option Image) → CloneAllows f w source name names time taken reply image
       → RestoresIn (answered f w 0 (AskStep (Clone source name names time taken)) reply image) (es ++ told 0 (AskStep (Clone source name names time taken)) reply ∷ [])
   asks_clone source name names time taken reply image (OpeningClone t o im acc) = aside 0 (AskStep (Clone source name names time (Some t))) (Accepted o) im tt (λ y. refl) refl refl
@@ -115,7 +122,7 @@ module _ (f : Formats) (size : ℕ) (w : World) (es : List Entry) (h : RestoresI
   gives k o (GivenRestore index number uuid) image is g = subst (λ (j : ℕ). RestoresIn (taken_restore w o index number (fin.get w.restores o)) (es ++ gave j o (GivenRestore index number uuid) ∷ [])) (sym is) (gives_restore o index number uuid g)
   gives k o (GivenClone index number source base) image is g = aside 0 TakeStep (Gave k o (GivenClone index number source base)) image tt (λ y. refl) refl refl
   gives k o (GivenDelete uuids) image is g = aside 0 TakeStep (Gave k o (GivenDelete uuids)) image tt (λ y. refl) refl refl
-  gives k o GivenCleanup image is g = absurd g
+  gives k o GivenCleanup image is g = aside 0 TakeStep (Gave k o GivenCleanup) image tt (λ y. refl) refl refl
   gives k o (GivenShard index number base) image is g = aside 0 TakeStep (Gave k o (GivenShard index number base)) image tt (λ y. refl) refl refl
   gives k o (GivenFinalize info results) image is g = aside 0 TakeStep (Gave k o (GivenFinalize info results)) image tt (λ y. refl) refl refl
   gives k o GivenDrop image is g = aside 0 TakeStep (Gave k o GivenDrop) image tt (λ y. refl) refl refl
@@ -164,7 +171,7 @@ module _ (f : Formats) (size : ℕ) (w : World) (es : List Entry) (h : RestoresI
   verifies read reply image (CommitTestFails name bytes im own leaves) = left_by name name (fin.get w.blobs (f.names.text name)) (told_blob f im name)
   verifies read reply image other = same (told 0 (ReadStep read) reply) (silent_caller (ReadStep read) reply (λ y. refl) refl)
 
-  -- ---- steps of a delete's ticket
+  -- ---- steps of the ticket of a delete or cleanup
 
   prunes : (k : ℕ) (prune : Prune) (reply : Reply) (image : Option Image) → PruneAllows f w k prune reply image → RestoresIn (answered f w k (PruneStep prune) reply image) (es ++ told k (PruneStep prune) reply ∷ [])
   prunes k prune reply image (SettlingDelete j im s present same_blobs) = aside j (PruneStep SettlePruned) WasSettled im tt (λ y. refl) refl refl
@@ -184,6 +191,7 @@ module _ (f : Formats) (size : ℕ) (w : World) (es : List Entry) (h : RestoresI
   restores_by who step reply image (allowed.AskingRestore name place rep im a same) un = asks name place rep im a
   restores_by who step reply image (allowed.AskingClone source name names time taken rep im a same) un = asks_clone source name names time taken rep im a
   restores_by who step reply image (allowed.AskingDelete names rep im a same) un = asks_delete names rep im a
+  restores_by who step reply image (allowed.AskingCleanup rep im a same) un = asks_cleanup rep im a
   restores_by who step reply image (allowed.Giving k o unit im is lowest g same) un = gives k o unit im is g
   restores_by who step reply image (allowed.Reading k read rep im a same) un = reads k read rep im a un
   restores_by who step reply image (allowed.Verifying read rep im a) un = verifies read rep im a

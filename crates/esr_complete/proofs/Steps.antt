@@ -8,16 +8,16 @@ use Rattle.esr_model.specs.Shelf.{Shelved, Command}
 use Rattle.esr_model.specs.Delete.{PrunedShard, kept_count}
 use Rattle.esr_model.specs.Image.{Image}
 use Rattle.esr_core.specs.World.{World, Op, Deletion, ShardWork, Done, Shard, Finalize, Deleting, Drop, Swap, Ticket, RestoreShard, Restoring, marked, info_of, made_of}
-use Rattle.esr_core.specs.Ready.{ReadyDrop, ReadyDelete}
-use Rattle.esr_core.specs.Steps.{shard_ticket, final_ticket, given}
-use Rattle.esr_core.specs.Turns.{plain_ticket}
+use Rattle.esr_core.specs.Ready.{ReadyDrop, ReadyDelete, ReadyCleanup}
+use Rattle.esr_core.specs.Steps.{shard_ticket, final_ticket, given, listing}
+use Rattle.esr_core.specs.Turns.{plain_ticket, cleaning_ticket}
 use Rattle.esr_core.specs.Pruning.{planned_work, planned, delete_swap}
 use Rattle.esr_core.specs.Deletes.{first_delete, runs_for, named_uuids, waiting_delete, running_delete, number_by, aborts_op, aborted_ops, with_named, delete_merged, delete_by}
 use Rattle.esr_core.specs.Ids.{Law}
-use Rattle.esr_core.specs.Entry.{AskedIndex, Asked, Snapshot, Clone, CloneOf, DeleteSnapshots, Restore, Given, GivenShard, GivenFinalize, GivenDrop, GivenRestore, GivenClone, GivenDelete, GivenCleanup, Read, ReadBlob, RestoredShard, CheckedAll, DrawTest, BeginTest, CommitTest, RemoveTests, VerifiedAll, ReadFails, Prune, FetchShard, PlanShards, SettlePruned, RemoveDoomed, EndDelete, Step, AskStep, TakeStep, DrawStep, BeginStep, CommitStep, LatestStep, FetchStep, ListStep, RaiseStep, SettleStep, DoneStep, FinishStep, DroppedStep, ElectStep, LookStep, ReadStep, PruneStep, CleanupRunning, NameInUse, TooMany, NoSnapshot, NoIndex, BeingDeleted, CloneRunning, RestoreRunning, Reply, Accepted, NothingReady, Gave, DrawnFrom, WasBegun, WasDone, WasThere, WasReplaced, WasFetched, WasAbsent, WasListed, RaisedTo, WasSettled, HasEnded, ElectedTerm, Looked, Refused, WasRemoved, AcceptedRestore, Entry, Moment}
-use Rattle.esr_core.specs.After.{asked, asked_op, cloned_op, taken_by, taken_shard, taken_restore, taken_restore_shard, read_by, with_given, change, committing, fetching, told_blob, settled_of, done_of, done_by, dropped_of, delete_settled, after}
+use Rattle.esr_core.specs.Entry.{AskedIndex, Asked, Snapshot, Clone, CloneOf, DeleteSnapshots, Restore, Cleanup, is_recorded, Given, GivenShard, GivenFinalize, GivenDrop, GivenRestore, GivenClone, GivenDelete, GivenCleanup, Read, ReadBlob, RestoredShard, CheckedAll, DrawTest, BeginTest, CommitTest, RemoveTests, VerifiedAll, ReadFails, Prune, FetchShard, PlanShards, SettlePruned, RemoveDoomed, EndDelete, Step, AskStep, TakeStep, DrawStep, BeginStep, CommitStep, LatestStep, FetchStep, ListStep, RaiseStep, SettleStep, DoneStep, FinishStep, DroppedStep, ElectStep, LookStep, ReadStep, PruneStep, CleanupRunning, NameInUse, TooMany, NoSnapshot, NoIndex, BeingDeleted, CloneRunning, RestoreRunning, BusyOp, BusyTicket, Reply, Accepted, NothingReady, Gave, DrawnFrom, WasBegun, WasDone, WasThere, WasReplaced, WasFetched, WasAbsent, WasListed, RaisedTo, WasSettled, HasEnded, ElectedTerm, Looked, Refused, WasRemoved, AcceptedRestore, Entry, Moment}
+use Rattle.esr_core.specs.After.{asked, cleanup_opened, asked_op, cloned_op, taken_by, taken_shard, taken_restore, taken_restore_shard, read_by, with_given, change, committing, fetching, told_blob, settled_of, done_of, done_by, dropped_of, delete_settled, after}
 use Rattle.esr_core.specs.Allowed as allowed
-use Rattle.esr_core.specs.Allowed.{Accepts, Gives, GivesShard, GivesFinalize, GivesRestore, Settles, Dones, Drops, MayPlan, SettlesDeletion, CloneAllows, OpeningClone, CloneUsed, SourceNotListed, SourceDeleted, IndexMissing, FullOfClones, CloneSpent, CloneFault, DeleteAllows, GoingInto, NotNamed, CloneStands, RestoreStands, FullOfOps, RestoreAllows, OpeningRestore, NotListed, NamedByDelete, FullOfRestores, ReadAllows, ReadFound, ReadMissing, ReadFault, RestoringShard, ReaderFailing, CheckingAll, CheckFailing, VerifyAllows, DrawingTest, BeginningTest, CommittingTest, RemovingTests, VerifyingAll, VerifyFailing, PruneAllows, FetchingShard, ShardMissing, Planning, SettlingDelete, RemovingDoomed, EndingDelete, Allows, Allowed}
+use Rattle.esr_core.specs.Allowed.{NoCleanup, Accepts, Gives, GivesShard, GivesFinalize, GivesRestore, Settles, Dones, HasCleaned, Drops, MayPlan, SettlesDeletion, CloneAllows, OpeningClone, CloneUsed, SourceNotListed, SourceDeleted, IndexMissing, FullOfClones, CloneSpent, CloneFault, DeleteAllows, GoingInto, NotNamed, CloneStands, RestoreStands, FullOfOps, CleanupAllows, OpeningCleanup, OpStands, TicketStands, CleanupFault, RestoreAllows, OpeningRestore, NotListed, NamedByDelete, FullOfRestores, ReadAllows, ReadFound, ReadMissing, ReadFault, RestoringShard, ReaderFailing, CheckingAll, CheckFailing, VerifyAllows, DrawingTest, BeginningTest, CommittingTest, RemovingTests, VerifyingAll, VerifyFailing, PruneAllows, FetchingShard, ShardMissing, Planning, SettlingDelete, RemovingDoomed, EndingDelete, Allows, Allowed}
 use Rattle.esr_core.proofs.AskedDeletes.{Waits, waits}
 use Rattle.esr_core.proofs.Besides.{IsNoTest, aside_by}
 use Rattle.esr_core.proofs.Deleting.{bool_told}
@@ -26,13 +26,14 @@ use Rattle.esr_core.proofs.Queues.{Deletes, was_in, same_in, left_in, stays_in, 
 use Rattle.esr_core.proofs.Reading.{Has-right}
 use Rattle.esr_core.proofs.Recorded.{entry_got}
 use Rattle.esr_core.proofs.Results.{choose_true, choose_false}
-use Rattle.esr_quiet.specs.Refusals.{IsByRule}
+use Rattle.esr_report.specs.Cleaned.{cleanup_by, is_cleanup_ticket}
 use Rattle.esr_report.specs.Replies as report
-use Rattle.esr_report.specs.Replies.{op_by, uuid_by, name_by, name_of_op, final_out, has_name, abort_of, aborts_at, is_over}
-use Rattle.esr_complete.proofs.Tickets.{op_stays, uuid_stays, name_stays, name_given, IsGiftless, same_op}
+use Rattle.esr_report.specs.Replies.{op_by, is_op, uuid_by, name_by, name_of_op, final_out, has_name, abort_of, aborts_at, is_over}
+use Rattle.esr_complete.proofs.Tickets.{none_some, op_stays, uuid_stays, cleanup_stays, cleanup_of, is_cleanup_op, cleans_stays, cleans_given, name_stays, name_given, IsGiftless, same_op}
 use Rattle.esr_complete.proofs.OpEnds.{IsCalm, calm_unblocked, abort_names}
-use Rattle.esr_complete.proofs.Following.{IsSaid, snapshot_of, delete_of, IsOpenIn, IsDeleteIn, IsSettledIn, IsPrunedIn, IsAbortedIn, HasName, IsNamedBy, IsNameless, IsToldOp, IsToldDelete, IsFinal, IsOutFinal, IsEndedOr, IsDeletedOr, Follows, FollowsIn, stands_at, stands_on, delete_on, aborted_on, named_on, nameless_on, op_on, delete_told_on, IsKin, kin_same, kin_on, out_same, out_on, IsOne, goes_on, told, gave, given_on, handed_on, follows_aside}
-use Rattle.esr_complete.proofs.AbortedOps.{was_op, is_op, not_out, names_it}
+use Rattle.esr_complete.proofs.Following.{IsSaid, snapshot_of, delete_of, IsOpenIn, IsDeleteIn, IsSettledIn, IsPrunedIn, IsCleanedIn, IsAbortedIn, HasName, IsNamedBy, IsNameless, IsToldOp, IsToldDelete, IsFinal, IsOutFinal, IsEndedOr, IsDeletedOr, Follows, FollowsIn, stands_at, stands_on, delete_on, aborted_on, named_on, nameless_on, op_on, delete_told_on, IsKin, kin_same, kin_on, out_same, out_on, IsOne, goes_on, told, gave, given_on, handed_on, follows_aside}
+use Rattle.esr_complete.proofs.AbortedOps as aborts
+use Rattle.esr_complete.proofs.AbortedOps.{was_op, not_out, names_it}
 
 -- what holds of each world that the history passes: it is lawful, and its tickets are of the present term
 pub record IsSafe (f : Formats) (w : World) : Type 0 where
@@ -42,26 +43,31 @@ pub record IsSafe (f : Formats) (w : World) : Type 0 where
 
 -- ---- what an entry tells
 
--- it accepts nothing, gives no ticket, and settles no root
+-- it accepts nothing, gives no ticket, settles no root, and drops no op
 abbrev IsPlain : Reply → Step → Type 0
 IsPlain (Accepted op) step = ⊥
 IsPlain (Gave ticket op unit) step = ⊥
 IsPlain WasSettled SettleStep = ⊥
 IsPlain WasSettled (PruneStep SettlePruned) = ⊥
+IsPlain HasEnded DroppedStep = ⊥
 IsPlain reply step = Unit {0}
 
 plain_giftless : (reply : Reply) (step : Step) → IsPlain reply step → IsGiftless reply
 plain_giftless (Gave ticket op unit) step plain = absurd plain
 plain_giftless reply step plain = tt
 
-none_given : (reply : Reply) (step : Step) → IsPlain reply step → (k : ℕ) → (op_by reply k ≡ None) × (uuid_by reply k ≡ None)
+none_given : (reply : Reply) (step : Step) → IsPlain reply step → (k : ℕ) → (op_by reply k ≡ None) × (uuid_by reply k ≡ None) × (cleanup_by reply k ≡ false)
 none_given (Gave ticket op unit) step plain k = absurd plain
-none_given reply step plain k = (refl, refl)
+none_given reply step plain k = (refl, refl, refl)
 
 plain_name : (o : ℕ) (step : Step) (reply : Reply) → IsPlain reply step → name_by o step reply ≡ None
 plain_name o (AskStep (Snapshot name indices time)) (Accepted op) plain = absurd plain
 plain_name o (AskStep (Clone source name names time (Some taken))) (Accepted op) plain = absurd plain
 plain_name o step reply plain = refl
+
+plain_cleanup : (o : ℕ) (step : Step) (reply : Reply) → IsPlain reply step → is_op o (cleanup_of step reply) ≡ false
+plain_cleanup o (AskStep Cleanup) (Accepted op) plain = absurd plain
+plain_cleanup o step reply plain = refl
 
 plain_snapshot : (step : Step) (reply : Reply) → IsPlain reply step → snapshot_of step reply ≡ None
 plain_snapshot (AskStep (Snapshot name indices time)) (Accepted op) plain = absurd plain
@@ -70,6 +76,7 @@ plain_snapshot step reply plain = refl
 
 plain_delete : (step : Step) (reply : Reply) → IsPlain reply step → delete_of step reply ≡ None
 plain_delete (AskStep (DeleteSnapshots names)) (Accepted op) plain = absurd plain
+plain_delete (AskStep Cleanup) (Accepted op) plain = absurd plain
 plain_delete step reply plain = refl
 
 plain_one : (es : List Entry) (next more : ℕ) (x : Entry) → next ≤ more → IsPlain x.reply x.step → IsSaid x.step x.reply → IsOne es next more x
@@ -78,20 +85,24 @@ plain_one es next more x up plain said =
       up = up;
       giftless = plain_giftless x.reply x.step plain;
       no_ticket = none_given x.reply x.step plain;
-      no_name = λ o any. plain_name o x.step x.reply plain;
+      no_name = λ o any. (plain_name o x.step x.reply plain, plain_cleanup o x.step x.reply plain);
       said = said;
       settles = λ step reply. absurd (subst (λ (s : Step). IsPlain WasSettled s) step (subst (λ (r : Reply). IsPlain r x.step) reply plain));
       prunes = λ step reply. absurd (subst (λ (s : Step). IsPlain WasSettled s) step (subst (λ (r : Reply). IsPlain r x.step) reply plain));
+      leaves = λ step reply. absurd (subst (λ (s : Step). IsPlain HasEnded s) step (subst (λ (r : Reply). IsPlain r x.step) reply plain));
     }
 
-none_some : (o : ℕ) → ◌≡◌ {A = Option ℕ} None (Some o) → ⊥
-none_some o e = cc
-
-some_one : (a b : ℕ) → Some a ≡ Some b → a ≡ b
+some_one : {A : Type 0} (a b : A) → Some a ≡ Some b → a ≡ b
 some_one a b e = cc
 
-none_is : (o : ℕ) (found : Option ℕ) → found ≡ None → found ≡ Some o → ⊥
+none_is : {A : Type 0} (o : A) (found : Option A) → found ≡ None → found ≡ Some o → ⊥
 none_is o found none e = none_some o (sym none ∙ e)
+
+same_delete : (p q : Bool × ℕ) → Some p ≡ Some q → p ≡ q
+same_delete p q e = cc
+
+none_delete : (p : Bool × ℕ) (found : Option (Bool × ℕ)) → found ≡ None → found ≡ Some p → ⊥
+none_delete p found none e = none_some p (sym none ∙ e)
 
 -- ---- what tickets are for
 
@@ -134,19 +145,26 @@ ask_settle command e = cc
 ask_prune : (command : Asked) → AskStep command ≡ PruneStep SettlePruned → ⊥
 ask_prune command e = cc
 
+ask_drop : (command : Asked) → AskStep command ≡ DroppedStep → ⊥
+ask_drop command e = cc
+
 settle_prune : SettleStep ≡ PruneStep SettlePruned → ⊥
 settle_prune e = cc
 
+settle_drop : SettleStep ≡ DroppedStep → ⊥
+settle_drop e = cc
+
+prune_drop : PruneStep SettlePruned ≡ DroppedStep → ⊥
+prune_drop e = cc
+
+drop_settle : DroppedStep ≡ SettleStep → ⊥
+drop_settle e = cc
+
+drop_prune : DroppedStep ≡ PruneStep SettlePruned → ⊥
+drop_prune e = cc
+
 prune_settle : PruneStep SettlePruned ≡ SettleStep → ⊥
 prune_settle e = cc
-
--- no rule refuses so
-no_cleaning : (command : Asked) (d : ℕ) → IsByRule command (CleanupRunning d) → ⊥
-no_cleaning (Snapshot name indices time) d rule = rule
-no_cleaning (Restore name place) d rule = rule
-no_cleaning (Clone source name names time taken) d rule = rule
-no_cleaning (DeleteSnapshots names) d rule = rule
-no_cleaning command d rule = rule
 
 -- the running delete is open
 running_there : (test : ℕ × Deletion → Bool) (deletes : List (ℕ × Deletion)) (d : ℕ) → first_delete test deletes ≡ Some d → (x : Deletion) × Has deletes (d, x)
@@ -163,8 +181,8 @@ aborted_name es o h =
     (name, ap (λ (l : List Entry). name_of_op l o) h.is ∙ name_stays h.front (h.e ∷ h.back) o name is)
 
 -- an op with a name is another than one without
-pub apart_name : (es : List Entry) (next o d : ℕ) → HasName es o → IsNameless es next d → o ≡ d → ⊥
-apart_name es next o d name nameless same = no_name name.0 (sym nameless.unnamed ∙ ap (λ (n : ℕ). name_of_op es n) (sym same) ∙ name.1)
+pub apart_name : (es : List Entry) (next : ℕ) (cleans : Bool) (o d : ℕ) → HasName es o → IsNameless es next cleans d → o ≡ d → ⊥
+apart_name es next cleans o d name nameless same = no_name name.0 (sym nameless.unnamed ∙ ap (λ (n : ℕ). name_of_op es n) (sym same) ∙ name.1)
   where
     no_name : (name : Bytes) → ◌≡◌ {A = Option Bytes} None (Some name) → ⊥
     no_name name e = cc
@@ -181,14 +199,14 @@ below_up n = omega arith
 module _ (f : Formats) (size : ℕ) (w : World) (es : List Entry) (h : FollowsIn w es) where
   -- ---- ops and deletes that stay
 
-  ops_stay : (more : ℕ) (x : Entry) → w.next_op ≤ more → ((o : ℕ) → (o < w.next_op) ⊎ (more ≤ o) → name_by o x.step x.reply ≡ None) → (o : ℕ) (op : Op) → fin.get w.ops o ≡ Some op → IsToldOp (es ++ x ∷ []) more o op
+  ops_stay : (more : ℕ) (x : Entry) → w.next_op ≤ more → ((o : ℕ) → (o < w.next_op) ⊎ (more ≤ o) → (name_by o x.step x.reply ≡ None) × (is_op o (cleanup_of x.step x.reply) ≡ false)) → (o : ℕ) (op : Op) → fin.get w.ops o ≡ Some op → IsToldOp (es ++ x ∷ []) more o op
   ops_stay more x up none o op e = op_on es x w.next_op more up none o op op (h.ops o op e) refl refl refl
 
   deletes_stay : (more : ℕ) (x : Entry) → IsOne es w.next_op more x → (d : ℕ) (y : Deletion) → fin.get w.deletes d ≡ Some y → IsToldDelete (es ++ x ∷ []) more d y
-  deletes_stay more x one d y e = delete_told_on es x w.next_op more one.up one.no_name d y y (h.deletes d y e) refl
+  deletes_stay more x one d y e = delete_told_on es x w.next_op more one.up one.no_name d y y (h.deletes d y e) refl refl
 
   -- an op goes on with other shards
-  shards_on : (more : ℕ) (x : Entry) → w.next_op ≤ more → ((o : ℕ) → (o < w.next_op) ⊎ (more ≤ o) → name_by o x.step x.reply ≡ None) → (key : ℕ) (old : Op) → fin.get w.ops key ≡ Some old → (shards : List ShardWork)
+  shards_on : (more : ℕ) (x : Entry) → w.next_op ≤ more → ((o : ℕ) → (o < w.next_op) ⊎ (more ≤ o) → (name_by o x.step x.reply ≡ None) × (is_op o (cleanup_of x.step x.reply) ≡ false)) → (key : ℕ) (old : Op) → fin.get w.ops key ≡ Some old → (shards : List ShardWork)
       → (o : ℕ) (op : Op) → fin.get (fin.insert w.ops key (record old { shards = shards })) o ≡ Some op → IsToldOp (es ++ x ∷ []) more o op
   shards_on more x up none key old there shards o op e = elim (was_in w.ops key (record old { shards = shards }) o op e) [
     | inl is ↦ subst (λ (p : ℕ × Op). IsToldOp (es ++ x ∷ []) more p.0 p.1) (λ i. (sym is.0 i, is.1 i)) (op_on es x w.next_op more up none key old (record old { shards = shards }) (h.ops key old there) refl refl refl)
@@ -199,19 +217,19 @@ module _ (f : Formats) (size : ℕ) (w : World) (es : List Entry) (h : FollowsIn
   ops_left : (more : ℕ) (x : Entry) → IsOne es w.next_op more x → (key o : ℕ) (op : Op) → fin.get (fin.remove w.ops key) o ≡ Some op → IsToldOp (es ++ x ∷ []) more o op
   ops_left more x one key o op e = ops_stay more x one.up one.no_name o op (left_in w.ops key o op e).1
 
-  deletes_left : (more : ℕ) (x : Entry) → IsOne es w.next_op more x → (key d : ℕ) (y : Deletion) → fin.get (fin.remove w.deletes key) d ≡ Some y → IsToldDelete (es ++ x ∷ []) more d y
-  deletes_left more x one key d y e = deletes_stay more x one d y (left_in w.deletes key d y e).1
+  deletes_less : (more : ℕ) (x : Entry) → IsOne es w.next_op more x → (key d : ℕ) (y : Deletion) → fin.get (fin.remove w.deletes key) d ≡ Some y → IsToldDelete (es ++ x ∷ []) more d y
+  deletes_less more x one key d y e = deletes_stay more x one d y (left_in w.deletes key d y e).1
 
   -- where none is named
-  stays_named : (key : ℕ) (es_now : List Entry) → IsNameless es w.next_op key → (o : ℕ) → HasName es o → IsOpenIn w.ops o → IsEndedOr (fin.remove w.ops key) es_now o
-  stays_named key es_now nameless o name was = elim (split_at o key) [
-    | inl same ↦ absurd (apart_name es w.next_op o key name nameless same)
+  stays_named : (cleans : Bool) (key : ℕ) (es_now : List Entry) → IsNameless es w.next_op cleans key → (o : ℕ) → HasName es o → IsOpenIn w.ops o → IsEndedOr (fin.remove w.ops key) es_now o
+  stays_named cleans key es_now nameless o name was = elim (split_at o key) [
+    | inl same ↦ absurd (apart_name es w.next_op cleans o key name nameless same)
     | inr apart ↦ inl (was.0, stays_in w.ops key o apart ∙ was.1)
   ]
 
-  stays_nameless : (key : ℕ) (es_now : List Entry) → HasName es key → (d : ℕ) → IsNameless es w.next_op d → IsDeleteIn w.deletes d → IsDeletedOr (fin.remove w.deletes key) es_now d
-  stays_nameless key es_now name d nameless was = elim (split_at d key) [
-    | inl same ↦ absurd (apart_name es w.next_op key d name nameless (sym same))
+  stays_nameless : (key : ℕ) (es_now : List Entry) → HasName es key → (cleans : Bool) (d : ℕ) → IsNameless es w.next_op cleans d → IsDeleteIn w.deletes d → IsDeletedOr (fin.remove w.deletes key) es_now cleans d
+  stays_nameless key es_now name cleans d nameless was = elim (split_at d key) [
+    | inl same ↦ absurd (apart_name es w.next_op cleans key d name nameless (sym same))
     | inr apart ↦ inl (was.0, stays_in w.deletes key d apart ∙ was.1)
   ]
 
@@ -220,8 +238,8 @@ module _ (f : Formats) (size : ℕ) (w : World) (es : List Entry) (h : FollowsIn
   stays_to : (more : ℕ) → w.next_op ≤ more → (x : Entry) → IsPlain x.reply x.step → IsSaid x.step x.reply → Follows w.deposed w.ops w.deletes w.tickets w.next_ticket more (es ++ x ∷ [])
   stays_to more up x plain said =
       let one : IsOne es w.next_op more x = plain_one es w.next_op more x up plain said in
-      goes_on w.deposed w.ops w.ops w.deletes w.deletes w.tickets w.tickets w.next_ticket w.next_op more es x h one (ops_stay more x one.up one.no_name) (deletes_stay more x one) (kin_same w.tickets) (out_same w.tickets x) (λ o name was. inl was) (λ d nameless was. inl was)
-      (λ o e. absurd (none_is o _ (plain_snapshot x.step x.reply plain) e)) (λ d e. absurd (none_is d _ (plain_delete x.step x.reply plain) e))
+      goes_on w.deposed w.ops w.ops w.deletes w.deletes w.tickets w.tickets w.next_ticket w.next_op more es x h one (ops_stay more x one.up one.no_name) (deletes_stay more x one) (kin_same w.tickets) (out_same w.tickets x) (λ o name was. inl was) (λ cleans d nameless was. inl was)
+      (λ o e. absurd (none_is o _ (plain_snapshot x.step x.reply plain) e)) (λ cleans d e. absurd (none_delete (cleans, d) _ (plain_delete x.step x.reply plain) e))
 
   stays : (x : Entry) → IsPlain x.reply x.step → IsSaid x.step x.reply → FollowsIn w (es ++ x ∷ [])
   stays x plain said = stays_to w.next_op (same_up w.next_op) x plain said
@@ -232,19 +250,19 @@ module _ (f : Formats) (size : ℕ) (w : World) (es : List Entry) (h : FollowsIn
   ticket_on k t v there kin op x outs plain said =
       let one : IsOne es w.next_op w.next_op x = plain_one es w.next_op w.next_op x (same_up w.next_op) plain said in
       goes_on w.deposed w.ops w.ops w.deletes w.deletes w.tickets (fin.insert w.tickets k v) w.next_ticket w.next_op w.next_op es x h one (ops_stay w.next_op x one.up one.no_name) (deletes_stay w.next_op x one) kin (out_on w.tickets k t v x there op outs) (λ o name was. inl was)
-      (λ d nameless was. inl was) (λ o e. absurd (none_is o _ (plain_snapshot x.step x.reply plain) e)) (λ d e. absurd (none_is d _ (plain_delete x.step x.reply plain) e))
+      (λ cleans d nameless was. inl was) (λ o e. absurd (none_is o _ (plain_snapshot x.step x.reply plain) e)) (λ cleans d e. absurd (none_delete (cleans, d) _ (plain_delete x.step x.reply plain) e))
 
-  changed : (k : ℕ) (t : Ticket) → fin.get w.tickets k ≡ Some t → (g : Ticket → Ticket) → (g t).op ≡ t.op → (g t).work ≡ t.work → (x : Entry) → (IsOutFinal t → IsOutFinal (g t) ⊎ ((is_over x.step x.reply ≡ true) × (k ≡ x.who))) → IsPlain x.reply x.step → IsSaid x.step x.reply
+  changed : (k : ℕ) (t : Ticket) → fin.get w.tickets k ≡ Some t → (g : Ticket → Ticket) → (g t).op ≡ t.op → (g t).clean ≡ t.clean → (g t).work ≡ t.work → (x : Entry) → (IsOutFinal t → IsOutFinal (g t) ⊎ ((is_over x.step x.reply ≡ true) × (k ≡ x.who))) → IsPlain x.reply x.step → IsSaid x.step x.reply
       → FollowsIn (change w k g) (es ++ x ∷ [])
-  changed k t there g op work x outs plain said =
-      subst (λ (o : Option Ticket). FollowsIn (with_given w k g o) (es ++ x ∷ [])) (sym there) (ticket_on k t (g t) there (kin_on w.tickets k t (g t) there op work) op x outs plain said)
+  changed k t there g op clean work x outs plain said =
+      subst (λ (o : Option Ticket). FollowsIn (with_given w k g o) (es ++ x ∷ [])) (sym there) (ticket_on k t (g t) there (kin_on w.tickets k t (g t) there op clean work) op x outs plain said)
 
   -- ---- ask
 
   asks_next : (name : Bytes) (indices : List AskedIndex) (time : ℕ) → FollowsIn (asked w (Snapshot name indices time)) (es ++ told 0 (AskStep (Snapshot name indices time)) (Accepted w.next_op) ∷ [])
   asks_next name indices time =
       goes_on w.deposed w.ops (fin.insert w.ops w.next_op op) w.deletes w.deletes w.tickets w.tickets w.next_ticket w.next_op (suc w.next_op) es x h one told_ops (deletes_stay (suc w.next_op) x one) (kin_same w.tickets) (out_same w.tickets x) (λ o named was. inl (stands_on w.ops w.next_op op o was))
-      (λ d nameless was. inl was) (λ o e. subst (λ (n : ℕ). IsNamedBy (es ++ x ∷ []) n x × IsOpenIn (fin.insert w.ops w.next_op op) n) (some_one w.next_op o e) ((name, choose_true _ _ _ (same_op w.next_op), named), stands_at w.ops w.next_op op)) (λ d e. absurd (none_some d e))
+      (λ cleans d nameless was. inl was) (λ o e. subst (λ (n : ℕ). IsNamedBy (es ++ x ∷ []) n x × IsOpenIn (fin.insert w.ops w.next_op op) n) (some_one w.next_op o e) ((name, choose_true _ _ _ (same_op w.next_op), named), stands_at w.ops w.next_op op)) (λ cleans d e. absurd (none_delete (cleans, d) None refl e))
     where
       op : Op
       op = asked_op w name indices time
@@ -261,15 +279,16 @@ module _ (f : Formats) (size : ℕ) (w : World) (es : List Entry) (h : FollowsIn
           record {
             up = one_up w.next_op;
             giftless = tt;
-            no_ticket = λ k. (refl, refl);
-            no_name = λ o any. elim (eqb_tells w.next_op o) [ inl t ↦ absurd (other o any t.1) | inr t ↦ choose_false _ _ _ t.0 ];
+            no_ticket = λ k. (refl, refl, refl);
+            no_name = λ o any. (elim (eqb_tells w.next_op o) [ inl t ↦ absurd (other o any t.1) | inr t ↦ choose_false _ _ _ t.0 ], refl);
             said = tt;
             settles = λ step. absurd (ask_settle (Snapshot name indices time) step);
             prunes = λ step. absurd (ask_prune (Snapshot name indices time) step);
+            leaves = λ step. absurd (ask_drop (Snapshot name indices time) step);
           }
 
       named : name_of_op (es ++ told 0 (AskStep (Snapshot name indices time)) (Accepted w.next_op) ∷ []) w.next_op ≡ Some name
-      named = name_given es x w.next_op (h.coming w.next_op (same_up w.next_op)) ∙ choose_true _ _ _ (same_op w.next_op)
+      named = name_given es x w.next_op (h.coming w.next_op (same_up w.next_op)).0 ∙ choose_true _ _ _ (same_op w.next_op)
 
       mine : IsToldOp (es ++ told 0 (AskStep (Snapshot name indices time)) (Accepted w.next_op) ∷ []) (suc w.next_op) w.next_op (asked_op w name indices time)
       mine = record { unfailed = refl; aborted = λ by e. absurd (none_some by e); named = named; below = below_up w.next_op }
@@ -289,7 +308,7 @@ module _ (f : Formats) (size : ℕ) (w : World) (es : List Entry) (h : FollowsIn
   clones_next : (source name : Bytes) (names : List Bytes) (time : ℕ) (taken : CloneOf) → FollowsIn (asked w (Clone source name names time (Some taken))) (es ++ told 0 (AskStep (Clone source name names time (Some taken))) (Accepted w.next_op) ∷ [])
   clones_next source name names time taken =
       goes_on w.deposed w.ops (fin.insert w.ops w.next_op op) w.deletes w.deletes w.tickets w.tickets w.next_ticket w.next_op (suc w.next_op) es x h one told_ops (deletes_stay (suc w.next_op) x one) (kin_same w.tickets) (out_same w.tickets x) (λ o named was. inl (stands_on w.ops w.next_op op o was))
-      (λ d nameless was. inl was) (λ o e. subst (λ (n : ℕ). IsNamedBy (es ++ x ∷ []) n x × IsOpenIn (fin.insert w.ops w.next_op op) n) (some_one w.next_op o e) ((name, choose_true _ _ _ (same_op w.next_op), named), stands_at w.ops w.next_op op)) (λ d e. absurd (none_some d e))
+      (λ cleans d nameless was. inl was) (λ o e. subst (λ (n : ℕ). IsNamedBy (es ++ x ∷ []) n x × IsOpenIn (fin.insert w.ops w.next_op op) n) (some_one w.next_op o e) ((name, choose_true _ _ _ (same_op w.next_op), named), stands_at w.ops w.next_op op)) (λ cleans d e. absurd (none_delete (cleans, d) None refl e))
     where
       op : Op
       op = cloned_op w name time taken
@@ -306,15 +325,16 @@ module _ (f : Formats) (size : ℕ) (w : World) (es : List Entry) (h : FollowsIn
           record {
             up = one_up w.next_op;
             giftless = tt;
-            no_ticket = λ k. (refl, refl);
-            no_name = λ o any. elim (eqb_tells w.next_op o) [ inl t ↦ absurd (other o any t.1) | inr t ↦ choose_false _ _ _ t.0 ];
+            no_ticket = λ k. (refl, refl, refl);
+            no_name = λ o any. (elim (eqb_tells w.next_op o) [ inl t ↦ absurd (other o any t.1) | inr t ↦ choose_false _ _ _ t.0 ], refl);
             said = tt;
             settles = λ step. absurd (ask_settle (Clone source name names time (Some taken)) step);
             prunes = λ step. absurd (ask_prune (Clone source name names time (Some taken)) step);
+            leaves = λ step. absurd (ask_drop (Clone source name names time (Some taken)) step);
           }
 
       named : name_of_op (es ++ told 0 (AskStep (Clone source name names time (Some taken))) (Accepted w.next_op) ∷ []) w.next_op ≡ Some name
-      named = name_given es x w.next_op (h.coming w.next_op (same_up w.next_op)) ∙ choose_true _ _ _ (same_op w.next_op)
+      named = name_given es x w.next_op (h.coming w.next_op (same_up w.next_op)).0 ∙ choose_true _ _ _ (same_op w.next_op)
 
       mine : IsToldOp (es ++ told 0 (AskStep (Clone source name names time (Some taken))) (Accepted w.next_op) ∷ []) (suc w.next_op) w.next_op (cloned_op w name time taken)
       mine = record { unfailed = refl; aborted = λ by e. absurd (none_some by e); named = named; below = below_up w.next_op }
@@ -351,11 +371,12 @@ module _ (f : Formats) (size : ℕ) (w : World) (es : List Entry) (h : FollowsIn
         record {
           up = up;
           giftless = tt;
-          no_ticket = λ k. (refl, refl);
-          no_name = λ o any. refl;
+          no_ticket = λ k. (refl, refl, refl);
+          no_name = λ o any. (refl, refl);
           said = tt;
           settles = λ step. absurd (ask_settle (DeleteSnapshots names) step);
           prunes = λ step. absurd (ask_prune (DeleteSnapshots names) step);
+          leaves = λ step. absurd (ask_drop (DeleteSnapshots names) step);
         }
 
     -- no finalization of one that it aborts is out
@@ -374,7 +395,7 @@ module _ (f : Formats) (size : ℕ) (w : World) (es : List Entry) (h : FollowsIn
     asked_ops : (o : ℕ) (op : Op) → fin.get (aborted_ops w (named_uuids w names) d) o ≡ Some op → IsToldOp (es ++ told 0 (AskStep (DeleteSnapshots names)) (Accepted d) ∷ []) more o op
     asked_ops o op e =
         let (old, there, how) = was_op w (named_uuids w names) d o op e in
-        let was : IsToldOp (es ++ ask ∷ []) more o old = ops_stay more ask up (λ p any. refl) o old there in
+        let was : IsToldOp (es ++ ask ∷ []) more o old = ops_stay more ask up (λ p any. (refl, refl)) o old there in
         elim how [
           | inl same ↦ subst (IsToldOp (es ++ ask ∷ []) more o) (sym same) was
           | inr now ↦ subst (IsToldOp (es ++ ask ∷ []) more o) (sym now.0) (record {
@@ -386,23 +407,34 @@ module _ (f : Formats) (size : ℕ) (w : World) (es : List Entry) (h : FollowsIn
         ]
 
     asked_on : (left : Deletes) → ((e : ℕ) (y : Deletion) → fin.get left e ≡ Some y → IsToldDelete (es ++ told 0 (AskStep (DeleteSnapshots names)) (Accepted d) ∷ []) more e y) → ((e : ℕ) → IsDeleteIn w.deletes e → IsDeleteIn left e)
-        → IsNameless (es ++ told 0 (AskStep (DeleteSnapshots names)) (Accepted d) ∷ []) more d → IsDeleteIn left d
+        → IsNameless (es ++ told 0 (AskStep (DeleteSnapshots names)) (Accepted d) ∷ []) more false d → IsDeleteIn left d
         → Follows w.deposed (aborted_ops w (named_uuids w names) d) left w.tickets w.next_ticket more (es ++ told 0 (AskStep (DeleteSnapshots names)) (Accepted d) ∷ [])
     asked_on left told_deletes kept nameless stands =
         goes_on w.deposed w.ops (aborted_ops w (named_uuids w names) d) w.deletes left w.tickets w.tickets w.next_ticket w.next_op more es ask h ask_one asked_ops told_deletes (kin_same w.tickets) (out_same w.tickets ask)
-        (λ o name was. inl (is_op w (named_uuids w names) d o was.0 was.1)) (λ e was_nameless was. inl (kept e was)) (λ o e. absurd (none_some o e)) (λ e is. subst (λ (n : ℕ). IsNameless (es ++ ask ∷ []) more n × IsDeleteIn left n) (some_one d e is) (nameless, stands))
+        (λ o name was. inl (aborts.is_op w (named_uuids w names) d o was.0 was.1)) (λ cleans e was_nameless was. inl (kept e was)) (λ o e. absurd (none_some o e))
+        (λ cleans e is. subst (λ (p : Bool × ℕ). IsNameless (es ++ ask ∷ []) more p.0 p.1 × IsDeleteIn left p.1) (same_delete (false, d) (cleans, e) is) (nameless, stands))
 
   -- it joins an open delete
-  joins : (names : List Bytes) (d : ℕ) → IsDeleteIn w.deletes d → FollowsIn w (es ++ told 0 (AskStep (DeleteSnapshots names)) (Accepted d) ∷ [])
-  joins names d stands =
+  joins : NoCleanup w → (names : List Bytes) (d : ℕ) → IsDeleteIn w.deletes d → FollowsIn w (es ++ told 0 (AskStep (DeleteSnapshots names)) (Accepted d) ∷ [])
+  joins clear names d stands =
       let x : Entry = told 0 (AskStep (DeleteSnapshots names)) (Accepted d) in
-      let one : IsOne es w.next_op w.next_op x = record { up = same_up w.next_op; giftless = tt; no_ticket = λ k. (refl, refl); no_name = λ o any. refl; said = tt; settles = λ step. absurd (ask_settle (DeleteSnapshots names) step); prunes = λ step. absurd (ask_prune (DeleteSnapshots names) step) } in
-      goes_on w.deposed w.ops w.ops w.deletes w.deletes w.tickets w.tickets w.next_ticket w.next_op w.next_op es x h one (ops_stay w.next_op x one.up one.no_name) (deletes_stay w.next_op x one) (kin_same w.tickets) (out_same w.tickets x) (λ o name was. inl was) (λ e nameless was. inl was)
-      (λ o e. absurd (none_some o e)) (λ e is. subst (λ (n : ℕ). IsNameless (es ++ x ∷ []) w.next_op n × IsDeleteIn w.deletes n) (some_one d e is) ((deletes_stay w.next_op x one d stands.0 stands.1).nameless, stands))
+      let one : IsOne es w.next_op w.next_op x = record {
+        up = same_up w.next_op;
+        giftless = tt;
+        no_ticket = λ k. (refl, refl, refl);
+        no_name = λ o any. (refl, refl);
+        said = tt;
+        settles = λ step. absurd (ask_settle (DeleteSnapshots names) step);
+        prunes = λ step. absurd (ask_prune (DeleteSnapshots names) step);
+        leaves = λ step. absurd (ask_drop (DeleteSnapshots names) step);
+      } in
+      let nameless : IsNameless (es ++ x ∷ []) w.next_op false d = subst (λ (b : Bool). IsNameless (es ++ x ∷ []) w.next_op b d) (clear d stands.0 stands.1) (deletes_stay w.next_op x one d stands.0 stands.1).nameless in
+      goes_on w.deposed w.ops w.ops w.deletes w.deletes w.tickets w.tickets w.next_ticket w.next_op w.next_op es x h one (ops_stay w.next_op x one.up one.no_name) (deletes_stay w.next_op x one) (kin_same w.tickets) (out_same w.tickets x) (λ o name was. inl was) (λ cleans e nameless was. inl was)
+      (λ o e. absurd (none_some o e)) (λ cleans e is. subst (λ (p : Bool × ℕ). IsNameless (es ++ x ∷ []) w.next_op p.0 p.1 × IsDeleteIn w.deletes p.1) (same_delete (false, d) (cleans, e) is) (nameless, stands))
 
   -- it is merged into one that waits
-  merges : IsSafe f w → (names : List Bytes) (d : ℕ) → Waits w d → FollowsIn (delete_merged w names d (fin.get w.deletes d)) (es ++ told 0 (AskStep (DeleteSnapshots names)) (Accepted d) ∷ [])
-  merges safe names d a =
+  merges : IsSafe f w → NoCleanup w → (names : List Bytes) (d : ℕ) → Waits w d → FollowsIn (delete_merged w names d (fin.get w.deletes d)) (es ++ told 0 (AskStep (DeleteSnapshots names)) (Accepted d) ∷ [])
+  merges safe clear names d a =
       let x : Entry = told 0 (AskStep (DeleteSnapshots names)) (Accepted d) in
       let one : IsOne es w.next_op w.next_op x = ask_one safe names d w.next_op (same_up w.next_op) in
       let y : Deletion = record a.x { uuids = with_named w a.x.uuids names } in
@@ -413,7 +445,7 @@ module _ (f : Formats) (size : ℕ) (w : World) (es : List Entry) (h : FollowsIn
         | inl mine ↦ subst (λ (p : ℕ × Deletion). IsToldDelete (es ++ x ∷ []) w.next_op p.0 p.1) (λ i. (sym mine.0 i, mine.1 i)) (record { unfailed = old.unfailed; nameless = old.nameless })
         | inr other ↦ deletes_stay w.next_op x one e z other.1
       ])
-      (delete_on w.deletes d y) old.nameless (y, same_in w.deletes d y))
+      (delete_on w.deletes d y) (subst (λ (b : Bool). IsNameless (es ++ x ∷ []) w.next_op b d) (clear d a.x a.there) old.nameless) (y, same_in w.deletes d y))
 
   -- or it is an op of its own
   opens : IsSafe f w → (names : List Bytes) → FollowsIn (delete_by w names None None) (es ++ told 0 (AskStep (DeleteSnapshots names)) (Accepted w.next_op) ∷ [])
@@ -422,7 +454,8 @@ module _ (f : Formats) (size : ℕ) (w : World) (es : List Entry) (h : FollowsIn
       let x : Entry = told 0 (AskStep (DeleteSnapshots names)) (Accepted w.next_op) in
       let one : IsOne es w.next_op (suc w.next_op) x = ask_one safe names w.next_op (suc w.next_op) (one_up w.next_op) in
       let y : Deletion = record { uuids = named_uuids w names; clean = false; failed = false } in
-      let nameless : IsNameless (es ++ x ∷ []) (suc w.next_op) w.next_op = record { unnamed = name_given es x w.next_op (h.coming w.next_op (same_up w.next_op)); below = below_up w.next_op } in
+      let coming = h.coming w.next_op (same_up w.next_op) in
+      let nameless : IsNameless (es ++ x ∷ []) (suc w.next_op) false w.next_op = record { unnamed = name_given es x w.next_op coming.0; below = below_up w.next_op; kind = cleans_stays es x w.next_op refl ∙ coming.1 } in
       asked_on safe names w.next_op (suc w.next_op) (one_up w.next_op) (fin.insert w.deletes w.next_op y)
       (λ e z is. elim (was_in w.deletes w.next_op y e z is) [
         | inl mine ↦ subst (λ (p : ℕ × Deletion). IsToldDelete (es ++ x ∷ []) (suc w.next_op) p.0 p.1) (λ i. (sym mine.0 i, mine.1 i)) (record { unfailed = refl; nameless = nameless })
@@ -430,19 +463,74 @@ module _ (f : Formats) (size : ℕ) (w : World) (es : List Entry) (h : FollowsIn
       ])
       (delete_on w.deletes w.next_op y) nameless (y, same_in w.deletes w.next_op y)
 
-  goes_into : IsSafe f w → (names : List Bytes) (waiting running : Option ℕ) → waiting_delete w ≡ waiting → running_delete w (named_uuids w names) ≡ running
+  goes_into : IsSafe f w → NoCleanup w → (names : List Bytes) (waiting running : Option ℕ) → waiting_delete w ≡ waiting → running_delete w (named_uuids w names) ≡ running
       → FollowsIn (delete_by w names waiting running) (es ++ told 0 (AskStep (DeleteSnapshots names)) (Accepted (number_by w.next_op waiting running)) ∷ [])
-  goes_into safe names (Some d) running is runs = merges safe names d (waits w d is)
-  goes_into safe names None (Some d) is runs = let (x, m) = running_there (runs_for w (named_uuids w names)) (fin.entries w.deletes) d runs in joins names d (x, entry_got w.deletes d x m)
-  goes_into safe names None None is runs = opens safe names
+  goes_into safe clear names (Some d) running is runs = merges safe clear names d (waits w d is)
+  goes_into safe clear names None (Some d) is runs = let (x, m) = running_there (runs_for w (named_uuids w names)) (fin.entries w.deletes) d runs in joins clear names d (x, entry_got w.deletes d x m)
+  goes_into safe clear names None None is runs = opens safe names
 
   asks_delete : IsSafe f w → (names : List Bytes) (reply : Reply) (image : Option Image) → DeleteAllows w names reply → IsCalm reply (AskStep (DeleteSnapshots names)) → FollowsIn (after f w (moment 0 (AskStep (DeleteSnapshots names)) reply image)) (es ++ told 0 (AskStep (DeleteSnapshots names)) reply ∷ [])
-  asks_delete safe names reply image (GoingInto acc) calm = goes_into safe names (waiting_delete w) (running_delete w (named_uuids w names)) refl refl
+  asks_delete safe names reply image (GoingInto acc) calm = goes_into safe acc.may.no_cleanup names (waiting_delete w) (running_delete w (named_uuids w names)) refl refl
   asks_delete safe names reply image (NotNamed place clear first) calm = stays (told 0 (AskStep (DeleteSnapshots names)) (Refused (NoSnapshot place))) tt tt
   asks_delete safe names reply image (CloneStands o clear named lowest) calm = stays (told 0 (AskStep (DeleteSnapshots names)) (Refused (CloneRunning o))) tt tt
   asks_delete safe names reply image (RestoreStands o clear named no_clone lowest) calm = stays (told 0 (AskStep (DeleteSnapshots names)) (Refused (RestoreRunning o))) tt tt
   asks_delete safe names reply image (FullOfOps may new full) calm = stays (told 0 (AskStep (DeleteSnapshots names)) (Refused (TooMany 1000))) tt tt
   asks_delete safe names reply image other calm = absurd calm
+
+  -- ---- a cleanup is asked for
+
+  opens_cleanup : FollowsIn (cleanup_opened w) (es ++ told 0 (AskStep Cleanup) (Accepted w.next_op) ∷ [])
+  opens_cleanup =
+      goes_on w.deposed w.ops w.ops w.deletes (fin.insert w.deletes w.next_op y) w.tickets w.tickets w.next_ticket w.next_op (suc w.next_op) es x h one (ops_stay (suc w.next_op) x one.up one.no_name) told_deletes (kin_same w.tickets) (out_same w.tickets x)
+      (λ o name was. inl was) (λ cleans d nameless was. inl (delete_on w.deletes w.next_op y d was)) (λ o e. absurd (none_some o e))
+      (λ cleans d e. subst (λ (p : Bool × ℕ). IsNameless (es ++ x ∷ []) (suc w.next_op) p.0 p.1 × IsDeleteIn (fin.insert w.deletes w.next_op y) p.1) (same_delete (true, w.next_op) (cleans, d) e) (mine, (y, same_in w.deletes w.next_op y)))
+    where
+      x : Entry
+      x = told 0 (AskStep Cleanup) (Accepted w.next_op)
+
+      y : Deletion
+      y = record { uuids = []; clean = true; failed = false }
+
+      other : (o : ℕ) → (o < w.next_op) ⊎ (suc w.next_op ≤ o) → w.next_op ≡ o → ⊥
+      other o (inl below) same = omega (arith, below, same)
+      other o (inr above) same = omega (arith, above, same)
+
+      one : IsOne es w.next_op (suc w.next_op) (told 0 (AskStep Cleanup) (Accepted w.next_op))
+      one =
+          record {
+            up = one_up w.next_op;
+            giftless = tt;
+            no_ticket = λ k. (refl, refl, refl);
+            no_name = λ o any. (refl, elim (eqb_tells w.next_op o) [ inl t ↦ absurd (other o any t.1) | inr t ↦ t.0 ]);
+            said = tt;
+            settles = λ step. absurd (ask_settle Cleanup step);
+            prunes = λ step. absurd (ask_prune Cleanup step);
+            leaves = λ step. absurd (ask_drop Cleanup step);
+          }
+
+      mine : IsNameless (es ++ told 0 (AskStep Cleanup) (Accepted w.next_op) ∷ []) (suc w.next_op) true w.next_op
+      mine = record { unnamed = name_given es x w.next_op (h.coming w.next_op (same_up w.next_op)).0; below = below_up w.next_op; kind = cleans_given es x w.next_op (same_op w.next_op) }
+
+      told_deletes : (d : ℕ) (z : Deletion) → fin.get (fin.insert w.deletes w.next_op (record { uuids = []; clean = true; failed = false })) d ≡ Some z → IsToldDelete (es ++ told 0 (AskStep Cleanup) (Accepted w.next_op) ∷ []) (suc w.next_op) d z
+      told_deletes d z e = elim (was_in w.deletes w.next_op y d z e) [
+        | inl is ↦ subst (λ (p : ℕ × Deletion). IsToldDelete (es ++ x ∷ []) (suc w.next_op) p.0 p.1) (λ i. (sym is.0 i, is.1 i)) (record { unfailed = refl; nameless = mine })
+        | inr is ↦ deletes_stay (suc w.next_op) x one d z is.1
+      ]
+
+  asks_cleanup : (reply : Reply) (image : Option Image) → CleanupAllows w reply → IsCalm reply (AskStep Cleanup) → FollowsIn (after f w (moment 0 (AskStep Cleanup) reply image)) (es ++ told 0 (AskStep Cleanup) reply ∷ [])
+  asks_cleanup reply image (OpeningCleanup acc) calm = opens_cleanup
+  asks_cleanup reply image (OpStands o clear lowest) calm = stays (told 0 (AskStep Cleanup) (Refused (BusyOp o))) tt tt
+  asks_cleanup reply image (TicketStands k none lowest) calm = stays (told 0 (AskStep Cleanup) (Refused (BusyTicket k))) tt tt
+  asks_cleanup reply image (CleanupFault acc) calm = absurd calm
+
+  -- a command is asked for while a cleanup is open
+  cleaning : (command : Asked) (d : ℕ) → is_recorded command ≡ true → FollowsIn w (es ++ told 0 (AskStep command) (Refused (CleanupRunning d)) ∷ [])
+  cleaning (Snapshot name indices time) d recorded = stays (told 0 (AskStep (Snapshot name indices time)) (Refused (CleanupRunning d))) tt tt
+  cleaning (Clone source name names time None) d recorded = stays (told 0 (AskStep (Clone source name names time None)) (Refused (CleanupRunning d))) tt tt
+  cleaning (Clone source name names time (Some taken)) d recorded = stays (told 0 (AskStep (Clone source name names time (Some taken))) (Refused (CleanupRunning d))) tt tt
+  cleaning (DeleteSnapshots names) d recorded = stays (told 0 (AskStep (DeleteSnapshots names)) (Refused (CleanupRunning d))) tt tt
+  cleaning (Restore name place) d recorded = absurd (true≢false (sym recorded))
+  cleaning Cleanup d recorded = stays (told 0 (AskStep Cleanup) (Refused (CleanupRunning d))) tt tt
 
   -- ---- take
 
@@ -453,8 +541,8 @@ module _ (f : Formats) (size : ℕ) (w : World) (es : List Entry) (h : FollowsIn
       let op : Op = record g.op { shards = shards } in
       subst (λ (y : Option Op). FollowsIn (taken_by f w o (GivenShard index number base) y) (es ++ x ∷ [])) (sym g.ready.op_there)
       (subst (λ (y : Option ShardWork). FollowsIn (taken_shard w o g.op base y) (es ++ x ∷ [])) (sym g.found)
-      (given_on w.deposed w.ops (fin.insert w.ops o op) w.deletes w.tickets w.next_ticket w.next_op es o (GivenShard index number base) h (shards_on w.next_op x (same_up w.next_op) (λ q any. refl) o g.op g.ready.op_there shards) (stands_on w.ops o op)
-      (shard_ticket w o g.op g.s base) refl (λ e. absurd (shard_drop g.s.ref.id g.s.number e)) (λ info results made e. absurd (shard_final g.s.ref.id g.s.number info results made e)) (λ uuids plan e. absurd (shard_deleting g.s.ref.id g.s.number uuids plan e)) (λ final. absurd final)
+      (given_on w.deposed w.ops (fin.insert w.ops o op) w.deletes w.tickets w.next_ticket w.next_op es o (GivenShard index number base) h (shards_on w.next_op x (same_up w.next_op) (λ q any. (refl, refl)) o g.op g.ready.op_there shards) (stands_on w.ops o op)
+      (shard_ticket w o g.op g.s base) refl refl (λ e. absurd (shard_drop g.s.ref.id g.s.number e)) (λ info results made e. absurd (shard_final g.s.ref.id g.s.number info results made e)) (λ uuids plan e. absurd (shard_deleting g.s.ref.id g.s.number uuids plan e)) (λ final. absurd final)
       (λ info results made e. absurd (shard_final g.s.ref.id g.s.number info results made e))))
 
   -- a shard of a clone is given as another
@@ -465,19 +553,19 @@ module _ (f : Formats) (size : ℕ) (w : World) (es : List Entry) (h : FollowsIn
       let op : Op = record g.op { shards = shards } in
       subst (λ (y : Option Op). FollowsIn (taken_by f w o (GivenClone index number source base) y) (es ++ x ∷ [])) (sym g.ready.op_there)
       (subst (λ (y : Option ShardWork). FollowsIn (taken_shard w o g.op base y) (es ++ x ∷ [])) (sym g.found)
-      (given_on w.deposed w.ops (fin.insert w.ops o op) w.deletes w.tickets w.next_ticket w.next_op es o (GivenClone index number source base) h (shards_on w.next_op x (same_up w.next_op) (λ q any. refl) o g.op g.ready.op_there shards) (stands_on w.ops o op)
-      (shard_ticket w o g.op g.s base) refl (λ e. absurd (shard_drop g.s.ref.id g.s.number e)) (λ info results made e. absurd (shard_final g.s.ref.id g.s.number info results made e)) (λ uuids plan e. absurd (shard_deleting g.s.ref.id g.s.number uuids plan e)) (λ final. absurd final)
+      (given_on w.deposed w.ops (fin.insert w.ops o op) w.deletes w.tickets w.next_ticket w.next_op es o (GivenClone index number source base) h (shards_on w.next_op x (same_up w.next_op) (λ q any. (refl, refl)) o g.op g.ready.op_there shards) (stands_on w.ops o op)
+      (shard_ticket w o g.op g.s base) refl refl (λ e. absurd (shard_drop g.s.ref.id g.s.number e)) (λ info results made e. absurd (shard_final g.s.ref.id g.s.number info results made e)) (λ uuids plan e. absurd (shard_deleting g.s.ref.id g.s.number uuids plan e)) (λ final. absurd final)
       (λ info results made e. absurd (shard_final g.s.ref.id g.s.number info results made e))))
 
   -- the ops stay as a ticket is given
   ops_given : (k o : ℕ) (unit : Given) (q : ℕ) (op : Op) → fin.get w.ops q ≡ Some op → IsToldOp (es ++ gave k o unit ∷ []) w.next_op q op
-  ops_given k o unit q op e = ops_stay w.next_op (gave k o unit) (same_up w.next_op) (λ p any. refl) q op e
+  ops_given k o unit q op e = ops_stay w.next_op (gave k o unit) (same_up w.next_op) (λ p any. (refl, refl)) q op e
 
   gives_final : (o : ℕ) (info : SnapInfo) (results : List ShardResult) → GivesFinalize f w o info results → FollowsIn (taken_by f w o (GivenFinalize info results) (fin.get w.ops o)) (es ++ gave w.next_ticket o (GivenFinalize info results) ∷ [])
   gives_final o info results g =
       let all : List Entry = es ++ gave w.next_ticket o (GivenFinalize info results) ∷ [] in
       subst (λ (x : Option Op). FollowsIn (taken_by f w o (GivenFinalize info results) x) all) (sym g.ready.op_there)
-      (given_on w.deposed w.ops w.ops w.deletes w.tickets w.next_ticket w.next_op es o (GivenFinalize info results) h (ops_given w.next_ticket o (GivenFinalize info results)) (λ p was. was) (final_ticket f w o g.op results) refl
+      (given_on w.deposed w.ops w.ops w.deletes w.tickets w.next_ticket w.next_op es o (GivenFinalize info results) h (ops_given w.next_ticket o (GivenFinalize info results)) (λ p was. was) (final_ticket f w o g.op results) refl refl
       (λ e. absurd (final_drop (info_of g.op results) results (made_of f g.op) e)) (λ other rs made e. (g.op.name, (h.ops o g.op g.ready.op_there).named)) (λ uuids plan e. absurd (final_deleting (info_of g.op results) results (made_of f g.op) uuids plan e))
       (λ final. record { out = refl; unsettled = refl; final = tt })
       (λ other rs made e. ap (λ (y : SnapInfo). Some y.uuid) (g.info_is ∙ final_info (info_of g.op results) other results rs (made_of f g.op) made e)))
@@ -494,13 +582,20 @@ module _ (f : Formats) (size : ℕ) (w : World) (es : List Entry) (h : FollowsIn
 
   gives_drop : (o : ℕ) → ReadyDrop w o → FollowsIn (taken_by f w o GivenDrop (fin.get w.ops o)) (es ++ gave w.next_ticket o GivenDrop ∷ [])
   gives_drop o ready =
-      given_on w.deposed w.ops w.ops w.deletes w.tickets w.next_ticket w.next_op es o GivenDrop h (ops_given w.next_ticket o GivenDrop) (λ p was. was) (plain_ticket w o Drop) refl (λ e. stopped o ready)
+      given_on w.deposed w.ops w.ops w.deletes w.tickets w.next_ticket w.next_op es o GivenDrop h (ops_given w.next_ticket o GivenDrop) (λ p was. was) (plain_ticket w o Drop) refl refl (λ e. (stopped o ready, refl))
       (λ info results made e. absurd (drop_final info results made e)) (λ uuids plan e. absurd (drop_deleting uuids plan e)) (λ final. absurd final) (λ info results made e. absurd (drop_final info results made e))
 
   gives_delete : (o : ℕ) (uuids : List ℕ) (x : Deletion) → ReadyDelete w o x → FollowsIn (taken_by f w o (GivenDelete uuids) (fin.get w.ops o)) (es ++ gave w.next_ticket o (GivenDelete uuids) ∷ [])
   gives_delete o uuids x ready =
-      given_on w.deposed w.ops w.ops w.deletes w.tickets w.next_ticket w.next_op es o (GivenDelete uuids) h (ops_given w.next_ticket o (GivenDelete uuids)) (λ p was. was) (plain_ticket w o (Deleting uuids None)) refl (λ e. absurd (deleting_drop uuids None e))
-      (λ info results made e. absurd (deleting_final uuids None info results made e)) (λ us plan e. (h.deletes o x ready.there).nameless) (λ final. absurd final) (λ info results made e. absurd (deleting_final uuids None info results made e))
+      given_on w.deposed w.ops w.ops w.deletes w.tickets w.next_ticket w.next_op es o (GivenDelete uuids) h (ops_given w.next_ticket o (GivenDelete uuids)) (λ p was. was) (plain_ticket w o (Deleting uuids None)) refl refl (λ e. absurd (deleting_drop uuids None e))
+      (λ info results made e. absurd (deleting_final uuids None info results made e)) (λ us plan e. subst (λ (b : Bool). IsNameless es w.next_op b o) ready.deletes (h.deletes o x ready.there).nameless) (λ final. absurd final)
+      (λ info results made e. absurd (deleting_final uuids None info results made e))
+
+  gives_cleanup : (o : ℕ) (x : Deletion) → ReadyCleanup w o x → FollowsIn (taken_by f w o GivenCleanup (fin.get w.ops o)) (es ++ gave w.next_ticket o GivenCleanup ∷ [])
+  gives_cleanup o x ready =
+      given_on w.deposed w.ops w.ops w.deletes w.tickets w.next_ticket w.next_op es o GivenCleanup h (ops_given w.next_ticket o GivenCleanup) (λ p was. was) (cleaning_ticket w o) refl refl (λ e. absurd (deleting_drop [] None e))
+      (λ info results made e. absurd (deleting_final [] None info results made e)) (λ us plan e. subst (λ (b : Bool). IsNameless es w.next_op b o) ready.cleans (h.deletes o x ready.there).nameless) (λ final. absurd final)
+      (λ info results made e. absurd (deleting_final [] None info results made e))
 
   gives_restore : (o index number uuid : ℕ) → GivesRestore w o index number uuid → FollowsIn (taken_restore w o index number (fin.get w.restores o)) (es ++ gave w.next_ticket o (GivenRestore index number uuid) ∷ [])
   gives_restore o index number uuid g =
@@ -516,7 +611,7 @@ module _ (f : Formats) (size : ℕ) (w : World) (es : List Entry) (h : FollowsIn
   gives o (GivenRestore index number uuid) g = gives_restore o index number uuid g
   gives o (GivenClone index number source base) g = gives_clone o index number source base g
   gives o (GivenDelete uuids) g = gives_delete o uuids g.0 g.1
-  gives o GivenCleanup g = absurd g
+  gives o GivenCleanup g = gives_cleanup o g.0 g.1
 
   gives_as : (k o : ℕ) (unit : Given) → k ≡ w.next_ticket → Gives f w o unit → FollowsIn (taken_by f w o unit (fin.get w.ops o)) (es ++ gave k o unit ∷ [])
   gives_as k o unit is g = subst (λ (j : ℕ). FollowsIn (taken_by f w o unit (fin.get w.ops o)) (es ++ gave j o unit ∷ [])) (sym is) (gives o unit g)
@@ -524,12 +619,12 @@ module _ (f : Formats) (size : ℕ) (w : World) (es : List Entry) (h : FollowsIn
   -- ---- blobs
 
   commits : (k : ℕ) (t : Ticket) → fin.get w.tickets k ≡ Some t → (name : BlobName) (o : Option Bytes) (x : Entry) → IsPlain x.reply x.step → IsSaid x.step x.reply → FollowsIn (change w k (committing name o)) (es ++ x ∷ [])
-  commits k t there name None x plain said = changed k t there (committing name None) refl refl x (λ is. inl (record { out = is.out; unsettled = is.unsettled; final = is.final })) plain said
-  commits k t there name (Some bytes) x plain said = changed k t there (committing name (Some bytes)) refl refl x (λ is. inl (record { out = is.out; unsettled = is.unsettled; final = is.final })) plain said
+  commits k t there name None x plain said = changed k t there (committing name None) refl refl refl x (λ is. inl (record { out = is.out; unsettled = is.unsettled; final = is.final })) plain said
+  commits k t there name (Some bytes) x plain said = changed k t there (committing name (Some bytes)) refl refl refl x (λ is. inl (record { out = is.out; unsettled = is.unsettled; final = is.final })) plain said
 
   fetches : (k : ℕ) (t : Ticket) → fin.get w.tickets k ≡ Some t → (name : BlobName) (o : Option Bytes) (x : Entry) → IsPlain x.reply x.step → IsSaid x.step x.reply → FollowsIn (change w k (fetching name o)) (es ++ x ∷ [])
-  fetches k t there name None x plain said = changed k t there (fetching name None) refl refl x (λ is. inl is) plain said
-  fetches k t there name (Some bytes) x plain said = changed k t there (fetching name (Some bytes)) refl refl x (λ is. inl (record { out = is.out; unsettled = is.unsettled; final = is.final })) plain said
+  fetches k t there name None x plain said = changed k t there (fetching name None) refl refl refl x (λ is. inl is) plain said
+  fetches k t there name (Some bytes) x plain said = changed k t there (fetching name (Some bytes)) refl refl refl x (λ is. inl (record { out = is.out; unsettled = is.unsettled; final = is.final })) plain said
 
   -- ---- the end of a unit
 
@@ -542,14 +637,14 @@ module _ (f : Formats) (size : ℕ) (w : World) (es : List Entry) (h : FollowsIn
       subst (λ (o : Option Ticket). FollowsIn (done_of w k r o) (es ++ x ∷ [])) (sym d.out.there)
       (subst (λ (o : Option Op). FollowsIn (done_by w k r d.t o) (es ++ x ∷ [])) (sym d.op_there)
       (goes_on w.deposed w.ops (fin.insert w.ops d.t.op op) w.deletes w.deletes w.tickets (fin.insert w.tickets k (record d.t { out = false })) w.next_ticket w.next_op w.next_op es x h one (shards_on w.next_op x one.up one.no_name d.t.op d.op d.op_there shards) (deletes_stay w.next_op x one)
-      (kin_on w.tickets k d.t (record d.t { out = false }) d.out.there refl refl) (out_on w.tickets k d.t (record d.t { out = false }) x d.out.there refl (λ is. absurd (subst IsFinal d.is is.final))) (λ o name was. inl (stands_on w.ops d.t.op op o was)) (λ e nameless was. inl was)
-      (λ o e. absurd (none_some o e)) (λ e is. absurd (none_some e is))))
+      (kin_on w.tickets k d.t (record d.t { out = false }) d.out.there refl refl refl) (out_on w.tickets k d.t (record d.t { out = false }) x d.out.there refl (λ is. absurd (subst IsFinal d.is is.final))) (λ o name was. inl (stands_on w.ops d.t.op op o was)) (λ cleans e nameless was. inl was)
+      (λ o e. absurd (none_some o e)) (λ cleans e is. absurd (none_delete (cleans, e) None refl is))))
 
   settles : (k : ℕ) → Settles f w k → FollowsIn (settled_of f w k (fin.get w.tickets k)) (es ++ told k SettleStep WasSettled ∷ [])
   settles k s =
       subst (λ (v : World). FollowsIn v (es ++ told k SettleStep WasSettled ∷ [])) (sym (settled_plain f w k s))
-      (goes_on w.deposed w.ops (fin.remove w.ops s.t.op) w.deletes (fin.remove w.deletes s.t.op) w.tickets (fin.insert w.tickets k (record s.t { settled = true })) w.next_ticket w.next_op w.next_op es x h one (ops_left w.next_op x one s.t.op) (deletes_left w.next_op x one s.t.op)
-      (kin_on w.tickets k s.t (record s.t { settled = true }) s.may.out.there refl refl) (out_on w.tickets k s.t (record s.t { settled = true }) x s.may.out.there refl (λ is. inr (refl, refl))) leaves (stays_nameless s.t.op (es ++ x ∷ []) named) (λ o e. absurd (none_some o e)) (λ d e. absurd (none_some d e)))
+      (goes_on w.deposed w.ops (fin.remove w.ops s.t.op) w.deletes (fin.remove w.deletes s.t.op) w.tickets (fin.insert w.tickets k (record s.t { settled = true })) w.next_ticket w.next_op w.next_op es x h one (ops_left w.next_op x one s.t.op) (deletes_less w.next_op x one s.t.op)
+      (kin_on w.tickets k s.t (record s.t { settled = true }) s.may.out.there refl refl refl) (out_on w.tickets k s.t (record s.t { settled = true }) x s.may.out.there refl (λ is. inr (refl, refl))) leaves (stays_nameless s.t.op (es ++ x ∷ []) named) (λ o e. absurd (none_some o e)) (λ cleans d e. absurd (none_delete (cleans, d) None refl e)))
     where
       x : Entry
       x = told k SettleStep WasSettled
@@ -562,11 +657,12 @@ module _ (f : Formats) (size : ℕ) (w : World) (es : List Entry) (h : FollowsIn
           record {
             up = same_up w.next_op;
             giftless = tt;
-            no_ticket = λ j. (refl, refl);
-            no_name = λ o any. refl;
+            no_ticket = λ j. (refl, refl, refl);
+            no_name = λ o any. (refl, refl);
             said = tt;
             settles = λ step reply. (s.t.op, op_stays es (x ∷ []) k s.t.op (h.op_of k s.t s.may.out.there), named_on es x s.t.op named);
             prunes = λ step. absurd (settle_prune step);
+            leaves = λ step. absurd (settle_drop step);
           }
 
       it : IsSettledIn (es ++ told k SettleStep WasSettled ∷ []) s.t.op
@@ -587,31 +683,87 @@ module _ (f : Formats) (size : ℕ) (w : World) (es : List Entry) (h : FollowsIn
         | inr apart ↦ inl (was.0, stays_in w.ops s.t.op o apart ∙ was.1)
       ]
 
-  -- an op that was aborted leaves
-  drops : (k : ℕ) → Drops w k → FollowsIn (dropped_of w k (fin.get w.tickets k)) (es ++ told k DroppedStep HasEnded ∷ [])
-  drops k d =
-      let t : Ticket = d.may.t in
-      subst (λ (o : Option Ticket). FollowsIn (dropped_of w k o) (es ++ told k DroppedStep HasEnded ∷ [])) (sym d.may.out.there)
-      (goes_on w.deposed w.ops (fin.remove w.ops t.op) w.deletes (fin.remove w.deletes t.op) w.tickets (fin.insert w.tickets k (record t { out = false })) w.next_ticket w.next_op w.next_op es x h one (ops_left w.next_op x one t.op) (deletes_left w.next_op x one t.op)
-      (kin_on w.tickets k t (record t { out = false }) d.may.out.there refl refl) (out_on w.tickets k t (record t { out = false }) x d.may.out.there refl (λ is. absurd (subst IsFinal d.may.work is.final))) leaves (stays_nameless t.op (es ++ x ∷ []) (aborted_name es t.op was_aborted))
-      (λ o e. absurd (none_some o e)) (λ e is. absurd (none_some e is)))
-    where
-      x : Entry
-      x = told k DroppedStep HasEnded
+  -- its op leaves with a ticket
+  module _ (k : ℕ) (t : Ticket) (there : fin.get w.tickets k ≡ Some t) where
+    abbrev last : Entry
+    last = told k DroppedStep HasEnded
 
-      one : IsOne es w.next_op w.next_op (told k DroppedStep HasEnded)
-      one = plain_one es w.next_op w.next_op x (same_up w.next_op) tt tt
+    -- that of a cleanup has no name
+    drop_one : (is_cleanup_ticket es k ≡ true → IsNameless es w.next_op true t.op) → IsOne es w.next_op w.next_op (told k DroppedStep HasEnded)
+    drop_one nameless =
+        record {
+          up = same_up w.next_op;
+          giftless = tt;
+          no_ticket = λ j. (refl, refl, refl);
+          no_name = λ o any. (refl, refl);
+          said = tt;
+          settles = λ step. absurd (drop_settle step);
+          prunes = λ step. absurd (drop_prune step);
+          leaves = λ step reply. (
+            t.op,
+            op_stays es (last ∷ []) k t.op (h.op_of k t there),
+            λ cleans. nameless_on es last w.next_op w.next_op (same_up w.next_op) (λ o any. (refl, refl)) true t.op (nameless (sym (cleanup_stays es last k refl) ∙ cleans)),
+          );
+        }
 
-      was_aborted : IsAbortedIn es d.may.t.op
-      was_aborted = (h.units k d.may.t d.may.out.there).drops d.may.work
+    drop_on : IsOne es w.next_op w.next_op (told k DroppedStep HasEnded) → (IsFinal t.work → ⊥) → ((o : ℕ) → HasName es o → IsOpenIn w.ops o → IsEndedOr (fin.remove w.ops t.op) (es ++ told k DroppedStep HasEnded ∷ []) o)
+        → ((cleans : Bool) (d : ℕ) → IsNameless es w.next_op cleans d → IsDeleteIn w.deletes d → IsDeletedOr (fin.remove w.deletes t.op) (es ++ told k DroppedStep HasEnded ∷ []) cleans d)
+        → FollowsIn (dropped_of w k (fin.get w.tickets k)) (es ++ told k DroppedStep HasEnded ∷ [])
+    drop_on one no_final kept kept_deletes =
+        subst (λ (o : Option Ticket). FollowsIn (dropped_of w k o) (es ++ told k DroppedStep HasEnded ∷ [])) (sym there)
+        (goes_on w.deposed w.ops (fin.remove w.ops t.op) w.deletes (fin.remove w.deletes t.op) w.tickets (fin.insert w.tickets k (record t { out = false })) w.next_ticket w.next_op w.next_op es last h one (ops_left w.next_op last one t.op) (deletes_less w.next_op last one t.op)
+        (kin_on w.tickets k t (record t { out = false }) there refl refl refl) (out_on w.tickets k t (record t { out = false }) last there refl (λ is. absurd (no_final is.final))) kept kept_deletes (λ o e. absurd (none_some o e)) (λ cleans e is. absurd (none_delete (cleans, e) None refl is)))
 
-      leaves : (o : ℕ) → HasName es o → IsOpenIn w.ops o → IsEndedOr (fin.remove w.ops d.may.t.op) (es ++ told k DroppedStep HasEnded ∷ []) o
-      leaves o name was = elim (split_at o d.may.t.op) [
-        | inl same ↦ inr (inr (subst (IsAbortedIn (es ++ x ∷ [])) (sym same) (aborted_on es x d.may.t.op was_aborted)))
-        | inr apart ↦ inl (was.0, stays_in w.ops d.may.t.op o apart ∙ was.1)
-      ]
+    -- one that was aborted
+    drops_op : t.work ≡ Drop → FollowsIn (dropped_of w k (fin.get w.tickets k)) (es ++ told k DroppedStep HasEnded ∷ [])
+    drops_op work =
+        drop_on (drop_one (λ cleans. absurd (true≢false (sym cleans ∙ h.cleans k t there ∙ was.1)))) (λ final. subst IsFinal work final) leaves (stays_nameless t.op (es ++ last ∷ []) (aborted_name es t.op was.0))
+      where
+        was : IsAbortedIn es t.op × (t.clean ≡ false)
+        was = (h.units k t there).drops work
 
-  -- ---- steps of a delete's ticket
+        leaves : (o : ℕ) → HasName es o → IsOpenIn w.ops o → IsEndedOr (fin.remove w.ops t.op) (es ++ told k DroppedStep HasEnded ∷ []) o
+        leaves o name open_op = elim (split_at o t.op) [
+          | inl same ↦ inr (inr (subst (IsAbortedIn (es ++ last ∷ [])) (sym same) (aborted_on es last t.op was.0)))
+          | inr apart ↦ inl (open_op.0, stays_in w.ops t.op o apart ∙ open_op.1)
+        ]
+
+    -- that of a cleanup which came to its end
+    cleans_op : (image : Option Image) → HasCleaned f w k t image → FollowsIn (dropped_of w k (fin.get w.tickets k)) (es ++ told k DroppedStep HasEnded ∷ [])
+    cleans_op image c =
+        drop_on (drop_one (λ cleans. nameless)) (λ final. subst IsFinal c.work final) (stays_named true t.op (es ++ last ∷ []) nameless) leaves
+      where
+        nameless : IsNameless es w.next_op true t.op
+        nameless = subst (λ (b : Bool). IsNameless es w.next_op b t.op) c.clean ((h.units k t there).deletes c.uuids (Some c.s) c.work)
+
+        it : IsCleanedIn (es ++ told k DroppedStep HasEnded ∷ []) t.op
+        it =
+            record {
+              e = last;
+              has = Has-right es (last ∷ []) last (inl refl);
+              step = refl;
+              reply = refl;
+              op_is = op_stays es (last ∷ []) k t.op (h.op_of k t there);
+              cleans = cleanup_stays es last k refl ∙ h.cleans k t there ∙ c.clean;
+            }
+
+        leaves : (cleans : Bool) (d : ℕ) → IsNameless es w.next_op cleans d → IsDeleteIn w.deletes d → IsDeletedOr (fin.remove w.deletes t.op) (es ++ told k DroppedStep HasEnded ∷ []) cleans d
+        leaves true d none was = elim (split_at d t.op) [
+          | inl same ↦ inr (subst (IsCleanedIn (es ++ last ∷ [])) (sym same) it)
+          | inr apart ↦ inl (was.0, stays_in w.deletes t.op d apart ∙ was.1)
+        ]
+        leaves false d none was = elim (split_at d t.op) [
+          | inl same ↦ absurd (true≢false (sym nameless.kind ∙ ap (is_cleanup_op es) (sym same) ∙ none.kind))
+          | inr apart ↦ inl (was.0, stays_in w.deletes t.op d apart ∙ was.1)
+        ]
+
+  drops : (k : ℕ) (image : Option Image) → Drops f w k image → FollowsIn (dropped_of w k (fin.get w.tickets k)) (es ++ told k DroppedStep HasEnded ∷ [])
+  drops k image d = elim d.may.unit [
+    | inl work ↦ drops_op k d.may.t d.may.out.there work
+    | inr c ↦ cleans_op k d.may.t d.may.out.there image c
+  ]
+
+  -- ---- steps of the ticket of a delete or cleanup
 
   plans : (k : ℕ) (shards : List PrunedShard) (image : Option Image) (p : MayPlan f w k shards image) → FollowsIn (record (change w k (planned f shards w.next_id)) { next_id = w.next_id + kept_count shards }) (es ++ told k (PruneStep (PlanShards shards)) (DrawnFrom w.next_id) ∷ [])
   plans k shards image p =
@@ -619,17 +771,18 @@ module _ (f : Formats) (size : ℕ) (w : World) (es : List Entry) (h : FollowsIn
       subst (λ (o : Option Ticket). FollowsIn (record (with_given w k (planned f shards w.next_id) o) { next_id = w.next_id + kept_count shards }) (es ++ x ∷ [])) (sym p.deleting.out.there)
       (ticket_on k p.t (planned f shards w.next_id p.t) p.deleting.out.there kin refl x (λ is. absurd (subst IsFinal p.deleting.work is.final)) tt tt)
     where
-      work_is : (planned f shards w.next_id p.t).work ≡ Deleting p.uuids (Some (delete_swap f p.t.root p.t.read p.uuids shards w.next_id))
+      work_is : (planned f shards w.next_id p.t).work ≡ Deleting p.uuids (Some (delete_swap f p.t.clean p.t.root p.t.read p.uuids shards w.next_id))
       work_is = ap (planned_work f p.t shards w.next_id) p.deleting.work
 
       kin : (j : ℕ) (u : Ticket) → fin.get (fin.insert w.tickets k (planned f shards w.next_id p.t)) j ≡ Some u → IsKin w.tickets j u
       kin j u e = elim (was_in w.tickets k (planned f shards w.next_id p.t) j u e) [
         | inl is ↦
-            let mine : u.work ≡ Deleting p.uuids (Some (delete_swap f p.t.root p.t.read p.uuids shards w.next_id)) = ap (λ (y : Ticket). y.work) (sym is.1) ∙ work_is in
+            let mine : u.work ≡ Deleting p.uuids (Some (delete_swap f p.t.clean p.t.root p.t.read p.uuids shards w.next_id)) = ap (λ (y : Ticket). y.work) (sym is.1) ∙ work_is in
             record {
               was = p.t;
               there = ap (fin.get w.tickets) is.0 ∙ p.deleting.out.there;
               op_is = ap (λ (y : Ticket). y.op) is.1;
+              clean_is = ap (λ (y : Ticket). y.clean) is.1;
               drops = λ drop. absurd (deleting_drop p.uuids _ (sym mine ∙ drop));
               finals = λ info results made final. absurd (deleting_final p.uuids _ info results made (sym mine ∙ final));
               deletes = λ uuids plan deleting. (None, p.deleting.work ∙ ap (λ (us : List ℕ). Deleting us None) (same_uuids (sym mine ∙ deleting)));
@@ -637,44 +790,69 @@ module _ (f : Formats) (size : ℕ) (w : World) (es : List Entry) (h : FollowsIn
         | inr is ↦ kin_same w.tickets j u is.1
       ]
 
+  -- the op of a delete leaves with its settle, that of a cleanup stays
   settles_delete : (k : ℕ) → SettlesDeletion f w k → FollowsIn (delete_settled f w k (fin.get w.tickets k)) (es ++ told k (PruneStep SettlePruned) WasSettled ∷ [])
   settles_delete k s =
       subst (λ (v : World). FollowsIn v (es ++ told k (PruneStep SettlePruned) WasSettled ∷ [])) (sym (delete_settled_plain f w k s.n s.t s.s s.may))
-      (goes_on w.deposed w.ops (fin.remove w.ops s.t.op) w.deletes (fin.remove w.deletes s.t.op) w.tickets (fin.insert w.tickets k (record s.t { settled = true })) w.next_ticket w.next_op w.next_op es x h one (ops_left w.next_op x one s.t.op) (deletes_left w.next_op x one s.t.op)
-      (kin_on w.tickets k s.t (record s.t { settled = true }) s.may.out.there refl refl) (out_on w.tickets k s.t (record s.t { settled = true }) x s.may.out.there refl (λ is. absurd (subst IsFinal s.deleting.work is.final))) (stays_named s.t.op (es ++ x ∷ []) nameless) leaves
-      (λ o e. absurd (none_some o e)) (λ d e. absurd (none_some d e)))
+      (elim (bool_told s.t.clean) [
+        | inl clean ↦ subst (λ (left : Deletes). Follows w.deposed (fin.remove w.ops s.t.op) left (fin.insert w.tickets k (record s.t { settled = true })) w.next_ticket w.next_op (es ++ x ∷ [])) (sym (choose_true s.t.clean w.deletes (fin.remove w.deletes s.t.op) clean))
+            (leaves_with w.deletes (deletes_stay w.next_op x one) (λ cleans d none was. inl was))
+        | inr deletes ↦ subst (λ (left : Deletes). Follows w.deposed (fin.remove w.ops s.t.op) left (fin.insert w.tickets k (record s.t { settled = true })) w.next_ticket w.next_op (es ++ x ∷ [])) (sym (choose_false s.t.clean w.deletes (fin.remove w.deletes s.t.op) deletes))
+            (leaves_with (fin.remove w.deletes s.t.op) (deletes_less w.next_op x one s.t.op) (leaves deletes))
+      ])
     where
       x : Entry
       x = told k (PruneStep SettlePruned) WasSettled
 
-      nameless : IsNameless es w.next_op s.t.op
+      nameless : IsNameless es w.next_op s.t.clean s.t.op
       nameless = (h.units k s.t s.may.out.there).deletes s.uuids (Some s.s) s.deleting.work
+
+      cleans_is : is_cleanup_ticket (es ++ told k (PruneStep SettlePruned) WasSettled ∷ []) k ≡ s.t.clean
+      cleans_is = cleanup_stays es x k refl ∙ h.cleans k s.t s.may.out.there
 
       one : IsOne es w.next_op w.next_op (told k (PruneStep SettlePruned) WasSettled)
       one =
           record {
             up = same_up w.next_op;
             giftless = tt;
-            no_ticket = λ j. (refl, refl);
-            no_name = λ o any. refl;
+            no_ticket = λ j. (refl, refl, refl);
+            no_name = λ o any. (refl, refl);
             said = tt;
             settles = λ step. absurd (prune_settle step);
-            prunes = λ step reply. (s.t.op, op_stays es (x ∷ []) k s.t.op (h.op_of k s.t s.may.out.there), nameless_on es x w.next_op w.next_op (same_up w.next_op) (λ o any. refl) s.t.op nameless);
+            prunes = λ step reply. (
+              s.t.op,
+              op_stays es (x ∷ []) k s.t.op (h.op_of k s.t s.may.out.there),
+              subst (λ (b : Bool). IsNameless (es ++ x ∷ []) w.next_op b s.t.op) (sym cleans_is) (nameless_on es x w.next_op w.next_op (same_up w.next_op) (λ o any. (refl, refl)) s.t.clean s.t.op nameless),
+            );
+            leaves = λ step. absurd (prune_drop step);
           }
 
-      it : IsPrunedIn (es ++ told k (PruneStep SettlePruned) WasSettled ∷ []) s.t.op
-      it =
+      leaves_with : (left : Deletes) → ((d : ℕ) (y : Deletion) → fin.get left d ≡ Some y → IsToldDelete (es ++ told k (PruneStep SettlePruned) WasSettled ∷ []) w.next_op d y)
+          → ((cleans : Bool) (d : ℕ) → IsNameless es w.next_op cleans d → IsDeleteIn w.deletes d → IsDeletedOr left (es ++ told k (PruneStep SettlePruned) WasSettled ∷ []) cleans d)
+          → Follows w.deposed (fin.remove w.ops s.t.op) left (fin.insert w.tickets k (record s.t { settled = true })) w.next_ticket w.next_op (es ++ told k (PruneStep SettlePruned) WasSettled ∷ [])
+      leaves_with left told_deletes kept =
+          goes_on w.deposed w.ops (fin.remove w.ops s.t.op) w.deletes left w.tickets (fin.insert w.tickets k (record s.t { settled = true })) w.next_ticket w.next_op w.next_op es x h one (ops_left w.next_op x one s.t.op) told_deletes
+          (kin_on w.tickets k s.t (record s.t { settled = true }) s.may.out.there refl refl refl) (out_on w.tickets k s.t (record s.t { settled = true }) x s.may.out.there refl (λ is. absurd (subst IsFinal s.deleting.work is.final))) (stays_named s.t.clean s.t.op (es ++ x ∷ []) nameless) kept
+          (λ o e. absurd (none_some o e)) (λ cleans d e. absurd (none_delete (cleans, d) None refl e))
+
+      it : s.t.clean ≡ false → IsPrunedIn (es ++ told k (PruneStep SettlePruned) WasSettled ∷ []) s.t.op
+      it deletes =
           record {
-            e = told k (PruneStep SettlePruned) WasSettled;
-            has = Has-right es (told k (PruneStep SettlePruned) WasSettled ∷ []) (told k (PruneStep SettlePruned) WasSettled) (inl refl);
+            e = x;
+            has = Has-right es (x ∷ []) x (inl refl);
             step = refl;
             reply = refl;
-            op_is = op_stays es (told k (PruneStep SettlePruned) WasSettled ∷ []) k s.t.op (h.op_of k s.t s.may.out.there);
+            op_is = op_stays es (x ∷ []) k s.t.op (h.op_of k s.t s.may.out.there);
+            deletes = cleans_is ∙ deletes;
           }
 
-      leaves : (d : ℕ) → IsNameless es w.next_op d → IsDeleteIn w.deletes d → IsDeletedOr (fin.remove w.deletes s.t.op) (es ++ told k (PruneStep SettlePruned) WasSettled ∷ []) d
-      leaves d none was = elim (split_at d s.t.op) [
-        | inl same ↦ inr (subst (IsPrunedIn (es ++ told k (PruneStep SettlePruned) WasSettled ∷ [])) (sym same) it)
+      leaves : s.t.clean ≡ false → (cleans : Bool) (d : ℕ) → IsNameless es w.next_op cleans d → IsDeleteIn w.deletes d → IsDeletedOr (fin.remove w.deletes s.t.op) (es ++ told k (PruneStep SettlePruned) WasSettled ∷ []) cleans d
+      leaves deletes false d none was = elim (split_at d s.t.op) [
+        | inl same ↦ inr (subst (IsPrunedIn (es ++ x ∷ [])) (sym same) (it deletes))
+        | inr apart ↦ inl (was.0, stays_in w.deletes s.t.op d apart ∙ was.1)
+      ]
+      leaves deletes true d none was = elim (split_at d s.t.op) [
+        | inl same ↦ absurd (true≢false (sym none.kind ∙ ap (is_cleanup_op es) same ∙ nameless.kind ∙ deletes))
         | inr apart ↦ inl (was.0, stays_in w.deletes s.t.op d apart ∙ was.1)
       ]
 
@@ -684,7 +862,7 @@ module _ (f : Formats) (size : ℕ) (w : World) (es : List Entry) (h : FollowsIn
   prunes k prune reply image (Planning j shards im p fits back same) calm = plans j shards im p
   prunes k prune reply image (SettlingDelete j im s present same) calm = settles_delete j s
   prunes k prune reply image (RemovingDoomed j names im r left) calm = stays (told j (PruneStep (RemoveDoomed names)) WasRemoved) tt tt
-  prunes k prune reply image (EndingDelete j im e same) calm = changed j e.t e.deleting.out.there (λ t. record t { out = false }) refl refl (told j (PruneStep EndDelete) HasEnded) (λ is. absurd (subst IsFinal e.deleting.work is.final)) tt tt
+  prunes k prune reply image (EndingDelete j im e same) calm = changed j e.t e.deleting.out.there (λ t. record t { out = false }) refl refl refl (told j (PruneStep EndDelete) HasEnded) (λ is. absurd (subst IsFinal e.deleting.work is.final)) tt tt
   prunes k prune reply image other calm = absurd calm
 
   -- ---- restores, and what is read
@@ -723,22 +901,23 @@ module _ (f : Formats) (size : ℕ) (w : World) (es : List Entry) (h : FollowsIn
   follows_by who step reply image (allowed.GivingNothing im none same) calm safe = stays (told 0 TakeStep NothingReady) tt tt
   follows_by who step reply image (allowed.Giving k o unit im is lowest g same) calm safe = gives_as k o unit is g
   follows_by who step reply image (allowed.Drawing k n first im d same) calm safe =
-      changed k d.may.t d.may.out.there (λ t. record t { first = w.next_id; drawn = n }) refl refl (told k (DrawStep n) (DrawnFrom first)) (λ is. inl (record { out = is.out; unsettled = is.unsettled; final = is.final })) tt tt
+      changed k d.may.t d.may.out.there (λ t. record t { first = w.next_id; drawn = n }) refl refl refl (told k (DrawStep n) (DrawnFrom first)) (λ is. inl (record { out = is.out; unsettled = is.unsettled; final = is.final })) tt tt
   follows_by who step reply image (allowed.Beginning k name im c same) calm safe = stays (told k (BeginStep name) WasBegun) tt tt
   follows_by who step reply image (allowed.BeginningLatest k im c same) calm safe = stays (told k (BeginStep Latest) WasBegun) tt tt
   follows_by who step reply image (allowed.Committing k name im c adds) calm safe = commits k c.t c.out.there name (told_blob f im name) (told k (CommitStep name) WasDone) tt tt
   follows_by who step reply image (allowed.Finding k name im c found) calm safe = commits k c.t c.out.there name None (told k (CommitStep name) WasThere) tt tt
   follows_by who step reply image (allowed.Replacing k im c named puts) calm safe =
-      changed k c.t c.out.there (λ t. record t { tried_latest = true }) refl refl (told k LatestStep WasReplaced) (λ is. inl (record { out = is.out; unsettled = is.unsettled; final = is.final })) tt tt
+      changed k c.t c.out.there (λ t. record t { tried_latest = true }) refl refl refl (told k LatestStep WasReplaced) (λ is. inl (record { out = is.out; unsettled = is.unsettled; final = is.final })) tt tt
   follows_by who step reply image (allowed.Fetching k name im g found) calm safe = fetches k g.t g.out.there name (told_blob f im name) (told k (FetchStep name) WasFetched) tt tt
   follows_by who step reply image (allowed.Missing k name im g found) calm safe = stays (told k (FetchStep name) WasAbsent) tt tt
-  follows_by who step reply image (allowed.Listing k im t out same) calm safe = stays (told k ListStep WasListed) tt tt
+  follows_by who step reply image (allowed.Listing k from page im g shape here) calm safe =
+      changed k g.t g.out.there (λ t. listing t page) refl refl refl (told k (ListStep from) (WasListed page)) (λ is. inl (record { out = is.out; unsettled = is.unsettled; final = is.final })) tt tt
   follows_by who step reply image (allowed.Raising k n im r same) calm safe =
-      changed k r.may.t r.may.out.there (λ t. record t { raised = Some w.pending }) refl refl (told k RaiseStep (RaisedTo n)) (λ is. inl (record { out = is.out; unsettled = is.unsettled; final = is.final })) tt tt
+      changed k r.may.t r.may.out.there (λ t. record t { raised = Some w.pending }) refl refl refl (told k RaiseStep (RaisedTo n)) (λ is. inl (record { out = is.out; unsettled = is.unsettled; final = is.final })) tt tt
   follows_by who step reply image (allowed.Settling k im s same) calm safe = settles k s
   follows_by who step reply image (allowed.Doing k r im d same) calm safe = does k r im d
-  follows_by who step reply image (allowed.Finishing k im c same) calm safe = changed k c.t c.out.there (λ t. record t { out = false }) refl refl (told k FinishStep HasEnded) (λ is. inr (refl, refl)) tt tt
-  follows_by who step reply image (allowed.Dropping k im c same) calm safe = drops k c
+  follows_by who step reply image (allowed.Finishing k im c same) calm safe = changed k c.t c.out.there (λ t. record t { out = false }) refl refl refl (told k FinishStep HasEnded) (λ is. inr (refl, refl)) tt tt
+  follows_by who step reply image (allowed.Dropping k im c same) calm safe = drops k im c
   follows_by who step reply image (allowed.Electing im room same) calm safe = stays (told 0 ElectStep (ElectedTerm (suc w.term))) tt tt
   follows_by who step reply image (allowed.Looking im same) calm safe = stays (told 0 LookStep (Looked w.root.snapshots w.safe)) tt tt
   follows_by who step reply image (allowed.Used name indices time uuid im clear is same) calm safe = stays (told 0 (AskStep (Snapshot name indices time)) (Refused (NameInUse uuid))) tt tt
@@ -746,9 +925,10 @@ module _ (f : Formats) (size : ℕ) (w : World) (es : List Entry) (h : FollowsIn
   follows_by who step reply image (allowed.AskingRestore name place rep im a same) calm safe = asks_restore name place rep im a
   follows_by who step reply image (allowed.AskingClone source name names time taken rep im a same) calm safe = asks_clone source name names time taken rep im a calm
   follows_by who step reply image (allowed.AskingDelete names rep im a same) calm safe = asks_delete safe names rep im a calm
+  follows_by who step reply image (allowed.AskingCleanup rep im a same) calm safe = asks_cleanup rep im a calm
   follows_by who step reply image (allowed.Reading k read rep im a same) calm safe = reads k read rep im a calm
   follows_by who step reply image (allowed.Verifying read rep im a) calm safe = verifies read rep im a calm
-  follows_by who step reply image (allowed.Cleaning command d x im recorded there clean same) calm safe = absurd (no_cleaning command d calm)
+  follows_by who step reply image (allowed.Cleaning command d x im recorded there clean same) calm safe = cleaning command d recorded
   follows_by who step reply image (allowed.Pruning k prune rep im p) calm safe = prunes k prune rep im p calm
   follows_by who step reply image other calm safe = absurd calm
 

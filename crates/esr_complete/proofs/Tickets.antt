@@ -1,11 +1,12 @@
 -- What a longer history tells of tickets, of the names of ops and of the finalizations that are out.
-use Rattle.std.proofs.Common.{◌≡◌, ℕ, Bool, true, false, List, [], ◌∷◌, ◌++◌, Option, Some, None, if◌then◌else◌, ◌==◌, ◌&&◌, ◌⊎◌, refl, sym, ap, ◌∙◌, inl, inr}
+use Rattle.std.proofs.Common.{◌≡◌, ℕ, Bool, true, false, true≢false, ◌||◌, List, [], ◌∷◌, ◌++◌, Option, Some, None, if◌then◌else◌, ◌==◌, ◌&&◌, ◌⊎◌, refl, sym, ap, ◌∙◌, inl, inr}
 use Rattle.std.proofs.lemmas.Bool.Decides.{eqb_tells}
 use Rattle.esr_model.specs.Values.{Bytes}
-use Rattle.esr_core.specs.Entry.{Given, GivenFinalize, Reply, Gave, ElectedTerm, Entry}
+use Rattle.esr_core.specs.Entry.{Cleanup, Given, GivenFinalize, Step, AskStep, Reply, Accepted, Gave, ElectedTerm, Entry}
 use Rattle.esr_core.specs.After.{or_else}
 use Rattle.esr_core.proofs.Results.{choose_true, choose_false}
-use Rattle.esr_report.specs.Replies.{op_by, op_of_ticket, uuid_by, uuid_of_ticket, name_by, name_of_op, is_over, final_given, final_kept, final_step, final_from, final_out}
+use Rattle.esr_report.specs.Cleaned.{is_cleanup, cleanup_by, is_cleanup_ticket}
+use Rattle.esr_report.specs.Replies.{op_by, op_of_ticket, is_op, uuid_by, uuid_of_ticket, name_by, name_of_op, is_over, final_given, final_kept, final_step, final_from, final_out}
 
 pub none_some : {A : Type 0} (x : A) → ◌≡◌ {A = Option A} None (Some x) → ⊥
 none_some x e = cc
@@ -41,6 +42,60 @@ op_given es x k e = op_append es (x ∷ []) k ∙ ap (λ (a : Option ℕ). or_el
 
 pub uuid_given : (es : List Entry) (x : Entry) (k : ℕ) → uuid_of_ticket es k ≡ None → uuid_of_ticket (es ++ x ∷ []) k ≡ uuid_by x.reply k
 uuid_given es x k e = uuid_append es (x ∷ []) k ∙ ap (λ (a : Option ℕ). or_else a (or_else (uuid_by x.reply k) None)) e ∙ or_none (uuid_by x.reply k)
+
+-- ---- the tickets of cleanups
+
+or_false : (a : Bool) → (a || false) ≡ a
+or_false true = refl
+or_false false = refl
+
+-- one more entry tells what there is
+pub cleanup_given : (es : List Entry) (x : Entry) (k : ℕ) → is_cleanup_ticket es k ≡ false → is_cleanup_ticket (es ++ x ∷ []) k ≡ cleanup_by x.reply k
+cleanup_given [] x k e = or_false (cleanup_by x.reply k)
+cleanup_given (y ∷ es) x k e =
+    let parts = neither (cleanup_by y.reply k) (is_cleanup_ticket es k) e in
+    ap (λ (b : Bool). b || is_cleanup_ticket (es ++ x ∷ []) k) parts.0 ∙ cleanup_given es x k parts.1
+  where
+    neither : (a b : Bool) → (a || b) ≡ false → (a ≡ false) × (b ≡ false)
+    neither true b h = absurd (true≢false h)
+    neither false b h = (refl, h)
+
+-- unless it tells something what was told stays
+pub cleanup_stays : (es : List Entry) (x : Entry) (k : ℕ) → cleanup_by x.reply k ≡ false → is_cleanup_ticket (es ++ x ∷ []) k ≡ is_cleanup_ticket es k
+cleanup_stays [] x k e = or_false (cleanup_by x.reply k) ∙ e
+cleanup_stays (y ∷ es) x k e = ap (λ (b : Bool). cleanup_by y.reply k || b) (cleanup_stays es x k e)
+
+-- a take gives it to its own ticket alone
+pub cleanup_same : (ticket op : ℕ) (unit : Given) → cleanup_by (Gave ticket op unit) ticket ≡ is_cleanup unit
+cleanup_same ticket op unit = elim (eqb_tells ticket ticket) [ inl h ↦ ap (λ (b : Bool). b && is_cleanup unit) h.0 | inr h ↦ absurd (h.1 refl) ]
+
+pub cleanup_other : (ticket op : ℕ) (unit : Given) (k : ℕ) → (ticket ≡ k → ⊥) → cleanup_by (Gave ticket op unit) k ≡ false
+cleanup_other ticket op unit k apart = elim (eqb_tells ticket k) [ inl h ↦ absurd (apart h.1) | inr h ↦ ap (λ (b : Bool). b && is_cleanup unit) h.0 ]
+
+-- ---- the ops of cleanups
+
+-- the op as which a cleanup was accepted
+abbrev pub cleanup_of : Step → Reply → Option ℕ
+cleanup_of (AskStep Cleanup) (Accepted op) = Some op
+cleanup_of step reply = None
+
+-- a cleanup was accepted as this op
+abbrev pub is_cleanup_op : List Entry → ℕ → Bool
+is_cleanup_op [] o = false
+is_cleanup_op (e ∷ es) o = is_op o (cleanup_of e.step e.reply) || is_cleanup_op es o
+
+pub cleans_stays : (es : List Entry) (x : Entry) (o : ℕ) → is_op o (cleanup_of x.step x.reply) ≡ false → is_cleanup_op (es ++ x ∷ []) o ≡ is_cleanup_op es o
+cleans_stays [] x o e = or_false (is_op o (cleanup_of x.step x.reply)) ∙ e
+cleans_stays (y ∷ es) x o e = ap (λ (b : Bool). is_op o (cleanup_of y.step y.reply) || b) (cleans_stays es x o e)
+
+or_true : (a b : Bool) → b ≡ true → (a || b) ≡ true
+or_true true b e = refl
+or_true false b e = e
+
+-- where one more entry accepts it
+pub cleans_given : (es : List Entry) (x : Entry) (o : ℕ) → is_op o (cleanup_of x.step x.reply) ≡ true → is_cleanup_op (es ++ x ∷ []) o ≡ true
+cleans_given [] x o e = or_false (is_op o (cleanup_of x.step x.reply)) ∙ e
+cleans_given (y ∷ es) x o e = or_true (is_op o (cleanup_of y.step y.reply)) (is_cleanup_op (es ++ x ∷ []) o) (cleans_given es x o e)
 
 -- ---- the names of ops
 

@@ -2,7 +2,7 @@
 use Rattle.std.proofs.Common.{◌≡◌, ℕ, zero, suc, ◌-◌, Bool, true, false, ◌||◌, if◌then◌else◌, List, [], ◌∷◌, ◌++◌, length, take, Option, Some, None, map, option_map, refl, sym, ap, ◌∙◌, subst, inl, inr}
 use Rattle.esr_model.specs.Values.{Bytes, Has}
 use Rattle.esr_core.specs.Entry as entry
-use Rattle.esr_core.specs.Entry.{Asked, CloneOf, Clone, DeleteSnapshots, AsksNoClone, Restore, CheckedAll, DrawTest, VerifiedAll, Step, AskStep, LookStep, ReadStep, Entry, Moment}
+use Rattle.esr_core.specs.Entry.{Asked, CloneOf, Clone, DeleteSnapshots, AsksNoClone, Restore, Cleanup, CheckedAll, DrawTest, VerifiedAll, Step, AskStep, LookStep, ReadStep, Entry, Moment}
 use Rattle.esr_script.specs.declared.item.Item.{Item}
 use Rattle.esr_script.specs.declared.item.Item.TheVariants as items
 use Rattle.esr_script.specs.declared.item.ScriptLine.{ScriptLine}
@@ -277,6 +277,12 @@ module _ (script : List ScriptLine) (later : List Entry) where
       let n = next_same all step (steps_of moment lines) (kinds_of lines) rest facts (ask_no_read (Restore name place)) (λ source called names when taken same. cc) turn e in
       by_entry all rest (items.Restore name place) lines (λ x. x.step ≡ step) (steps_of moment lines) (kinds_of lines) refl facts n
       (subst (λ (x : Step). IsAnswerOf script (items.Restore name place) (answer_at all x n.e.reply)) (sym n.own) (n.fact.restored name place n.own name place))
+      (on n.es n.facts n.turn n.more_is)
+  walk_item all rest moment items.Cleanup lines facts known turn e on =
+      let step : Step = AskStep Cleanup in
+      let n = next_same all step (steps_of moment lines) (kinds_of lines) rest facts (ask_no_read Cleanup) (λ source called names when taken same. cc) turn e in
+      by_entry all rest items.Cleanup lines (λ x. x.step ≡ step) (steps_of moment lines) (kinds_of lines) refl facts n
+      (subst (λ (x : Step). IsAnswerOf script items.Cleanup (answer_at all x n.e.reply)) (sym n.own) (n.fact.cleaned n.own))
       (on n.es n.facts n.turn n.more_is)
   walk_item all rest moment items.Wait lines facts known turn e on =
       subst (λ (b : Bool). IsFirst items.Wait lines (wait_reply (false || b) ∷ replies_from all lines false later rest)) (sym (unfallen_then all rest facts)) (tt, on rest facts turn e)

@@ -2,16 +2,16 @@
 use Rattle.std.specs.Prelude.{◌≡◌, ◌⊎◌, ℕ, false, List, [], ◌∷◌}
 use Rattle.esr_model.specs.Values.{Bytes, Has}
 use Rattle.esr_core.specs.Ready.{AnyReady}
-use Rattle.esr_core.specs.Entry.{Entry, Moment}
+use Rattle.esr_core.specs.Entry.{Refusal, CleanupRunning, Entry, Moment}
 use Rattle.esr_script.specs.declared.item.Item.{Item}
 use Rattle.esr_script.specs.declared.item.Item.TheVariants as items
 use Rattle.esr_script.specs.declared.item.ScriptLine.{ScriptLine}
-use Rattle.esr_report.specs.Replies.{Reply, Made, Deleted, Restored, Waited, Listed, Checked, Verified, Refused, Aborted}
+use Rattle.esr_report.specs.Replies.{Reply, Made, Deleted, Restored, Cleaned, Waited, Listed, Checked, Verified, Refused, Aborted}
 use Rattle.esr_report.specs.Status.{ending, AllOk, SomeRefused}
 use Rattle.esr_desk.specs.Start.{Start, world_of}
 use Rattle.esr_desk.specs.Grew.{NoneOut}
 use Rattle.esr_desk.specs.Own.{reader_of}
-use Rattle.esr_quiet.specs.Refusals.{RefusesSnapshot, RefusesRestore, RefusesClone, RefusesDelete}
+use Rattle.esr_quiet.specs.Refusals.{RefusesSnapshot, RefusesRestore, RefusesClone, RefusesDelete, RefusesCleanup}
 
 -- no ticket of a restore is out
 abbrev pub NoReaderOut : Start → List Moment → Type 0
@@ -27,19 +27,27 @@ pub record IsIdle (s : Start) (log : List Moment) : Type 0 where
 abbrev pub IsDeletedBy : List ScriptLine → Bytes → Type 0
 IsDeletedBy script name = (line : ScriptLine) × (names : List Bytes) × Has script line × (line.item ≡ items.Delete names) × Has names name
 
+-- a cleanup runs only where some line of the script asks for one
+abbrev pub IsCleaningBy : List ScriptLine → Refusal → Type 0
+IsCleaningBy script (CleanupRunning op) = (line : ScriptLine) × Has script line × (line.item ≡ items.Cleanup)
+IsCleaningBy script refusal = Unit {0}
+
 -- The answer of a line of the script: a snapshot or a clone was made, or aborted by a delete for which the script asks, or snapshots were
--- deleted, or a restore has restored each shard, or a rule refused it; the safe root was checked; the container was verified.
+-- deleted, or a restore has restored each shard, or a cleanup came to its end, or a rule refused it; the safe root was checked; the
+-- container was verified.
 abbrev pub IsAnswer : List ScriptLine → Item → Reply → Type 0
 IsAnswer script (items.Snapshot name indices) (Made uuid) = Unit {0}
 IsAnswer script (items.Snapshot name indices) (Aborted by) = IsDeletedBy script name
-IsAnswer script (items.Snapshot name indices) (Refused refusal) = RefusesSnapshot refusal
+IsAnswer script (items.Snapshot name indices) (Refused refusal) = RefusesSnapshot refusal × IsCleaningBy script refusal
 IsAnswer script (items.Clone source name indices) (Made uuid) = Unit {0}
 IsAnswer script (items.Clone source name indices) (Aborted by) = IsDeletedBy script name
-IsAnswer script (items.Clone source name indices) (Refused refusal) = RefusesClone refusal
+IsAnswer script (items.Clone source name indices) (Refused refusal) = RefusesClone refusal × IsCleaningBy script refusal
 IsAnswer script (items.Delete names) (Deleted op) = Unit {0}
-IsAnswer script (items.Delete names) (Refused refusal) = RefusesDelete refusal
+IsAnswer script (items.Delete names) (Refused refusal) = RefusesDelete refusal × IsCleaningBy script refusal
 IsAnswer script (items.Restore name place) (Restored files bytes) = Unit {0}
 IsAnswer script (items.Restore name place) (Refused refusal) = RefusesRestore refusal
+IsAnswer script items.Cleanup (Cleaned blobs bytes) = Unit {0}
+IsAnswer script items.Cleanup (Refused refusal) = RefusesCleanup refusal × IsCleaningBy script refusal
 IsAnswer script items.Wait Waited = Unit {0}
 IsAnswer script items.List (Listed snapshots) = Unit {0}
 IsAnswer script items.Check (Checked snapshots blobs) = Unit {0}

@@ -1,7 +1,7 @@
 -- What the lines of a script ask for.
 use Rattle.std.specs.Prelude.{ℕ, List, [], ◌∷◌, ◌++◌, map, None}
 use Rattle.esr_model.specs.Values.{Bytes}
-use Rattle.esr_core.specs.Entry.{AskedIndex, Asked, Snapshot, Clone, DeleteSnapshots, Restore, DrawTest, Step, AskStep, LookStep, ReadStep, Entry, Moment}
+use Rattle.esr_core.specs.Entry.{AskedIndex, Asked, Snapshot, Clone, DeleteSnapshots, Restore, Cleanup, DrawTest, Step, AskStep, LookStep, ReadStep, Entry, Moment}
 use Rattle.esr_script.specs.declared.item.AskedIndex.{AskedIndex as LineIndex}
 use Rattle.esr_script.specs.declared.item.Item.{Item}
 use Rattle.esr_script.specs.declared.item.Item.TheVariants as items
@@ -15,13 +15,13 @@ abbrev pub command_of_line : Bytes → List LineIndex → ℕ → Asked
 command_of_line name indices moment = Snapshot name (map index_of_line indices) moment
 
 -- the step that a line asks for: a check begins with its look, a verification with its draw; what a clone takes its entry alone
--- tells; a wait asks for none, nor does a command that is not there yet
+-- tells; a wait asks for none, nor does a failover, which is made in the next wait
 abbrev pub steps_of_item : ℕ → Item → List Step
 steps_of_item moment (items.Snapshot name indices) = AskStep (command_of_line name indices moment) ∷ []
 steps_of_item moment (items.Clone source name indices) = AskStep (Clone source name indices moment None) ∷ []
 steps_of_item moment (items.Delete names) = AskStep (DeleteSnapshots names) ∷ []
 steps_of_item moment (items.Restore name place) = AskStep (Restore name place) ∷ []
-steps_of_item moment items.Cleanup = []
+steps_of_item moment items.Cleanup = AskStep Cleanup ∷ []
 steps_of_item moment items.Failover = []
 steps_of_item moment items.Wait = []
 steps_of_item moment items.List = LookStep ∷ []
@@ -33,12 +33,13 @@ abbrev pub steps_of : ℕ → List ScriptLine → List Step
 steps_of moment [] = []
 steps_of moment (line ∷ lines) = steps_of_item moment line.item ++ steps_of moment lines
 
--- a snapshot, a clone, a delete, a restore, a wait, a list, a check or a verification, and no command that is not there yet
+-- any line but a failover
 abbrev pub IsKnown : Item → Type 0
 IsKnown (items.Snapshot name indices) = Unit {0}
 IsKnown (items.Clone source name indices) = Unit {0}
 IsKnown (items.Delete names) = Unit {0}
 IsKnown (items.Restore name place) = Unit {0}
+IsKnown items.Cleanup = Unit {0}
 IsKnown items.Wait = Unit {0}
 IsKnown items.List = Unit {0}
 IsKnown items.Check = Unit {0}

@@ -11,7 +11,7 @@ ghost use Rattle.esr_complete.specs.Lines.{steps_of, AreKnown, entries_of};
 ghost use Rattle.esr_complete.specs.InTurn.{IsInTurn, AreChecksInTurn};
 ghost use Rattle.esr_complete.specs.Answers.{IsIdle, AreAnswered, EndsWell};
 
-/// Over quiet objects that tell, where what was asked is what the lines ask for and the units were worked until none was ready, each snapshot and each clone was made, or aborted by a delete, each delete was carried out and each restore gave back its shards, or a rule refused it, each wait and list was answered, and each check and verification ended well.
+/// Over quiet objects that tell, where what was asked is what the lines ask for and the units were worked until none was ready, each snapshot and each clone was made, or aborted by a delete, each delete was carried out, each restore gave back its shards and each cleanup came to its end, or a rule refused it, each wait and list was answered, and each check and verification ended well.
 pub fn smooth_runs_are_answered()
     ensures answered { (s : Start) (log : List Moment) (lines : List ScriptLine) (moment : ℕ) → IsSmooth s log → NoneFailed log → NoneUndeleted log → NoneUnrestored log → NoneUnverified log → AreChecksInTurn moment lines log → AreByRule log → IsInTurn s log → IsIdle s log → AreKnown lines → asked_steps log ≡ steps_of moment lines
         → AreAnswered lines (replies lines (entries_of log)) }

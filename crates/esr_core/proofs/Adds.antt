@@ -70,4 +70,4 @@ module _ (f : Formats) (blobs : Blobs) (name : BlobName) (bytes : Bytes) (named 
       }
 
   pub ticket_added : (ledger : Ledger) (shelf : List Shelved) (t : Ticket) → TicketLaw f was doomed ledger shelf t → TicketLaw f now doomed ledger shelf t
-  ticket_added ledger shelf t l = record { term = l.term; raised = l.raised; last = l.last; clean = l.clean; clean_root = l.clean_root; shape = l.shape; swaps = λ s i c. swap_added shelf t.noted s (l.swaps s i c) }
+  ticket_added ledger shelf t l = record { term = l.term; raised = l.raised; last = l.last; clean = l.clean; clean_root = l.clean_root; listed = l.listed; shape = l.shape; swaps = λ s i c. swap_added shelf t.noted s (l.swaps s i c) }

@@ -46,6 +46,7 @@ ticket_up f t c d le h =
       copy = root_up t.root c d le h.copy;
       own = λ s e name b m. below_up name c d le (h.own s e name b m);
       root = λ s e. root_up s.root c d le (h.root s e);
+      listed = λ name m. below_up name c d le (h.listed name m);
     }
 
 pub ids_up : (f : Formats) (c d : ℕ) → c ≤ d → (blobs : Blobs) (doomed : List BlobName) (root : RootData) (ops : Ops) (tickets : Tickets) → Ids f c blobs doomed root ops tickets → Ids f d blobs doomed root ops tickets

@@ -164,6 +164,7 @@ tracked_aside_of w new a l = subst Tracked (sym a.new_is) (record {
   finals = l.finals;
   drops = l.drops;
   deleting = l.deleting;
+  deletions = l.deletions;
   one_swap = l.one_swap;
   named = l.named;
   in_term = record { from = l.in_term.from; below = l.in_term.below };

@@ -3,6 +3,7 @@ use Rattle.std.proofs.Common.{◌≡◌, ◌⊎◌, ℕ, Option, Some, None, ref
 use Rattle.std.specs.FinMap as fin
 use Rattle.esr_model.specs.Names.{BlobName, Latest}
 use Rattle.esr_model.specs.Values.{Bytes, Has, Formats}
+use Rattle.esr_model.specs.Cleanup.{IsPageOf}
 use Rattle.esr_model.specs.Image.{Blobs, Image, IsStored, Present}
 use Rattle.esr_core.specs.World.{World}
 use Rattle.esr_core.specs.Steps.{Removes}
@@ -67,7 +68,7 @@ module _ (f : Formats) (w : World) (i : Image) where
   allows size who step reply image told (allowed.Replacing k im c named puts) = NewLatest (latest_text c.n) refl named (told_at im told (λ blobs. blobs ≡ fin.insert w.blobs (f.names.text Latest) (latest_text c.n)) puts)
   allows size who step reply image told (allowed.Fetching k name im g found) = NoBlobChange (told_at im told (λ blobs. (bytes : Bytes) × (fin.get w.blobs (f.names.text name) ≡ Some bytes) × (blobs ≡ w.blobs)) found).2
   allows size who step reply image told (allowed.Missing k name im g found) = NoBlobChange (told_at im told (λ blobs. (fin.get w.blobs (f.names.text name) ≡ None) × (blobs ≡ w.blobs)) found).1
-  allows size who step reply image told (allowed.Listing k im t out same) = stay _ im told same
+  allows size who step reply image told (allowed.Listing k from page im g shape here) = NoBlobChange (told_at im told (λ blobs. IsPageOf w.blobs from page × (blobs ≡ w.blobs)) here).1
   allows size who step reply image told (allowed.Raising k n im r same) = stay _ im told same
   allows size who step reply image told (allowed.Settling k im s same) = stay _ im told same
   allows size who step reply image told (allowed.Doing k r im d same) = stay _ im told same
@@ -79,6 +80,7 @@ module _ (f : Formats) (w : World) (i : Image) where
   allows size who step reply image told (allowed.AskingRestore name place rep im h same) = stay _ im told same
   allows size who step reply image told (allowed.AskingClone source name names time taken rep im h same) = stay _ im told same
   allows size who step reply image told (allowed.AskingDelete names rep im h same) = stay _ im told same
+  allows size who step reply image told (allowed.AskingCleanup rep im h same) = stay _ im told same
   allows size who step reply image told (allowed.Verifying read rep im h) = verifies read rep im told h
   allows size who step reply image told (allowed.Reading k read rep im h same) = stay _ im told same
   allows size who step reply image told (allowed.Pruning k prune rep im h) = prunes k prune rep im told h
@@ -99,7 +101,7 @@ module _ (f : Formats) (w : World) (i : Image) where
   allows size who step reply image told (allowed.ReplaceFails k im c named puts) =
       elim (told_at im told (λ blobs. (blobs ≡ w.blobs) ⊎ (blobs ≡ fin.insert w.blobs (f.names.text Latest) (latest_text c.n))) puts) [ inl same ↦ NoBlobChange same | inr put ↦ NewLatest (latest_text c.n) refl named put ]
   allows size who step reply image told (allowed.FetchFails k name im g same) = stay _ im told same
-  allows size who step reply image told (allowed.ListFails k im t out same) = stay _ im told same
+  allows size who step reply image told (allowed.ListFails k from im g same) = stay _ im told same
   allows size who step reply image told (allowed.AskFails name indices time im acc same) = stay _ im told same
   allows size who step reply image told (allowed.RaiseFails k im r same) = stay _ im told same
   allows size who step reply image told (allowed.SettleFails k im s same) = stay _ im told same

@@ -5,10 +5,10 @@ use Rattle.esr_model.specs.Kept.{first_id}
 use Rattle.esr_model.specs.Delete.{kept_count}
 use Rattle.esr_model.specs.Image.{Image}
 use Rattle.esr_core.specs.World.{World}
-use Rattle.esr_core.specs.Entry.{CloneOf, Snapshot, Clone, DeleteSnapshots, Restore, Given, Read, ReadStep, Prune, PruneStep, Step, AskStep, Refusal, Reply, Gave, WasSettled, Refused, Moment}
+use Rattle.esr_core.specs.Entry.{CloneOf, Snapshot, Clone, DeleteSnapshots, Restore, Cleanup, Given, Read, ReadStep, Prune, PruneStep, Step, AskStep, Refusal, Reply, Gave, WasSettled, Refused, Moment}
 use Rattle.esr_core.specs.After.{new_names}
 use Rattle.esr_core.specs.Allowed as allowed
-use Rattle.esr_core.specs.Allowed.{RestoreAllows, CloneAllows, DeleteAllows, ReadAllows, VerifyAllows, PruneAllows, Allows, Blocks, Allowed}
+use Rattle.esr_core.specs.Allowed.{RestoreAllows, CloneAllows, DeleteAllows, CleanupAllows, ReadAllows, VerifyAllows, PruneAllows, Allows, Blocks, Allowed}
 use Rattle.esr_core.specs.Causes.{RefusalCause, OfRule, OfCleanup, OfName, OfTestName, OfTerm, OfIds, OfGenerations, OfTerms, OfCall, TakeGave, SettleDid}
 
 module _ (f : Formats) (size : ℕ) (w : World) where
@@ -37,6 +37,11 @@ module _ (f : Formats) (size : ℕ) (w : World) where
   delete who names refusal image (allowed.FullOfOps may new full) = OfRule _ (DeleteSnapshots names) refl tt
   delete who names refusal image (allowed.DeleteFault acc) = OfCall
 
+  cleanup : (who : ℕ) (refusal : Refusal) (image : Option Image) → CleanupAllows w (Refused refusal) → RefusalCause f size w who (AskStep Cleanup) image refusal
+  cleanup who refusal image (allowed.OpStands o clear lowest) = OfRule _ Cleanup refl tt
+  cleanup who refusal image (allowed.TicketStands k none lowest) = OfRule _ Cleanup refl tt
+  cleanup who refusal image (allowed.CleanupFault acc) = OfCall
+
   read_cause : (k : ℕ) (read : Read) (refusal : Refusal) (image : Option Image) → ReadAllows f w k read (Refused refusal) image → RefusalCause f size w k (ReadStep read) image refusal
   read_cause k read refusal image (allowed.ReadFault j name im stored by) = OfCall
 
@@ -58,6 +63,7 @@ module _ (f : Formats) (size : ℕ) (w : World) where
   cause_by who step refusal image (allowed.AskingRestore name place rep im h same) = restore 0 name place refusal im h
   cause_by who step refusal image (allowed.AskingClone source name names moment taken rep im h same) = clone 0 source name names moment taken refusal im h
   cause_by who step refusal image (allowed.AskingDelete names rep im h same) = delete 0 names refusal im h
+  cause_by who step refusal image (allowed.AskingCleanup rep im h same) = cleanup 0 refusal im h
   cause_by who step refusal image (allowed.Verifying read rep im h) = verify read refusal im h
   cause_by who step refusal image (allowed.Pruning k prunes rep im h) = prune k prunes refusal im h
   cause_by who step refusal image (allowed.Reading k read rep im h same) = read_cause k read refusal im h
@@ -77,7 +83,7 @@ module _ (f : Formats) (size : ℕ) (w : World) where
   cause_by who step refusal image (allowed.CommitFails k name im c leaves) = OfCall
   cause_by who step refusal image (allowed.ReplaceFails k im p back leaves) = OfCall
   cause_by who step refusal image (allowed.FetchFails k name im g same) = OfCall
-  cause_by who step refusal image (allowed.ListFails k im t out same) = OfCall
+  cause_by who step refusal image (allowed.ListFails k from im g same) = OfCall
   cause_by who step refusal image (allowed.AskFails name indices moment im acc same) = OfCall
   cause_by who step refusal image (allowed.RaiseFails k im r same) = OfCall
   cause_by who step refusal image (allowed.SettleFails k im s same) = OfCall
@@ -113,6 +119,7 @@ module _ (f : Formats) (size : ℕ) (w : World) where
   gave_by who step k o unit image (allowed.AskingRestore name place rep im h same) = absurd (restore_gives h refl)
   gave_by who step k o unit image (allowed.AskingClone source name names moment taken rep im h same) = elim h [ ]
   gave_by who step k o unit image (allowed.AskingDelete names rep im h same) = elim h [ ]
+  gave_by who step k o unit image (allowed.AskingCleanup rep im h same) = elim h [ ]
   gave_by who step k o unit image (allowed.Verifying read rep im h) = elim h [ ]
   gave_by who step k o unit image (allowed.Pruning j prune rep im h) = elim h [ ]
   gave_by who step k o unit image (allowed.Reading j read rep im h same) = elim h [ ]
@@ -125,6 +132,7 @@ module _ (f : Formats) (size : ℕ) (w : World) where
   settled_by who step image (allowed.AskingRestore name place rep im h same) = absurd (restore_settles h refl)
   settled_by who step image (allowed.AskingClone source name names moment taken rep im h same) = elim h [ ]
   settled_by who step image (allowed.AskingDelete names rep im h same) = elim h [ ]
+  settled_by who step image (allowed.AskingCleanup rep im h same) = elim h [ ]
   settled_by who step image (allowed.Verifying read rep im h) = elim h [ ]
   settled_by who step image (allowed.Pruning j prune rep im h) = pruned_by j prune im h
   settled_by who step image (allowed.Reading j read rep im h same) = elim h [ ]

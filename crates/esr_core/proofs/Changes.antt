@@ -7,15 +7,16 @@ use Rattle.std.specs.FinMap as fin
 use Rattle.esr_model.specs.Names.{BlobName}
 use Rattle.esr_model.specs.Values.{Bytes, Has, ShardResult, Formats}
 use Rattle.esr_model.specs.Delete.{PrunedShard, kept_count}
+use Rattle.esr_model.specs.Cleanup.{BlobSize}
 use Rattle.esr_model.specs.Image.{Image}
 use Rattle.esr_core.specs.World.{World, Op, ShardWork, Deletion, Work, Shard, Finalize, Deleting, Drop, Ticket, ReadState, Restored, NotRestored, RestoreShard, Restoring, Reader, Swap, swap, record_of, marked}
 use Rattle.esr_core.specs.Restores.{restore_of, restore_shard}
-use Rattle.esr_core.specs.Steps.{with_ticket, noting, given, completing, shard_ticket, final_ticket}
-use Rattle.esr_core.specs.Turns.{plain_ticket, fails}
+use Rattle.esr_core.specs.Steps.{with_ticket, noting, listing, given, completing, shard_ticket, final_ticket}
+use Rattle.esr_core.specs.Turns.{Aborts, plain_ticket, cleaning_ticket, fails}
 use Rattle.esr_core.specs.Pruning.{planned_work, planned, dooms}
 use Rattle.esr_core.specs.Deletes.{with_named, named_uuids, waiting_delete, running_delete, aborted_ops, delete_merged, delete_by, asked_delete}
-use Rattle.esr_core.specs.Entry.{CloneOf, Snapshot, Clone, DeleteSnapshots, Restore, Cleanup, Given, GivenShard, GivenClone, GivenFinalize, GivenDrop, GivenRestore, GivenDelete, Read, ReadBlob, RestoredShard, CheckedAll, DrawTest, CommitTest, ReadFails, Prune, FetchShard, PlanShards, SettlePruned, RemoveDoomed, EndDelete, DeleteFails, Step, AskStep, TakeStep, DrawStep, BeginStep, CommitStep, LatestStep, FetchStep, RaiseStep, SettleStep, DoneStep, FailedStep, FinishStep, DroppedStep, ElectStep, ReadStep, PruneStep, DepotFault, Reply, Gave, DrawnFrom, WasDone, WasThere, WasFetched, HasEnded, Refused, AcceptedRestore, Moment}
-use Rattle.esr_core.specs.After.{asked, asked_op, new_names, cloned_op, shard_of, taken_shard, taken_restore_shard, taken_restore, taken_by, with_given, committing, told_blob, fetching, settled_by, settled_of, done_by, done_of, is_stale, failed_by, failed_of, dropped_of, delete_settled_by, delete_settled, delete_failed_by, delete_failed, prune_step, read_told, shard_over, read_over, read_step, read_by, done_step, swaps_record, has_text, fallen, is_latest, tried, test_left, faulted, answered, after}
+use Rattle.esr_core.specs.Entry.{CloneOf, Snapshot, Clone, DeleteSnapshots, Restore, Cleanup, Given, GivenShard, GivenClone, GivenFinalize, GivenDrop, GivenRestore, GivenDelete, GivenCleanup, Read, ReadBlob, RestoredShard, CheckedAll, DrawTest, CommitTest, ReadFails, Prune, FetchShard, PlanShards, SettlePruned, RemoveDoomed, EndDelete, DeleteFails, Step, AskStep, TakeStep, DrawStep, BeginStep, CommitStep, LatestStep, FetchStep, ListStep, RaiseStep, SettleStep, DoneStep, FailedStep, FinishStep, DroppedStep, ElectStep, ReadStep, PruneStep, DepotFault, Reply, Gave, DrawnFrom, WasDone, WasThere, WasFetched, WasListed, HasEnded, Refused, AcceptedRestore, Moment}
+use Rattle.esr_core.specs.After.{asked, asked_op, new_names, cloned_op, shard_of, taken_shard, taken_restore_shard, taken_restore, taken_by, with_given, committing, told_blob, fetching, settled_by, settled_of, done_by, done_of, is_stale, failed_by, failed_of, dropped_of, deletes_left, delete_settled_by, delete_settled, delete_failed_by, delete_failed, prune_step, read_told, shard_over, read_over, read_step, read_by, done_step, swaps_record, has_text, fallen, is_latest, tried, test_left, faulted, answered, after}
 use Rattle.esr_core.specs.History.{is_settle}
 use Rattle.esr_core.specs.Changes.{IsAsk, IsNewTicket, SameUnit, SameOp, SameOps, AsBefore, OneAnew, StepChange, NoChange, NewOp, NewDeletion, MergedDeletion, NewRestore, NewTicket, NewReader, OwnTicket, Settlement, UnitEnd, DeletionFailure, OpDrop, Election, ReaderFetch, ReaderEnd, PlainDraw, TestBlob, SwapFault, TicketsCome, TicketsStay, StepFrame}
 use Rattle.esr_core.proofs.AskedDeletes.{aborts}
@@ -35,45 +36,49 @@ no_more e = cc
 
 pub same_unit : (t : Ticket) → SameUnit t t
 same_unit t =
-    record { work = inl refl; op = refl; uuid = refl; place = refl; name = refl; source = refl; term = refl; safe = refl; root = refl; base = refl; noted = λ n h. h; wrote = λ n b h. h; read = λ n b h. h; settled = λ e. e; out = λ e. e }
+    record { work = inl refl; op = refl; uuid = refl; place = refl; name = refl; source = refl; term = refl; safe = refl; root = refl; base = refl; clean = refl; noted = λ n h. h; wrote = λ n b h. h; read = λ n b h. h; settled = λ e. e; out = λ e. e }
 
 pub over_unit : (t : Ticket) → SameUnit t (record t { out = false })
 over_unit t =
-    record { work = inl refl; op = refl; uuid = refl; place = refl; name = refl; source = refl; term = refl; safe = refl; root = refl; base = refl; noted = λ n h. h; wrote = λ n b h. h; read = λ n b h. h; settled = λ e. e; out = λ e. absurd (no_more e) }
+    record { work = inl refl; op = refl; uuid = refl; place = refl; name = refl; source = refl; term = refl; safe = refl; root = refl; base = refl; clean = refl; noted = λ n h. h; wrote = λ n b h. h; read = λ n b h. h; settled = λ e. e; out = λ e. absurd (no_more e) }
 
 pub settled_unit : (t : Ticket) → SameUnit t (record t { settled = true })
 settled_unit t =
-    record { work = inl refl; op = refl; uuid = refl; place = refl; name = refl; source = refl; term = refl; safe = refl; root = refl; base = refl; noted = λ n h. h; wrote = λ n b h. h; read = λ n b h. h; settled = λ e. refl; out = λ e. e }
+    record { work = inl refl; op = refl; uuid = refl; place = refl; name = refl; source = refl; term = refl; safe = refl; root = refl; base = refl; clean = refl; noted = λ n h. h; wrote = λ n b h. h; read = λ n b h. h; settled = λ e. refl; out = λ e. e }
 
 drawn_unit : (t : Ticket) (first drawn : ℕ) → SameUnit t (record t { first = first; drawn = drawn })
 drawn_unit t first drawn =
-    record { work = inl refl; op = refl; uuid = refl; place = refl; name = refl; source = refl; term = refl; safe = refl; root = refl; base = refl; noted = λ n h. h; wrote = λ n b h. h; read = λ n b h. h; settled = λ e. e; out = λ e. e }
+    record { work = inl refl; op = refl; uuid = refl; place = refl; name = refl; source = refl; term = refl; safe = refl; root = refl; base = refl; clean = refl; noted = λ n h. h; wrote = λ n b h. h; read = λ n b h. h; settled = λ e. e; out = λ e. e }
 
 raised_unit : (t : Ticket) (n : ℕ) → SameUnit t (record t { raised = Some n })
 raised_unit t n =
-    record { work = inl refl; op = refl; uuid = refl; place = refl; name = refl; source = refl; term = refl; safe = refl; root = refl; base = refl; noted = λ n h. h; wrote = λ n b h. h; read = λ n b h. h; settled = λ e. e; out = λ e. e }
+    record { work = inl refl; op = refl; uuid = refl; place = refl; name = refl; source = refl; term = refl; safe = refl; root = refl; base = refl; clean = refl; noted = λ n h. h; wrote = λ n b h. h; read = λ n b h. h; settled = λ e. e; out = λ e. e }
 
 tried_unit : (t : Ticket) → SameUnit t (record t { tried_latest = true })
 tried_unit t =
-    record { work = inl refl; op = refl; uuid = refl; place = refl; name = refl; source = refl; term = refl; safe = refl; root = refl; base = refl; noted = λ n h. h; wrote = λ n b h. h; read = λ n b h. h; settled = λ e. e; out = λ e. e }
+    record { work = inl refl; op = refl; uuid = refl; place = refl; name = refl; source = refl; term = refl; safe = refl; root = refl; base = refl; clean = refl; noted = λ n h. h; wrote = λ n b h. h; read = λ n b h. h; settled = λ e. e; out = λ e. e }
 
 noting_unit : (name : BlobName) (t : Ticket) → SameUnit t (noting t name)
 noting_unit name t =
-    record { work = inl refl; op = refl; uuid = refl; place = refl; name = refl; source = refl; term = refl; safe = refl; root = refl; base = refl; noted = λ n h. inr h; wrote = λ n b h. h; read = λ n b h. h; settled = λ e. e; out = λ e. e }
+    record { work = inl refl; op = refl; uuid = refl; place = refl; name = refl; source = refl; term = refl; safe = refl; root = refl; base = refl; clean = refl; noted = λ n h. inr h; wrote = λ n b h. h; read = λ n b h. h; settled = λ e. e; out = λ e. e }
 
 committing_unit : (name : BlobName) (bytes : Option Bytes) (t : Ticket) → SameUnit t (committing name bytes t)
 committing_unit name None t = noting_unit name t
 committing_unit name (Some bytes) t =
-    record { work = inl refl; op = refl; uuid = refl; place = refl; name = refl; source = refl; term = refl; safe = refl; root = refl; base = refl; noted = λ n h. inr h; wrote = λ n b h. inr h; read = λ n b h. h; settled = λ e. e; out = λ e. e }
+    record { work = inl refl; op = refl; uuid = refl; place = refl; name = refl; source = refl; term = refl; safe = refl; root = refl; base = refl; clean = refl; noted = λ n h. inr h; wrote = λ n b h. inr h; read = λ n b h. h; settled = λ e. e; out = λ e. e }
 
 fetching_unit : (name : BlobName) (bytes : Option Bytes) (t : Ticket) → SameUnit t (fetching name bytes t)
 fetching_unit name None t = same_unit t
 fetching_unit name (Some bytes) t =
-    record { work = inl refl; op = refl; uuid = refl; place = refl; name = refl; source = refl; term = refl; safe = refl; root = refl; base = refl; noted = λ n h. h; wrote = λ n b h. h; read = λ n b h. inr h; settled = λ e. e; out = λ e. e }
+    record { work = inl refl; op = refl; uuid = refl; place = refl; name = refl; source = refl; term = refl; safe = refl; root = refl; base = refl; clean = refl; noted = λ n h. h; wrote = λ n b h. h; read = λ n b h. inr h; settled = λ e. e; out = λ e. e }
 
 committing_settled : (name : BlobName) (bytes : Option Bytes) (t : Ticket) → (committing name bytes t).settled ≡ t.settled
 committing_settled name None t = refl
 committing_settled name (Some bytes) t = refl
+
+listing_unit : (page : List BlobSize) (t : Ticket) → SameUnit t (listing t page)
+listing_unit page t =
+    record { work = inl refl; op = refl; uuid = refl; place = refl; name = refl; source = refl; term = refl; safe = refl; root = refl; base = refl; clean = refl; noted = λ n h. h; wrote = λ n b h. h; read = λ n b h. h; settled = λ e. e; out = λ e. e }
 
 fetching_settled : (name : BlobName) (bytes : Option Bytes) (t : Ticket) → (fetching name bytes t).settled ≡ t.settled
 fetching_settled name None t = refl
@@ -81,7 +86,7 @@ fetching_settled name (Some bytes) t = refl
 
 planned_unit : (f : Formats) (shards : List PrunedShard) (first : ℕ) (t : Ticket) → SameUnit t (planned f shards first t)
 planned_unit f shards first t =
-    record { work = by t.work refl; op = refl; uuid = refl; place = refl; name = refl; source = refl; term = refl; safe = refl; root = refl; base = refl; noted = λ n h. h; wrote = λ n b h. h; read = λ n b h. h; settled = λ e. e; out = λ e. e }
+    record { work = by t.work refl; op = refl; uuid = refl; place = refl; name = refl; source = refl; term = refl; safe = refl; root = refl; base = refl; clean = refl; noted = λ n h. h; wrote = λ n b h. h; read = λ n b h. h; settled = λ e. e; out = λ e. e }
   where
     by : (work : Work) → t.work ≡ work
         → (planned_work f t shards first t.work ≡ t.work) ⊎ ((uuids : List ℕ) × (plan : Option Swap) × (s : Swap) × (t.work ≡ Deleting uuids plan) × (planned_work f t shards first t.work ≡ Deleting uuids (Some s)))
@@ -147,17 +152,23 @@ module _ (f : Formats) (w : World) (k : ℕ) (step : Step) where
       by : (waiting running : Option ℕ) → StepChange f w k step (delete_by w names waiting running)
       by (Some d) running = merges ask names d (fin.get w.deletes d) refl
       by None (Some d) = NoChange
-      by None None = NewDeletion ask (aborted_ops w (named_uuids w names) w.next_op) (record { uuids = named_uuids w names; clean = false; failed = false }) (aborts w (named_uuids w names) w.next_op) refl
+      by None None = NewDeletion ask (aborted_ops w (named_uuids w names) w.next_op) (record { uuids = named_uuids w names; clean = false; failed = false }) (aborts w (named_uuids w names) w.next_op) (inl refl)
+
+  asks_cleanup : IsAsk step → step ≡ AskStep Cleanup → StepChange f w k step (asked w Cleanup)
+  asks_cleanup ask is = NewDeletion ask w.ops (record { uuids = []; clean = true; failed = false }) none (inr is)
+    where
+      none : Aborts w.ops w.ops w.next_op
+      none = record { was = λ o op e. (op, e, inl refl); stays = λ o old e. (old, e, inl refl); first = λ o old op b e h a. some_same op old (sym h ∙ e) }
 
   -- ---- take
 
   plain_fresh : (o : ℕ) (work : Work) → IsNewTicket w (plain_ticket w o work)
-  plain_fresh o work = record { term = refl; safe = refl; root = refl; drawn = refl; noted = λ n h. h; wrote = λ n b h. h; read = λ n b h. h; raised = refl; settled = refl; out = refl }
+  plain_fresh o work = record { term = refl; safe = refl; root = refl; drawn = refl; noted = λ n h. h; wrote = λ n b h. h; read = λ n b h. h; raised = refl; settled = refl; out = refl; listed = refl; whole = refl }
 
   gives_shard : step ≡ TakeStep → (o : ℕ) (op : Op) (base : Option ℕ) (s : Option ShardWork) → fin.get w.ops o ≡ Some op → StepChange f w k step (taken_shard w o op base s)
   gives_shard take o op base None there = NoChange
   gives_shard take o op base (Some s) there =
-      NewTicket take (shard_ticket w o op s base) (record { term = refl; safe = refl; root = refl; drawn = refl; noted = λ n h. h; wrote = λ n b h. h; read = λ n b h. h; raised = refl; settled = refl; out = refl })
+      NewTicket take (shard_ticket w o op s base) (record { term = refl; safe = refl; root = refl; drawn = refl; noted = λ n h. h; wrote = λ n b h. h; read = λ n b h. h; raised = refl; settled = refl; out = refl; listed = refl; whole = refl })
       _ (OneAnew o op _ there (same_op op _))
 
   gives_restore_shard : step ≡ TakeStep → (o : ℕ) (r : Restoring) (s : Option RestoreShard) → fin.get w.restores o ≡ Some r → StepChange f w k step (taken_restore_shard w o r s)
@@ -174,17 +185,18 @@ module _ (f : Formats) (w : World) (k : ℕ) (step : Step) where
   gives take o (GivenClone index number source base) (Some op) there = gives_shard take o op base (shard_of op.shards index number) there
   gives take o (GivenClone index number source base) None there = NoChange
   gives take o (GivenFinalize info results) (Some op) there =
-      NewTicket take (final_ticket f w o op results) (record { term = refl; safe = refl; root = refl; drawn = refl; noted = λ n h. h; wrote = λ n b h. h; read = λ n b h. h; raised = refl; settled = refl; out = refl }) w.ops AsBefore
+      NewTicket take (final_ticket f w o op results) (record { term = refl; safe = refl; root = refl; drawn = refl; noted = λ n h. h; wrote = λ n b h. h; read = λ n b h. h; raised = refl; settled = refl; out = refl; listed = refl; whole = refl }) w.ops AsBefore
   gives take o (GivenFinalize info results) None there = NoChange
   gives take o GivenDrop op there = NewTicket take (plain_ticket w o Drop) (plain_fresh o Drop) w.ops AsBefore
   gives take o (GivenRestore index number uuid) op there = gives_restore take o index number (fin.get w.restores o) refl
   gives take o (GivenDelete uuids) op there = NewTicket take (plain_ticket w o (Deleting uuids None)) (plain_fresh o (Deleting uuids None)) w.ops AsBefore
-  gives take o unit op there = NoChange
+  gives take o GivenCleanup op there =
+      NewTicket take (cleaning_ticket w o) (record { term = refl; safe = refl; root = refl; drawn = refl; noted = λ n h. h; wrote = λ n b h. h; read = λ n b h. h; raised = refl; settled = refl; out = refl; listed = refl; whole = refl }) w.ops AsBefore
 
   -- ---- settles and ends
 
   settles_by : is_settle step ≡ true → (t : Ticket) → fin.get w.tickets k ≡ Some t → (s : Option Swap) → swap f t ≡ s → (n : Option ℕ) → t.raised ≡ n → StepChange f w k step (settled_by f w k t s n)
-  settles_by e t there (Some s) is (Some n) raised = Settlement e t s n [] there is raised
+  settles_by e t there (Some s) is (Some n) raised = Settlement e t s n [] (fin.remove w.deletes t.op) there is raised (inl refl)
   settles_by e t there (Some s) is None raised = NoChange
   settles_by e t there None is n raised = NoChange
 
@@ -193,7 +205,11 @@ module _ (f : Formats) (w : World) (k : ℕ) (step : Step) where
   settles_of e (Some t) there = settles_by e t there (swap f t) refl t.raised refl
 
   prunes_by : is_settle step ≡ true → (t : Ticket) → fin.get w.tickets k ≡ Some t → (s : Option Swap) → swap f t ≡ s → (n : Option ℕ) → t.raised ≡ n → StepChange f w k step (delete_settled_by f w k t s n)
-  prunes_by e t there (Some s) is (Some n) raised = Settlement e t s n (dooms f t) there is raised
+  prunes_by e t there (Some s) is (Some n) raised = Settlement e t s n (dooms f t) (deletes_left w t) there is raised (left_or t.clean refl)
+    where
+      left_or : (b : Bool) → t.clean ≡ b → (deletes_left w t ≡ fin.remove w.deletes t.op) ⊎ ((t.clean ≡ true) × (deletes_left w t ≡ w.deletes))
+      left_or false is = inl (ap (λ (c : Bool). if c then w.deletes else fin.remove w.deletes t.op) is)
+      left_or true is = inr (is, ap (λ (c : Bool). if c then w.deletes else fin.remove w.deletes t.op) is)
   prunes_by e t there (Some s) is None raised = NoChange
   prunes_by e t there None is n raised = NoChange
 
@@ -285,12 +301,14 @@ module _ (f : Formats) (w : World) where
   does k (AskStep (Clone source name indices moment taken)) reply image = asks_clone f w k (AskStep (Clone source name indices moment taken)) tt source name indices moment taken
   does k (AskStep (DeleteSnapshots names)) reply image = asks_delete f w k (AskStep (DeleteSnapshots names)) tt names
   does k (AskStep (Restore name place)) (AcceptedRestore o uuid indices) image = NewRestore tt (restore_of uuid place indices)
+  does k (AskStep Cleanup) reply image = asks_cleanup f w k (AskStep Cleanup) tt refl
   does k TakeStep (Gave ticket op unit) image = gives f w k TakeStep refl op unit (fin.get w.ops op) refl
   does k (DrawStep n) reply image = draws f w k (DrawStep n) (λ t. record t { first = w.next_id; drawn = n }) (λ t. drawn_unit t w.next_id n) (λ t. refl) n (fin.get w.tickets k) refl
   does k (CommitStep name) WasDone image = changes f w k (CommitStep name) (committing name (told_blob f image name)) (committing_unit name (told_blob f image name)) (committing_settled name (told_blob f image name)) (fin.get w.tickets k) refl
   does k (CommitStep name) WasThere image = changes f w k (CommitStep name) (λ t. noting t name) (noting_unit name) (λ t. refl) (fin.get w.tickets k) refl
   does k LatestStep reply image = tries f w k LatestStep
   does k (FetchStep name) WasFetched image = changes f w k (FetchStep name) (fetching name (told_blob f image name)) (fetching_unit name (told_blob f image name)) (fetching_settled name (told_blob f image name)) (fin.get w.tickets k) refl
+  does k (ListStep from) (WasListed page) image = changes f w k (ListStep from) (λ t. listing t page) (listing_unit page) (λ t. refl) (fin.get w.tickets k) refl
   does k RaiseStep reply image = raises f w k RaiseStep (fin.get w.tickets k) refl
   does k SettleStep reply image = settles_of f w k SettleStep refl (fin.get w.tickets k) refl
   does k (DoneStep result) reply image = dones_of f w k (DoneStep result) result (fin.get w.tickets k) refl

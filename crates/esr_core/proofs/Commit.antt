@@ -62,6 +62,7 @@ mine f blobs ledger shelf t name bytes valid absent doomed l may =
       raised = l.raised;
       shape = l.shape;
       clean_root = l.clean_root;
+      listed = l.listed;
       clean = λ s i. l.clean s (record { is = i.is; out = i.out; unsettled = i.unsettled });
       last = λ s i. l.last s (record { is = i.is; out = i.out; unsettled = i.unsettled });
       swaps = λ s i c. noted_more s i.is (λ n r. l.clean s (record { is = i.is; out = i.out; unsettled = i.unsettled }) c n r) (above s (record { is = i.is; out = i.out; unsettled = i.unsettled }) c) (swap_added f blobs name bytes valid absent doomed shelf t.noted s (l.swaps s (record { is = i.is; out = i.out; unsettled = i.unsettled }) c));

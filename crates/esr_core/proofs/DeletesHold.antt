@@ -8,7 +8,7 @@ use Rattle.esr_model.specs.Values.{Bytes, Has, RootSnap, RootIndex, RootData, Fi
 use Rattle.esr_model.specs.Shelf.{names_uuid}
 use Rattle.esr_model.specs.Image.{IsOne, AllPairs, Reads, Lists, Generation, at_shard, at_shard_of}
 use Rattle.esr_model.specs.Delete.{left_snaps, Prunes, Deletes, PrunedShard, next_after, own_id, fresh_from, left_uuids, uuids_of, lists_file, listed_lists, surviving, is_index, index_bytes, files_by, files_read, left_text, pruned_blobs, deleted_root}
-use Rattle.esr_core.specs.Pruning.{is_left, is_victim, has_none, has_named, bare_shard, pruned_shards, IsToRead}
+use Rattle.esr_core.specs.Pruning.{is_left, is_victim, has_none, is_touched, bare_shard, pruned_shards, IsToRead}
 use Rattle.esr_core.proofs.Reading.{some_same, none_some, reads_one}
 use Rattle.esr_core.proofs.Results.{choose_true, choose_false}
 use Rattle.esr_core.proofs.Deleting.{bool_told}
@@ -287,12 +287,12 @@ none_of_listed f root read s m = none_listed f (uuids_of root) read s.uuid (has_
 pub same_named : (f : Formats) (root : RootData) (uuids : List ℕ) (read : List (BlobName × Bytes)) (s : RootSnap) → Has root.snapshots s → names_uuid (uuids ++ unlisted_read f (uuids_of root) read) s.uuid ≡ names_uuid uuids s.uuid
 same_named f root uuids read s m = names_same uuids (unlisted_read f (uuids_of root) read) s.uuid (none_of_listed f root read s m)
 
-module _ (f : Formats) (has : BlobName → Bytes → Type 0) (func : IsOne has) (root : RootData) (one : IsOneEach root.indices) (uuids : List ℕ) (read : List (BlobName × Bytes)) (first : ℕ)
-    (held : (i k g : ℕ) → IsToRead root uuids i k g → (was : ShardFiles) × (files_read f read (bare_shard i k g) ≡ Some was) × Reads has (ShardIndex i k g) f.shard_index was)
-    (backs : (p : PrunedShard) (was : ShardFiles) → Has (pruned_shards f root uuids read) p → files_read f read p ≡ Some was → ReadsBack f.shard_index (surviving (left_uuids uuids (uuids_of root)) was))
-    (below : (i k g : ℕ) → Generation root i k g → g < first) (apart : AreApart (pruned_shards f root uuids read)) where
+module _ (f : Formats) (has : BlobName → Bytes → Type 0) (func : IsOne has) (clean : Bool) (root : RootData) (one : IsOneEach root.indices) (uuids : List ℕ) (read : List (BlobName × Bytes)) (first : ℕ)
+    (held : (i k g : ℕ) → IsToRead clean root uuids i k g → (was : ShardFiles) × (files_read f read (bare_shard i k g) ≡ Some was) × Reads has (ShardIndex i k g) f.shard_index was)
+    (backs : (p : PrunedShard) (was : ShardFiles) → Has (pruned_shards f clean root uuids read) p → files_read f read p ≡ Some was → ReadsBack f.shard_index (surviving (left_uuids uuids (uuids_of root)) was))
+    (below : (i k g : ℕ) → Generation root i k g → g < first) (apart : AreApart (pruned_shards f clean root uuids read)) where
   abbrev shards : List PrunedShard
-  shards = pruned_shards f root uuids read
+  shards = pruned_shards f clean root uuids read
 
   abbrev pub unlisted : List ℕ
   unlisted = unlisted_read f (uuids_of root) read
@@ -300,8 +300,8 @@ module _ (f : Formats) (has : BlobName → Bytes → Type 0) (func : IsOne has) 
   abbrev kept_ones : List ℕ
   kept_ones = left_uuids uuids (uuids_of root)
 
-  of_root : (q : PrunedShard) → Has shards q → IsOfRoot f read uuids (uuids_of root) root.indices q
-  of_root q m = of_indices f read uuids (uuids_of root) root.indices q m
+  of_root : (q : PrunedShard) → Has shards q → IsOfRoot f read clean uuids (uuids_of root) root.indices q
+  of_root q m = of_indices f read clean uuids (uuids_of root) root.indices q m
 
   none_of_root : (s : RootSnap) → Has root.snapshots s → names_uuid unlisted s.uuid ≡ false
   none_of_root s m = none_of_listed f root read s m
@@ -317,7 +317,7 @@ module _ (f : Formats) (has : BlobName → Bytes → Type 0) (func : IsOne has) 
 
   -- no shard of the plan is this one, in which no victim is listed
   no_other : (i k g : ℕ) (x : RootIndex) → Has root.indices x → x.id ≡ i → Generation root i k g → has_none (left_uuids uuids x.snapshots) ≡ false → (was : ShardFiles) → files_read f read (bare_shard i k g) ≡ Some was
-      → list_any (is_victim uuids (uuids_of root)) was.snapshots ≡ false → (q : PrunedShard) → Has shards q → i ≡ q.index → k ≡ q.number → ⊥
+      → list_any (is_victim clean uuids (uuids_of root)) was.snapshots ≡ false → (q : PrunedShard) → Has shards q → i ≡ q.index → k ≡ q.number → ⊥
   no_other i k g x there id gen stays was was_read none q m a b =
       let r = of_root q m in
       let h = r.is in
@@ -328,7 +328,7 @@ module _ (f : Formats) (has : BlobName → Bytes → Type 0) (func : IsOne has) 
       let mine : h.was ≡ was = some_same h.was was (sym h.reads ∙ (λ j. files_read f read (bare_shard ((ap (λ (z : RootIndex). z.id) same ∙ id) j) ((first_place ∙ place) j) (base j))) ∙ was_read) in
       elim h.pruned [
         | inl leaves ↦ clash (has_none (left_uuids uuids x.snapshots)) (ap (λ (z : RootIndex). has_none (left_uuids uuids z.snapshots)) (sym same) ∙ leaves.0) stays
-        | inr victim ↦ clash (list_any (is_victim uuids (uuids_of root)) was.snapshots) (ap (λ (z : ShardFiles). list_any (is_victim uuids (uuids_of root)) z.snapshots) (sym mine) ∙ victim.1) none
+        | inr victim ↦ clash (list_any (is_victim clean uuids (uuids_of root)) was.snapshots) (ap (λ (z : ShardFiles). list_any (is_victim clean uuids (uuids_of root)) z.snapshots) (sym mine) ∙ victim.1) none
       ]
 
   left_stands : (i k g u : ℕ) → Generation root i k g → (x : RootIndex) → Has root.indices x → x.id ≡ i → Has x.snapshots u
@@ -336,23 +336,23 @@ module _ (f : Formats) (has : BlobName → Bytes → Type 0) (func : IsOne has) 
       → ((fresh_from first shards i k ≡ None) × Generation (deleted_root root uuids shards first) i k g) ⊎ ((now : ℕ) × (fresh_from first shards i k ≡ Some (Some now)) × Generation (deleted_root root uuids shards first) i k now)
   left_stands i k g u gen x there id mine h h_reads fs lists e =
       let named = (names_first uuids unlisted u e).0 in
-      elim (bool_told (has_named uuids x.snapshots)) [
+      elim (bool_told (is_touched clean uuids x.snapshots)) [
         | inr none ↦
             inl (deleted_stays root one uuids shards first apart i k g gen x u there id mine named (λ q m a b.
             let r = of_root q m in
             let same : r.x ≡ x = same_index r.x x r.there there i q.index r.is.index_is a id in
-            clash (has_named uuids x.snapshots) (ap (λ (z : RootIndex). has_named uuids z.snapshots) (sym same) ∙ r.victim) none))
+            clash (is_touched clean uuids x.snapshots) (ap (λ (z : RootIndex). is_touched clean uuids z.snapshots) (sym same) ∙ r.victim) none))
         | inl some ↦
             let stays : has_none (left_uuids uuids x.snapshots) ≡ false = not_none (left_uuids uuids x.snapshots) u (uuid_left uuids x.snapshots u mine named) in
             let (was, was_read, was_has) = held i k g (record { x = x; there = there; id = id; victim = some; at = generation_in x there i k g id gen }) in
             let same : h ≡ was = reads_one has func (ShardIndex i k g) f.shard_index h was h_reads was_has in
             let listed_there : Has was.snapshots lists.list = subst (λ (z : ShardFiles). Has z.snapshots lists.list) same lists.there in
-            elim (bool_told (list_any (is_victim uuids (uuids_of root)) was.snapshots)) [
+            elim (bool_told (list_any (is_victim clean uuids (uuids_of root)) was.snapshots)) [
               | inr none ↦ inl (deleted_stays root one uuids shards first apart i k g gen x u there id mine named (no_other i k g x there id gen stays was was_read none))
               | inl victim ↦
                   let p : PrunedShard = record { index = x.id; number = k; base = g; kept = list_any (is_left kept_ones) was.snapshots } in
                   let p_there : Has shards p =
-                  has_of_indices f read uuids (uuids_of root) root.indices x there some stays k g was (generation_in x there i k g id gen) (ap (λ (n : ℕ). files_read f read (bare_shard n k g)) id ∙ was_read) victim in
+                  has_of_indices f read clean uuids (uuids_of root) root.indices x there some stays k g was (generation_in x there i k g id gen) (ap (λ (n : ℕ). files_read f read (bare_shard n k g)) id ∙ was_read) victim in
                   let unnamed : names_uuid (uuids ++ unlisted) lists.list.uuid ≡ false = ap (names_uuid (uuids ++ unlisted)) lists.uuid_is ∙ e in
                   let stays_listed : list_any (is_left kept_ones) was.snapshots ≡ true =
                   any_of (is_left kept_ones) was.snapshots lists.list listed_there (list_left (uuids_of root) uuids unlisted was (known_of i k g was was_read) lists.list listed_there unnamed) in

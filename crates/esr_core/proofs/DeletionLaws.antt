@@ -1,4 +1,4 @@
--- Each turn keeps what the tickets of deletes have read, their plans, and what they doomed.
+-- Each turn keeps what the tickets of deletes and cleanups have read, their plans, and what they doomed.
 use Rattle.std.proofs.Common.{◌≡◌, ℕ, suc, ◌≤◌, List, [], ◌∷◌, ◌++◌, Bool, true, false, true≢false, Option, Some, None, refl, sym, ap, ◌∙◌, subst, inl, inr, arith}
 use Rattle.std.specs.FinMap as fin
 use Rattle.esr_model.specs.Names.{BlobName}
@@ -6,12 +6,13 @@ use Rattle.esr_model.specs.Values.{Bytes, Has, SnapInfo, ShardResult, Formats}
 use Rattle.esr_model.specs.Shelf.{Shelved, Command, Delete}
 use Rattle.esr_model.specs.Image.{Blobs, IsStored}
 use Rattle.esr_model.specs.Delete.{doomed_names}
+use Rattle.esr_model.specs.Cleanup.{cleaned_names}
 use Rattle.esr_core.specs.World.{World, Shard, Finalize, Deleting, Drop, Ticket, Swap, HeldIn, Safely}
 use Rattle.esr_core.specs.Ready.{IsShard, IsMaster}
-use Rattle.esr_core.specs.Steps.{Removes, MaySettle, FetchFound, reading, shard_ticket, final_ticket}
-use Rattle.esr_core.specs.Pruning.{IsPlanned, doomed_by, dooms, PruneLaw, PruneLaws}
+use Rattle.esr_core.specs.Steps.{Removes, MaySettle, FetchFound, reading, listing, shard_ticket, final_ticket}
+use Rattle.esr_core.specs.Pruning.{IsPlanned, doomed_as, doomed_by, dooms, PruneLaw, PruneLaws}
 use Rattle.esr_core.specs.Ids.{Law}
-use Rattle.esr_core.specs.Turns.{DrawPlan, AddTest, plain_ticket, Turn, Stays, Commits, CommitFails, Finds, Raises, Latests, Fetches, SettlesFinal, SettlesDelete, Elects, TakesShard, TakesFinal, TakesDrop, TakesDelete, TakesCleanup, AsksCleanup, CleanDrops, DrawsShard, DrawsPlan, Dones, Ending, Fails, FailsDelete, Drops, AsksCreate, AsksDelete, Merges, Removing, Deposes, Besides, Tests, TestTurn, DrawsTest, AddsTest, RemovesTests}
+use Rattle.esr_core.specs.Turns.{DrawPlan, AddTest, plain_ticket, cleaning_ticket, Turn, Stays, Commits, CommitFails, Finds, Raises, Latests, Fetches, SettlesFinal, SettlesDelete, Elects, TakesShard, TakesFinal, TakesDrop, TakesDelete, TakesCleanup, AsksCleanup, CleanDrops, DrawsShard, DrawsPlan, Dones, Ending, Fails, FailsDelete, Drops, AsksCreate, AsksDelete, Merges, Removing, Pages, Deposes, Besides, Tests, TestTurn, DrawsTest, AddsTest, RemovesTests}
 use Rattle.esr_core.proofs.Adds.{at_kept, safe_kept}
 use Rattle.esr_core.proofs.Besides.{aside_of, kept_aside}
 use Rattle.esr_core.proofs.LatestPut.{put_law}
@@ -20,12 +21,24 @@ use Rattle.esr_core.proofs.Reading.{some_same, none_some, Has-left, Has-right}
 use Rattle.esr_core.proofs.Settling.{swap_master}
 
 -- what a delete with a plan dooms
-pub dooms_is : (f : Formats) (t : Ticket) (uuids : List ℕ) (s : Swap) → t.work ≡ Deleting uuids (Some s) → dooms f t ≡ doomed_names f t.safe t.root s.root uuids t.read
-dooms_is f t uuids s work = ap (doomed_by f t) work
+pub dooms_is : (f : Formats) (t : Ticket) (uuids : List ℕ) (s : Swap) → t.work ≡ Deleting uuids (Some s) → t.clean ≡ false → dooms f t ≡ doomed_names f t.safe t.root s.root uuids t.read
+dooms_is f t uuids s work deletes = ap (doomed_by f t) work ∙ ap (doomed_as f t uuids s) deletes
+
+-- what a cleanup with a plan dooms
+pub cleans_is : (f : Formats) (t : Ticket) (uuids : List ℕ) (s : Swap) → t.work ≡ Deleting uuids (Some s) → t.clean ≡ true → dooms f t ≡ cleaned_names f t.raised s.root (s.own ++ t.read) t.listed
+cleans_is f t uuids s work clean = ap (doomed_by f t) work ∙ ap (doomed_as f t uuids s) clean
+
+-- it goes by these alone
+pub dooms_alike : (f : Formats) (t v : Ticket) (uuids : List ℕ) (s : Swap) → t.work ≡ Deleting uuids (Some s) → v.work ≡ Deleting uuids (Some s) → v.clean ≡ t.clean → v.safe ≡ t.safe → v.root ≡ t.root → v.read ≡ t.read → v.raised ≡ t.raised → v.listed ≡ t.listed → dooms f v ≡ dooms f t
+dooms_alike f t v uuids s work now clean safe root read raised listed = ap (doomed_by f v) now ∙ ap (doomed_as f v uuids s) clean ∙ by t.clean ∙ sym (ap (doomed_by f t) work)
+  where
+    by : (b : Bool) → doomed_as f v uuids s b ≡ doomed_as f t uuids s b
+    by false = λ j. doomed_names f (safe j) (root j) s.root uuids (read j)
+    by true = λ j. cleaned_names f (raised j) s.root (s.own ++ read j) (listed j)
 
 -- so does it once it has settled
 pub dooms_settled : (f : Formats) (t : Ticket) (uuids : List ℕ) (s : Swap) → t.work ≡ Deleting uuids (Some s) → dooms f (record t { settled = true }) ≡ dooms f t
-dooms_settled f t uuids s work = dooms_is f (record t { settled = true }) uuids s work ∙ sym (dooms_is f t uuids s work)
+dooms_settled f t uuids s work = dooms_alike f t (record t { settled = true }) uuids s work work refl refl refl refl refl refl
 
 module _ (f : Formats) (blobs : Blobs) (doomed : List BlobName) (safe term : ℕ) (tickets : Tickets) (h : PruneLaws f blobs doomed safe term tickets) where
   -- a ticket
@@ -45,17 +58,17 @@ module _ (f : Formats) (blobs : Blobs) (doomed : List BlobName) (safe term : ℕ
       }
 
   -- one given anew in what these don't read
-  again : (k : ℕ) (t : Ticket) → fin.get tickets k ≡ Some t → (noted : List BlobName) (wrote : List (BlobName × Bytes)) (raised : Option ℕ) (tried out : Bool) → (out ≡ true → t.out ≡ true)
+  again : (k : ℕ) (t : Ticket) → fin.get tickets k ≡ Some t → (noted : List BlobName) (wrote : List (BlobName × Bytes)) (raised : Option ℕ) (tried out : Bool) → (out ≡ true → t.out ≡ true) → (t.settled ≡ true → raised ≡ t.raised)
       → PruneLaws f blobs doomed safe term (fin.insert tickets k (record t { noted = noted; wrote = wrote; raised = raised; tried_latest = tried; out = out }))
-  again k t there noted wrote raised tried out back =
+  again k t there noted wrote raised tried out back same =
       put k (record t { noted = noted; wrote = wrote; raised = raised; tried_latest = tried; out = out })
       (λ uuids plan o uns pres is. let old = h.unsettled k t uuids plan there (back o) uns pres is in record { held = old.held; safe_is = old.safe_is; follows = old.follows })
       (λ uuids s done is name m. h.settled k t uuids s there done is name
-      (subst (λ (ns : List BlobName). Has ns name) (dooms_is f (record t { noted = noted; wrote = wrote; raised = raised; tried_latest = tried; out = out }) uuids s is ∙ sym (dooms_is f t uuids s is)) m))
+      (subst (λ (ns : List BlobName). Has ns name) (dooms_alike f t (record t { noted = noted; wrote = wrote; raised = raised; tried_latest = tried; out = out }) uuids s is is refl refl refl refl (same done) refl) m))
 
   -- one that has ended
   ended : (k : ℕ) (t : Ticket) → fin.get tickets k ≡ Some t → PruneLaws f blobs doomed safe term (fin.insert tickets k (record t { out = false }))
-  ended k t there = again k t there t.noted t.wrote t.raised t.tried_latest false (λ e. absurd (true≢false (sym e)))
+  ended k t there = again k t there t.noted t.wrote t.raised t.tried_latest false (λ e. absurd (true≢false (sym e))) (λ e. refl)
 
   -- a new one: of a delete it has no plan yet
   new_one : (k : ℕ) (v : Ticket) → v.settled ≡ false → ((uuids : List ℕ) (plan : Option Swap) → v.work ≡ Deleting uuids plan → (v.read ≡ []) × (v.safe ≡ safe) × (plan ≡ None)) → PruneLaws f blobs doomed safe term (fin.insert tickets k v)
@@ -64,7 +77,7 @@ module _ (f : Formats) (blobs : Blobs) (doomed : List BlobName) (safe term : ℕ
       (λ uuids plan o uns pres is. let x = fresh uuids plan is in record {
         held = λ name b m. absurd (subst (λ (xs : List (BlobName × Bytes)). Has xs (name, b)) x.0 m);
         safe_is = x.1;
-        follows = λ s e c. absurd (none_some s (sym x.2 ∙ e));
+        follows = λ s e. absurd (none_some s (sym x.2 ∙ e));
       })
       (λ uuids s done is. absurd (true≢false (sym done ∙ unsettled)))
 
@@ -109,7 +122,7 @@ module _ (f : Formats) (w : World) (shelf : List Shelved) (l : Law f w shelf) wh
           | inr was ↦ old.held m b was
         ];
         safe_is = old.safe_is;
-        follows = λ s e q. absurd (none_some s (sym aside.0 ∙ e));
+        follows = λ s e. absurd (none_some s (sym aside.0 ∙ e));
       })
       (λ uuids s done is name m. absurd (some_none s (c.aside uuids (Some s) is).0))
     where
@@ -145,10 +158,9 @@ module _ (f : Formats) (w : World) (shelf : List Shelved) (l : Law f w shelf) wh
       record {
         held = old.held;
         safe_is = old.safe_is;
-        follows = λ s e c.
+        follows = λ s e.
             let swap : its ≡ s = some_same its s (same.1 ∙ e) in
-            let commands : d.commands ≡ Delete d.named ∷ [] = ap (λ (x : Swap). x.commands) swap ∙ c ∙ ap (λ (us : List ℕ). Delete us ∷ []) (sym same.0) in
-            subst (λ (x : List ℕ × Swap). IsPlanned f d.t.root d.t.read w.next_id x.0 x.1) (λ j. (same.0 j, swap j)) (d.planned commands);
+            subst (λ (x : List ℕ × Swap). IsPlanned f d.t.clean d.t.root d.t.read w.next_id x.0 x.1) (λ j. (same.0 j, swap j)) d.planned;
       })
       (λ uuids s done is. absurd (true≢false (sym done ∙ d.unsettled)))
     where
@@ -187,15 +199,15 @@ tests_pruned f w shelf l new (RemovesTests m names r) = subst (In f) (sym r.new_
 pub turn_pruned : (f : Formats) (w new : World) (shelf : List Shelved) → Law f w shelf → Turn f w new → In f new
 turn_pruned f w new shelf l (Stays m e) = subst (In f) (sym e) l.pruned
 turn_pruned f w new shelf l (Commits m k name c) = subst (In f) (sym c.new_is)
-    (again f (fin.insert w.blobs (f.names.text name) c.bytes) w.doomed w.safe w.term w.tickets (grown f w shelf l name c.bytes c.named c.absent) k c.t c.out.there (name ∷ c.t.noted) ((name, c.bytes) ∷ c.t.wrote) c.t.raised c.t.tried_latest c.t.out (λ o. o))
+    (again f (fin.insert w.blobs (f.names.text name) c.bytes) w.doomed w.safe w.term w.tickets (grown f w shelf l name c.bytes c.named c.absent) k c.t c.out.there (name ∷ c.t.noted) ((name, c.bytes) ∷ c.t.wrote) c.t.raised c.t.tried_latest c.t.out (λ o. o) (λ e. refl))
 turn_pruned f w new shelf l (CommitFails m k name c) = elim c.leaves [
   | inl e ↦ subst (In f) (sym e) l.pruned
   | inr e ↦ subst (In f) (sym e.1) (grown f w shelf l name c.bytes c.named e.0)
 ]
-turn_pruned f w new shelf l (Finds m k name d) = subst (In f) (sym d.new_is) (again f w.blobs w.doomed w.safe w.term w.tickets l.pruned k d.t d.out.there (name ∷ d.t.noted) d.t.wrote d.t.raised d.t.tried_latest d.t.out (λ o. o))
-turn_pruned f w new shelf l (Raises m k d) = subst (In f) (sym d.new_is) (again f w.blobs w.doomed w.safe w.term w.tickets l.pruned k d.t d.out.there d.t.noted d.t.wrote (Some w.pending) d.t.tried_latest d.t.out (λ o. o))
+turn_pruned f w new shelf l (Finds m k name d) = subst (In f) (sym d.new_is) (again f w.blobs w.doomed w.safe w.term w.tickets l.pruned k d.t d.out.there (name ∷ d.t.noted) d.t.wrote d.t.raised d.t.tried_latest d.t.out (λ o. o) (λ e. refl))
+turn_pruned f w new shelf l (Raises m k d) = subst (In f) (sym d.new_is) (again f w.blobs w.doomed w.safe w.term w.tickets l.pruned k d.t d.out.there d.t.noted d.t.wrote (Some w.pending) d.t.tried_latest d.t.out (λ o. o) (λ e. absurd (true≢false (sym e ∙ d.unsettled))))
 turn_pruned f w new shelf l (Latests m k d) = subst (In f) (sym d.tries.new_is)
-    (again f d.now w.doomed w.safe w.term w.tickets (put_law f w shelf l d.now d.puts).pruned k d.tries.t d.tries.out.there d.tries.t.noted d.tries.t.wrote d.tries.t.raised true d.tries.t.out (λ o. o))
+    (again f d.now w.doomed w.safe w.term w.tickets (put_law f w shelf l d.now d.puts).pruned k d.tries.t d.tries.out.there d.tries.t.noted d.tries.t.wrote d.tries.t.raised true d.tries.t.out (λ o. o) (λ e. refl))
 turn_pruned f w new shelf l (Fetches m k name c) = subst (In f) (sym c.new_is) (fetched f w shelf l k name m c)
 turn_pruned f w new shelf l (SettlesFinal m k n t s d) = subst (In f) (sym d.new_is) (settles f w shelf l k n t s d.may d.present w.doomed (λ name h. h) (λ uuids x work. absurd (final_other d.info d.results d.made uuids (Some x) (sym d.work ∙ work))))
 turn_pruned f w new shelf l (SettlesDelete m k n t s d) = subst (In f) (sym d.new_is)
@@ -209,7 +221,7 @@ turn_pruned f w new shelf l (TakesDrop m o d) = subst (In f) (sym d.new_is) (new
 turn_pruned f w new shelf l (TakesDelete m n x d) = subst (In f) (sym d.new_is)
     (new_one f w.blobs w.doomed w.safe w.term w.tickets l.pruned w.next_ticket (plain_ticket w n (Deleting x.uuids None)) refl (λ uuids plan e. (refl, refl, sym (plan_same x.uuids uuids None plan e).1)))
 turn_pruned f w new shelf l (TakesCleanup m n x d) = subst (In f) (sym d.new_is)
-    (new_one f w.blobs w.doomed w.safe w.term w.tickets l.pruned w.next_ticket (plain_ticket w n (Deleting x.uuids None)) refl (λ uuids plan e. (refl, refl, sym (plan_same x.uuids uuids None plan e).1)))
+    (new_one f w.blobs w.doomed w.safe w.term w.tickets l.pruned w.next_ticket (cleaning_ticket w n) refl (λ uuids plan e. (refl, refl, sym (plan_same [] uuids None plan e).1)))
 turn_pruned f w new shelf l (DrawsShard m k n d) = subst (In f) (sym d.new_is)
     (put f w.blobs w.doomed w.safe w.term w.tickets l.pruned k (record d.t { first = w.next_id; drawn = n }) (λ uuids plan o uns pres is. absurd (subst IsShard is d.shard)) (λ uuids s done is. absurd (subst IsShard is d.shard)))
 turn_pruned f w new shelf l (DrawsPlan m k n d) = subst (In f) (sym d.new_is) (planned f w shelf l k n m d)
@@ -224,6 +236,10 @@ turn_pruned f w new shelf l (AsksCreate m op d) = subst (In f) (sym d.new_is) l.
 turn_pruned f w new shelf l (AsksDelete m uuids d) = subst (In f) (sym d.new_is) l.pruned
 turn_pruned f w new shelf l (Merges m uuids n d) = subst (In f) (sym d.new_is) l.pruned
 turn_pruned f w new shelf l (Removing m k names d) = subst (In f) (sym d.new_is) (removed f w shelf l names d.doomed d.now d.removes)
+turn_pruned f w new shelf l (Pages m k page d) = subst (In f) (sym d.new_is)
+    (put f w.blobs w.doomed w.safe w.term w.tickets l.pruned k (listing d.t page)
+    (λ uuids plan o uns pres is. let old = l.pruned.unsettled k d.t uuids plan d.out.there o uns pres is in record { held = old.held; safe_is = old.safe_is; follows = old.follows })
+    (λ uuids s done is. absurd (true≢false (sym done ∙ d.unsettled))))
 turn_pruned f w new shelf l (Deposes m up d e) = subst (In f) (sym e) (turn_pruned f w up shelf l d)
 turn_pruned f w new shelf l (Tests m t) = tests_pruned f w shelf l m t
 turn_pruned f w new shelf l (Besides m up d r) = kept_aside (In f) up m (aside_of f up m r) (turn_pruned f w up shelf l d)

@@ -71,6 +71,7 @@ module _ (f : Formats) (w new : World) (shelf : List Shelved) (names : List Blob
             shape = old.shape;
             swaps = λ s i c. absurd (d.no_swap j u s e i c);
             clean = λ s i c. absurd (d.no_swap j u s e i c);
+            listed = old.listed;
             clean_root = λ n r le. absurd (let h : n < w.pending = old.raised n r in omega (arith, d.last));
           };
           single = l.rooted.single;

@@ -11,7 +11,7 @@ use Rattle.esr_model.specs.Image.{IsOne, Reads, Generation, index_at, at_shard, 
 use Rattle.esr_model.specs.Reach.{Reached, ReachSnap, ReachMeta, ReachIndexMeta, ReachIndex, ReachShardSnap, ReachPart}
 use Rattle.esr_model.specs.Delete.{PrunedShard, own_id, fresh_from, left_snaps, left_uuids, left_index, left_indices, left_root, uuids_of, lists_file, listed_lists, surviving, files_by, files_read, left_text, pruned_blobs, deleted_root, gone_by, gone_from, gone_shards, doomed_root, doomed_snaps, doomed_metas, doomed_index_metas, doomed_lists, doomed_parts, doomed_files, doomed_shards, doomed_names}
 use Rattle.esr_core.specs.World.{World, HeldIn}
-use Rattle.esr_core.specs.Pruning.{is_left, is_victim, has_none, has_named, bare_shard, pruned_shards, AreRead, AreOfRoot, AreWritable, dooms}
+use Rattle.esr_core.specs.Pruning.{is_left, is_victim, has_none, has_named, is_touched, bare_shard, pruned_shards, AreRead, AreOfRoot, AreWritable, dooms}
 use Rattle.esr_core.specs.Allowed.{SettlesDeletion}
 use Rattle.esr_core.specs.Ids.{Law}
 use Rattle.esr_core.specs.Tidy.{IsInIndex, TidyRoot}
@@ -43,7 +43,7 @@ some_named uuids (v ∷ us) u m e = elim (bool_told (names_uuid uuids v)) [
 ]
 
 -- a snapshot that isn't named is left
-snap_left : (uuids : List ℕ) (ss : List RootSnap) (s : RootSnap) → Has ss s → names_uuid uuids s.uuid ≡ false → Has (left_snaps uuids ss) s
+pub snap_left : (uuids : List ℕ) (ss : List RootSnap) (s : RootSnap) → Has ss s → names_uuid uuids s.uuid ≡ false → Has (left_snaps uuids ss) s
 snap_left uuids [] s m e = absurd m
 snap_left uuids (x ∷ ss) s m e = elim (bool_told (names_uuid uuids x.uuid)) [
   | inl b ↦ subst (λ (l : List RootSnap). Has l s) (sym (choose_true _ _ _ b)) (elim m [
@@ -259,15 +259,15 @@ module _ (f : Formats) (safe : ℕ) (old new : RootData) (uuids : List ℕ) (rea
 
 -- ---- all of it
 
-none_fresh : (to : Option ℕ) → ◌≡◌ {A = Option (Option ℕ)} None (Some to) → ⊥
+pub none_fresh : (to : Option ℕ) → ◌≡◌ {A = Option (Option ℕ)} None (Some to) → ⊥
 none_fresh to e = cc
 
-module _ (f : Formats) (has : BlobName → Bytes → Type 0) (func : IsOne has) (safe : ℕ) (root : RootData) (one : IsOneEach root.indices) (uuids : List ℕ) (read : List (BlobName × Bytes)) (first : ℕ)
-    (held : (name : BlobName) (bytes : Bytes) → Has read (name, bytes) → has name bytes) (are_read : AreRead f root uuids read) (of_root : AreOfRoot root (pruned_shards f root uuids read))
-    (writable : AreWritable f root uuids read (pruned_shards f root uuids read))
-    (written : (name : BlobName) (bytes : Bytes) → Has (pruned_blobs f read (left_uuids uuids (uuids_of root)) first (pruned_shards f root uuids read)) (name, bytes) → has name bytes) (tidy : TidyRoot f has root) where
+module _ (f : Formats) (has : BlobName → Bytes → Type 0) (func : IsOne has) (safe : ℕ) (clean : Bool) (root : RootData) (one : IsOneEach root.indices) (uuids : List ℕ) (read : List (BlobName × Bytes)) (first : ℕ)
+    (held : (name : BlobName) (bytes : Bytes) → Has read (name, bytes) → has name bytes) (are_read : AreRead f clean root uuids read) (of_root : AreOfRoot root (pruned_shards f clean root uuids read))
+    (writable : AreWritable f root uuids read (pruned_shards f clean root uuids read))
+    (written : (name : BlobName) (bytes : Bytes) → Has (pruned_blobs f read (left_uuids uuids (uuids_of root)) first (pruned_shards f clean root uuids read)) (name, bytes) → has name bytes) (tidy : TidyRoot f has root) where
   abbrev shards : List PrunedShard
-  shards = pruned_shards f root uuids read
+  shards = pruned_shards f clean root uuids read
 
   abbrev new : RootData
   new = deleted_root root uuids shards first
@@ -296,23 +296,23 @@ module _ (f : Formats) (has : BlobName → Bytes → Type 0) (func : IsOne has) 
     read_as : files_read f read (bare_shard i k g) ≡ Some was
     reads : Reads has (ShardIndex i k g) f.shard_index was
 
-  read_of : (x : RootIndex) → Has root.indices x → (i k g : ℕ) → x.id ≡ i → Generation root i k g → has_named uuids x.snapshots ≡ true → WasRead i k g
+  read_of : (x : RootIndex) → Has root.indices x → (i k g : ℕ) → x.id ≡ i → Generation root i k g → is_touched clean uuids x.snapshots ≡ true → WasRead i k g
   read_of x there i k g id gen victim =
       let (was, e) = are_read i k g (record { x = x; there = there; id = id; victim = victim; at = generation_in x there i k g id gen }) in
       record { was = was; read_as = e; reads = shard_reads f has read held (bare_shard i k g) was e }
 
   -- a shard whose generation the new root hasn't was read
-  gone_was_read : (i k g : ℕ) → Generation root i k g → (Generation new i k g → ⊥) → WasRead i k g
-  gone_was_read i k g gen other =
+  gone_was_read : clean ≡ false → (i k g : ℕ) → Generation root i k g → (Generation new i k g → ⊥) → WasRead i k g
+  gone_was_read deletes i k g gen other =
       let (x, there, id) = generation_index root i k g gen in
-      elim (bool_told (has_named uuids x.snapshots)) [
+      elim (bool_told (is_touched clean uuids x.snapshots)) [
         | inl victim ↦ read_of x there i k g id gen victim
         | inr none ↦
             let (u, mine) = tidy.used x there in
-            absurd (other (deleted_stays root one uuids shards first apart i k g gen x u there id mine (none_named uuids x.snapshots u none mine) (λ q m a b.
-            let r = of_indices f read uuids (uuids_of root) root.indices q m in
+            absurd (other (deleted_stays root one uuids shards first apart i k g gen x u there id mine (none_named uuids x.snapshots u (ap (λ (c : Bool). is_touched c uuids x.snapshots) (sym deletes) ∙ none) mine) (λ q m a b.
+            let r = of_indices f read clean uuids (uuids_of root) root.indices q m in
             let same : r.x ≡ x = one r.x x r.there there (sym r.is.index_is ∙ sym a ∙ sym id) in
-            clash (has_named uuids x.snapshots) (ap (λ (z : RootIndex). has_named uuids z.snapshots) (sym same) ∙ r.victim) none)).1)
+            clash (is_touched clean uuids x.snapshots) (ap (λ (z : RootIndex). is_touched clean uuids z.snapshots) (sym same) ∙ r.victim) none)).1)
       ]
 
   -- the index under a generation that is new
@@ -327,18 +327,18 @@ module _ (f : Formats) (has : BlobName → Bytes → Type 0) (func : IsOne has) 
       record { bytes = f.shard_index.text (surviving left w.was); there = written (ShardIndex i k now) (f.shard_index.text (surviving left w.was)) text; reads = writable r.p w.was r.there its }
 
   -- the generation of a shard in which a victim is listed goes
-  victim_goes : (i k g : ℕ) (s : RootSnap) (h : ShardFiles) (l : SnapList) → Generation root i k g → Reads has (ShardIndex i k g) f.shard_index h → Has h.snapshots l → Has root.snapshots s → l.uuid ≡ s.uuid → names_uuid uuids s.uuid ≡ true
+  victim_goes : clean ≡ false → (i k g : ℕ) (s : RootSnap) (h : ShardFiles) (l : SnapList) → Generation root i k g → Reads has (ShardIndex i k g) f.shard_index h → Has h.snapshots l → Has root.snapshots s → l.uuid ≡ s.uuid → names_uuid uuids s.uuid ≡ true
       → Generation new i k g → ⊥
-  victim_goes i k g s h l gen reads listed there same named stays =
+  victim_goes deletes i k g s h l gen reads listed there same named stays =
       let own : IsInIndex root i s.uuid = tidy.lists i k g gen h reads l listed s there same in
-      let victim : has_named uuids own.x.snapshots ≡ true = some_named uuids own.x.snapshots s.uuid own.mine named in
+      let victim : is_touched clean uuids own.x.snapshots ≡ true = ap (λ (c : Bool). is_touched c uuids own.x.snapshots) deletes ∙ some_named uuids own.x.snapshots s.uuid own.mine named in
       let w : WasRead i k g = read_of own.x own.there i k g own.id gen victim in
       let is : h ≡ w.was = reads_one has func (ShardIndex i k g) f.shard_index h w.was reads w.reads in
       let l_there : Has w.was.snapshots l = subst (λ (z : ShardFiles). Has z.snapshots l) is listed in
       let l_named : names_uuid uuids l.uuid ≡ true = ap (names_uuid uuids) same ∙ named in
       let l_listed : names_uuid (uuids_of root) l.uuid ≡ true = ap (names_uuid (uuids_of root)) same ∙ has_names (uuids_of root) s.uuid (Has-map (λ (x : RootSnap). x.uuid) root.snapshots s there) in
-      let test : is_victim uuids (uuids_of root) l ≡ true = ap (λ (b : Bool). b && names_uuid (uuids_of root) l.uuid) l_named ∙ l_listed in
-      let any : list_any (is_victim uuids (uuids_of root)) w.was.snapshots ≡ true = any_of (is_victim uuids (uuids_of root)) w.was.snapshots l l_there test in
+      let test : is_victim clean uuids (uuids_of root) l ≡ true = ap (λ (c : Bool). is_victim c uuids (uuids_of root) l) deletes ∙ ap (λ (b : Bool). b && names_uuid (uuids_of root) l.uuid) l_named ∙ l_listed in
+      let any : list_any (is_victim clean uuids (uuids_of root)) w.was.snapshots ≡ true = any_of (is_victim clean uuids (uuids_of root)) w.was.snapshots l l_there test in
       elim (bool_told (has_none (left_uuids uuids own.x.snapshots))) [
         | inl leaves ↦
             let (y, y_there, y_id) = generation_index new i k g stays in
@@ -351,7 +351,7 @@ module _ (f : Formats) (has : BlobName → Bytes → Type 0) (func : IsOne has) 
           | inl old ↦
               let p : PrunedShard = shard_at own.x.id k g (list_any (is_left left) w.was.snapshots) in
               let p_there : Has shards p =
-              has_of_indices f read uuids (uuids_of root) root.indices own.x own.there victim on k g w.was (generation_in own.x own.there i k g own.id gen) (ap (λ (n : ℕ). files_read f read (bare_shard n k g)) own.id ∙ w.read_as) any in
+              has_of_indices f read clean uuids (uuids_of root) root.indices own.x own.there victim on k g w.was (generation_in own.x own.there i k g own.id gen) (ap (λ (n : ℕ). files_read f read (bare_shard n k g)) own.id ∙ w.read_as) any in
               let (n, fresh) = fresh_has shards first p apart p_there in
               none_fresh (own_id n p) (sym old.0 ∙ ap (λ (v : ℕ). fresh_from first shards v k) (sym own.id) ∙ fresh)
           | inr fresh ↦
@@ -394,10 +394,10 @@ module _ (f : Formats) (has : BlobName → Bytes → Type 0) (func : IsOne has) 
       goes_doomed i k g kept gen as_told name
       (inr (subst (λ (o : Option ShardFiles). Has (doomed_files (uuids_of root) (uuids_of new) (shard_at i k g kept) o) name) (sym (read_at i k g kept w)) m))
 
-  list_goes : (i k g : ℕ) (kept : Bool) (s : RootSnap) (h : ShardFiles) (l : SnapList) → Generation root i k g → Reads has (ShardIndex i k g) f.shard_index h → Has h.snapshots l → Has root.snapshots s → l.uuid ≡ s.uuid
+  list_goes : clean ≡ false → (i k g : ℕ) (kept : Bool) (s : RootSnap) (h : ShardFiles) (l : SnapList) → Generation root i k g → Reads has (ShardIndex i k g) f.shard_index h → Has h.snapshots l → Has root.snapshots s → l.uuid ≡ s.uuid
       → (Reached f has new (ShardSnap i k s.uuid) → ⊥) → (Generation new i k g → ⊥) → IsGoneAs (at_shard_of (index_at new.indices i) k) g kept → Has (doomed_names f safe root new uuids read) (ShardSnap i k s.uuid)
-  list_goes i k g kept s h l gen reads listed there same unreached other as_told =
-      let w : WasRead i k g = gone_was_read i k g gen other in
+  list_goes deletes i k g kept s h l gen reads listed there same unreached other as_told =
+      let w : WasRead i k g = gone_was_read deletes i k g gen other in
       let is : h ≡ w.was = reads_one has func (ShardIndex i k g) f.shard_index h w.was reads w.reads in
       let l_there : Has w.was.snapshots l = subst (λ (z : ShardFiles). Has z.snapshots l) is listed in
       let l_listed : names_uuid (uuids_of root) l.uuid ≡ true = ap (names_uuid (uuids_of root)) same ∙ has_names (uuids_of root) s.uuid (Has-map (λ (x : RootSnap). x.uuid) root.snapshots s there) in
@@ -415,10 +415,10 @@ module _ (f : Formats) (has : BlobName → Bytes → Type 0) (func : IsOne has) 
       (files_doomed i k g kept w gen as_told (ShardSnap i k l.uuid)
       (Has-left lists parts (ShardSnap i k l.uuid) (list_doomed (uuids_of root) (uuids_of new) (shard_at i k g kept) w.was.snapshots l l_there l_listed lost)))
 
-  part_goes : (i k g : ℕ) (kept : Bool) (h : ShardFiles) (e : FileEntry) (name : BlobName) → Generation root i k g → Reads has (ShardIndex i k g) f.shard_index h → Has h.files e → Has (part_names i k e) name
+  part_goes : clean ≡ false → (i k g : ℕ) (kept : Bool) (h : ShardFiles) (e : FileEntry) (name : BlobName) → Generation root i k g → Reads has (ShardIndex i k g) f.shard_index h → Has h.files e → Has (part_names i k e) name
       → (Reached f has new name → ⊥) → (Generation new i k g → ⊥) → IsGoneAs (at_shard_of (index_at new.indices i) k) g kept → Has (doomed_names f safe root new uuids read) name
-  part_goes i k g kept h e name gen reads listed part unreached other as_told =
-      let w : WasRead i k g = gone_was_read i k g gen other in
+  part_goes deletes i k g kept h e name gen reads listed part unreached other as_told =
+      let w : WasRead i k g = gone_was_read deletes i k g gen other in
       let is : h ≡ w.was = reads_one has func (ShardIndex i k g) f.shard_index h w.was reads w.reads in
       let e_there : Has w.was.files e = subst (λ (z : ShardFiles). Has z.files e) is listed in
       let lost : (kept && lists_file (listed_lists (uuids_of new) w.was.snapshots) e) ≡ false = elim (bool_told (kept && lists_file (listed_lists (uuids_of new) w.was.snapshots) e)) [
@@ -441,37 +441,37 @@ module _ (f : Formats) (has : BlobName → Bytes → Type 0) (func : IsOne has) 
       go None = inr (λ e. none_some g e)
       go (Some now) = elim (eqb_tells now g) [ inl t ↦ inl (ap (λ (n : ℕ). Some n) t.1) | inr t ↦ inr (λ e. t.1 (some_same now g e)) ]
 
-  pub all_doomed : (name : BlobName) → Reached f has root name → (Reached f has new name → ⊥) → Has (doomed_names f safe root new uuids read) name
-  all_doomed name (ReachSnap s there) unreached = elim (bool_told (names_uuid uuids s.uuid)) [
+  pub all_doomed : clean ≡ false → (name : BlobName) → Reached f has root name → (Reached f has new name → ⊥) → Has (doomed_names f safe root new uuids read) name
+  all_doomed deletes name (ReachSnap s there) unreached = elim (bool_told (names_uuid uuids s.uuid)) [
     | inl named ↦ of_snaps f safe root new uuids read (Snap s.uuid) (snap_doomed uuids root.snapshots s there named).0
     | inr unnamed ↦ absurd (unreached (ReachSnap s (snap_stays s there unnamed)))
   ]
-  all_doomed name (ReachMeta s there) unreached = elim (bool_told (names_uuid uuids s.uuid)) [
+  all_doomed deletes name (ReachMeta s there) unreached = elim (bool_told (names_uuid uuids s.uuid)) [
     | inl named ↦ of_snaps f safe root new uuids read (Meta s.uuid) (snap_doomed uuids root.snapshots s there named).1
     | inr unnamed ↦ absurd (unreached (ReachMeta s (snap_stays s there unnamed)))
   ]
-  all_doomed name (ReachIndexMeta x u there mine) unreached = elim (bool_told (names_uuid uuids u)) [
+  all_doomed deletes name (ReachIndexMeta x u there mine) unreached = elim (bool_told (names_uuid uuids u)) [
     | inl named ↦ of_metas f safe root new uuids read (IndexMeta x.id u) (index_meta_doomed uuids root.indices x u there mine named)
     | inr unnamed ↦
         let (y, y_there, y_name, y_id, y_mine) = deleted_kept root one uuids shards first apart x u there mine unnamed in
         absurd (unreached (subst (λ (i : ℕ). Reached f has new (IndexMeta i u)) y_id (ReachIndexMeta y u y_there y_mine)))
   ]
-  all_doomed name (ReachIndex i k g gen) unreached =
+  all_doomed deletes name (ReachIndex i k g gen) unreached =
       let (kept, as_told) = gone_as (at_shard_of (index_at new.indices i) k) g (λ e. unreached (ReachIndex i k g e)) in
       goes_doomed i k g kept gen as_told (ShardIndex i k g) (inl refl)
-  all_doomed name (ReachShardSnap i k g s h l gen reads listed there same) unreached = elim (stays_or_goes i k g) [
+  all_doomed deletes name (ReachShardSnap i k g s h l gen reads listed there same) unreached = elim (stays_or_goes i k g) [
     | inr other ↦
         let (kept, as_told) = gone_as (at_shard_of (index_at new.indices i) k) g other in
-        list_goes i k g kept s h l gen reads listed there same unreached other as_told
+        list_goes deletes i k g kept s h l gen reads listed there same unreached other as_told
     | inl stays ↦ elim (bool_told (names_uuid uuids s.uuid)) [
-      | inl named ↦ absurd (victim_goes i k g s h l gen reads listed there same named stays)
+      | inl named ↦ absurd (victim_goes deletes i k g s h l gen reads listed there same named stays)
       | inr unnamed ↦ absurd (unreached (ReachShardSnap i k g s h l stays reads listed (snap_stays s there unnamed) same))
     ]
   ]
-  all_doomed name (ReachPart i k g h e part gen reads listed m) unreached = elim (stays_or_goes i k g) [
+  all_doomed deletes name (ReachPart i k g h e part gen reads listed m) unreached = elim (stays_or_goes i k g) [
     | inr other ↦
         let (kept, as_told) = gone_as (at_shard_of (index_at new.indices i) k) g other in
-        part_goes i k g kept h e part gen reads listed m unreached other as_told
+        part_goes deletes i k g kept h e part gen reads listed m unreached other as_told
     | inl stays ↦ absurd (unreached (ReachPart i k g h e part stays reads listed m))
   ]
 
@@ -486,7 +486,7 @@ module _ (f : Formats) (has : BlobName → Bytes → Type 0) (func : IsOne has) 
           | inl old ↦ tidy.lists i k g old.1 h reads l m z z_was e
           | inr fresh ↦
               let r = fresh_is f read left shards first i k g fresh in
-              let q = of_indices f read uuids (uuids_of root) root.indices r.p r.there in
+              let q = of_indices f read clean uuids (uuids_of root) root.indices r.p r.there in
               let at : Generation root i k r.p.base = subst (λ (y : ℕ × ℕ). Generation root y.0 y.1 r.p.base) (λ j. (r.index_is j, r.number_is j)) (in_root root shards r.p of_root r.there) in
               let w : WasRead i k r.p.base = read_of q.x q.there i k r.p.base (sym q.is.index_is ∙ r.index_is) at q.victim in
               let same : h ≡ surviving left w.was = reads_one has func (ShardIndex i k g) f.shard_index h (surviving left w.was) reads (fresh_reads i k r.p.base g at w fresh) in
@@ -509,9 +509,9 @@ root_name (suc n) m e = inl (ap Root (same e))
     same : suc n ≡ suc m → n ≡ m
     same e = omega (arith, e)
 
-module _ (f : Formats) (w : World) (shelf : List Shelved) (l : Law f w shelf) (k : ℕ) (s : SettlesDeletion f w k) (present : s.t.term ≡ w.term) where
-  dooms_are : dooms f s.t ≡ doomed_names f s.t.safe s.t.root (deleted_root s.t.root s.uuids (pruned_shards f s.t.root s.uuids s.t.read) s.t.first) s.uuids s.t.read
-  dooms_are = dooms_is f s.t s.uuids s.s s.deleting.work ∙ ap (λ (r : RootData). doomed_names f s.t.safe s.t.root r s.uuids s.t.read) (root_is f w shelf l k s present)
+module _ (f : Formats) (w : World) (shelf : List Shelved) (l : Law f w shelf) (k : ℕ) (s : SettlesDeletion f w k) (present : s.t.term ≡ w.term) (deletes : s.t.clean ≡ false) where
+  dooms_are : dooms f s.t ≡ doomed_names f s.t.safe s.t.root (deleted_root s.t.root s.uuids (pruned_shards f s.t.clean s.t.root s.uuids s.t.read) s.t.first) s.uuids s.t.read
+  dooms_are = dooms_is f s.t s.uuids s.s s.deleting.work deletes ∙ ap (λ (r : RootData). doomed_names f s.t.safe s.t.root r s.uuids s.t.read) (root_is f w shelf l k s present)
 
   root_same : s.t.root ≡ w.root
   root_same = (law f w shelf l k s present).root_is
@@ -520,13 +520,13 @@ module _ (f : Formats) (w : World) (shelf : List Shelved) (l : Law f w shelf) (k
   dooms_all tidy name reached unreached =
       let p = plan f w shelf l k s present in
       subst (λ (ns : List BlobName). Has ns name) (sym dooms_are)
-      (all_doomed f (HeldIn f w) (held_one f w) s.t.safe s.t.root (once f w shelf l k s present) s.uuids s.t.read s.t.first (pruned f w shelf l k s present).held p.are_read p.of_root p.writable (written f w shelf l k s present)
-      (subst (λ (r : RootData). TidyRoot f (HeldIn f w) r) (sym root_same) tidy) name
+      (all_doomed f (HeldIn f w) (held_one f w) s.t.safe s.t.clean s.t.root (once f w shelf l k s present) s.uuids s.t.read s.t.first (pruned f w shelf l k s present).held p.are_read p.of_root p.writable (written f w shelf l k s present)
+      (subst (λ (r : RootData). TidyRoot f (HeldIn f w) r) (sym root_same) tidy) deletes name
       (subst (λ (r : RootData). Reached f (HeldIn f w) r name) (sym root_same) reached)
       (λ h. unreached (subst (λ (r : RootData). Reached f (HeldIn f w) r name) (sym (root_is f w shelf l k s present)) h)))
 
   pub dooms_root : (m : ℕ) → w.safe ≡ suc m → Has (dooms f s.t) (Root m)
   dooms_root m e =
-      let new : RootData = deleted_root s.t.root s.uuids (pruned_shards f s.t.root s.uuids s.t.read) s.t.first in
+      let new : RootData = deleted_root s.t.root s.uuids (pruned_shards f s.t.clean s.t.root s.uuids s.t.read) s.t.first in
       subst (λ (ns : List BlobName). Has ns (Root m)) (sym dooms_are)
       (of_the_root f s.t.safe s.t.root new s.uuids s.t.read (Root m) (root_name s.t.safe m ((pruned f w shelf l k s present).safe_is ∙ e)))

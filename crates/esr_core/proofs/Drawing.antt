@@ -64,7 +64,7 @@ draw_shard_lawful f w shelf l k n new d above = subst (λ x. Lawful f x shelf) (
 
     it : Sound f (record w { tickets = fin.insert w.tickets k (record d.t { first = w.next_id; drawn = n }) }) shelf
     it = quiet f w shelf l.sound k d.t (record d.t { first = w.next_id; drawn = n }) d.out.there same
-        (record { term = old.term; raised = old.raised; shape = old.shape; clean_root = old.clean_root; clean = λ s i. old.clean s (record { is = i.is; out = i.out; unsettled = i.unsettled }); last = λ s i. old.last s (record { is = i.is; out = i.out; unsettled = i.unsettled }); swaps = λ s i. old.swaps s (record { is = i.is; out = i.out; unsettled = i.unsettled }) })
+        (record { term = old.term; raised = old.raised; shape = old.shape; clean_root = old.clean_root; listed = old.listed; clean = λ s i. old.clean s (record { is = i.is; out = i.out; unsettled = i.unsettled }); last = λ s i. old.last s (record { is = i.is; out = i.out; unsettled = i.unsettled }); swaps = λ s i. old.swaps s (record { is = i.is; out = i.out; unsettled = i.unsettled }) })
         (λ s i e. (record { is = i.is; out = i.out; unsettled = i.unsettled }, e))
 
 module _ (f : Formats) (w : World) (shelf : List Shelved) (l : Lawful f w shelf) (k n : ℕ) (new : World) (d : DrawPlan f w k n new)
@@ -89,10 +89,10 @@ module _ (f : Formats) (w : World) (shelf : List Shelved) (l : Lawful f w shelf)
   after : d.t.settled ≡ false → d.t.term ≡ w.term → left_shelf d.uuids shelf ≡ shelf_after shelf d.commands
   after uns pres = elim d.prunes [
     | inl h ↦
-        same_left d.uuids d.named w.root.snapshots shelf (λ s m. h.0 s (subst (λ (r : RootData). Has r.snapshots s) (sym (law uns pres).root_is) m))
+        same_left d.uuids d.named w.root.snapshots shelf (λ s m. h.1 s (subst (λ (r : RootData). Has r.snapshots s) (sym (law uns pres).root_is) m))
+        (safe_root_stands f (HeldIn f w) (held_one f w) w.safe w.root shelf l.sound.rooted.kept.picked l.sound.carried.root_is).snapshots ∙ ap (shelf_after shelf) (sym h.2)
+    | inr h ↦ all_left d.uuids w.root.snapshots shelf (λ s m. h.2 s (subst (λ (r : RootData). Has r.snapshots s) (sym (law uns pres).root_is) m))
         (safe_root_stands f (HeldIn f w) (held_one f w) w.safe w.root shelf l.sound.rooted.kept.picked l.sound.carried.root_is).snapshots ∙ ap (shelf_after shelf) (sym h.1)
-    | inr h ↦ all_left d.uuids w.root.snapshots shelf (λ s m. h.1 s (subst (λ (r : RootData). Has r.snapshots s) (sym (law uns pres).root_is) m))
-        (safe_root_stands f (HeldIn f w) (held_one f w) w.safe w.root shelf l.sound.rooted.kept.picked l.sound.carried.root_is).snapshots ∙ ap (shelf_after shelf) (sym h.0)
   ]
     where
       -- uuids that name the same of what is listed leave the same
@@ -129,6 +129,7 @@ module _ (f : Formats) (w : World) (shelf : List Shelved) (l : Lawful f w shelf)
             (record { staged = subst (RootStands f (OrOwn (HeldIn f w) d.own) d.root) (after i.unsettled (counts c)) (staged i.unsettled (counts c)); noted = λ name b m h. absurd (subst (λ ns. Has ns name) d.unnoted h); root_noted = λ m h. absurd (subst (λ ns. Has ns (Root m)) d.unnoted h) });
         clean = λ s i c name b own. clean name b (subst (λ (x : Swap). Has x.own (name, b)) (sym (some_same _ _ i.is)) own);
         clean_root = old.clean_root;
+        listed = old.listed;
       }
 
   -- no other swaps
@@ -219,11 +220,11 @@ module _ (f : Formats) (w : World) (shelf : List Shelved) (l : Lawful f w shelf)
               snapshots = λ z m. left_has d.uuids w.root.snapshots z (subst (λ xs. Has xs z) dels.snapshots m);
               indices = dels.from;
             });
-        named = λ us p e. h.named us None (d.work ∙ ap (λ (x : List ℕ). Deleting x None) (uuids_of e));
+        named = λ c us p e. h.named c us None (d.work ∙ ap (λ (x : List ℕ). Deleting x None) (uuids_of e));
         keeps = λ s e z m stays. subst (λ (x : Swap). Has x.root.snapshots z) (some_same _ _ (plan_is is ∙ e))
             (subst (λ xs. Has xs z) (sym dels.snapshots) (left_stays d.uuids w.root.snapshots z m (elim d.prunes [
-              | inl c ↦ c.0 z (subst (λ (r : RootData). Has r.snapshots z) (sym h.root_is) m) ∙ ap (λ xs. names_uuid xs z.uuid) (h.named d.named None d.work) ∙ stays
-              | inr c ↦ c.1 z (subst (λ (r : RootData). Has r.snapshots z) (sym h.root_is) m)
+              | inl c ↦ c.1 z (subst (λ (r : RootData). Has r.snapshots z) (sym h.root_is) m) ∙ ap (λ xs. names_uuid xs z.uuid) (h.named c.0 d.named None d.work) ∙ stays
+              | inr c ↦ c.2 z (subst (λ (r : RootData). Has r.snapshots z) (sym h.root_is) m)
             ])));
       }
     where

@@ -1,5 +1,5 @@
 -- The definitions admit a whole snapshot: step by step, from an empty container to the settle.
-use Rattle.std.proofs.Common.{◌≡◌, ◌≢◌, ℕ, suc, ◌+◌, ◌<◌, List, [], ◌∷◌, ◌++◌, true, false, Some, None, refl, sym, ap, ◌∙◌, subst, inl, inr, arith, nat_cmp, lit<}
+use Rattle.std.proofs.Common.{◌≡◌, ◌≢◌, ℕ, suc, ◌+◌, ◌<◌, List, [], ◌∷◌, ◌++◌, true, false, true≢false, Some, None, refl, sym, ap, ◌∙◌, subst, inl, inr, arith, nat_cmp, lit<}
 use Rattle.std.specs.Cmp.{nat_cmp_total}
 use Rattle.std.specs.Cmp.Lexicographic.{slice_cmp, nat_list_cmp_total}
 use Rattle.std.specs.FinMap.{FinMap, nat_cmp-IsAntisymmetric}
@@ -207,10 +207,10 @@ module _ (f : Formats) (size : ℕ) (name : Bytes) (moment : ℕ) (can : CanWrit
   not_shard i n e = cc
 
   abbrev commit3 : Commits f size w2 1 (Snap uuid)
-  commit3 = record { t = t2; out = record { there = got fin.empty t2; out = refl }; unsettled = refl; bytes = snap_text; named = can.snap; may = inl (record { root = finalized_root no_root (info_of op []) []; own = metadata f (info_of op []); commands = Create (shelved_of f op) ∷ [] }, refl, inl (inl refl)); numbered = λ i n e. absurd (not_shard i n e) }
+  commit3 = record { t = t2; out = record { there = got fin.empty t2; out = refl }; unsettled = refl; bytes = snap_text; named = can.snap; may = inl (record { root = finalized_root no_root (info_of op []) []; own = metadata f (info_of op []); commands = Create (shelved_of f op) ∷ [] }, refl, inl (inl refl)); numbered = λ i n e. absurd (not_shard i n e); late = λ c. absurd (true≢false (sym c)) }
 
   abbrev commit4 : Commits f size w3 1 (Meta uuid)
-  commit4 = record { t = t3; out = record { there = got w2.tickets t3; out = refl }; unsettled = refl; bytes = meta_text; named = can.meta; may = inl (record { root = finalized_root no_root (info_of op []) []; own = metadata f (info_of op []); commands = Create (shelved_of f op) ∷ [] }, refl, inl (inr (inl refl))); numbered = λ i n e. absurd (not_shard i n e) }
+  commit4 = record { t = t3; out = record { there = got w2.tickets t3; out = refl }; unsettled = refl; bytes = meta_text; named = can.meta; may = inl (record { root = finalized_root no_root (info_of op []) []; own = metadata f (info_of op []); commands = Create (shelved_of f op) ∷ [] }, refl, inl (inr (inl refl))); numbered = λ i n e. absurd (not_shard i n e); late = λ c. absurd (true≢false (sym c)) }
 
   abbrev commit6 : Commits f size w5 1 (Root 0)
   commit6 =
@@ -226,6 +226,7 @@ module _ (f : Formats) (size : ℕ) (name : Bytes) (moment : ℕ) (can : CanWrit
           inr (0, refl, record { unsettled = refl; raised = refl; text = refl; ready = both_noted t5 (inr (inl refl)) (inl refl) }),
         );
         numbered = λ i n e. absurd (not_shard i n e);
+        late = λ c. absurd (true≢false (sym c));
       }
 
   told : (m : Blobs) (n : BlobName) (bytes : Bytes) → fin.get (fin.insert m (f.names.text n) bytes) (f.names.text n) ≡ Some bytes

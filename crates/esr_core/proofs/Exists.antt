@@ -7,12 +7,12 @@ use Rattle.esr_model.specs.Shelf.{Shelved, Command}
 use Rattle.esr_model.specs.Image.{IsStored, Blobs, At}
 use Rattle.esr_model.specs.Kept.{IdsBelow}
 use Rattle.esr_core.specs.World.{World, Op, ShardWork, Pending, Out, Done, Work, Shard, Finalize, Deleting, Drop, Ticket, Swap, swap, swap_of, AllDone, info_of, metadata, marked, HeldIn, ledger_of}
-use Rattle.esr_core.specs.Steps.{CommitExists, MayCommit, ShardCommits, Remove, reading, writing, noting, given, final_ticket, shard_ticket}
+use Rattle.esr_core.specs.Steps.{CommitExists, MayCommit, ShardCommits, Remove, reading, listing, writing, noting, given, final_ticket, shard_ticket}
 use Rattle.esr_core.specs.Swaps.{TicketLaw, SwapLaw, IsUnsettled, Counts}
 use Rattle.esr_core.specs.Texts.{IsMetaOf, Texted}
 use Rattle.esr_core.specs.Sound.{Sound}
 use Rattle.esr_core.specs.Ids.{Law}
-use Rattle.esr_core.specs.Turns.{Aborts, fails, plain_ticket, Turn, Stays, Commits, CommitFails, Finds, Raises, Latests, Fetches, SettlesFinal, SettlesDelete, Elects, TakesShard, TakesFinal, TakesDrop, TakesDelete, TakesCleanup, AsksCleanup, CleanDrops, DrawsShard, DrawsPlan, Dones, Ending, Fails, FailsDelete, Drops, AsksCreate, AsksDelete, Merges, Removing, Deposes, Besides, Tests, TestTurn, DrawsTest, AddsTest, RemovesTests}
+use Rattle.esr_core.specs.Turns.{Aborts, fails, plain_ticket, cleaning_ticket, Turn, Stays, Commits, CommitFails, Finds, Raises, Latests, Fetches, SettlesFinal, SettlesDelete, Elects, TakesShard, TakesFinal, TakesDrop, TakesDelete, TakesCleanup, AsksCleanup, CleanDrops, DrawsShard, DrawsPlan, Dones, Ending, Fails, FailsDelete, Drops, AsksCreate, AsksDelete, Merges, Removing, Pages, Deposes, Besides, Tests, TestTurn, DrawsTest, AddsTest, RemovesTests}
 use Rattle.esr_core.proofs.Testing.{tests_meta}
 use Rattle.esr_core.proofs.Besides.{aside_of, kept_aside}
 use Rattle.esr_core.proofs.Evolving.{all_done_on, failed_leaves}
@@ -325,6 +325,7 @@ module _ (f : Formats) (w : World) (shelf : List Shelved) (l : Law f w shelf) (x
         raised = old.raised;
         shape = old.shape;
         clean_root = old.clean_root;
+        listed = old.listed;
         last = λ z i. old.last z (record { is = i.is; out = i.out; unsettled = i.unsettled });
         clean = λ z i. old.clean z (record { is = i.is; out = i.out; unsettled = i.unsettled });
         swaps = λ z i counts. noted_more z (record { is = i.is; out = i.out; unsettled = i.unsettled }) counts (old.swaps z (record { is = i.is; out = i.out; unsettled = i.unsettled }) counts);
@@ -392,7 +393,7 @@ turned f w new shelf l x (TakesDelete m n y d) = subst (In f) (sym d.new_is) (te
   where
     differ : {us uuids : List ℕ} {z : Swap} → Deleting us None ≡ Deleting uuids (Some z) → ⊥
     differ e = cc
-turned f w new shelf l x (TakesCleanup m n y d) = subst (In f) (sym d.new_is) (texted_plain f w.blobs w.ops w.tickets x w.next_ticket (plain_ticket w n (Deleting y.uuids None)) (λ info rs made e. cc) (λ uuids z e. absurd (differ e)))
+turned f w new shelf l x (TakesCleanup m n y d) = subst (In f) (sym d.new_is) (texted_plain f w.blobs w.ops w.tickets x w.next_ticket (cleaning_ticket w n) (λ info rs made e. cc) (λ uuids z e. absurd (differ e)))
   where
     differ : {us uuids : List ℕ} {z : Swap} → Deleting us None ≡ Deleting uuids (Some z) → ⊥
     differ e = cc
@@ -419,6 +420,7 @@ turned f w new shelf l x (CleanDrops m k d) = subst (In f) (sym d.new_is) (texte
 turned f w new shelf l x (AsksCreate m op d) = subst (In f) (sym d.new_is) (asked f w shelf l x op d.uuid_is)
 turned f w new shelf l x (AsksDelete m uuids d) = subst (In f) (sym d.new_is) (aborted f w shelf l x d.ops w.next_op d.aborts)
 turned f w new shelf l x (Merges m uuids n d) = subst (In f) (sym d.new_is) (aborted f w shelf l x d.ops n d.aborts)
+turned f w new shelf l x (Pages m k page d) = subst (In f) (sym d.new_is) (texted_again f w.blobs w.ops w.tickets x k d.t (listing d.t page) d.out.there refl)
 turned f w new shelf l x (Removing m k names d) = removed f w shelf l x k names m d
 turned f w new shelf l x (Deposes m up d e) = subst (In f) (sym e) (turned f w up shelf l x d)
 turned f w new shelf l x (Tests m t) = tested f w shelf l x m t

@@ -149,7 +149,7 @@ module _ (f : Formats) (w : World) (shelf : List Shelved) (l : Lawful f w shelf)
         kept = l.sound.rooted.kept;
         doomed_begun = l.sound.rooted.doomed_begun;
         tickets = each_ticket (TicketLaw f (HeldIn f w) w.doomed (ledger_of w) shelf) w.tickets k v
-            (record { term = old_law.term; raised = old_law.raised; shape = old_law.shape; clean_root = old_law.clean_root; clean = λ s i. absurd (true≢false (sym i.out)); last = λ s i. absurd (true≢false (sym i.out)); swaps = λ s i. absurd (true≢false (sym i.out)) })
+            (record { term = old_law.term; raised = old_law.raised; shape = old_law.shape; clean_root = old_law.clean_root; listed = old_law.listed; clean = λ s i. absurd (true≢false (sym i.out)); last = λ s i. absurd (true≢false (sym i.out)); swaps = λ s i. absurd (true≢false (sym i.out)) })
             (λ j u apart e. l.sound.rooted.tickets j u e);
         single = λ i j a b. l.sound.rooted.single i j
             (swapping_was f w.tickets w.term k d.t v d.out.there (λ s i e. absurd (true≢false (sym i.out))) i a)

@@ -9,11 +9,11 @@ use Rattle.esr_model.specs.Names.{BlobName}
 use Rattle.esr_model.specs.Delete.{kept_count}
 use Rattle.esr_model.specs.Image.{Image}
 use Rattle.esr_core.specs.World.{World, Op, ShardWork, Drop, Swap, Ticket, swap, record_of, Deletion, Deleting}
-use Rattle.esr_core.specs.Steps.{noting, with_ticket, shard_ticket, final_ticket}
-use Rattle.esr_core.specs.Turns.{plain_ticket}
+use Rattle.esr_core.specs.Steps.{noting, listing, with_ticket, shard_ticket, final_ticket}
+use Rattle.esr_core.specs.Turns.{plain_ticket, cleaning_ticket}
 use Rattle.esr_core.specs.Pruning.{planned, dooms}
-use Rattle.esr_core.specs.Entry.{CloneOf, Snapshot, Restore, Given, GivenShard, GivenClone, GivenFinalize, GivenDrop, GivenRestore, Step, AskStep, TakeStep, DrawStep, BeginStep, CommitStep, LatestStep, FetchStep, RaiseStep, SettleStep, DoneStep, FailedStep, FinishStep, DroppedStep, ElectStep, ReadStep, DepotFault, Reply, Gave, WasDone, WasThere, WasFetched, HasEnded, Refused, Clone, DeleteSnapshots, Cleanup, GivenDelete, Prune, FetchShard, PlanShards, SettlePruned, RemoveDoomed, EndDelete, DeleteFails, PruneStep}
-use Rattle.esr_core.specs.After.{asked, asked_op, cloned_op, taken_shard, taken_by, shard_of, with_given, committing, told_blob, fetching, settled_by, settled_of, done_by, done_of, is_stale, failed_by, failed_of, dropped_of, done_step, has_text, fallen, is_latest, tried, faulted, answered, delete_settled_by, delete_settled, delete_failed_by, delete_failed, prune_step}
+use Rattle.esr_core.specs.Entry.{CloneOf, Snapshot, Restore, Given, GivenShard, GivenClone, GivenFinalize, GivenDrop, GivenRestore, Step, AskStep, TakeStep, ListStep, WasListed, DrawStep, BeginStep, CommitStep, LatestStep, FetchStep, RaiseStep, SettleStep, DoneStep, FailedStep, FinishStep, DroppedStep, ElectStep, ReadStep, DepotFault, Reply, Gave, WasDone, WasThere, WasFetched, HasEnded, Refused, Clone, DeleteSnapshots, Cleanup, GivenDelete, GivenCleanup, Prune, FetchShard, PlanShards, SettlePruned, RemoveDoomed, EndDelete, DeleteFails, PruneStep}
+use Rattle.esr_core.specs.After.{asked, asked_op, cleanup_opened, cloned_op, taken_shard, taken_by, shard_of, with_given, committing, told_blob, fetching, settled_by, settled_of, done_by, done_of, is_stale, failed_by, failed_of, dropped_of, done_step, has_text, fallen, is_latest, tried, faulted, answered, delete_settled_by, delete_settled, delete_failed_by, delete_failed, prune_step}
 use Rattle.esr_core.specs.Deletes.{named_uuids, waiting_delete, running_delete, aborted_ops, delete_merged, delete_by, asked_delete}
 use Rattle.esr_core.proofs.AskedDeletes.{aborts}
 use Rattle.esr_core.proofs.Queues.{was_in, left_in}
@@ -100,7 +100,7 @@ goes_taken f w o (GivenFinalize info results) None old is = goes_same w
 goes_taken f w o GivenDrop op old is = goes_new w (plain_ticket w o Drop) w.ops (as_was w.ops w.next_op)
 goes_taken f w o (GivenRestore index number uuid) op old is = absurd old
 goes_taken f w o (GivenDelete uuids) op old is = goes_new w (plain_ticket w o (Deleting uuids None)) w.ops (as_was w.ops w.next_op)
-goes_taken f w o unit op old is = goes_same w
+goes_taken f w o GivenCleanup op old is = goes_new w (cleaning_ticket w o) w.ops (as_was w.ops w.next_op)
 
 goes_settled_by : (f : Formats) (w : World) (k : ℕ) (t : Ticket) (s : Option Swap) (n : Option ℕ) → fin.get w.tickets k ≡ Some t → Goes w (settled_by f w k t s n)
 goes_settled_by f w k t (Some s) (Some n) is =
@@ -143,7 +143,11 @@ goes_dropped w k (Some t) is =
 
 goes_delete_settled_by : (f : Formats) (w : World) (k : ℕ) (t : Ticket) (s : Option Swap) (n : Option ℕ) → fin.get w.tickets k ≡ Some t → Goes w (delete_settled_by f w k t s n)
 goes_delete_settled_by f w k t (Some s) (Some n) is =
-    record { restores = refl; readers = refl; caller = refl; doomed = λ name m. Has-right (dooms f t) w.doomed name m; next_op = omega arith; next_ticket = omega arith; next_id = omega arith; ops = less w.ops w.next_op t.op; deletes = less w.deletes w.next_op t.op; tickets = again w.tickets w.next_ticket k t (record t { settled = true }) is }
+    record { restores = refl; readers = refl; caller = refl; doomed = λ name m. Has-right (dooms f t) w.doomed name m; next_op = omega arith; next_ticket = omega arith; next_id = omega arith; ops = less w.ops w.next_op t.op; deletes = left_or t.clean; tickets = again w.tickets w.next_ticket k t (record t { settled = true }) is }
+  where
+    left_or : (b : Bool) → OldOrNew w.deletes w.next_op (if b then w.deletes else fin.remove w.deletes t.op)
+    left_or true = as_was w.deletes w.next_op
+    left_or false = less w.deletes w.next_op t.op
 goes_delete_settled_by f w k t (Some s) None is = goes_same w
 goes_delete_settled_by f w k t None n is = goes_same w
 
@@ -193,6 +197,12 @@ goes_clone w source name names moment None = goes_same w
 goes_clone w source name names moment (Some t) =
     record { restores = refl; readers = refl; caller = refl; doomed = λ name m. m; next_op = omega arith; next_ticket = omega arith; next_id = omega arith; ops = more w.ops w.next_op (cloned_op w name moment t); deletes = as_was w.deletes w.next_op; tickets = as_was w.tickets w.next_ticket }
 
+-- ---- a cleanup that is asked
+
+goes_cleanup : (w : World) → Goes w (cleanup_opened w)
+goes_cleanup w =
+    record { restores = refl; readers = refl; caller = refl; doomed = λ name m. m; next_op = omega arith; next_ticket = omega arith; next_id = omega arith; ops = as_was w.ops w.next_op; deletes = more w.deletes w.next_op _; tickets = as_was w.tickets w.next_ticket }
+
 -- ---- all steps
 
 goes_step : (f : Formats) (w : World) (room : w.next_id ≤ first_id (suc w.term)) (k : ℕ) (step : Step) (reply : Reply) (image : Option Image) → IsOld step reply → Goes w (done_step f w k step reply image)
@@ -201,12 +211,14 @@ goes_step f w room k (AskStep (Snapshot name indices moment)) reply image old =
 goes_step f w room k (AskStep (Clone source name indices moment taken)) reply image old = goes_clone w source name indices moment taken
 goes_step f w room k (AskStep (DeleteSnapshots names)) reply image old = goes_delete w names
 goes_step f w room k (AskStep (Restore name place)) reply image old = absurd old
+goes_step f w room k (AskStep Cleanup) reply image old = goes_cleanup w
 goes_step f w room k TakeStep (Gave ticket op unit) image old = goes_taken f w op unit (fin.get w.ops op) old refl
 goes_step f w room k (DrawStep n) reply image old = goes_drawn w k n (λ t. record t { first = w.next_id; drawn = n }) (fin.get w.tickets k) refl
 goes_step f w room k (CommitStep name) WasDone image old = goes_change w k (committing name (told_blob f image name)) (fin.get w.tickets k) refl
 goes_step f w room k (CommitStep name) WasThere image old = goes_change w k (λ t. noting t name) (fin.get w.tickets k) refl
 goes_step f w room k LatestStep reply image old = goes_change w k (λ t. record t { tried_latest = true }) (fin.get w.tickets k) refl
 goes_step f w room k (FetchStep name) WasFetched image old = goes_change w k (fetching name (told_blob f image name)) (fin.get w.tickets k) refl
+goes_step f w room k (ListStep from) (WasListed page) image old = goes_change w k (λ t. listing t page) (fin.get w.tickets k) refl
 goes_step f w room k RaiseStep reply image old = goes_raised w k (λ t. record t { raised = Some w.pending }) (fin.get w.tickets k) refl
 goes_step f w room k SettleStep reply image old = goes_settled f w k (fin.get w.tickets k) refl
 goes_step f w room k (DoneStep result) reply image old = goes_done w k result (fin.get w.tickets k) refl
@@ -230,7 +242,7 @@ goes_fault f w room k (BeginStep name) image old = goes_either w (tried w k) w (
 goes_fault f w room k (AskStep (Snapshot name indices moment)) image old = goes_fallen f w _ image (goes_step f w room k (AskStep (Snapshot name indices moment)) HasEnded image tt)
 goes_fault f w room k (AskStep (Clone source name indices moment taken)) image old = goes_fallen f w _ image (goes_clone w source name indices moment taken)
 goes_fault f w room k (AskStep (DeleteSnapshots names)) image old = goes_fallen f w _ image (goes_delete w names)
-goes_fault f w room k (AskStep Cleanup) image old = goes_fallen f w w image (goes_same w)
+goes_fault f w room k (AskStep Cleanup) image old = goes_fallen f w _ image (goes_cleanup w)
 goes_fault f w room k RaiseStep image old = goes_fallen f w _ image (goes_step f w room k RaiseStep HasEnded image tt)
 goes_fault f w room k SettleStep image old = goes_fallen f w _ image (goes_step f w room k SettleStep HasEnded image tt)
 goes_fault f w room k DroppedStep image old = goes_fallen f w _ image (goes_step f w room k DroppedStep HasEnded image tt)

@@ -14,7 +14,7 @@ use Rattle.esr_core.specs.Entry.{DoneStep, HasEnded, Refusal, Refused, StaleTerm
 use Rattle.esr_core.specs.After.{answered, done_of, done_by, blobs_in, stepped, after}
 use Rattle.esr_core.specs.Allowed.{Allows, Allowed, Blocks, ByFailedSwap, ByDelete, IsBlocked, SameBlobs, DoneAs, Dones as DonesBy}
 use Rattle.esr_core.specs.History.{world_from, IsLegal, TellsShards, TellsHandedOut, AreTold, AreHonest, IsHonest, commands_at, committed, Lasts}
-use Rattle.esr_core.specs.Turns.{DoneFound, Turn, Stays, Commits, CommitFails, Finds, Raises, Latests, Fetches, SettlesFinal, SettlesDelete, Elects, TakesShard, TakesFinal, TakesDrop, TakesDelete, TakesCleanup, AsksCleanup, CleanDrops, DrawsShard, DrawsPlan, Dones, Ending, Fails, FailsDelete, Drops, AsksCreate, AsksDelete, Merges, Removing, Deposes, commands_of, Besides, Calls, Tests, TestTurn, DrawsTest, AddsTest, RemovesTests}
+use Rattle.esr_core.specs.Turns.{DoneFound, Turn, Stays, Commits, CommitFails, Finds, Raises, Latests, Fetches, SettlesFinal, SettlesDelete, Elects, TakesShard, TakesFinal, TakesDrop, TakesDelete, TakesCleanup, AsksCleanup, CleanDrops, DrawsShard, DrawsPlan, Dones, Ending, Fails, FailsDelete, Drops, AsksCreate, AsksDelete, Merges, Removing, Pages, Deposes, commands_of, Besides, Calls, Tests, TestTurn, DrawsTest, AddsTest, RemovesTests}
 use Rattle.esr_core.proofs.Besides.{aside_of}
 use Rattle.esr_core.proofs.Heard.{unheard_stays}
 use Rattle.esr_core.proofs.Blocked.{blocked_none, blocked_stays}
@@ -68,6 +68,7 @@ turn_safe f w new shelf l (CleanDrops m k h) = same_safe w m _ h.new_is refl
 turn_safe f w new shelf l (AsksCreate m op h) = same_safe w m _ h.new_is refl
 turn_safe f w new shelf l (AsksDelete m uuids h) = same_safe w m _ h.new_is refl
 turn_safe f w new shelf l (Merges m uuids n h) = same_safe w m _ h.new_is refl
+turn_safe f w new shelf l (Pages m k page h) = same_safe w m _ h.new_is refl
 turn_safe f w new shelf l (Removing m k names h) = same_safe w m _ h.new_is refl
 turn_safe f w new shelf l (Tests m t) = tests_safe f w m t
 turn_safe f w new shelf l (Besides m up h r) = let a : w.safe ≤ up.safe = turn_safe f w up shelf l h in let b : m.safe ≡ up.safe = ap (λ (x : World). x.safe) (aside_of f up m r).new_is in omega (arith, a, b)
@@ -200,7 +201,7 @@ pub told_parts : (xs ys : List Moment) → AreTold (xs ++ ys) → AreTold xs × 
 told_parts [] ys h = (tt, h)
 told_parts (x ∷ xs) ys h = let r = told_parts xs ys h.1 in ((h.0, r.0), r.1)
 
-honest_here : (f : Formats) (w : World) (ys : List Moment) → AreHonest f w ys → IsHonest f w.blobs
+pub honest_here : (f : Formats) (w : World) (ys : List Moment) → AreHonest f w ys → IsHonest f w.blobs
 honest_here f w [] h = h
 honest_here f w (y ∷ ys) h = h.0
 
@@ -208,7 +209,7 @@ pub honest_parts : (f : Formats) (xs ys : List Moment) (w : World) → AreHonest
 honest_parts f [] ys w h = (honest_here f w ys h, h)
 honest_parts f (x ∷ xs) ys w h = let r = honest_parts f xs ys (after f w x) h.1 in ((h.0, r.0), r.1)
 
-known_here : (f : Formats) (w : World) (ys : List Moment) → TellsHandedOut f w ys → TellsShards f w
+pub known_here : (f : Formats) (w : World) (ys : List Moment) → TellsHandedOut f w ys → TellsShards f w
 known_here f w [] h = h
 known_here f w (y ∷ ys) h = h.0
 

@@ -50,7 +50,7 @@ module _ (f : Formats) (w : World) (shelf : List Shelved) (l : Law f w shelf) (b
   }
 
   ticket : (u : Ticket) → TicketLaw f (HeldIn f w) w.doomed (ledger_of w) shelf u → TicketLaw f now w.doomed (ledger_of w) shelf u
-  ticket u t = record { term = t.term; raised = t.raised; last = t.last; shape = t.shape; clean = t.clean; clean_root = t.clean_root; swaps = λ s i c. swap_law u.noted s (t.swaps s i c) }
+  ticket u t = record { term = t.term; raised = t.raised; last = t.last; shape = t.shape; clean = t.clean; clean_root = t.clean_root; listed = t.listed; swaps = λ s i c. swap_law u.noted s (t.swaps s i c) }
 
   -- a blob that is there is the old one, or `index.latest`
   name_was : (text bytes : Bytes) → fin.get blobs_now text ≡ Some bytes → (name : BlobName) × (f.names.text name ≡ text) × (f.names.read (f.names.text name) ≡ Some name)

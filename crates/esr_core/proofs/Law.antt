@@ -130,21 +130,21 @@ module _ (f : Formats) (w : World) (shelf : List Shelved) (l : Sound f w shelf) 
   latest_sound k new h = subst (λ x. Sound f x shelf) (sym h.new_is)
       (let old = l.rooted.tickets k h.t h.out.there in
       quiet k h.t (record h.t { tried_latest = true }) h.out.there (tried_same h.t)
-      (record { term = old.term; raised = old.raised; shape = old.shape; clean_root = old.clean_root; clean = λ s i. old.clean s (record { is = i.is; out = i.out; unsettled = i.unsettled }); last = λ s i. old.last s (record { is = i.is; out = i.out; unsettled = i.unsettled }); swaps = λ s i. old.swaps s (record { is = i.is; out = i.out; unsettled = i.unsettled }) })
+      (record { term = old.term; raised = old.raised; shape = old.shape; clean_root = old.clean_root; listed = old.listed; clean = λ s i. old.clean s (record { is = i.is; out = i.out; unsettled = i.unsettled }); last = λ s i. old.last s (record { is = i.is; out = i.out; unsettled = i.unsettled }); swaps = λ s i. old.swaps s (record { is = i.is; out = i.out; unsettled = i.unsettled }) })
       (λ s i e. (record { is = i.is; out = i.out; unsettled = i.unsettled }, e)))
 
   pub fetch_sound : (k : ℕ) (name : BlobName) (new : World) → FetchFound f w k name new → Sound f new shelf
   fetch_sound k name new h = subst (λ x. Sound f x shelf) (sym h.new_is)
       (let old = l.rooted.tickets k h.t h.out.there in
       quiet k h.t (reading h.t name h.bytes) h.out.there (reading_same h.t name h.bytes)
-      (record { term = old.term; raised = old.raised; shape = old.shape; clean_root = old.clean_root; clean = λ s i. old.clean s (record { is = i.is; out = i.out; unsettled = i.unsettled }); last = λ s i. old.last s (record { is = i.is; out = i.out; unsettled = i.unsettled }); swaps = λ s i. old.swaps s (record { is = i.is; out = i.out; unsettled = i.unsettled }) })
+      (record { term = old.term; raised = old.raised; shape = old.shape; clean_root = old.clean_root; listed = old.listed; clean = λ s i. old.clean s (record { is = i.is; out = i.out; unsettled = i.unsettled }); last = λ s i. old.last s (record { is = i.is; out = i.out; unsettled = i.unsettled }); swaps = λ s i. old.swaps s (record { is = i.is; out = i.out; unsettled = i.unsettled }) })
       (λ s i e. (record { is = i.is; out = i.out; unsettled = i.unsettled }, e)))
 
   pub finish_sound : (k : ℕ) (new : World) → Ends w k new → Sound f new shelf
   finish_sound k new h = subst (λ x. Sound f x shelf) (sym h.new_is)
       (let old = l.rooted.tickets k h.t h.out.there in
       quiet k h.t (record h.t { out = false }) h.out.there (ended_same h.t h.no_shard)
-      (record { term = old.term; raised = old.raised; shape = old.shape; clean_root = old.clean_root; clean = λ s i. absurd (true≢false (sym i.out)); last = λ s i. absurd (true≢false (sym i.out)); swaps = λ s i. absurd (true≢false (sym i.out)) })
+      (record { term = old.term; raised = old.raised; shape = old.shape; clean_root = old.clean_root; listed = old.listed; clean = λ s i. absurd (true≢false (sym i.out)); last = λ s i. absurd (true≢false (sym i.out)); swaps = λ s i. absurd (true≢false (sym i.out)) })
       (λ s i e. absurd (true≢false (sym i.out))))
 
   pub done_sound : (k : ℕ) (r : ShardResult) (new : World) → DoneShard f w k r new → Sound f new shelf
@@ -156,7 +156,7 @@ module _ (f : Formats) (w : World) (shelf : List Shelved) (l : Sound f w shelf) 
           kept = l.rooted.kept;
           doomed_begun = l.rooted.doomed_begun;
           tickets = each_ticket (TicketLaw f (HeldIn f w) w.doomed (ledger_of w) shelf) w.tickets k (record d.t { out = false })
-              (record { term = old.term; raised = old.raised; shape = old.shape; clean_root = old.clean_root; clean = λ s i. absurd (true≢false (sym i.out)); last = λ s i. absurd (true≢false (sym i.out)); swaps = λ s i. absurd (true≢false (sym i.out)) })
+              (record { term = old.term; raised = old.raised; shape = old.shape; clean_root = old.clean_root; listed = old.listed; clean = λ s i. absurd (true≢false (sym i.out)); last = λ s i. absurd (true≢false (sym i.out)); swaps = λ s i. absurd (true≢false (sym i.out)) })
               (λ j u apart e. l.rooted.tickets j u e);
           single = λ i j a b. l.rooted.single i j
               (swapping_was f w.tickets w.term k d.t (record d.t { out = false }) d.out.there (λ s i e. absurd (true≢false (sym i.out))) i a)
@@ -223,6 +223,7 @@ module _ (f : Formats) (w : World) (shelf : List Shelved) (l : Sound f w shelf) 
         raised = old.raised;
         shape = old.shape;
         clean_root = old.clean_root;
+        listed = old.listed;
         clean = λ s i counts. old.clean s i (elim counts [ inl p ↦ absurd (omega (arith, old.term, p)) | inr r ↦ inr r ]);
         last = λ s i p. absurd (omega (arith, old.term, p));
         swaps = λ s i counts. old.swaps s i (elim counts [ inl p ↦ absurd (omega (arith, old.term, p)) | inr r ↦ inr r ]);

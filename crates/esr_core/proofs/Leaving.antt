@@ -94,7 +94,7 @@ ended_lawful f w shelf l k t out not =
     let old = l.sound.rooted.tickets k t out.there in
     record {
       sound = quiet f w shelf l.sound k t (record t { out = false }) out.there (ended_same t not)
-          (record { term = old.term; raised = old.raised; shape = old.shape; clean_root = old.clean_root; clean = λ s i. absurd (true≢false (sym i.out)); last = λ s i. absurd (true≢false (sym i.out)); swaps = λ s i. absurd (true≢false (sym i.out)) })
+          (record { term = old.term; raised = old.raised; shape = old.shape; clean_root = old.clean_root; listed = old.listed; clean = λ s i. absurd (true≢false (sym i.out)); last = λ s i. absurd (true≢false (sym i.out)); swaps = λ s i. absurd (true≢false (sym i.out)) })
           (λ s i e. absurd (true≢false (sym i.out)));
       queue = queue_ticket w.term w.tickets k t (record t { out = false }) out.there (like_ended t) w.root w.ops w.deletes w.completed w.next_op (λ e. absurd (true≢false (sym e))) l.queue;
     }

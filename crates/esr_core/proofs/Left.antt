@@ -66,7 +66,7 @@ fault_safe f w k (AskStep (entry.Clone source name indices time (Some taken))) i
     let up : World = asked w (entry.Clone source name indices time (Some taken)) in either_safe w up (has_text image (f.cluster.text (record_of up))) refl
 fault_safe f w k (AskStep (entry.DeleteSnapshots names)) image e =
     let up : World = asked w (entry.DeleteSnapshots names) in either_safe w up (has_text image (f.cluster.text (record_of up))) (ap (λ (x : World). x.safe) (delete_leaves w names))
-fault_safe f w k (AskStep entry.Cleanup) image e = either_safe w w (has_text image (f.cluster.text (record_of w))) refl
+fault_safe f w k (AskStep entry.Cleanup) image e = let up : World = asked w entry.Cleanup in either_safe w up (has_text image (f.cluster.text (record_of up))) refl
 fault_safe f w k RaiseStep image e =
     let up : World = raised w k in either_safe w up (has_text image (f.cluster.text (record_of up))) (given_safe w k (λ t. record t { raised = Some w.pending }) (fin.get w.tickets k))
 fault_safe f w k SettleStep image e = absurd (true≢false e)

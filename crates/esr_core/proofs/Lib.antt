@@ -45,6 +45,7 @@ pub mod LatestPut
 pub mod Writing
 pub mod Recorded
 pub mod Laws
+pub mod Paging
 pub mod Removes
 pub mod Opening
 pub mod Agreeing
@@ -69,10 +70,10 @@ pub mod DeletesHold
 pub mod DeletionLaws
 pub mod Plans
 pub mod DoomedNames
+pub mod Cleaning
 pub mod PruneTurns
 pub mod DoomsAll
 pub mod PruneFrames
-pub mod NoDeletes
 pub mod NoClones
 pub mod Moments
 pub mod Histories
@@ -107,3 +108,5 @@ pub mod Makers
 pub mod StepFrames
 pub mod BlobChanges
 pub mod ReadyAgain
+pub mod CleanLists
+pub mod Exact

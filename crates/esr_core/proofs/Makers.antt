@@ -62,7 +62,7 @@ module _ (f : Formats) (w : World) where
   makes size who step reply image (allowed.Replacing k im c named puts) = UnitStep c.t c.out tt
   makes size who step reply image (allowed.Fetching k name im g found) = UnitStep g.t g.out tt
   makes size who step reply image (allowed.Missing k name im g found) = UnitStep g.t g.out tt
-  makes size who step reply image (allowed.Listing k im t out same) = UnitStep t out tt
+  makes size who step reply image (allowed.Listing k from page im g shape here) = UnitStep g.t g.out tt
   makes size who step reply image (allowed.Raising k n im r same) = UnitStep r.may.t r.may.out tt
   makes size who step reply image (allowed.Settling k im s same) = UnitStep s.t s.may.out tt
   makes size who step reply image (allowed.Doing k r im d same) = UnitStep d.t d.out tt
@@ -74,6 +74,7 @@ module _ (f : Formats) (w : World) where
   makes size who step reply image (allowed.AskingRestore name place rep im h same) = ClientStep refl tt
   makes size who step reply image (allowed.AskingClone source name names time taken rep im h same) = ClientStep refl tt
   makes size who step reply image (allowed.AskingDelete names rep im h same) = ClientStep refl tt
+  makes size who step reply image (allowed.AskingCleanup rep im h same) = ClientStep refl tt
   makes size who step reply image (allowed.Verifying read rep im h) = verifies read rep im h
   makes size who step reply image (allowed.Reading k read rep im h same) = reads k read rep im h
   makes size who step reply image (allowed.Pruning k prune rep im h) = prunes k prune rep im h
@@ -93,7 +94,7 @@ module _ (f : Formats) (w : World) where
   makes size who step reply image (allowed.CommitFails k name im c leaves) = UnitStep c.t c.out tt
   makes size who step reply image (allowed.ReplaceFails k im c named puts) = UnitStep c.t c.out tt
   makes size who step reply image (allowed.FetchFails k name im g same) = UnitStep g.t g.out tt
-  makes size who step reply image (allowed.ListFails k im t out same) = UnitStep t out tt
+  makes size who step reply image (allowed.ListFails k from im g same) = UnitStep g.t g.out tt
   makes size who step reply image (allowed.AskFails name indices time im acc same) = ClientStep refl tt
   makes size who step reply image (allowed.RaiseFails k im r same) = UnitStep r.may.t r.may.out tt
   makes size who step reply image (allowed.SettleFails k im s same) = UnitStep s.t s.may.out tt

@@ -9,21 +9,22 @@ use Rattle.esr_model.specs.Names.{BlobName, Root, Latest, Snap, Meta, IndexMeta,
 use Rattle.esr_model.specs.Values.{Bytes, ShardResult, Formats, Has}
 use Rattle.esr_model.specs.Shelf.{Shelved}
 use Rattle.esr_model.specs.Kept.{first_id}
+use Rattle.esr_model.specs.Cleanup.{BlobSize, IsPageOf}
 use Rattle.esr_model.specs.Image.{Blobs, Image, At, Present}
 use Rattle.esr_core.specs.World.{World, Op, Work, Shard, Finalize, Deleting, Drop, Ticket, ReadState, Restored, NotRestored, Restoring, Reader, Swap}
 use Rattle.esr_core.specs.Ready.{IsShard, IsMaster}
 use Rattle.esr_core.specs.Restores.{IsReading, ListsPiece, waits, restore_opened, shard_ended}
-use Rattle.esr_core.specs.Steps.{IsOut, PutsLatest, Raise, with_ticket, noting, settled, Removes, MaySettle}
+use Rattle.esr_core.specs.Steps.{IsOut, PutsLatest, Raise, with_ticket, noting, listing, settled, Removes, MaySettle}
 use Rattle.esr_core.specs.Pruning.{dooms}
 use Rattle.esr_core.specs.Ids.{Law}
 use Rattle.esr_core.specs.Queue.{Lists}
-use Rattle.esr_core.specs.Entry.{CloneOf, Asked, Snapshot, DeleteSnapshots, Given, GivenShard, GivenFinalize, GivenDrop, Why, Step, AskStep, TakeStep, DrawStep, BeginStep, CommitStep, LatestStep, FetchStep, ListStep, RaiseStep, SettleStep, DoneStep, FailedStep, FinishStep, DroppedStep, ElectStep, LookStep, Refusal, DepotFault, Reply, WasSettled, HasEnded, Refused, Entry, Moment, Restore, Read, ReadBlob, RestoredShard, CheckedAll, ReadFails, ReadStep, AcceptedRestore, GivenRestore, DrawTest, BeginTest, CommitTest, RemoveTests, VerifiedAll, GivenClone, GivenDelete, GivenCleanup, Prune, PruneStep}
+use Rattle.esr_core.specs.Entry.{CloneOf, Asked, Snapshot, DeleteSnapshots, Given, GivenShard, GivenFinalize, GivenDrop, Why, Step, AskStep, TakeStep, DrawStep, BeginStep, CommitStep, LatestStep, FetchStep, ListStep, RaiseStep, SettleStep, DoneStep, FailedStep, FinishStep, DroppedStep, ElectStep, LookStep, Refusal, DepotFault, Reply, WasSettled, HasEnded, Refused, Entry, Moment, Restore, Cleanup, Read, ReadBlob, RestoredShard, CheckedAll, ReadFails, ReadStep, AcceptedRestore, GivenRestore, DrawTest, BeginTest, CommitTest, RemoveTests, VerifiedAll, GivenClone, GivenDelete, GivenCleanup, Prune, PruneStep}
 use Rattle.esr_core.specs.Past.{with_entry}
-use Rattle.esr_core.specs.After.{asked, asked_op, cloned_op, clone_opened, taken_by, taken_shard, with_given, change, committing, fetching, told_blob, settled_of, settled_by, failed_of, failed_by, is_stale, dropped_of, is_latest, tried, blobs_in, after, stepped, caller_after, read_told, read_over, shard_over, taken_restore, taken_restore_shard, test_left, delete_settled, delete_settled_by}
+use Rattle.esr_core.specs.After.{asked, asked_op, cleanup_opened, cloned_op, clone_opened, taken_by, taken_shard, with_given, change, committing, fetching, told_blob, settled_of, settled_by, failed_of, failed_by, is_stale, dropped_of, is_latest, tried, blobs_in, after, stepped, caller_after, read_told, read_over, shard_over, taken_restore, taken_restore_shard, test_left, deletes_left, delete_settled, delete_settled_by}
 use Rattle.esr_core.specs.Allowed as allowed
-use Rattle.esr_core.specs.Allowed.{PruneAllows, latest_text, Told, SameBlobs, Adds, Accepts, Gives, GivesShard, GivesFinalize, Draws, Commits, Refinds, Puts, Raises, Settles, Fails, Finishes, Drops, Dones, Allows, MayRead, Fetcher, ByReader, ByCheck, MayDelete, DeleteAllows, GoingInto, NotNamed, CloneStands, RestoreStands, FullOfOps, DeleteFault, RestoreAllows, OpeningRestore, NotListed, NamedByDelete, FullOfRestores, AcceptsClone, CloneAllows, OpeningClone, CloneUsed, SourceNotListed, SourceDeleted, IndexMissing, FullOfClones, CloneSpent, CloneFault, ReadAllows, ReadFound, ReadMissing, ReadFault, RestoringShard, ReaderFailing, CheckingAll, CheckFailing, ByVerify, IsOwnTest, MayRemoveTests, VerifyAllows, DrawingTest, TestSpent, BeginningTest, BeginTestFails, CommittingTest, TestTaken, CommitTestFails, RemovingTests, RemoveTestsFails, VerifyingAll, VerifyFailing}
+use Rattle.esr_core.specs.Allowed.{PruneAllows, latest_text, Told, SameBlobs, Adds, Accepts, Gives, GivesShard, GivesFinalize, Draws, Commits, Refinds, Puts, Raises, Settles, Fails, Finishes, Drops, Dones, Allows, MayRead, Fetcher, ByReader, ByCheck, MayDelete, DeleteAllows, GoingInto, NotNamed, CloneStands, RestoreStands, FullOfOps, DeleteFault, AcceptsCleanup, CleanupAllows, OpeningCleanup, OpStands, TicketStands, CleanupFault, ListsPage, RestoreAllows, OpeningRestore, NotListed, NamedByDelete, FullOfRestores, AcceptsClone, CloneAllows, OpeningClone, CloneUsed, SourceNotListed, SourceDeleted, IndexMissing, FullOfClones, CloneSpent, CloneFault, ReadAllows, ReadFound, ReadMissing, ReadFault, RestoringShard, ReaderFailing, CheckingAll, CheckFailing, ByVerify, IsOwnTest, MayRemoveTests, VerifyAllows, DrawingTest, TestSpent, BeginningTest, BeginTestFails, CommittingTest, TestTaken, CommitTestFails, RemovingTests, RemoveTestsFails, VerifyingAll, VerifyFailing}
 use Rattle.esr_core.specs.History.{counts, is_settle, command_of, command_by, commands_at}
-use Rattle.esr_core.specs.Turns.{AskCreate, AsksCreate, plain_ticket, SettleFinal, Failed, Dropped, Turn, Stays, Latests, Fetches, Raises as RaisesTurn, Finds, SettlesFinal, Elects, TakesShard, TakesFinal, TakesDrop, DrawsShard, Ending, Fails as FailsTurn, Drops as DropsTurn, Deposes, commands_of, Besides, OpensRestore, HandsShard, ReadsMore, EndsShard, Calls, Tests, DrawsTest, AddsTest, RemovesTests, TakesDelete}
+use Rattle.esr_core.specs.Turns.{AskCreate, AsksCreate, AskCleanup, AsksCleanup, TakesCleanup, CleanDrops, Pages, plain_ticket, cleaning_ticket, SettleFinal, Failed, Dropped, Turn, Stays, Latests, Fetches, Raises as RaisesTurn, Finds, SettlesFinal, Elects, TakesShard, TakesFinal, TakesDrop, DrawsShard, Ending, Fails as FailsTurn, Drops as DropsTurn, Deposes, commands_of, Besides, OpensRestore, HandsShard, ReadsMore, EndsShard, Calls, Tests, DrawsTest, AddsTest, RemovesTests, TakesDelete}
 use Rattle.esr_core.specs.Turns as turns
 use Rattle.esr_core.specs.Entry as entry
 use Rattle.esr_core.specs.Deletes.{delete_number, asked_delete}
@@ -135,7 +136,12 @@ module _ (f : Formats) (w : World) where
       deleting : (found : Option Op) → record (taken_by f w o (GivenDelete uuids) found) { blobs = blobs_in image w.blobs } ≡ record w { tickets = fin.insert w.tickets w.next_ticket (plain_ticket w o (Deleting g.0.uuids None)); next_ticket = suc w.next_ticket }
       deleting None = λ j. record w { tickets = fin.insert w.tickets w.next_ticket (plain_ticket w o (Deleting (g.2 j) None)); next_ticket = suc w.next_ticket; blobs = blobs_same w image same j }
       deleting (Some op) = λ j. record w { tickets = fin.insert w.tickets w.next_ticket (plain_ticket w o (Deleting (g.2 j) None)); next_ticket = suc w.next_ticket; blobs = blobs_same w image same j }
-  gives_turn k o GivenCleanup image g same = absurd g
+  gives_turn k o GivenCleanup image g same =
+      plain f w 0 TakeStep (entry.Gave k o GivenCleanup) _ (TakesCleanup _ o g.0 (record { ready = g.1; new_is = cleaning (fin.get w.ops o) })) refl refl
+    where
+      cleaning : (found : Option Op) → record (taken_by f w o GivenCleanup found) { blobs = blobs_in image w.blobs } ≡ record w { tickets = fin.insert w.tickets w.next_ticket (cleaning_ticket w o); next_ticket = suc w.next_ticket }
+      cleaning None = λ j. record w { tickets = fin.insert w.tickets w.next_ticket (cleaning_ticket w o); next_ticket = suc w.next_ticket; blobs = blobs_same w image same j }
+      cleaning (Some op) = λ j. record w { tickets = fin.insert w.tickets w.next_ticket (cleaning_ticket w o); next_ticket = suc w.next_ticket; blobs = blobs_same w image same j }
   gives_turn k o (GivenRestore index number uuid) image g same =
       plain f w 0 TakeStep (entry.Gave k o (GivenRestore index number uuid)) _
       (Besides _ w (Stays w refl) (HandsShard _ o g.r g.s (record {
@@ -184,7 +190,7 @@ module _ (f : Formats) (w : World) where
   settled_is : (k : ℕ) (s : Settles f w k) (blobs : Blobs) → record (settled_of f w k (fin.get w.tickets k)) { blobs = blobs } ≡ record (settled w k s.t s.n s.s.root) { deletes = fin.remove w.deletes s.t.op; blobs = blobs }
   settled_is k s blobs = (λ j. record (settled_of f w k (s.may.out.there j)) { blobs = blobs }) ∙ (λ j. record (settled_by f w k s.t (s.may.is j) (s.may.raised j)) { blobs = blobs })
 
-  pub delete_settled_plain : (k n : ℕ) (t : Ticket) (s : Swap) → MaySettle f w k n t s → delete_settled f w k (fin.get w.tickets k) ≡ record (settled w k t n s.root) { deletes = fin.remove w.deletes t.op; doomed = dooms f t ++ w.doomed }
+  pub delete_settled_plain : (k n : ℕ) (t : Ticket) (s : Swap) → MaySettle f w k n t s → delete_settled f w k (fin.get w.tickets k) ≡ record (settled w k t n s.root) { deletes = deletes_left w t; doomed = dooms f t ++ w.doomed }
   delete_settled_plain k n t s may = (λ j. delete_settled f w k (may.out.there j)) ∙ (λ j. delete_settled_by f w k t (may.is j) (may.raised j))
 
   pub settled_plain : (k : ℕ) (s : Settles f w k) → settled_of f w k (fin.get w.tickets k) ≡ record (settled w k s.t s.n s.s.root) { deletes = fin.remove w.deletes s.t.op }
@@ -296,11 +302,22 @@ module _ (f : Formats) (w : World) where
   ends_turn k image c same =
       plain f w k FinishStep HasEnded _ (Ending _ k (record { t = c.t; out = c.out; no_shard = c.no_shard; done = elim c.done [ inl h ↦ inl h.0 | inr h ↦ inr h.0 ]; new_is = λ j. record (with_given w k (λ (t : Ticket). record t { out = false }) (c.out.there j)) { blobs = blobs_same w image same j } })) refl refl
 
-  dropped : (k : ℕ) (c : Drops w k) → World
-  dropped k c = record w { ops = fin.remove w.ops c.may.t.op; deletes = fin.remove w.deletes c.may.t.op; tickets = fin.insert w.tickets k (record c.may.t { out = false }) }
+  -- an op leaves: by its drop, or with the end of a cleanup
+  drop_turn : (k : ℕ) (image : Option Image) (c : Drops f w k image) (new : World)
+      → new ≡ record w { ops = fin.remove w.ops c.may.t.op; deletes = fin.remove w.deletes c.may.t.op; tickets = fin.insert w.tickets k (record c.may.t { out = false }) } → (turn : Turn f w new) × (commands_of f w new turn ≡ [])
+  drop_turn k image c new e = elim c.may.unit [
+    | inl drop ↦ (DropsTurn new k (record { t = c.may.t; out = c.may.out; work = drop; present = c.present; new_is = e }), refl)
+    | inr own ↦
+        let (x, there, cleans) = own.open_op c.present in
+        (CleanDrops new k (record { t = c.may.t; out = c.may.out; uuids = own.uuids; plan = Some own.s; work = own.work; settled = own.settled; present = c.present; x = x; there = there; cleans = cleans; new_is = e }), refl)
+  ]
 
-  abbrev drop_turn : (k : ℕ) (c : Drops w k) (new : World) → new ≡ record w { ops = fin.remove w.ops c.may.t.op; deletes = fin.remove w.deletes c.may.t.op; tickets = fin.insert w.tickets k (record c.may.t { out = false }) } → Turn f w new
-  drop_turn k c new e = DropsTurn new k (record { t = c.may.t; out = c.may.out; work = c.may.work; present = c.present; new_is = e })
+  -- a page is listed
+  page_turn : (k : ℕ) (from : Option Bytes) (page : List BlobSize) (i : Image) (g : ListsPage w k from) → IsPageOf w.blobs from page → i.blobs ≡ w.blobs
+      → Turned f w k (ListStep from) (entry.WasListed page) (record (change w k (λ (t : Ticket). listing t page)) { blobs = i.blobs })
+  page_turn k from page i g here same =
+      plain f w k (ListStep from) (entry.WasListed page) _
+      (Pages _ k page (record { t = g.t; out = g.out; unsettled = g.unsettled; there = λ b m. let x = here.there b m in (x.0, x.1); new_is = λ j. record (with_given w k (λ (t : Ticket). listing t page) (g.out.there j)) { blobs = same j } })) refl refl
 
 -- the blobs of an image that is told
 blobs_told : (w : World) (i : Image) (image : Option Image) → image ≡ Some i → blobs_in image w.blobs ≡ i.blobs
@@ -395,6 +412,18 @@ module _ (f : Formats) (size : ℕ) (w : World) (shelf : List Shelved) (l : Law 
   asks_delete names reply image (DeleteFault acc) same =
       let turn = delete_turn f w names acc.may in
       falls_plain f w 0 (AskStep (DeleteSnapshots names)) (asked_delete w names) (asked_delete w names) turn.0 _ image same refl (ap (λ (x : World). x.blobs) (delete_leaves w names)) refl turn.1
+
+  -- ---- a cleanup that is asked
+
+  asked_cleanup : AcceptsCleanup w → (new : World) → new ≡ cleanup_opened w → AskCleanup w new
+  asked_cleanup acc new e =
+      record { no_op = λ o op h. acc.none_open o (inl (op, h)); no_delete = λ d x h. acc.none_open d (inr (x, h)); no_ticket = λ k t h out. acc.no_ticket k (t, record { there = h; out = out }); new_is = e }
+
+  asks_cleanup : (reply : Reply) (image : Option Image) → CleanupAllows w reply → SameBlobs w image → Turned f w 0 (AskStep Cleanup) reply (stepped f w (moment 0 (AskStep Cleanup) reply image))
+  asks_cleanup reply image (OpeningCleanup acc) same = plain f w 0 (AskStep Cleanup) _ _ (AsksCleanup _ (asked_cleanup acc _ (λ j. record (cleanup_opened w) { blobs = blobs_same w image same j }))) refl refl
+  asks_cleanup reply image (OpStands o clear lowest) same = stays f w 0 (AskStep Cleanup) _ image same refl
+  asks_cleanup reply image (TicketStands k none lowest) same = stays f w 0 (AskStep Cleanup) _ image same refl
+  asks_cleanup reply image (CleanupFault acc) same = falls_plain f w 0 (AskStep Cleanup) (cleanup_opened w) (cleanup_opened w) (AsksCleanup _ (asked_cleanup acc _ refl)) _ image same refl refl refl refl
 
   -- ---- restores and reading
 
@@ -558,7 +587,9 @@ module _ (f : Formats) (size : ℕ) (w : World) (shelf : List Shelved) (l : Law 
   turn_of who step reply image told (allowed.Missing k name im g found) =
       let here = of_told i im (λ blobs. (fin.get w.blobs (f.names.text name) ≡ None) × (blobs ≡ w.blobs)) told found in
       stays f w k (FetchStep name) entry.WasAbsent im (subst (SameBlobs w) (sym told) here.1) refl
-  turn_of who step reply image told (allowed.Listing k im t out same) = stays f w k ListStep entry.WasListed im same refl
+  turn_of who step reply image told (allowed.Listing k from page im g shape here) =
+      let now = of_told i im (λ blobs. IsPageOf w.blobs from page × (blobs ≡ w.blobs)) told here in
+      subst (λ x. Turned f w k (ListStep from) (entry.WasListed page) (stepped f w (moment k (ListStep from) (entry.WasListed page) x))) (sym told) (page_turn f w k from page i g now.0 now.1)
   turn_of who step reply image told (allowed.Raising k n im r same) = plain f w k RaiseStep (entry.RaisedTo n) _ (RaisesTurn _ k (raise_turn f w k n im r same)) refl refl
   turn_of who step reply image told (allowed.Settling k im s same) = settle_turn f w shelf l k im s same
   turn_of who step reply image told (allowed.Doing k r im d same) =
@@ -567,12 +598,14 @@ module _ (f : Formats) (size : ℕ) (w : World) (shelf : List Shelved) (l : Law 
   turn_of who step reply image told (allowed.Failing k why im c same) = fails_turn f w k why im c same
   turn_of who step reply image told (allowed.Finishing k im c same) = ends_turn f w k im c same
   turn_of who step reply image told (allowed.Dropping k im c same) =
-      plain f w k DroppedStep HasEnded _ (drop_turn f w k c _ (λ j. record (dropped_of w k (c.may.out.there j)) { blobs = blobs_same w im same j })) refl refl
+      let turn = drop_turn f w k im c _ (λ j. record (dropped_of w k (c.may.out.there j)) { blobs = blobs_same w im same j }) in
+      plain f w k DroppedStep HasEnded _ turn.0 refl turn.1
   turn_of who step reply image told (allowed.Electing im room same) = plain f w 0 ElectStep _ _ (Elects _ (record { new_is = λ j. record w { term = suc w.term; next_id = first_id (suc w.term); blobs = blobs_same w im same j } })) refl refl
   turn_of who step reply image told (allowed.Looking im same) = stays f w 0 LookStep _ im same refl
   turn_of who step reply image told (allowed.AskingRestore name place rep im h same) = asks_restore name place rep im told h same
   turn_of who step reply image told (allowed.AskingClone source name names time taken rep im h same) = asks_clone source name names time taken rep im told h same
   turn_of who step reply image told (allowed.AskingDelete names rep im h same) = asks_delete names rep im h same
+  turn_of who step reply image told (allowed.AskingCleanup rep im h same) = asks_cleanup rep im h same
   turn_of who step reply image told (allowed.Reading k read rep im h same) = reads k read rep im told h same
   turn_of who step reply image told (allowed.Verifying read rep im h) = verifies read rep im told h
   turn_of who step reply image told (allowed.Pruning k prune rep im h) =
@@ -600,7 +633,7 @@ module _ (f : Formats) (size : ℕ) (w : World) (shelf : List Shelved) (l : Law 
         | inr e ↦ inr (latest_text c.n, blobs_told w i im told ∙ e, named)
       ])
   turn_of who step reply image told (allowed.FetchFails k name im g same) = fault_stays f w k (FetchStep name) im same refl
-  turn_of who step reply image told (allowed.ListFails k im t out same) = fault_stays f w k ListStep im same refl
+  turn_of who step reply image told (allowed.ListFails k from im g same) = fault_stays f w k (ListStep from) im same refl
   turn_of who step reply image told (allowed.AskFails name indices time im acc same) = ask_fails name indices time im acc same
   turn_of who step reply image told (allowed.RaiseFails k im r same) =
       falls_plain f w k RaiseStep _ (record w { pending = suc w.pending; tickets = fin.insert w.tickets k (record r.may.t { raised = Some w.pending }) })
@@ -608,8 +641,9 @@ module _ (f : Formats) (size : ℕ) (w : World) (shelf : List Shelved) (l : Law 
       (λ j. record (with_given w k (λ (t : Ticket). record t { raised = Some w.pending }) (r.may.out.there j)) { pending = suc w.pending }) refl refl refl
   turn_of who step reply image told (allowed.SettleFails k im s same) = settle_fails f w shelf l k s _ im same
   turn_of who step reply image told (allowed.DropFails k im c same) =
+      let turn = drop_turn f w k im c _ refl in
       falls_plain f w k DroppedStep _ (record w { ops = fin.remove w.ops c.may.t.op; deletes = fin.remove w.deletes c.may.t.op; tickets = fin.insert w.tickets k (record c.may.t { out = false }) })
-      (drop_turn f w k c _ refl) _ im same (λ j. dropped_of w k (c.may.out.there j)) refl refl refl
+      turn.0 _ im same (λ j. dropped_of w k (c.may.out.there j)) refl refl turn.1
   turn_of who step reply image told (allowed.ElectFails im room same) = falls_plain f w 0 ElectStep _ _ (Elects _ (record { new_is = refl })) _ im same refl refl refl refl
 
   pub turn_by : (who : ℕ) (step : Step) (reply : Reply) (image : Option Image) → image ≡ Some i → Allows f size w who step reply image → Turned f w who step reply (after f w (moment who step reply image))

@@ -6,11 +6,11 @@ use Rattle.esr_model.specs.Names.{BlobName}
 use Rattle.esr_model.specs.Values.{Bytes, ShardResult, Formats}
 use Rattle.esr_model.specs.Image.{Image}
 use Rattle.esr_core.specs.World.{World, Op, Deletion, ShardWork, Swap, Ticket, Done, swap, marked, record_of}
-use Rattle.esr_core.specs.Steps.{noting, with_ticket, given}
+use Rattle.esr_core.specs.Steps.{noting, listing, with_ticket, given}
 use Rattle.esr_core.specs.Turns.{fails}
 use Rattle.esr_core.specs.Pruning.{planned}
 use Rattle.esr_core.specs.Deletes.{named_uuids, waiting_delete, running_delete, aborted_ops, delete_merged, delete_by}
-use Rattle.esr_core.specs.Entry.{Asked, Snapshot, Clone, DeleteSnapshots, AsksNoClone, Restore, Given, GivenShard, GivenClone, GivenFinalize, GivenDrop, GivenRestore, GivenDelete, Read, DrawTest, CommitTest, Prune, FetchShard, PlanShards, SettlePruned, RemoveDoomed, EndDelete, DeleteFails, Step, AskStep, TakeStep, DrawStep, BeginStep, CommitStep, LatestStep, FetchStep, RaiseStep, SettleStep, DoneStep, FailedStep, FinishStep, DroppedStep, ElectStep, ReadStep, PruneStep, DepotFault, Reply, Gave, DrawnFrom, WasDone, WasThere, WasFetched, HasEnded, Refused, AcceptedRestore, Moment}
+use Rattle.esr_core.specs.Entry.{Asked, Snapshot, Clone, DeleteSnapshots, Cleanup, AsksNoClone, Restore, Given, GivenShard, GivenClone, GivenFinalize, GivenDrop, GivenRestore, GivenDelete, GivenCleanup, Read, DrawTest, CommitTest, Prune, FetchShard, PlanShards, SettlePruned, RemoveDoomed, EndDelete, DeleteFails, Step, AskStep, TakeStep, ListStep, WasListed, DrawStep, BeginStep, CommitStep, LatestStep, FetchStep, RaiseStep, SettleStep, DoneStep, FailedStep, FinishStep, DroppedStep, ElectStep, ReadStep, PruneStep, DepotFault, Reply, Gave, DrawnFrom, WasDone, WasThere, WasFetched, HasEnded, Refused, AcceptedRestore, Moment}
 use Rattle.esr_core.specs.After.{asked_op, taken_shard, taken_by, shard_of, with_given, change, committing, told_blob, fetching, settled_by, settled_of, done_by, done_of, is_stale, failed_by, failed_of, dropped_of, delete_settled_by, delete_settled, delete_failed_by, delete_failed, prune_step, read_by, done_step, swaps_record, has_text, fallen, is_latest, tried, test_left, faulted, answered, after}
 use Rattle.esr_core.proofs.AskedDeletes.{aborts}
 use Rattle.esr_core.proofs.Besides.{Aside, aside_taken, aside_step}
@@ -60,7 +60,7 @@ taken_clones f w o (GivenFinalize info results) None there h = h
 taken_clones f w o GivenDrop op there h = h
 taken_clones f w o (GivenRestore index number uuid) op there h = aside w _ (aside_taken w o index number (fin.get w.restores o)) h
 taken_clones f w o (GivenDelete uuids) op there h = h
-taken_clones f w o unit op there h = h
+taken_clones f w o GivenCleanup op there h = h
 
 settled_by_clones : (f : Formats) (w : World) (k : ℕ) (t : Ticket) (s : Option Swap) (n : Option ℕ) → AreNoClones w.ops → AreNoClones (settled_by f w k t s n).ops
 settled_by_clones f w k t (Some s) (Some n) h = left w.ops t.op h
@@ -142,12 +142,14 @@ step_clones f w k (AskStep (Snapshot name indices moment)) reply image other h =
 step_clones f w k (AskStep (Clone source name indices moment taken)) reply image other h = absurd (other source name indices moment taken refl)
 step_clones f w k (AskStep (DeleteSnapshots names)) reply image other h = delete_clones w names (waiting_delete w) (running_delete w (named_uuids w names)) h
 step_clones f w k (AskStep (Restore name place)) (AcceptedRestore o uuid indices) image other h = h
+step_clones f w k (AskStep Cleanup) reply image other h = h
 step_clones f w k TakeStep (Gave ticket op unit) image other h = taken_clones f w op unit (fin.get w.ops op) refl h
 step_clones f w k (DrawStep n) reply image other h = changed w k (λ t. record t { first = w.next_id; drawn = n }) h
 step_clones f w k (CommitStep name) WasDone image other h = changed w k (committing name (told_blob f image name)) h
 step_clones f w k (CommitStep name) WasThere image other h = changed w k (λ t. noting t name) h
 step_clones f w k LatestStep reply image other h = changed w k (λ t. record t { tried_latest = true }) h
 step_clones f w k (FetchStep name) WasFetched image other h = changed w k (fetching name (told_blob f image name)) h
+step_clones f w k (ListStep from) (WasListed page) image other h = changed w k (λ t. listing t page) h
 step_clones f w k RaiseStep reply image other h = changed w k (λ t. record t { raised = Some w.pending }) h
 step_clones f w k SettleStep reply image other h = settled_clones f w k (fin.get w.tickets k) h
 step_clones f w k (DoneStep result) reply image other h = done_clones w k result (fin.get w.tickets k) h

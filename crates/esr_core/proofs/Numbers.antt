@@ -7,7 +7,7 @@ use Rattle.esr_model.specs.Values.{Has, Formats}
 use Rattle.esr_model.specs.Shelf.{Shelved}
 use Rattle.esr_model.specs.Kept.{first_id}
 use Rattle.esr_core.specs.World.{World, Deletion}
-use Rattle.esr_core.specs.Turns.{IsKnown, Turn, Stays, Commits, CommitFails, Finds, Raises, Latests, Fetches, SettlesFinal, SettlesDelete, Elects, TakesShard, TakesFinal, TakesDrop, TakesDelete, TakesCleanup, AsksCleanup, CleanDrops, DrawsShard, DrawsPlan, Dones, Ending, Fails, FailsDelete, Drops, AsksCreate, AsksDelete, Merges, Removing, Deposes, Besides, Tests, TestTurn, DrawsTest, AddsTest, RemovesTests}
+use Rattle.esr_core.specs.Turns.{IsKnown, Turn, Stays, Commits, CommitFails, Finds, Raises, Latests, Fetches, SettlesFinal, SettlesDelete, Elects, TakesShard, TakesFinal, TakesDrop, TakesDelete, TakesCleanup, AsksCleanup, CleanDrops, DrawsShard, DrawsPlan, Dones, Ending, Fails, FailsDelete, Drops, AsksCreate, AsksDelete, Merges, Removing, Pages, Deposes, Besides, Tests, TestTurn, DrawsTest, AddsTest, RemovesTests}
 use Rattle.esr_core.specs.Ids.{DeletionIds, InTerm, Law}
 use Rattle.esr_core.proofs.Besides.{aside_of, term_aside, kept_aside}
 use Rattle.esr_core.proofs.Reading.{Has-either}
@@ -77,6 +77,7 @@ turn_in_term f w new l (CleanDrops m k h) = same_term w m (ap term_of h.new_is) 
 turn_in_term f w new l (AsksCreate m op h) = drawn_term w m h.drawn (ap term_of h.new_is) (ap next_of h.new_is) h.fits l
 turn_in_term f w new l (AsksDelete m uuids h) = same_term w m (ap term_of h.new_is) (ap next_of h.new_is) l
 turn_in_term f w new l (Merges m uuids n h) = same_term w m (ap term_of h.new_is) (ap next_of h.new_is) l
+turn_in_term f w new l (Pages m k page h) = same_term w m (ap term_of h.new_is) (ap next_of h.new_is) l
 turn_in_term f w new l (Removing m k names h) = same_term w m (ap term_of h.new_is) (ap next_of h.new_is) l
 turn_in_term f w new l (Deposes m up h e) = same_term up m (ap term_of e) (ap next_of e) (turn_in_term f w up l h)
 turn_in_term f w new l (Tests m t) = tests_term f w l m t
@@ -151,6 +152,7 @@ turn_deletions f w new shelf l (AsksCreate m op h) = more_below w m h.drawn (ap 
 turn_deletions f w new shelf l (AsksDelete m uuids h) = put_below w m w.next_op _ (ap next_of h.new_is) (ap deletes_of h.new_is) (λ u has. known_below f w shelf l u (h.known u has)) l.deletions
 turn_deletions f w new shelf l (Merges m uuids n h) = put_below w m n (record h.x { uuids = h.x.uuids ++ h.more }) (ap next_of h.new_is) (ap deletes_of h.new_is)
     (λ u has. elim (Has-either h.x.uuids h.more u has) [ inl was ↦ l.deletions n h.x h.there u was | inr new_one ↦ known_below f w shelf l u (h.known u new_one) ]) l.deletions
+turn_deletions f w new shelf l (Pages m k page h) = same_below w m (ap next_of h.new_is) (ap deletes_of h.new_is) l.deletions
 turn_deletions f w new shelf l (Removing m k names h) = same_below w m (ap next_of h.new_is) (ap deletes_of h.new_is) l.deletions
 turn_deletions f w new shelf l (Deposes m up h e) = same_below up m (ap next_of e) (ap deletes_of e) (turn_deletions f w up shelf l h)
 turn_deletions f w new shelf l (Tests m t) = tests_deletions f w shelf l m t

@@ -1,17 +1,17 @@
 -- The plan of a delete is one of the law: of the shards that it read, with the ids that it draws.
-use Rattle.std.proofs.Common.{◌≡◌, ℕ, suc, ◌+◌, ◌<◌, ◌≤◌, Bool, true, false, List, [], ◌∷◌, ◌++◌, Option, Some, None, refl, sym, ap, ◌∙◌, subst, inl, inr, arith}
+use Rattle.std.proofs.Common.{◌≡◌, ◌⊎◌, ℕ, suc, ◌+◌, ◌<◌, ◌≤◌, Bool, true, false, List, [], ◌∷◌, ◌++◌, Option, Some, None, refl, sym, ap, ◌∙◌, subst, inl, inr, arith}
 use Rattle.std.specs.Prelude.{◌==◌, ◌&&◌}
 use Rattle.std.proofs.lemmas.Bool.Decides.{eqb_tells}
 use Rattle.std.specs.FinMap as fin
 use Rattle.esr_model.specs.Names.{BlobName, Root, Latest, Snap, Meta, IndexMeta, ShardSnap, ShardIndex, File, Part, TestMaster, TestNode}
 use Rattle.esr_model.specs.Values.{Bytes, Has, RootSnap, RootData, ShardFiles, ReadsBack, IsOneEach, Formats}
-use Rattle.esr_model.specs.Shelf.{Shelved, Delete}
+use Rattle.esr_model.specs.Shelf.{Shelved, Delete, names_uuid}
 use Rattle.esr_model.specs.Kept.{RootIds, first_id}
 use Rattle.esr_model.specs.Image.{Image, Reads, Generation}
 use Rattle.esr_model.specs.Delete.{Deletes, PrunedShard, kept_count, fresh_from, left_uuids, uuids_of, is_index, index_bytes, files_by, files_read, left_text, pruned_blobs, deleted_root}
 use Rattle.esr_core.specs.World.{World, Deleting, HeldIn}
 use Rattle.esr_core.specs.Restores.{IsTestOf}
-use Rattle.esr_core.specs.Pruning.{bare_shard, IsToRead, AreOfRoot, AreWritable, delete_swap, PruneLaw}
+use Rattle.esr_core.specs.Pruning.{bare_shard, IsToRead, AreOfRoot, AreWritable, commands_by, delete_swap, PruneLaw}
 use Rattle.esr_core.specs.Swaps.{SwapShape}
 use Rattle.esr_core.specs.Tracked.{IsWithin}
 use Rattle.esr_core.specs.Ids.{Law}
@@ -50,7 +50,7 @@ is_index_name i k g (TestMaster v) e = absurd (clash false e refl)
 is_index_name i k g (TestNode v n) e = absurd (clash false e refl)
 
 -- the bytes that are found are among what was read
-bytes_there : (read : List (BlobName × Bytes)) (p : PrunedShard) (b : Bytes) → index_bytes read p ≡ Some b → Has read (ShardIndex p.index p.number p.base, b)
+pub bytes_there : (read : List (BlobName × Bytes)) (p : PrunedShard) (b : Bytes) → index_bytes read p ≡ Some b → Has read (ShardIndex p.index p.number p.base, b)
 bytes_there [] p b e = absurd (none_some b e)
 bytes_there (blob ∷ read) p b e = elim (bool_told (is_index p.index p.number p.base blob.0)) [
   | inl t ↦
@@ -205,7 +205,7 @@ module _ (f : Formats) (w : World) (shelf : List Shelved) (l : Law f w shelf) (k
   law : p.t.term ≡ w.term → PruneLaw f (HeldIn f w) w.safe p.t p.uuids None
   law pres = l.pruned.unsettled k p.t p.uuids None p.deleting.out.there p.deleting.out.out p.unsettled pres p.deleting.work
 
-  held : p.t.term ≡ w.term → (index number generation : ℕ) → IsToRead p.t.root p.uuids index number generation
+  held : p.t.term ≡ w.term → (index number generation : ℕ) → IsToRead p.t.clean p.t.root p.uuids index number generation
       → (was : ShardFiles) × (files_read f p.t.read (bare_shard index number generation) ≡ Some was) × Reads (HeldIn f w) (ShardIndex index number generation) f.shard_index was
   held pres index number generation to_read =
       let (was, e) = p.are_read index number generation to_read in
@@ -216,10 +216,10 @@ module _ (f : Formats) (w : World) (shelf : List Shelved) (l : Law f w shelf) (k
   deletes pres =
       subst (λ (ss : List PrunedShard). Deletes f (HeldIn f w) p.t.root (p.uuids ++ unlisted_read f (uuids_of p.t.root) p.t.read) (fresh_from w.next_id ss) (pruned_blobs f p.t.read (left_uuids p.uuids (uuids_of p.t.root)) w.next_id ss)
       (deleted_root p.t.root p.uuids ss w.next_id)) (sym p.exact)
-      (deletes_hold f (HeldIn f w) (held_one f w) p.t.root p.one_each p.uuids p.t.read w.next_id (held pres) (subst (AreWritable f p.t.root p.uuids p.t.read) p.exact p.writable)
+      (deletes_hold f (HeldIn f w) (held_one f w) p.t.clean p.t.root p.one_each p.uuids p.t.read w.next_id (held pres) (subst (AreWritable f p.t.root p.uuids p.t.read) p.exact p.writable)
       (λ index number generation gen. (l.ids.tickets k p.t p.deleting.out.there).copy.generations index number generation gen) (subst AreApart p.exact apart))
 
-  shape : SwapShape f (delete_swap f p.t.root p.t.read p.uuids shards w.next_id)
+  shape : SwapShape f (delete_swap f p.t.clean p.t.root p.t.read p.uuids shards w.next_id)
   shape =
       record {
         root_back = back;
@@ -237,7 +237,7 @@ module _ (f : Formats) (w : World) (shelf : List Shelved) (l : Law f w shelf) (k
       }
 
   pub plan_draw : (new : World)
-      → new ≡ record w { next_id = w.next_id + kept_count shards; tickets = fin.insert w.tickets k (record p.t { first = w.next_id; drawn = kept_count shards; work = Deleting p.uuids (Some (delete_swap f p.t.root p.t.read p.uuids shards w.next_id)) }) }
+      → new ≡ record w { next_id = w.next_id + kept_count shards; tickets = fin.insert w.tickets k (record p.t { first = w.next_id; drawn = kept_count shards; work = Deleting p.uuids (Some (delete_swap f p.t.clean p.t.root p.t.read p.uuids shards w.next_id)) }) }
       → DrawPlan f w k (kept_count shards) new
   plan_draw new is =
       record {
@@ -246,8 +246,8 @@ module _ (f : Formats) (w : World) (shelf : List Shelved) (l : Law f w shelf) (k
         named = p.uuids;
         work = p.deleting.work;
         uuids = p.uuids ++ unlisted_read f (uuids_of p.t.root) p.t.read;
-        commands = Delete p.uuids ∷ [];
-        prunes = inl ((λ s m. same_named f p.t.root p.uuids p.t.read s m), refl);
+        commands = commands_by p.t.clean p.uuids;
+        prunes = by_mode p.t.clean refl;
         fits = fits;
         unsettled = p.unsettled;
         unraised = p.unraised;
@@ -257,11 +257,11 @@ module _ (f : Formats) (w : World) (shelf : List Shelved) (l : Law f w shelf) (k
         fresh = fresh_from w.next_id shards;
         deletes = deletes;
         shape = shape;
-        planned = λ c. record {
+        planned = record {
           are_read = p.are_read;
           of_root = subst (AreOfRoot p.t.root) p.exact p.of_root;
           writable = subst (AreWritable f p.t.root p.uuids p.t.read) p.exact p.writable;
-          swap_is = ap (λ (ss : List PrunedShard). delete_swap f p.t.root p.t.read p.uuids ss w.next_id) p.exact;
+          swap_is = ap (λ (ss : List PrunedShard). delete_swap f p.t.clean p.t.root p.t.read p.uuids ss w.next_id) p.exact;
         };
         without = without;
         fresh_drawn = λ index number g e. fresh_in_draw f p.t.read left shards w.next_id index number g e;
@@ -270,3 +270,9 @@ module _ (f : Formats) (w : World) (shelf : List Shelved) (l : Law f w shelf) (k
             (o.q.index, o.q.number, o.id, o.name_is, o.from, o.below, generation_index p.t.root o.q.index o.q.number o.q.base (in_root p.t.root shards o.q p.of_root o.there));
         new_is = is;
       }
+    where
+      by_mode : (b : Bool) → p.t.clean ≡ b
+          → ((p.t.clean ≡ false) × ((s : RootSnap) → Has p.t.root.snapshots s → names_uuid (p.uuids ++ unlisted_read f (uuids_of p.t.root) p.t.read) s.uuid ≡ names_uuid p.uuids s.uuid) × (commands_by p.t.clean p.uuids ≡ Delete p.uuids ∷ []))
+          ⊎ ((p.t.clean ≡ true) × (commands_by p.t.clean p.uuids ≡ []) × ((s : RootSnap) → Has p.t.root.snapshots s → names_uuid (p.uuids ++ unlisted_read f (uuids_of p.t.root) p.t.read) s.uuid ≡ false))
+      by_mode false is = inl (is, (λ s m. same_named f p.t.root p.uuids p.t.read s m), ap (λ (b : Bool). commands_by b p.uuids) is)
+      by_mode true is = inr (is, ap (λ (b : Bool). commands_by b p.uuids) is, (λ s m. same_named f p.t.root p.uuids p.t.read s m ∙ ap (λ (us : List ℕ). names_uuid us s.uuid) (p.deleting.bare is)))

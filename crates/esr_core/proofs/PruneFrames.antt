@@ -132,9 +132,13 @@ stays_settled_by f w k t (Some s) (Some n) there =
       restores = refl;
       readers = refl;
       caller = refl;
-      deletes = λ e. none_left w.deletes t.op e;
+      deletes = left_none t.clean;
       tickets = inr (anew w.tickets k t t.read true t.out there (λ e. e) (λ e. absurd (true≢false e)));
     }
+  where
+    left_none : (b : Bool) → w.deletes ≡ fin.empty → cond b w.deletes (fin.remove w.deletes t.op) ≡ fin.empty
+    left_none true e = e
+    left_none false e = none_left w.deletes t.op e
 stays_settled_by f w k t (Some s) None there = stays_same w k
 stays_settled_by f w k t None n there = stays_same w k
 

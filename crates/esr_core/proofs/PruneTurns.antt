@@ -1,5 +1,5 @@
 -- The steps of a delete's ticket are turns of the law.
-use Rattle.std.proofs.Common.{◌≡◌, ◌≢◌, ◌⊎◌, ℕ, suc, ◌+◌, ◌≤◌, List, [], ◌++◌, Bool, true, false, Option, Some, None, refl, sym, ap, ◌∙◌, subst, inl, inr, arith}
+use Rattle.std.proofs.Common.{◌≡◌, ◌≢◌, ◌⊎◌, ℕ, suc, ◌+◌, ◌≤◌, List, [], ◌++◌, Bool, true, false, true≢false, Option, Some, None, refl, sym, ap, ◌∙◌, subst, inl, inr, arith}
 use Rattle.std.specs.Prelude.{if◌then◌else◌, nat_lt}
 use Rattle.std.proofs.lemmas.Bool.Decides.{eqb_tells}
 use Rattle.std.proofs.lemmas.Bool.{lt-ltb, le-ltb}
@@ -9,8 +9,9 @@ use Rattle.esr_model.specs.Values.{Bytes, Has, RootIndex, RootData, IsOneEach, F
 use Rattle.esr_model.specs.Shelf.{Shelved}
 use Rattle.esr_model.specs.Image.{Blobs, Image, Generation, at_shard_of}
 use Rattle.esr_model.specs.Reach.{Reached}
+use Rattle.esr_model.specs.Cleanup.{names_listed, is_generation, reaches}
 use Rattle.esr_model.specs.Delete.{PrunedShard, kept_count, left_uuids, uuids_of, pruned_blobs, deleted_root, doomed_names}
-use Rattle.esr_core.specs.World.{World, Deleting, Ticket, Swap, HeldIn}
+use Rattle.esr_core.specs.World.{World, Deletion, Deleting, Ticket, Swap, HeldIn}
 use Rattle.esr_core.specs.Ready.{IsMaster, IsShard}
 use Rattle.esr_core.specs.Steps.{settled, with_ticket, Removes}
 use Rattle.esr_core.specs.Swaps.{IsUnsettled}
@@ -18,14 +19,15 @@ use Rattle.esr_core.specs.Pruning.{pruned_shards, planned_work, planned, IsPlann
 use Rattle.esr_core.specs.Queue.{DeleteLaw}
 use Rattle.esr_core.specs.Ids.{Law}
 use Rattle.esr_core.specs.Entry.{Why, Prune, FetchShard, PlanShards, SettlePruned, RemoveDoomed, EndDelete, DeleteFails, PruneStep, DepotFault, Reply, DrawnFrom, WasFetched, WasAbsent, WasSettled, WasRemoved, HasEnded, Refused}
-use Rattle.esr_core.specs.After.{with_given, change, fetching, told_blob, is_stale, delete_settled, delete_failed, delete_failed_by, stepped}
+use Rattle.esr_core.specs.After.{with_given, change, fetching, told_blob, is_stale, deletes_left, delete_settled, delete_failed, delete_failed_by, stepped}
 use Rattle.esr_core.specs.History.{command_of, command_by}
-use Rattle.esr_core.specs.Turns.{SettleDelete, Fetches, DrawsPlan, SettlesDelete, Removing, Ending, FailsDelete}
+use Rattle.esr_core.specs.Turns.{IsOfPast, SettleDelete, Fetches, DrawsPlan, SettlesDelete, Removing, Ending, FailsDelete}
 use Rattle.esr_core.specs.Allowed.{FetchesShard, SettlesDeletion, RemovesDoomed, EndsDelete, FailsDeletion, PruneAllows, FetchingShard, ShardMissing, FetchShardFails, Planning, PlanSpent, SettlingDelete, SettleDeleteStale, SettleDeleteFails, RemovingDoomed, RemoveDoomedFails, EndingDelete, FailingDelete}
 use Rattle.esr_core.proofs.Reading.{held_one}
 use Rattle.esr_core.proofs.Finalizing.{root_one_each}
 use Rattle.esr_core.proofs.DeletedRoots.{one_found}
-use Rattle.esr_core.proofs.DeletionLaws.{dooms_is}
+use Rattle.esr_core.proofs.DeletionLaws.{dooms_is, cleans_is}
+use Rattle.esr_core.proofs.Cleaning.{same_number, IsHeldNow, cleaned_held, IsReachedBy, reached_by, reaches_has, cleaned_was}
 use Rattle.esr_core.proofs.Plans.{plan_draw}
 use Rattle.esr_core.proofs.DoomedNames.{doomed_reached, doomed_aside, doomed_root_is}
 use Rattle.esr_core.proofs.Moments.{Turned, plain, stays, falls, falls_commands, fault_stays, delete_settled_plain, master_stale, moment}
@@ -75,48 +77,82 @@ module _ (f : Formats) (w : World) (shelf : List Shelved) (l : Law f w shelf) wh
     pub pruned : PruneLaw f (HeldIn f w) w.safe s.t s.uuids (Some s.s)
     pruned = l.pruned.unsettled k s.t s.uuids (Some s.s) s.may.out.there s.may.out.out s.may.unsettled present s.deleting.work
 
-    pub plan : IsPlanned f s.t.root s.t.read s.t.first s.uuids s.s
-    plan = pruned.follows s.s refl s.commands
+    pub plan : IsPlanned f s.t.clean s.t.root s.t.read s.t.first s.uuids s.s
+    plan = pruned.follows s.s refl
 
     unsettled : IsUnsettled f s.t s.s
     unsettled = record { is = s.may.is; out = s.may.out.out; unsettled = s.may.unsettled }
 
     abbrev shards : List PrunedShard
-    shards = pruned_shards f s.t.root s.uuids s.t.read
+    shards = pruned_shards f s.t.clean s.t.root s.uuids s.t.read
 
-    pub root_is : s.s.root ≡ deleted_root s.t.root s.uuids (pruned_shards f s.t.root s.uuids s.t.read) s.t.first
+    pub root_is : s.s.root ≡ deleted_root s.t.root s.uuids (pruned_shards f s.t.clean s.t.root s.uuids s.t.read) s.t.first
     root_is = ap (λ (x : Swap). x.root) plan.swap_is
 
     pub once : IsOneEach s.t.root.indices
     once = subst (λ (r : RootData). IsOneEach r.indices) (sym law.root_is) root_once
 
     -- its new shard indices are there
-    pub written : (name : BlobName) (bytes : Bytes) → Has (pruned_blobs f s.t.read (left_uuids s.uuids (uuids_of s.t.root)) s.t.first (pruned_shards f s.t.root s.uuids s.t.read)) (name, bytes) → HeldIn f w name bytes
+    pub written : (name : BlobName) (bytes : Bytes) → Has (pruned_blobs f s.t.read (left_uuids s.uuids (uuids_of s.t.root)) s.t.first (pruned_shards f s.t.clean s.t.root s.uuids s.t.read)) (name, bytes) → HeldIn f w name bytes
     written name bytes m =
         let own : Has s.s.own (name, bytes) = subst (λ (x : Swap). Has x.own (name, bytes)) (sym plan.swap_is) m in
         ((l.lawful.sound.rooted.tickets k s.t s.may.out.there).swaps s.s unsettled (inl present)).noted name bytes own (s.may.ready name bytes own)
 
-    -- what it dooms, by the new root
-    named : (name : BlobName) → Has (dooms f s.t) name → Has (doomed_names f s.t.safe s.t.root (deleted_root s.t.root s.uuids (pruned_shards f s.t.root s.uuids s.t.read) s.t.first) s.uuids s.t.read) name
-    named name m =
-        subst (λ (ns : List BlobName). Has ns name) (dooms_is f s.t s.uuids s.s s.deleting.work ∙ ap (λ (r : RootData). doomed_names f s.t.safe s.t.root r s.uuids s.t.read) root_is) m
+    -- what a delete dooms, by the new root
+    named : s.t.clean ≡ false → (name : BlobName) → Has (dooms f s.t) name → Has (doomed_names f s.t.safe s.t.root (deleted_root s.t.root s.uuids (pruned_shards f s.t.clean s.t.root s.uuids s.t.read) s.t.first) s.uuids s.t.read) name
+    named deletes name m =
+        subst (λ (ns : List BlobName). Has ns name) (dooms_is f s.t s.uuids s.s s.deleting.work deletes ∙ ap (λ (r : RootData). doomed_names f s.t.safe s.t.root r s.uuids s.t.read) root_is) m
 
-    -- what it dooms was reached, or is the old root's name, and the new root doesn't reach it
-    pub was_reached : (name : BlobName) → Has (dooms f s.t) name → Reached f (HeldIn f w) w.root name ⊎ ((m : ℕ) × (name ≡ Root m) × (w.safe ≡ suc m))
-    was_reached name m = elim (doomed_reached f (HeldIn f w) (held_one f w) s.t.safe s.t.root once s.uuids s.t.read s.t.first shards pruned.held plan.of_root plan.writable written name (named name m)) [
+    -- it was reached, or is the old root's name, and the new root doesn't reach it
+    pub was_reached : s.t.clean ≡ false → (name : BlobName) → Has (dooms f s.t) name → Reached f (HeldIn f w) w.root name ⊎ ((m : ℕ) × (name ≡ Root m) × (w.safe ≡ suc m))
+    was_reached deletes name m = elim (doomed_reached f (HeldIn f w) (held_one f w) s.t.safe s.t.root once s.uuids s.t.read s.t.first shards pruned.held plan.of_root plan.writable written name (named deletes name m)) [
       | inl r ↦ inl (subst (λ (x : RootData). Reached f (HeldIn f w) x name) law.root_is r)
       | inr h ↦ inr (h.0, h.1, sym pruned.safe_is ∙ h.2)
     ]
 
-    pub is_left : (name : BlobName) → Has (dooms f s.t) name → Reached f (HeldIn f w) s.s.root name → ⊥
-    is_left name m r =
-        doomed_aside f (HeldIn f w) (held_one f w) s.t.safe s.t.root once s.uuids s.t.read s.t.first shards pruned.held plan.of_root plan.writable written name (named name m)
+    delete_left : s.t.clean ≡ false → (name : BlobName) → Has (dooms f s.t) name → Reached f (HeldIn f w) s.s.root name → ⊥
+    delete_left deletes name m r =
+        doomed_aside f (HeldIn f w) (held_one f w) s.t.safe s.t.root once s.uuids s.t.read s.t.first shards pruned.held plan.of_root plan.writable written name (named deletes name m)
         (subst (λ (x : RootData). Reached f (HeldIn f w) x name) root_is r)
+
+    -- ---- what a cleanup dooms
+
+    -- each index of the new root reads, by what was read and written of it
+    pub held_now : s.t.clean ≡ true → IsHeldNow f (HeldIn f w) s.s.root (s.s.own ++ s.t.read)
+    held_now clean =
+        subst (λ (x : Swap). IsHeldNow f (HeldIn f w) x.root (x.own ++ s.t.read)) (sym plan.swap_is)
+        (cleaned_held f (HeldIn f w) (held_one f w) s.t.root once s.uuids s.t.read s.t.first s.t.clean clean
+        pruned.held plan.are_read plan.of_root plan.writable written)
+
+    pub reaches_is : s.t.clean ≡ true → (name : BlobName) → (reaches f s.t.raised s.s.root (s.s.own ++ s.t.read) name ≡ true) → IsReachedBy f (HeldIn f w) s.s.root s.t.raised name
+    reaches_is clean name e = reached_by f (HeldIn f w) s.s.root s.t.raised (s.s.own ++ s.t.read) (held_now clean) name e
+
+    clean_left : s.t.clean ≡ true → (name : BlobName) → Has (dooms f s.t) name → Reached f (HeldIn f w) s.s.root name → ⊥
+    clean_left clean name m r =
+        let it = cleaned_was f s.t.raised s.s.root (s.s.own ++ s.t.read) s.t.listed name (subst (λ (ns : List BlobName). Has ns name) (cleans_is f s.t s.uuids s.s s.deleting.work clean) m) in
+        true≢false (sym (reaches_has f (HeldIn f w) s.s.root s.t.raised (s.s.own ++ s.t.read) (held_now clean) (held_one f w) name r) ∙ it.1)
+
+    clean_past : s.t.clean ≡ true → (name : BlobName) → Has (dooms f s.t) name → IsOfPast w name
+    clean_past clean name m =
+        let it = cleaned_was f s.t.raised s.s.root (s.s.own ++ s.t.read) s.t.listed name (subst (λ (ns : List BlobName). Has ns name) (cleans_is f s.t s.uuids s.s s.deleting.work clean) m) in
+        record {
+          below = (l.ids.tickets k s.t s.may.out.there).listed name it.0;
+          begun = λ n e. (l.lawful.sound.rooted.tickets k s.t s.may.out.there).listed n (subst (Has (names_listed f s.t.listed)) e it.0);
+        }
+
+    -- ---- of both
+
+    pub is_left : (name : BlobName) → Has (dooms f s.t) name → Reached f (HeldIn f w) s.s.root name → ⊥
+    is_left name m r = by s.t.clean refl
+      where
+        by : (b : Bool) → s.t.clean ≡ b → ⊥
+        by false e = delete_left e name m r
+        by true e = clean_left e name m r
 
     above : w.safe ≤ s.n
     above = ((l.lawful.sound.rooted.tickets k s.t s.may.out.there).last s.s unsettled present s.n s.may.raised).1
 
-    settle_deletion : (new : World) → new ≡ record (settled w k s.t s.n s.s.root) { deletes = fin.remove w.deletes s.t.op; doomed = dooms f s.t ++ w.doomed } → SettleDelete f w k s.n s.t s.s new
+    settle_deletion : (new : World) → new ≡ record (settled w k s.t s.n s.s.root) { deletes = deletes_left w s.t; doomed = dooms f s.t ++ w.doomed } → SettleDelete f w k s.n s.t s.s new
     settle_deletion new is =
         record {
           uuids = s.uuids;
@@ -124,19 +160,32 @@ module _ (f : Formats) (w : World) (shelf : List Shelved) (l : Law f w shelf) wh
           may = s.may;
           present = present;
           names = dooms f s.t;
-          cleans = false;
+          cleans = s.t.clean;
           deletion = law.deletion;
           there = law.there;
-          cleans_is = s.deleting.deletes law.deletion law.there;
-          root_aside = λ m.
-              let e : s.t.safe ≡ suc s.n = doomed_root_is f (HeldIn f w) (held_one f w) s.t.safe s.t.root once s.uuids s.t.read s.t.first shards pruned.held plan.of_root plan.writable written s.n (named (Root s.n) m) in
-              let safe : s.t.safe ≡ w.safe = pruned.safe_is in
-              omega (arith, e, safe, above);
-          reach = λ name m. elim (was_reached name m) [ inl r ↦ inl r | inr h ↦ inr (inl h) ];
+          cleans_is = s.deleting.mode law.deletion law.there;
+          root_aside = not_root;
+          reach = λ name m. reach_by s.t.clean refl name m;
           reach_aside = is_left;
           gives = λ name m. m;
           new_is = is;
         }
+      where
+        not_root : Has (dooms f s.t) (Root s.n) → ⊥
+        not_root m = by s.t.clean refl
+          where
+            by : (b : Bool) → s.t.clean ≡ b → ⊥
+            by false e =
+                let own : s.t.safe ≡ suc s.n = doomed_root_is f (HeldIn f w) (held_one f w) s.t.safe s.t.root once s.uuids s.t.read s.t.first shards pruned.held plan.of_root plan.writable written s.n (named e (Root s.n) m) in
+                let safe : s.t.safe ≡ w.safe = pruned.safe_is in
+                omega (arith, own, safe, above)
+            by true e =
+                let it = cleaned_was f s.t.raised s.s.root (s.s.own ++ s.t.read) s.t.listed (Root s.n) (subst (λ (ns : List BlobName). Has ns (Root s.n)) (cleans_is f s.t s.uuids s.s s.deleting.work e) m) in
+                true≢false (sym (ap (λ (o : Option ℕ). is_generation o s.n) s.may.raised ∙ same_number s.n) ∙ it.1)
+
+        reach_by : (b : Bool) → s.t.clean ≡ b → (name : BlobName) → Has (dooms f s.t) name → Reached f (HeldIn f w) w.root name ⊎ (((m : ℕ) × (name ≡ Root m) × (w.safe ≡ suc m)) ⊎ ((s.t.clean ≡ true) × IsOfPast w name))
+        reach_by false e name m = elim (was_reached e name m) [ inl r ↦ inl r | inr h ↦ inr (inl h) ]
+        reach_by true e name m = inr (inr (e, clean_past e name m))
 
     -- the command of its ticket, where the image's safe root isn't below it
     command_is : (safe : ℕ) → command_of f safe (fin.get w.tickets k) ≡ (if nat_lt s.n safe then s.s.commands else [])
@@ -152,13 +201,13 @@ module _ (f : Formats) (w : World) (shelf : List Shelved) (l : Law f w shelf) wh
     early safe below = command_is safe ∙ uncounted safe (omega (arith, below, above))
 
     abbrev up : World
-    up = record (settled w k s.t s.n s.s.root) { deletes = fin.remove w.deletes s.t.op; doomed = dooms f s.t ++ w.doomed }
+    up = record (settled w k s.t s.n s.s.root) { deletes = deletes_left w s.t; doomed = dooms f s.t ++ w.doomed }
 
     settle_turn : (blobs : Blobs) → blobs ≡ w.blobs → Turned f w k (PruneStep SettlePruned) WasSettled (record (delete_settled f w k (fin.get w.tickets k)) { blobs = blobs })
     settle_turn blobs same =
         subst (λ (x : World). Turned f w k (PruneStep SettlePruned) WasSettled (record x { blobs = blobs })) (sym (delete_settled_plain f w k s.n s.t s.s s.may))
         (record {
-          turn = SettlesDelete _ k s.n s.t s.s (settle_deletion _ (λ j. record (settled w k s.t s.n s.s.root) { deletes = fin.remove w.deletes s.t.op; doomed = dooms f s.t ++ w.doomed; blobs = same j }));
+          turn = SettlesDelete _ k s.n s.t s.s (settle_deletion _ (λ j. record (settled w k s.t s.n s.s.root) { deletes = deletes_left w s.t; doomed = dooms f s.t ++ w.doomed; blobs = same j }));
           commands = λ safe above alone. command_is safe ∙ counted safe above;
           early = early;
         })
@@ -210,9 +259,16 @@ module _ (f : Formats) (w : World) (shelf : List Shelved) (l : Law f w shelf) wh
     master : IsMaster c.t.work
     master = subst IsMaster (sym c.deleting.work) tt
 
+    -- its op is open
+    op_of : c.t.term ≡ w.term → (x : Deletion) × (fin.get w.deletes c.t.op ≡ Some x) × ((c.t.settled ≡ false) ⊎ (x.clean ≡ true))
+    op_of pres = elim c.may [
+      | inl uns ↦ let law = law_of k c.t c.uuids c.plan c.deleting.out.there c.deleting.out.out uns pres c.deleting.work in (law.deletion, law.there, inl uns)
+      | inr h ↦ let (x, there) = h.1 pres in (x, there, inr (c.deleting.mode x there ∙ h.0))
+    ]
+
     fails_present : c.t.term ≡ w.term → is_stale w c.t c.t.work ≡ false → Turned f w k (PruneStep (DeleteFails why)) HasEnded (record (delete_failed w k (fin.get w.tickets k)) { blobs = i.blobs })
     fails_present pres fresh =
-        let law = law_of k c.t c.uuids c.plan c.deleting.out.there c.deleting.out.out c.unsettled pres c.deleting.work in
+        let (x, there, may) = op_of pres in
         plain f w k (PruneStep (DeleteFails why)) HasEnded _
         (FailsDelete _ k (record {
           t = c.t;
@@ -221,12 +277,12 @@ module _ (f : Formats) (w : World) (shelf : List Shelved) (l : Law f w shelf) wh
           uuids = c.uuids;
           plan = c.plan;
           work = c.deleting.work;
-          x = law.deletion;
-          there = law.there;
-          may = inl c.unsettled;
+          x = x;
+          there = there;
+          may = may;
           new_is = (λ j. record (delete_failed w k (c.deleting.out.there j)) { blobs = i.blobs })
               ∙ (λ j. record (if fresh j then with_ticket w k (record c.t { out = false }) else delete_failed_by w k c.t (fin.get w.deletes c.t.op)) { blobs = i.blobs })
-              ∙ (λ j. record (delete_failed_by w k c.t (law.there j)) { blobs = same j });
+              ∙ (λ j. record (delete_failed_by w k c.t (there j)) { blobs = same j });
         })) refl refl
 
     fails_stale : c.t.term ≢ w.term → is_stale w c.t c.t.work ≡ true → Turned f w k (PruneStep (DeleteFails why)) HasEnded (record (delete_failed w k (fin.get w.tickets k)) { blobs = i.blobs })

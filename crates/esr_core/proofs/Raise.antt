@@ -34,6 +34,7 @@ raise_sound f w new shelf k l r = subst (λ v. Rooted f v shelf) (sym r.new_is) 
             last = λ s i e n q. let h : w.pending ≡ n = some_same _ _ q in (omega arith, omega (arith, l.kept.ordered));
             shape = was.shape;
             clean = λ s i c. was.clean s (record { is = i.is; out = i.out; unsettled = i.unsettled }) (inl r.present);
+            listed = λ n m. let h : n < w.pending = was.listed n m in omega arith;
             clean_root = λ n e le d. let h : w.pending ≡ n = some_same _ _ e in let b : n < w.pending = l.doomed_begun n d in omega arith;
             swaps = λ s i c. was.swaps s (record { is = i.is; out = i.out; unsettled = i.unsettled }) (inl r.present);
           })
@@ -46,6 +47,7 @@ raise_sound f w new shelf k l r = subst (λ v. Rooted f v shelf) (sym r.new_is) 
             shape = old.shape;
             clean = old.clean;
             clean_root = old.clean_root;
+            listed = λ n m. let h : n < w.pending = old.listed n m in omega arith;
             swaps = old.swaps;
           });
       single = λ i j a b. l.single i j

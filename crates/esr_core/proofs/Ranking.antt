@@ -8,14 +8,15 @@ use Rattle.esr_model.specs.Names.{BlobName}
 use Rattle.esr_model.specs.Values.{Bytes, RootData, ShardResult, ClusterRecord, Formats}
 use Rattle.esr_model.specs.Image.{Image, Blobs}
 use Rattle.esr_model.specs.Delete.{PrunedShard, kept_count}
+use Rattle.esr_model.specs.Cleanup.{BlobSize}
 use Rattle.esr_core.specs.Pruning.{planned}
 use Rattle.esr_core.specs.World.{World, Op, Work, Shard, Finalize, Deleting, Drop, Ticket, Swap, swap_of, opened, Deletion}
 use Rattle.esr_core.specs.Ready.{IsMaster}
-use Rattle.esr_core.specs.Steps.{with_ticket}
-use Rattle.esr_core.specs.Entry.{CloneOf, Clone, Given, GivenShard, GivenFinalize, GivenDrop, Step, Reply, Moment, GivenRestore, DeleteSnapshots, Restore, AskStep, ReadStep, Read, ReadBlob, RestoredShard, ReadFails, WasFetched, WasAbsent, HasEnded, GivenClone, GivenDelete, GivenCleanup, Prune, PruneStep}
-use Rattle.esr_core.specs.After.{clone_opened, taken_by, taken_shard, with_given, change, committing, fetching, told_blob, done_of, done_by, failed_of, failed_by, is_stale, settled_of, dropped_of, tried, answered, blobs_in, after, test_left, delete_settled, delete_failed, delete_failed_by}
+use Rattle.esr_core.specs.Steps.{with_ticket, listing}
+use Rattle.esr_core.specs.Entry.{CloneOf, Clone, Given, GivenShard, GivenFinalize, GivenDrop, Step, Reply, Moment, GivenRestore, DeleteSnapshots, Restore, Cleanup, AskStep, ReadStep, Read, ReadBlob, RestoredShard, ReadFails, WasFetched, WasAbsent, HasEnded, GivenClone, GivenDelete, GivenCleanup, Prune, PruneStep}
+use Rattle.esr_core.specs.After.{cleanup_opened, clone_opened, taken_by, taken_shard, with_given, change, committing, fetching, told_blob, done_of, done_by, failed_of, failed_by, is_stale, settled_of, dropped_of, tried, answered, blobs_in, after, test_left, delete_settled, delete_failed, delete_failed_by}
 use Rattle.esr_core.specs.Allowed as allowed
-use Rattle.esr_core.specs.Allowed.{MayPlan, SettlesDeletion, FailsDeletion, PruneAllows, FetchingShard, ShardMissing, FetchShardFails, Planning, PlanSpent, SettlingDelete, SettleDeleteStale, SettleDeleteFails, RemovingDoomed, RemoveDoomedFails, EndingDelete, FailingDelete, Gives, Settles, Fails, Drops, Dones, Allows, Allowed, MayRaise, DeleteAllows, GoingInto, NotNamed, CloneStands, RestoreStands, FullOfOps, DeleteFault, RestoreAllows, OpeningRestore, NotListed, NamedByDelete, FullOfRestores, CloneAllows, OpeningClone, CloneUsed, SourceNotListed, SourceDeleted, IndexMissing, FullOfClones, CloneSpent, CloneFault, ReadAllows, ReadFound, ReadMissing, ReadFault, RestoringShard, ReaderFailing, CheckingAll, CheckFailing, VerifyAllows, DrawingTest, TestSpent, BeginningTest, BeginTestFails, CommittingTest, TestTaken, CommitTestFails, RemovingTests, RemoveTestsFails, VerifyingAll, VerifyFailing}
+use Rattle.esr_core.specs.Allowed.{MayPlan, SettlesDeletion, FailsDeletion, PruneAllows, FetchingShard, ShardMissing, FetchShardFails, Planning, PlanSpent, SettlingDelete, SettleDeleteStale, SettleDeleteFails, RemovingDoomed, RemoveDoomedFails, EndingDelete, FailingDelete, Gives, Settles, Fails, Drops, Dones, Allows, Allowed, MayRaise, DeleteAllows, GoingInto, NotNamed, CloneStands, RestoreStands, FullOfOps, DeleteFault, CleanupAllows, OpeningCleanup, OpStands, TicketStands, CleanupFault, RestoreAllows, OpeningRestore, NotListed, NamedByDelete, FullOfRestores, CloneAllows, OpeningClone, CloneUsed, SourceNotListed, SourceDeleted, IndexMissing, FullOfClones, CloneSpent, CloneFault, ReadAllows, ReadFound, ReadMissing, ReadFault, RestoringShard, ReaderFailing, CheckingAll, CheckFailing, VerifyAllows, DrawingTest, TestSpent, BeginningTest, BeginTestFails, CommittingTest, TestTaken, CommitTestFails, RemovingTests, RemoveTestsFails, VerifyingAll, VerifyFailing}
 use Rattle.esr_core.specs.History.{world_from, IsLegal}
 use Rattle.esr_core.specs.Tracked.{Tracked}
 use Rattle.esr_core.specs.Ranked.{Ranks, Ranked}
@@ -38,6 +39,9 @@ record Alike (t v : Ticket) : Type 0 where
 
 alike_quiet : (t : Ticket) (noted : List BlobName) (wrote read : List (BlobName × Bytes)) (tried : Bool) (first drawn : ℕ) → Alike t (record t { noted = noted; wrote = wrote; read = read; tried_latest = tried; first = first; drawn = drawn })
 alike_quiet t noted wrote read tried first drawn = record { work = refl; raised = refl; term = refl; out = λ e. e; settled = λ e. e }
+
+alike_listing : (t : Ticket) (page : List BlobSize) → Alike t (listing t page)
+alike_listing t page = record { work = refl; raised = refl; term = refl; out = λ e. e; settled = λ e. e }
 
 alike_ended : (t : Ticket) → Alike t (record t { out = false })
 alike_ended t = record { work = refl; raised = refl; term = refl; out = λ e. absurd (true≢false (sym e)); settled = λ e. e }
@@ -167,7 +171,11 @@ module _ (f : Formats) (size : ℕ) (w : World) (q : Tracked w) (l : Ranked w) w
       deleting : (found : Option Op) → Ranked (taken_by f w o (GivenDelete uuids) found)
       deleting None = ranks_new w.safe w.pending w.term w.tickets l w.next_ticket _ refl
       deleting (Some op) = ranks_new w.safe w.pending w.term w.tickets l w.next_ticket _ refl
-  gives o GivenCleanup g = absurd g
+  gives o GivenCleanup g = cleaning (fin.get w.ops o)
+    where
+      cleaning : (found : Option Op) → Ranked (taken_by f w o GivenCleanup found)
+      cleaning None = ranks_new w.safe w.pending w.term w.tickets l w.next_ticket _ refl
+      cleaning (Some op) = ranks_new w.safe w.pending w.term w.tickets l w.next_ticket _ refl
   gives o (GivenRestore index number uuid) g = kept_aside Ranked w _ (aside_taken w o index number (fin.get w.restores o)) l
   gives o (GivenShard index number base) g =
       subst (λ x. Ranked (taken_by f w o (GivenShard index number base) x)) (sym g.ready.op_there) (subst (λ x. Ranked (taken_shard w o g.op base x)) (sym g.found) (ranks_new w.safe w.pending w.term w.tickets l w.next_ticket _ refl))
@@ -201,8 +209,8 @@ module _ (f : Formats) (size : ℕ) (w : World) (q : Tracked w) (l : Ranked w) w
           away (q.one_swap j k (record { t = u; there = e; out = out; unsettled = uns; present = pres; swaps = master })
           (record { t = s.t; there = s.may.out.there; out = s.may.out.out; unsettled = s.may.unsettled; present = s.present; swaps = subst IsMaster (sym s.work) tt }))
 
-  drops_step : (k : ℕ) → Drops w k → Ranked (dropped_of w k (fin.get w.tickets k))
-  drops_step k d = subst (λ x. Ranked (dropped_of w k x)) (sym d.may.out.there) (ends k d.may.t d.may.out.there)
+  drops_step : (k : ℕ) (image : Option Image) → Drops f w k image → Ranked (dropped_of w k (fin.get w.tickets k))
+  drops_step k image d = subst (λ x. Ranked (dropped_of w k x)) (sym d.may.out.there) (ends k d.may.t d.may.out.there)
 
   -- ---- steps of a delete's ticket
 
@@ -271,6 +279,14 @@ module _ (f : Formats) (size : ℕ) (w : World) (q : Tracked w) (l : Ranked w) w
   asks_delete names reply image (FullOfOps may new full) = l
   asks_delete names reply image (DeleteFault acc) = ranks_falls w (asked_delete w names) l (subst Ranked (sym (delete_leaves w names)) l) _ (blobs_in image w.blobs)
 
+  -- ---- a cleanup that is asked
+
+  asks_cleanup : (reply : Reply) (image : Option Image) → CleanupAllows w reply → Ranked (after f w (moment 0 (AskStep Cleanup) reply image))
+  asks_cleanup reply image (OpeningCleanup acc) = l
+  asks_cleanup reply image (OpStands o clear lowest) = l
+  asks_cleanup reply image (TicketStands j none lowest) = l
+  asks_cleanup reply image (CleanupFault acc) = ranks_falls w (cleanup_opened w) l l _ (blobs_in image w.blobs)
+
   -- ---- restores and reading
 
   asks_restore : (name place : Bytes) (reply : Reply) (image : Option Image) → RestoreAllows f w name reply image → Ranked (answered f w 0 (AskStep (Restore name place)) reply image)
@@ -320,18 +336,19 @@ module _ (f : Formats) (size : ℕ) (w : World) (q : Tracked w) (l : Ranked w) w
   ranked_by who step reply image (allowed.Replacing k im c named puts) = tries k c.t c.out.there
   ranked_by who step reply image (allowed.Fetching k name im g found) = fetches k g.t g.out.there name (told_blob f im name)
   ranked_by who step reply image (allowed.Missing k name im g found) = l
-  ranked_by who step reply image (allowed.Listing k im t out same) = l
+  ranked_by who step reply image (allowed.Listing k from page im g shape here) = changes k g.t g.out.there (λ (t : Ticket). listing t page) (alike_listing g.t page)
   ranked_by who step reply image (allowed.Raising k n im r same) = raises k r.may
   ranked_by who step reply image (allowed.Settling k im s same) = settles_step k s
   ranked_by who step reply image (allowed.Doing k r im d same) = does k r im d
   ranked_by who step reply image (allowed.Failing k why im c same) = fails_step k c
   ranked_by who step reply image (allowed.Finishing k im c same) = changes k c.t c.out.there (λ (t : Ticket). record t { out = false }) (alike_ended c.t)
-  ranked_by who step reply image (allowed.Dropping k im c same) = drops_step k c
+  ranked_by who step reply image (allowed.Dropping k im c same) = drops_step k im c
   ranked_by who step reply image (allowed.Electing im room same) = elects
   ranked_by who step reply image (allowed.Looking im same) = l
   ranked_by who step reply image (allowed.AskingRestore name place rep im h same) = asks_restore name place rep im h
   ranked_by who step reply image (allowed.AskingClone source name names time taken rep im h same) = asks_clone source name names time taken rep im h
   ranked_by who step reply image (allowed.AskingDelete names rep im h same) = asks_delete names rep im h
+  ranked_by who step reply image (allowed.AskingCleanup rep im h same) = asks_cleanup rep im h
   ranked_by who step reply image (allowed.Reading k read rep im h same) = reads k read rep im h
   ranked_by who step reply image (allowed.Pruning k prune rep im h) = prunes k prune rep im h
   ranked_by who step reply image (allowed.Verifying read rep im h) = verifies read rep im h
@@ -351,11 +368,11 @@ module _ (f : Formats) (size : ℕ) (w : World) (q : Tracked w) (l : Ranked w) w
   ranked_by who step reply image (allowed.CommitFails k name im c leaves) = l
   ranked_by who step reply image (allowed.ReplaceFails k im c named puts) = tries k c.t c.out.there
   ranked_by who step reply image (allowed.FetchFails k name im g same) = l
-  ranked_by who step reply image (allowed.ListFails k im t out same) = l
+  ranked_by who step reply image (allowed.ListFails k from im g same) = l
   ranked_by who step reply image (allowed.AskFails name indices time im acc same) = ranks_falls w _ l l _ (blobs_in im w.blobs)
   ranked_by who step reply image (allowed.RaiseFails k im r same) = ranks_falls w _ l (raises k r.may) _ (blobs_in im w.blobs)
   ranked_by who step reply image (allowed.SettleFails k im s same) = ranks_falls w _ l (settles_step k s) _ (blobs_in im w.blobs)
-  ranked_by who step reply image (allowed.DropFails k im c same) = ranks_falls w _ l (drops_step k c) _ (blobs_in im w.blobs)
+  ranked_by who step reply image (allowed.DropFails k im c same) = ranks_falls w _ l (drops_step k im c) _ (blobs_in im w.blobs)
   ranked_by who step reply image (allowed.ElectFails im room same) = ranks_falls w _ l elects _ (blobs_in im w.blobs)
 
 pub ranked_step : (f : Formats) (size : ℕ) (w : World) (m : Moment) → Tracked w → Ranked w → Allowed f size w m → Ranked (after f w m)

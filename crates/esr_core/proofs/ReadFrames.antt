@@ -11,7 +11,7 @@ use Rattle.esr_core.specs.World.{World, Deletion, Restoring, Ticket, Swap}
 use Rattle.esr_core.specs.Steps.{PutsLatest}
 use Rattle.esr_core.specs.Queue.{Lists}
 use Rattle.esr_core.specs.Ids.{Law}
-use Rattle.esr_core.specs.Turns.{SettleDelete, Turn, Stays, Commits, CommitFails, Finds, Raises, Latests, Fetches, SettlesFinal, SettlesDelete, Elects, TakesShard, TakesFinal, TakesDrop, TakesDelete, TakesCleanup, AsksCleanup, CleanDrops, DrawsShard, DrawsPlan, Dones, Ending, Fails, FailsDelete, Drops, AsksCreate, AsksDelete, Merges, Removing, Deposes, Besides, Tests, TestTurn, DrawsTest, AddsTest, RemovesTests}
+use Rattle.esr_core.specs.Turns.{SettleDelete, Turn, Stays, Commits, CommitFails, Finds, Raises, Latests, Fetches, SettlesFinal, SettlesDelete, Elects, TakesShard, TakesFinal, TakesDrop, TakesDelete, TakesCleanup, AsksCleanup, CleanDrops, DrawsShard, DrawsPlan, Dones, Ending, Fails, FailsDelete, Drops, AsksCreate, AsksDelete, Merges, Removing, Pages, Deposes, Besides, Tests, TestTurn, DrawsTest, AddsTest, RemovesTests}
 use Rattle.esr_core.proofs.Adds.{at_kept}
 use Rattle.esr_core.proofs.LatestPut.{at_back}
 use Rattle.esr_core.proofs.DeletesHold.{none_both}
@@ -165,6 +165,7 @@ frame f w new shelf l (AsksDelete m uuids h) q =
 frame f w new shelf l (Merges m uuids n h) q =
     deleted f w m _ h.new_is refl refl (le w.next_op) (le w.next_ticket) refl
     (λ u is spared. with_one w.deletes n u (record h.x { uuids = h.x.uuids ++ h.more }) (none_both h.x.uuids h.more u (spared n h.x h.there) (ap (names_uuid h.more) (sym is.uuid_is) ∙ h.spares_restores is.o is.r is.there)) spared) refl
+frame f w new shelf l (Pages m k page h) q = still f w m _ h.new_is refl refl (le w.next_op) (le w.next_ticket) refl refl refl
 frame f w new shelf l (Removing m k names h) q = blobbed f w m _ h.new_is refl refl (le w.next_op) (le w.next_ticket) refl refl (λ name a b x y. some_same a b (sym x.0 ∙ h.removes.left (f.names.text name) b y.0))
 frame f w new shelf l (Tests m t) q = tested f w m t
 frame f w new shelf l (Deposes m v h e) q = absurd q

@@ -10,9 +10,9 @@ use Rattle.esr_model.specs.Names.{BlobName}
 use Rattle.esr_model.specs.Values.{RecordWork, ShardResult, Formats, Bytes}
 use Rattle.esr_model.specs.Image.{Image}
 use Rattle.esr_core.specs.World.{World, Op, Deletion, ShardWork, Done, Ticket, marked, work_by, work_of, deletion_work, record_ops, ledger_of, record_of}
-use Rattle.esr_core.specs.Steps.{with_ticket, given}
+use Rattle.esr_core.specs.Steps.{listing, with_ticket, given}
 use Rattle.esr_core.specs.Turns.{fails}
-use Rattle.esr_core.specs.Entry.{Given, GivenShard, GivenClone, GivenFinalize, GivenDrop, Step, AskStep, TakeStep, DrawStep, BeginStep, CommitStep, LatestStep, FetchStep, RaiseStep, SettleStep, DoneStep, FailedStep, FinishStep, DroppedStep, ElectStep, DepotFault, Reply, Gave, WasDone, WasThere, WasFetched, Refused, Moment, Snapshot, Restore, GivenRestore, ReadStep, AcceptedRestore, Read, DrawTest, CommitTest, DrawnFrom, Clone, DeleteSnapshots, Cleanup, GivenDelete, Prune, FetchShard, PlanShards, SettlePruned, RemoveDoomed, EndDelete, DeleteFails, PruneStep}
+use Rattle.esr_core.specs.Entry.{Given, GivenShard, GivenClone, GivenFinalize, GivenDrop, Step, AskStep, TakeStep, ListStep, WasListed, DrawStep, BeginStep, CommitStep, LatestStep, FetchStep, RaiseStep, SettleStep, DoneStep, FailedStep, FinishStep, DroppedStep, ElectStep, DepotFault, Reply, Gave, WasDone, WasThere, WasFetched, Refused, Moment, Snapshot, Restore, GivenRestore, ReadStep, AcceptedRestore, Read, DrawTest, CommitTest, DrawnFrom, Clone, DeleteSnapshots, Cleanup, GivenDelete, GivenCleanup, Prune, FetchShard, PlanShards, SettlePruned, RemoveDoomed, EndDelete, DeleteFails, PruneStep}
 use Rattle.esr_core.specs.After.{or_else, taken_shard, taken_by, shard_of, with_given, committing, told_blob, fetching, done_by, done_of, is_stale, failed_by, failed_of, done_step, swaps_record, is_latest, faulted, answered, after, read_by, test_left, delete_failed_by, delete_failed, prune_step}
 use Rattle.esr_core.proofs.Besides.{Aside, aside_taken, aside_step}
 use Rattle.esr_core.proofs.Maps.{split, get_same, get_other}
@@ -123,7 +123,7 @@ keeps_taken f w o (GivenFinalize info results) None there = keeps_same w
 keeps_taken f w o GivenDrop op there = record { ledger = refl; deletes = λ q. refl; ops = λ q. refl }
 keeps_taken f w o (GivenRestore index number uuid) op there = keeps_aside w _ (aside_taken w o index number (fin.get w.restores o))
 keeps_taken f w o (GivenDelete uuids) op there = record { ledger = refl; deletes = λ q. refl; ops = λ q. refl }
-keeps_taken f w o unit op there = keeps_same w
+keeps_taken f w o GivenCleanup op there = record { ledger = refl; deletes = λ q. refl; ops = λ q. refl }
 
 keeps_done_by : (w : World) (k : ℕ) (r : ShardResult) (t : Ticket) (op : Option Op) → fin.get w.ops t.op ≡ op → Keeps w (done_by w k r t op)
 keeps_done_by w k r t None there = keeps_same w
@@ -187,6 +187,7 @@ keeps_step : (f : Formats) (w : World) (k : ℕ) (step : Step) (reply : Reply) (
 keeps_step f w k (AskStep (Snapshot name indices moment)) reply image e = absurd (swaps e)
 keeps_step f w k (AskStep (Clone source name indices moment taken)) reply image e = absurd (swaps e)
 keeps_step f w k (AskStep (DeleteSnapshots names)) reply image e = absurd (swaps e)
+keeps_step f w k (AskStep Cleanup) reply image e = absurd (swaps e)
 keeps_step f w k (AskStep (Restore name place)) (AcceptedRestore o uuid indices) image e = record { ledger = refl; deletes = λ q. refl; ops = λ q. refl }
 keeps_step f w k (ReadStep read) reply image e = keeps_read f w k read reply image
 keeps_step f w k (PruneStep prune) reply image e = keeps_prune f w k prune reply image e
@@ -195,6 +196,7 @@ keeps_step f w k SettleStep reply image e = absurd (swaps e)
 keeps_step f w k DroppedStep reply image e = absurd (swaps e)
 keeps_step f w k ElectStep reply image e = absurd (swaps e)
 keeps_step f w k TakeStep (Gave ticket op unit) image e = keeps_taken f w op unit (fin.get w.ops op) refl
+keeps_step f w k (ListStep from) (WasListed page) image e = keeps_change w k (λ t. listing t page) (fin.get w.tickets k)
 keeps_step f w k (DrawStep n) reply image e = keeps_drawn w k n (λ t. record t { first = w.next_id; drawn = n }) (fin.get w.tickets k)
 keeps_step f w k (CommitStep name) WasDone image e = keeps_change w k (committing name (told_blob f image name)) (fin.get w.tickets k)
 keeps_step f w k (CommitStep name) WasThere image e = keeps_change w k (λ t. record t { noted = name ∷ t.noted }) (fin.get w.tickets k)

@@ -8,13 +8,13 @@ use Rattle.esr_model.specs.Image.{Image}
 use Rattle.esr_core.specs.World.{World, Op, ShardWork, ReadState, RestoreShard, Restoring, Reader, Ticket, Swap, swap, Deletion}
 use Rattle.esr_core.specs.Restores.{restore_shard}
 use Rattle.esr_core.specs.Steps.{with_ticket}
-use Rattle.esr_core.specs.Entry.{CloneOf, Asked, Snapshot, Clone, DeleteSnapshots, Restore, Given, GivenShard, GivenClone, GivenFinalize, GivenDrop, GivenRestore, Read, ReadBlob, RestoredShard, DrawTest, CommitTest, ReadFails, Step, AskStep, TakeStep, DrawStep, BeginStep, CommitStep, LatestStep, FetchStep, RaiseStep, SettleStep, DoneStep, FailedStep, FinishStep, DroppedStep, ElectStep, ReadStep, Refusal, DepotFault, Reply, Gave, DrawnFrom, WasDone, WasThere, WasFetched, HasEnded, Refused, AcceptedRestore, Moment, Prune, FetchShard, PlanShards, SettlePruned, RemoveDoomed, EndDelete, DeleteFails, PruneStep}
+use Rattle.esr_core.specs.Entry.{CloneOf, Asked, Snapshot, Clone, DeleteSnapshots, Restore, Cleanup, Given, GivenShard, GivenClone, GivenFinalize, GivenDrop, GivenRestore, Read, ReadBlob, RestoredShard, DrawTest, CommitTest, ReadFails, Step, AskStep, TakeStep, ListStep, WasListed, DrawStep, BeginStep, CommitStep, LatestStep, FetchStep, RaiseStep, SettleStep, DoneStep, FailedStep, FinishStep, DroppedStep, ElectStep, ReadStep, Refusal, DepotFault, Reply, Gave, DrawnFrom, WasDone, WasThere, WasFetched, HasEnded, Refused, AcceptedRestore, Moment, Prune, FetchShard, PlanShards, SettlePruned, RemoveDoomed, EndDelete, DeleteFails, PruneStep}
 use Rattle.esr_core.specs.After.{asked, shard_of, taken_shard, taken_restore_shard, taken_restore, taken_by, with_given, change, told_blob, settled_by, settled_of, done_by, done_of, is_stale, failed_by, failed_of, dropped_of, read_told, shard_over, read_over, read_step, read_by, done_step, swaps_record, fallen, is_latest, tried, test_left, faulted, answered, after, delete_settled_by, delete_settled, delete_failed_by, delete_failed, prune_step}
 use Rattle.esr_core.specs.Pruning.{planned}
 use Rattle.esr_core.specs.Allowed as allowed
-use Rattle.esr_core.specs.Allowed.{RestoreAllows, CloneAllows, DeleteAllows, ReadAllows, VerifyAllows, PruneAllows, Allows, Blocks, Allowed}
+use Rattle.esr_core.specs.Allowed.{RestoreAllows, CloneAllows, DeleteAllows, CleanupAllows, ReadAllows, VerifyAllows, PruneAllows, Allows, Blocks, Allowed}
 use Rattle.esr_core.specs.History.{world_from}
-use Rattle.esr_core.specs.Refusing.{MayRefuse, InCleanup, InUse, InFull, NoIdForAsk, AskFault, CloneInUse, NoSource, SourceInDelete, NoSuchIndex, CloneInFull, NoIdForClone, AskCloneFault, NotNamed, CloneStands, RestoreStands, FullOfOps, AskDeleteFault, NotListed, NamedByDelete, FullOfRestores, NoIds, BeginFault, CommitFault, CommitTaken, LatestFault, FetchFault, ListFault, RaiseFault, RaiseStale, RaiseSpent, SettleFault, SettleStale, DropFault, DropStale, ElectFault, NoTerms, ReadFault, NoTestId, BeginTestFault, CommitTestFault, TestTaken, RemoveFault, RefusedSo, SwapFailed, FetchShardFault, NoPlanIds, SettleDeleteFault, SettleDeleteStale, RemoveDoomedFault}
+use Rattle.esr_core.specs.Refusing.{MayRefuse, InCleanup, InUse, InFull, NoIdForAsk, AskFault, CloneInUse, NoSource, SourceInDelete, NoSuchIndex, CloneInFull, NoIdForClone, AskCloneFault, NotNamed, CloneStands, RestoreStands, FullOfOps, AskDeleteFault, OpStands, TicketStands, AskCleanupFault, NotListed, NamedByDelete, FullOfRestores, NoIds, BeginFault, CommitFault, CommitTaken, LatestFault, FetchFault, ListFault, RaiseFault, RaiseStale, RaiseSpent, SettleFault, SettleStale, DropFault, DropStale, ElectFault, NoTerms, ReadFault, NoTestId, BeginTestFault, CommitTestFault, TestTaken, RemoveFault, RefusedSo, SwapFailed, FetchShardFault, NoPlanIds, SettleDeleteFault, SettleDeleteStale, RemoveDoomedFault}
 use Rattle.esr_core.proofs.AskedDeletes.{delete_leaves}
 
 -- ---- refusals
@@ -41,6 +41,11 @@ module _ (f : Formats) (size : ℕ) (w : World) where
   delete_refused names refusal (allowed.FullOfOps may new full) = FullOfOps names
   delete_refused names refusal (allowed.DeleteFault acc) = AskDeleteFault names
 
+  cleanup_refused : (refusal : Refusal) → CleanupAllows w (Refused refusal) → MayRefuse (AskStep Cleanup) refusal
+  cleanup_refused refusal (allowed.OpStands o clear lowest) = OpStands o
+  cleanup_refused refusal (allowed.TicketStands k none lowest) = TicketStands k
+  cleanup_refused refusal (allowed.CleanupFault acc) = AskCleanupFault
+
   read_refused : (k : ℕ) (read : Read) (refusal : Refusal) (image : Option Image) → ReadAllows f w k read (Refused refusal) image → MayRefuse (ReadStep read) refusal
   read_refused k read refusal image (allowed.ReadFault j name im stored by) = ReadFault name
 
@@ -62,6 +67,7 @@ module _ (f : Formats) (size : ℕ) (w : World) where
   refused_by who step refusal image (allowed.AskingRestore name place rep im h same) = restore_refused name place refusal image h
   refused_by who step refusal image (allowed.AskingClone source name names moment taken rep im h same) = clone_refused source name names moment taken refusal image h
   refused_by who step refusal image (allowed.AskingDelete names rep im h same) = delete_refused names refusal h
+  refused_by who step refusal image (allowed.AskingCleanup rep im h same) = cleanup_refused refusal h
   refused_by who step refusal image (allowed.Verifying read rep im h) = verify_refused read refusal image h
   refused_by who step refusal image (allowed.Pruning k prune rep im h) = prune_refused k prune refusal image h
   refused_by who step refusal image (allowed.Reading k read rep im h same) = read_refused k read refusal image h
@@ -81,7 +87,7 @@ module _ (f : Formats) (size : ℕ) (w : World) where
   refused_by who step refusal image (allowed.CommitFails k name im c leaves) = CommitFault name
   refused_by who step refusal image (allowed.ReplaceFails k im p back leaves) = LatestFault
   refused_by who step refusal image (allowed.FetchFails k name im g same) = FetchFault name
-  refused_by who step refusal image (allowed.ListFails k im t out same) = ListFault
+  refused_by who step refusal image (allowed.ListFails k from im g same) = ListFault from
   refused_by who step refusal image (allowed.AskFails name indices moment im acc same) = AskFault name indices moment
   refused_by who step refusal image (allowed.RaiseFails k im r same) = RaiseFault
   refused_by who step refusal image (allowed.SettleFails k im s same) = SettleFault
@@ -229,6 +235,7 @@ module _ (f : Formats) (w : World) where
   step_mark k (AskStep (DeleteSnapshots names)) reply image = ap (λ (x : World). x.deposed) (delete_leaves w names)
   step_mark k (AskStep command) reply image = refl
   step_mark k TakeStep (Gave ticket op unit) image = taken_mark op unit (fin.get w.ops op)
+  step_mark k (ListStep from) (WasListed page) image = change_mark k _
   step_mark k (DrawStep n) reply image = change_mark k (λ t. record t { first = w.next_id; drawn = n })
   step_mark k (CommitStep name) WasDone image = change_mark k _
   step_mark k (CommitStep name) WasThere image = change_mark k _

@@ -31,7 +31,7 @@ module _ (f : Formats) (w : World) (shelf : List Shelved) (names : List BlobName
   }
 
   ticket : (u : Ticket) → TicketLaw f (HeldIn f w) w.doomed (ledger_of w) shelf u → TicketLaw f now w.doomed (ledger_of w) shelf u
-  ticket u t = record { term = t.term; raised = t.raised; last = t.last; shape = t.shape; clean = t.clean; clean_root = t.clean_root; swaps = λ s i c. swap_law u.noted s (t.swaps s i c) }
+  ticket u t = record { term = t.term; raised = t.raised; last = t.last; shape = t.shape; clean = t.clean; clean_root = t.clean_root; listed = t.listed; swaps = λ s i c. swap_law u.noted s (t.swaps s i c) }
 
   pub removed : Sound f (record w { blobs = now_blobs }) shelf
   removed =

@@ -44,6 +44,7 @@ settles f w shelf k n t s l may present =
             last = λ x i. absurd (true≢false i.unsettled);
             swaps = λ x i. absurd (true≢false i.unsettled);
             clean = λ x i. absurd (true≢false i.unsettled);
+            listed = was.listed;
             clean_root = λ m e le. absurd (let h : m < w.pending = was.raised m e in omega (arith, last.0));
           })
           (λ j u apart e. let old = l.tickets j u e in record {
@@ -53,6 +54,7 @@ settles f w shelf k n t s l may present =
             last = λ x i p m q. absurd (gone j u apart e x i (inl p));
             swaps = λ x i c. absurd (gone j u apart e x i c);
             clean = λ x i c. absurd (gone j u apart e x i c);
+            listed = old.listed;
             clean_root = λ m e le. absurd (let h : m < w.pending = old.raised m e in omega (arith, last.0));
           });
       single = λ i j a b. l.single i j (swapping_was f w.tickets w.term k t _ may.out.there (λ x h e. absurd (true≢false h.unsettled)) i a) (swapping_was f w.tickets w.term k t _ may.out.there (λ x h e. absurd (true≢false h.unsettled)) j b);

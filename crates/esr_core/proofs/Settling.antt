@@ -221,7 +221,7 @@ module _ (f : Formats) (w : World) (shelf : List Shelved) (l : Lawful f w shelf)
   old_root m q = elim (d.reach (Root m) q) [
     | inl r ↦ absurd (no_root r refl)
     | inr (inl h) ↦ let x : w.safe ≡ suc h.0 = h.2 in let y : w.safe ≤ w.pending = l.sound.rooted.kept.ordered in let z : h.0 ≡ m = root_same h.1 in omega arith
-    | inr (inr h) ↦ l.sound.rooted.kept.begun m h.1
+    | inr (inr h) ↦ h.1.begun m refl
   ]
     where
       root_same : {a b : ℕ} → Root a ≡ Root b → b ≡ a

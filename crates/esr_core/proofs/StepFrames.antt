@@ -95,7 +95,7 @@ module _ (f : Formats) (w : World) (who : ℕ) (step : Step) where
   frame new (NewTicket take t fresh ops same) = quiet new (kept_new w who t fresh) (others_same w who w.readers) refl refl refl (le w.next_op) (up w.next_ticket) (le w.pending) (λ name h. h)
   frame new (NewReader take o r s there) = quiet new (kept_same w who) (others_new w who w.readers _) refl refl refl (le w.next_op) (up w.next_ticket) (le w.pending) (λ name h. h)
   frame new (OwnTicket t v there unit settled next_id pending id_above above) = put t v there unit new refl refl refl refl refl (le w.next_op) (le w.next_ticket) above refl
-  frame new (Settlement e t s n names there is raised) =
+  frame new (Settlement e t s n names deletes there is raised left) =
       let tickets = kept_put w who t (record t { settled = true }) there (settled_unit t) in
       record {
         others = tickets.others;
@@ -143,7 +143,7 @@ module _ (f : Formats) (w : World) (who : ℕ) (step : Step) where
   change_caller new (NewTicket take t fresh ops same) = refl
   change_caller new (NewReader take o r s there) = refl
   change_caller new (OwnTicket t v there unit settled next_id pending id_above above) = refl
-  change_caller new (Settlement e t s n names there is raised) = refl
+  change_caller new (Settlement e t s n names deletes there is raised left) = refl
   change_caller new (UnitEnd t op v completed there found same) = refl
   change_caller new (DeletionFailure t x there found) = refl
   change_caller new (OpDrop e t there) = refl

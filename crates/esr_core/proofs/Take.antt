@@ -137,6 +137,7 @@ module _ (f : Formats) (w : World) (shelf : List Shelved) (o : ℕ) (op : Op) (r
         last = λ s i p n e. absurd (cc);
         clean = λ s i c name b own. d.clean name b (subst (λ (x : Swap). Has x.own (name, b)) (sym (some_same _ _ i.is)) own);
         clean_root = λ n e le. absurd (cc);
+        listed = λ n m. absurd m;
         shape = λ s e. subst (SwapShape f) (some_same _ _ e) (metadata_shape f (info_of op results) (c.ops o op d.op_there).one_id its.root (made_of f op) d.root_back);
         swaps = λ s i counts. subst (SwapLaw f (HeldIn f w) shelf []) (some_same _ _ i.is) (record { staged = staged; noted = λ name b m h. absurd h; root_noted = λ n h. absurd h });
       }

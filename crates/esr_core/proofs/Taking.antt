@@ -1,15 +1,16 @@
 -- What take gives: a ready unit keeps the law.
-use Rattle.std.proofs.Common.{◌≡◌, ◌≢◌, ◌⊎◌, ℕ, suc, ◌<◌, ◌≤◌, List, true, true≢false, Option, Some, None, map, refl, sym, ap, ◌∙◌, subst, inl, inr, arith, le_refl, nat_cmp}
+use Rattle.std.proofs.Common.{◌≡◌, ◌≢◌, ◌⊎◌, ℕ, suc, ◌<◌, ◌≤◌, List, [], true, true≢false, Option, Some, None, map, refl, sym, ap, ◌∙◌, subst, inl, inr, arith, le_refl, nat_cmp}
 use Rattle.std.specs.FinMap.{FinMap}
 use Rattle.std.specs.FinMap as fin
-use Rattle.esr_model.specs.Names.{BlobName}
+use Rattle.esr_model.specs.Names.{BlobName, Root}
+use Rattle.esr_model.specs.Cleanup.{BlobSize, names_listed}
 use Rattle.esr_model.specs.Values.{Bytes, RootData, SnapInfo, ShardResult, Formats}
 use Rattle.esr_model.specs.Shelf.{Shelved, Command}
 use Rattle.esr_model.specs.Image.{Has}
 use Rattle.esr_core.specs.World.{World, Op, Deletion, ShardWork, Pending, Out, Done, Work, Shard, Finalize, Deleting, Drop, Ticket, Swap, swap, swap_of, AllDone, ledger_of, HeldIn, metadata, info_of}
 use Rattle.esr_core.specs.Ready.{Goes, Waits, Barrier, IsMaster}
 use Rattle.esr_core.specs.Steps.{TakeShard, TakeFinalize, given, shard_ticket, final_ticket}
-use Rattle.esr_core.specs.Turns.{TakeReadyShard, TakeReadyFinal, TakeDrop, TakeDelete, TakeCleanup, plain_ticket}
+use Rattle.esr_core.specs.Turns.{TakeReadyShard, TakeReadyFinal, TakeDrop, TakeDelete, TakeCleanup, plain_ticket, cleaning_ticket}
 use Rattle.esr_core.specs.Swaps.{Rooted, TicketLaw, IsSwapping}
 use Rattle.esr_core.specs.Generations.{Carried}
 use Rattle.esr_core.specs.Queue.{Queue, QueueIn, Lawful}
@@ -28,7 +29,7 @@ fresh_new tickets next v fresh j u e = elim (was_in tickets next v j u e) [
 ]
 
 -- a ticket that has no swap yet
-module _ (f : Formats) (w : World) (shelf : List Shelved) (l : Rooted f w shelf) (v : Ticket) (none : swap f v ≡ None) (unraised : v.raised ≡ None) (present : v.term ≡ w.term) where
+module _ (f : Formats) (w : World) (shelf : List Shelved) (l : Rooted f w shelf) (v : Ticket) (none : swap f v ≡ None) (unraised : v.raised ≡ None) (unlisted : v.listed ≡ []) (present : v.term ≡ w.term) where
   no_swap : (s : Swap) → swap f v ≡ Some s → ⊥
   no_swap s e = none_some s (sym none ∙ e)
 
@@ -42,6 +43,7 @@ module _ (f : Formats) (w : World) (shelf : List Shelved) (l : Rooted f w shelf)
         swaps = λ s i. absurd (no_swap s i.is);
         clean = λ s i. absurd (no_swap s i.is);
         clean_root = λ n e. absurd (none_some n (sym unraised ∙ e));
+        listed = λ n m. absurd (subst (λ (xs : List BlobSize). Has (names_listed f xs) (Root n)) unlisted m);
       }
 
   was_swapping : (j : ℕ) → IsSwapping f (fin.insert w.tickets w.next_ticket v) w.term j → IsSwapping f w.tickets w.term j
@@ -116,7 +118,7 @@ module _ (f : Formats) (w : World) (shelf : List Shelved) (l : Lawful f w shelf)
   pub drop_lawful : (o : ℕ) (new : World) → TakeDrop w o new → Lawful f new shelf
   drop_lawful o new d = subst (λ x. Lawful f x shelf) (sym d.new_is) (record {
     sound = record {
-      rooted = rooted_new f w shelf l.sound.rooted (drop_ticket o) refl refl refl w.ops;
+      rooted = rooted_new f w shelf l.sound.rooted (drop_ticket o) refl refl refl refl w.ops;
       carried = carried_plain f w l.sound.carried l.sound.fresh (drop_ticket o) (λ i n e. cc) (λ a b c e. cc) (λ us s e. cc);
       fresh = fresh_new w.tickets w.next_ticket (drop_ticket o) l.sound.fresh;
     };
@@ -135,12 +137,12 @@ module _ (f : Formats) (w : World) (shelf : List Shelved) (l : Lawful f w shelf)
   pub delete_lawful : (d : ℕ) (x : Deletion) (new : World) → TakeDelete w d x new → Lawful f new shelf
   delete_lawful d x new h = subst (λ x. Lawful f x shelf) (sym h.new_is) (record {
     sound = record {
-      rooted = rooted_new f w shelf l.sound.rooted (deleting_ticket d x) refl refl refl w.ops;
+      rooted = rooted_new f w shelf l.sound.rooted (deleting_ticket d x) refl refl refl refl w.ops;
       carried = carried_plain f w l.sound.carried l.sound.fresh (deleting_ticket d x) (λ i n e. cc) (λ a b c e. cc) (λ us s e. none_some s (unplanned e));
       fresh = fresh_new w.tickets w.next_ticket (deleting_ticket d x) l.sound.fresh;
     };
     queue = queue_new w.term w.tickets w.next_ticket (deleting_ticket d x) w.root w.ops w.deletes w.completed w.next_op
-        (λ uuids plan e. record { deletion = x; there = h.ready.there; unfailed = h.ready.unfailed; first = h.ready.first; root_is = refl; planned = λ s is. absurd (none_some s (unplanned e ∙ is)); named = λ us p z. sym (uuids_same z); keeps = λ s is. absurd (none_some s (unplanned e ∙ is)) })
+        (λ uuids plan e. record { deletion = x; there = h.ready.there; unfailed = h.ready.unfailed; first = h.ready.first; root_is = refl; planned = λ s is. absurd (none_some s (unplanned e ∙ is)); named = λ c us p z. sym (uuids_same z); keeps = λ s is. absurd (none_some s (unplanned e ∙ is)) })
         (λ e. absurd (differ e)) (λ m. h.ready.no_swap)
         (λ j u e out pres is same. elim (l.queue.drops j u e out pres is).stopped [
           | inl y ↦ l.queue.apart d y.0 x (ap (fin.get w.ops) (sym same) ∙ y.1) h.ready.there
@@ -165,12 +167,12 @@ module _ (f : Formats) (w : World) (shelf : List Shelved) (l : Lawful f w shelf)
   pub cleanup_lawful : (d : ℕ) (x : Deletion) (new : World) → TakeCleanup w d x new → Lawful f new shelf
   cleanup_lawful d x new h = subst (λ x. Lawful f x shelf) (sym h.new_is) (record {
     sound = record {
-      rooted = rooted_new f w shelf l.sound.rooted (deleting_ticket d x) refl refl refl w.ops;
-      carried = carried_plain f w l.sound.carried l.sound.fresh (deleting_ticket d x) (λ i n e. cc) (λ a b c e. cc) (λ us s e. none_some s (unplanned e));
-      fresh = fresh_new w.tickets w.next_ticket (deleting_ticket d x) l.sound.fresh;
+      rooted = rooted_new f w shelf l.sound.rooted (cleaning_ticket w d) refl refl refl refl w.ops;
+      carried = carried_plain f w l.sound.carried l.sound.fresh (cleaning_ticket w d) (λ i n e. cc) (λ a b c e. cc) (λ us s e. none_some s (unplanned e));
+      fresh = fresh_new w.tickets w.next_ticket (cleaning_ticket w d) l.sound.fresh;
     };
-    queue = queue_new w.term w.tickets w.next_ticket (deleting_ticket d x) w.root w.ops w.deletes w.completed w.next_op
-        (λ uuids plan e. record { deletion = x; there = h.ready.there; unfailed = h.ready.unfailed; first = λ p q lt e. h.ready.no_op p q e; root_is = refl; planned = λ s is. absurd (none_some s (unplanned e ∙ is)); named = λ us p z. sym (uuids_same z); keeps = λ s is. absurd (none_some s (unplanned e ∙ is)) })
+    queue = queue_new w.term w.tickets w.next_ticket (cleaning_ticket w d) w.root w.ops w.deletes w.completed w.next_op
+        (λ uuids plan e. record { deletion = x; there = h.ready.there; unfailed = h.ready.unfailed; first = λ p q lt e. h.ready.no_op p q e; root_is = refl; planned = λ s is. absurd (none_some s (unplanned e ∙ is)); named = λ c. absurd (true≢false c); keeps = λ s is. absurd (none_some s (unplanned e ∙ is)) })
         (λ e. absurd (differ e)) (λ m j a. h.ready.no_ticket j a.t a.there a.out)
         (λ j u e out pres is same. elim (l.queue.drops j u e out pres is).stopped [
           | inl y ↦ l.queue.apart d y.0 x (ap (fin.get w.ops) (sym same) ∙ y.1) h.ready.there
@@ -181,13 +183,10 @@ module _ (f : Formats) (w : World) (shelf : List Shelved) (l : Lawful f w shelf)
         l.queue;
   })
     where
-      uuids_same : {us : List ℕ} {p : Option Swap} → Deleting x.uuids None ≡ Deleting us p → x.uuids ≡ us
-      uuids_same e = cc
-
-      differ : Deleting x.uuids None ≡ Drop → ⊥
+      differ : Deleting [] None ≡ Drop → ⊥
       differ e = cc
 
-      unplanned : {uuids : List ℕ} {plan : Option Swap} → Deleting x.uuids None ≡ Deleting uuids plan → None ≡ plan
+      unplanned : {uuids : List ℕ} {plan : Option Swap} → Deleting [] None ≡ Deleting uuids plan → None ≡ plan
       unplanned e = cc
 
   pub final_lawful : (o : ℕ) (op : Op) (results : List ShardResult) (new : World) → TakeReadyFinal f w o op results new → ((name : BlobName) (b : Bytes) → Has (metadata f (info_of op results)) (name, b) → Has w.doomed name → ⊥) → Lawful f new shelf
@@ -339,7 +338,7 @@ module _ (f : Formats) (w : World) (shelf : List Shelved) (l : Lawful f w shelf)
   pub shard_lawful : Lawful f new shelf
   shard_lawful = subst (λ x. Lawful f x shelf) (sym d.new_is) (record {
     sound = record {
-      rooted = rooted_new f w shelf l.sound.rooted v refl refl refl now_ops;
+      rooted = rooted_new f w shelf l.sound.rooted v refl refl refl refl now_ops;
       carried = taken_shard f w o op s base new it l.sound.carried l.sound.fresh;
       fresh = fresh_new w.tickets w.next_ticket v l.sound.fresh;
     };

@@ -113,6 +113,7 @@ module _ (f : Formats) (w : World) (shelf : List Shelved) (l : Law f w shelf) (n
         last = t.last;
         shape = t.shape;
         clean = λ s i c m b own d. elim d [ inl e ↦ (t.shape s i.is).no_test a.id m b own (subst (IsTestOf a.id) e a.test) | inr was ↦ t.clean s i c m b own was ];
+        listed = t.listed;
         clean_root = λ n r above d. elim d [ inl e ↦ no_root n e | inr was ↦ t.clean_root n r above was ];
         swaps = λ s i c. swap_law u.noted s (t.swaps s i c);
       }

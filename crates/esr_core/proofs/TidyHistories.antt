@@ -1,5 +1,5 @@
 -- Over a legal history from a tidy image the world stays tidy, and so do the images; so each delete dooms exactly what it leaves behind.
-use Rattle.std.proofs.Common.{◌≡◌, ℕ, zero, suc, ◌<◌, true, true≢false, List, [], ◌∷◌, ◌++◌, Option, Some, None, refl, sym, ap, ◌∙◌, subst, inl, inr, arith}
+use Rattle.std.proofs.Common.{◌≡◌, ℕ, zero, suc, ◌<◌, true, false, true≢false, List, [], ◌∷◌, ◌++◌, Option, Some, None, refl, sym, ap, ◌∙◌, subst, inl, inr, arith}
 use Rattle.std.specs.FinMap as fin
 use Rattle.esr_model.specs.Names.{BlobName, Root}
 use Rattle.esr_model.specs.Values.{Bytes, RootData, SnapInfo, ClusterRecord, ShardResult, ReadsBack, Formats}
@@ -17,7 +17,7 @@ use Rattle.esr_core.specs.Allowed as allowed
 use Rattle.esr_core.specs.Allowed.{Settles, SettlesDeletion, PruneAllows, Allows, Allowed}
 use Rattle.esr_core.specs.History.{world_from, IsLegal, TellsHandedOut, AreTold, AreHonest, committed, counts}
 use Rattle.esr_core.specs.Left.{cut_off, Leaves}
-use Rattle.esr_core.specs.Tidy.{TidyRoot, TidyIn, AreDeletes, TidyImage, DoomsExactly}
+use Rattle.esr_core.specs.Tidy.{TidyRoot, TidyIn, TidyImage, DoomsExactly}
 use Rattle.esr_core.proofs.Reading.{some_same, none_some, reads_one, held_one}
 use Rattle.esr_core.proofs.Grows.{root_is_kept}
 use Rattle.esr_core.proofs.Opening.{nothing}
@@ -32,58 +32,10 @@ use Rattle.esr_core.proofs.PruneTurns.{was_reached, is_left}
 use Rattle.esr_core.proofs.DoomsAll.{dooms_all, dooms_root}
 use Rattle.esr_core.proofs.TidyTurns.{listed_kept, root_less, turn_tidy}
 
--- ---- a step that raises the safe root settles no cleanup
-
-final_delete : (info : SnapInfo) (results : List ShardResult) (made : Command) (uuids : List ℕ) (plan : Option Swap) → Finalize info results made ≡ Deleting uuids plan → ⊥
-final_delete info results made uuids plan e = cc
-
-same_plan : (us vs : List ℕ) (p q : Swap) → Deleting us (Some p) ≡ Deleting vs (Some q) → (us ≡ vs) × (p ≡ q)
-same_plan us vs p q e = (cc, cc)
-
 module _ (f : Formats) (w : World) (shelf : List Shelved) (l : Law f w shelf) where
-  -- the ticket that settles is the one that can
-  one_settles : (k n : ℕ) (t : Ticket) (s : Swap) → MaySettle f w k n t s → t.term ≡ w.term → ((uuids : List ℕ) (x : Swap) → t.work ≡ Deleting uuids (Some x) → x.commands ≡ Delete uuids ∷ []) → AreDeletes w
-  one_settles k n t s may present told = λ j u uuids x there out uns pres work.
-      let one : j ≡ k = l.lawful.queue.one_swap j k (record { t = u; there = there; out = out; unsettled = uns; present = pres; swaps = subst IsMaster (sym work) tt })
-      (record { t = t; there = may.out.there; out = may.out.out; unsettled = may.unsettled; present = present; swaps = swap_master f t.work t.root s may.is }) in
-      let same : t ≡ u = some_same t u (sym may.out.there ∙ ap (fin.get w.tickets) (sym one) ∙ there) in
-      told uuids x (ap (λ (y : Ticket). y.work) same ∙ work)
-
-  final_settles : (k : ℕ) → Settles f w k → AreDeletes w
-  final_settles k s = one_settles k s.n s.t s.s s.may s.present (λ uuids x work. absurd (final_delete s.info s.results s.made uuids (Some x) (sym s.work ∙ work)))
-
-  delete_settles : (k : ℕ) (s : SettlesDeletion f w k) → s.t.term ≡ w.term → AreDeletes w
-  delete_settles k s present = one_settles k s.n s.t s.s s.may present (λ uuids x work.
-      let same = same_plan s.uuids uuids s.s x (sym s.deleting.work ∙ work) in
-      ap (λ (y : Swap). y.commands) (sym same.1) ∙ s.commands ∙ ap (λ (us : List ℕ). Delete us ∷ []) same.0)
-
-  by_settle : (size who : ℕ) (reply : Reply) (image : Option Image) → Allows f size w who SettleStep reply image → w.safe < (after f w (moment who SettleStep reply image)).safe → AreDeletes w
-  by_settle size who reply image (allowed.Settling k im s same) rises = final_settles k s
-  by_settle size who reply image (allowed.SettleStale k n t s im may apart same) rises = let b : w.safe < w.safe = rises in absurd (omega (arith, b))
-  by_settle size who reply image (allowed.SettleFails k im s same) rises = final_settles k s
-
-  by_prune : (who : ℕ) (reply : Reply) (image : Option Image) → PruneAllows f w who SettlePruned reply image → w.safe < (after f w (moment who (PruneStep SettlePruned) reply image)).safe → AreDeletes w
-  by_prune who reply image (allowed.SettlingDelete k im s present same) rises = delete_settles k s present
-  by_prune who reply image (allowed.SettleDeleteStale k im s apart same) rises = let b : w.safe < w.safe = rises in absurd (omega (arith, b))
-  by_prune who reply image (allowed.SettleDeleteFails k im s present same) rises = delete_settles k s present
-
-  are_deletes : (size : ℕ) (m : Moment) → Allowed f size w m → w.safe < (after f w m).safe → AreDeletes w
-  are_deletes size m a rises = elim a.answered [
-    | inl alive ↦ elim (which m.entry.step) [
-      | inl e ↦
-          by_settle size m.entry.who m.entry.reply m.image (subst (λ x. Allows f size w m.entry.who x m.entry.reply m.image) e alive.1)
-          (subst (λ x. w.safe < (after f w (moment m.entry.who x m.entry.reply m.image)).safe) e rises)
-      | inr (inl e) ↦
-          by_prune m.entry.who m.entry.reply m.image (allows_pruned (subst (λ x. Allows f size w m.entry.who x m.entry.reply m.image) e alive.1))
-          (subst (λ x. w.safe < (after f w (moment m.entry.who x m.entry.reply m.image)).safe) e rises)
-      | inr (inr e) ↦ let same : (after f w m).safe ≡ w.safe = by_record f w m (swaps_record m.entry.step) refl e in absurd (omega (arith, same, rises))
-    ]
-    | inr dead ↦ let same : (after f w m).safe ≡ w.safe = ap (λ (x : World). x.safe) (blocked_stays f w m dead) in absurd (omega (arith, same, rises))
-  ]
-
   step_tidy : (size : ℕ) → TidyIn f w → (m : Moment) → Allowed f size w m → Stepped f w shelf m (after f w m) → TidyIn f (after f w m)
   step_tidy size tidy m a s = elim s.made [
-    | inl h ↦ turn_tidy f w (after f w m) shelf l (are_deletes size m a) tidy h.1.0
+    | inl h ↦ turn_tidy f w (after f w m) shelf l tidy h.1.0
     | inr h ↦ subst (TidyIn f) (sym h.0) tidy
   ]
 
@@ -146,22 +98,22 @@ left_tidy_image f size (m ∷ log) w shelf i known l tidy back legal told honest
 
 -- ---- deletes
 
-exact : (f : Formats) (w : World) (shelf : List Shelved) (k : ℕ) (s : SettlesDeletion f w k) → Law f w shelf → s.t.term ≡ w.term → TidyRoot f (HeldIn f w) w.root → DoomsExactly f w k s
-exact f w shelf k s l present tidy = record {
+exact : (f : Formats) (w : World) (shelf : List Shelved) (k : ℕ) (s : SettlesDeletion f w k) → Law f w shelf → s.t.term ≡ w.term → s.t.clean ≡ false → TidyRoot f (HeldIn f w) w.root → DoomsExactly f w k s
+exact f w shelf k s l present deletes tidy = record {
   all = λ name of_safe unreached. elim of_safe [
-    | inl reached ↦ dooms_all f w shelf l k s present tidy name reached unreached
-    | inr h ↦ subst (Has (dooms f s.t)) (sym h.1) (dooms_root f w shelf l k s present h.0 h.2)
+    | inl reached ↦ dooms_all f w shelf l k s present deletes tidy name reached unreached
+    | inr h ↦ subst (Has (dooms f s.t)) (sym h.1) (dooms_root f w shelf l k s present deletes h.0 h.2)
   ];
-  was = was_reached f w shelf l k s present;
+  was = was_reached f w shelf l k s present deletes;
   left = is_left f w shelf l k s present;
 }
 
 pub exact_over : (f : Formats) (size : ℕ) (image : Image) (shelf : List Shelved) (w : World) (log : List Moment) (k : ℕ) → TellsHandedOut f w log → Kept f image shelf → TidyImage f image → Opened f image w → IsLegal f size w log → AreTold log → AreHonest f w log
-    → (s : SettlesDeletion f (world_from f w log) k) → s.t.term ≡ (world_from f w log).term → DoomsExactly f (world_from f w log) k s
-exact_over f size image shelf w log k known kept tidy opened legal told honest s present =
+    → (s : SettlesDeletion f (world_from f w log) k) → s.t.term ≡ (world_from f w log).term → s.t.clean ≡ false → DoomsExactly f (world_from f w log) k s
+exact_over f size image shelf w log k known kept tidy opened legal told honest s present deletes =
     let l : Law f w shelf = opening_law f image shelf w kept opened in
     let last : World = world_from f w log in
-    exact f (world_from f w log) (shelf_after shelf (committed f last.safe w log)) k s (legal_law f size log w shelf known l legal told honest) present (legal_tidy f size log w shelf known l (opened_tidy f image w tidy opened) legal told honest).rooted
+    exact f (world_from f w log) (shelf_after shelf (committed f last.safe w log)) k s (legal_law f size log w shelf known l legal told honest) present deletes (legal_tidy f size log w shelf known l (opened_tidy f image w tidy opened) legal told honest).rooted
 
 settles_delete : {f : Formats} {w : World} {who : ℕ} {reply : Reply} {image : Option Image} → PruneAllows f w who SettlePruned reply image → counts reply ≡ true → (s : SettlesDeletion f w who) × (s.t.term ≡ w.term)
 settles_delete (allowed.SettlingDelete k im s present same) e = (s, present)
@@ -170,7 +122,7 @@ settles_delete (allowed.SettleDeleteFails k im s present same) e = (s, present)
 
 pub settled_exact : (f : Formats) (size : ℕ) (image : Image) (shelf : List Shelved) (w : World) (before rest : List Moment) (m : Moment) → TellsHandedOut f w (before ++ m ∷ rest) → Kept f image shelf → TidyImage f image → Opened f image w
     → IsLegal f size w (before ++ m ∷ rest) → AreTold (before ++ m ∷ rest) → AreHonest f w (before ++ m ∷ rest) → m.entry.step ≡ PruneStep SettlePruned → counts m.entry.reply ≡ true
-    → (s : SettlesDeletion f (world_from f w before) m.entry.who) × DoomsExactly f (world_from f w before) m.entry.who s
+    → (s : SettlesDeletion f (world_from f w before) m.entry.who) × (s.t.clean ≡ false → DoomsExactly f (world_from f w before) m.entry.who s)
 settled_exact f size image shelf w before rest m known kept tidy opened legal told honest step counted =
     let here : World = world_from f w before in
     let legals = legal_parts f size before (m ∷ rest) w legal in
@@ -179,4 +131,4 @@ settled_exact f size image shelf w before rest m known kept tidy opened legal to
       | inr dead ↦ absurd (true≢false (sym counted ∙ ap counts dead.refused ∙ block_uncounted here m.entry.who m.entry.step dead.refusal dead.blocks))
     ] in
     let (s, present) = settles_delete (allows_pruned (subst (λ x. Allows f size (world_from f w before) m.entry.who x m.entry.reply m.image) step allows)) counted in
-    (s, exact_over f size image shelf w before m.entry.who (known_parts f before (m ∷ rest) w known).0 kept tidy opened legals.0 (told_parts before (m ∷ rest) told).0 (honest_parts f before (m ∷ rest) w honest).0 s present)
+    (s, λ deletes. exact_over f size image shelf w before m.entry.who (known_parts f before (m ∷ rest) w known).0 kept tidy opened legals.0 (told_parts before (m ∷ rest) told).0 (honest_parts f before (m ∷ rest) w honest).0 s present deletes)

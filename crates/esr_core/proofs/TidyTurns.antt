@@ -11,13 +11,13 @@ use Rattle.esr_model.specs.Finalize.{Finalizes, finalized_root, done_at}
 use Rattle.esr_model.specs.Delete.{left_uuids, uuids_of, pruned_blobs}
 use Rattle.esr_core.specs.World.{World, Op, ShardWork, ShardState, Pending, Out, Done, GivenUp, Shard, Finalize, Deleting, Drop, Ticket, Swap, HeldIn, Safely, info_of}
 use Rattle.esr_core.specs.Ready.{IsShard}
-use Rattle.esr_core.specs.Steps.{DoneShard, Largest, ExtendsBase, given, shard_ticket, final_ticket, reading, noting, writing}
+use Rattle.esr_core.specs.Steps.{DoneShard, Largest, ExtendsBase, given, shard_ticket, final_ticket, reading, listing, noting, writing}
 use Rattle.esr_core.specs.Generations.{DoneAt, IsLive, IsOwn, OpLaw, Base, ShardLaw, FinalLaw, Carried}
 use Rattle.esr_core.specs.Queue.{DeleteLaw}
 use Rattle.esr_core.specs.Pruning.{IsPlanned, PruneLaw, pruned_shards}
 use Rattle.esr_core.specs.Ids.{Law}
-use Rattle.esr_core.specs.Turns.{Aborts, TakeReadyShard, SettleFinal, SettleDelete, Failed, AddTest, TestTurn, DrawsTest, AddsTest, RemovesTests, fails, fails_by, plain_ticket, Turn, Stays, Commits, CommitFails, Finds, Raises, Latests, Fetches, SettlesFinal, SettlesDelete, Elects, TakesShard, TakesFinal, TakesDrop, TakesDelete, TakesCleanup, AsksCleanup, CleanDrops, DrawsShard, DrawsPlan, Dones, Ending, Fails, FailsDelete, Drops, AsksCreate, AsksDelete, Merges, Removing, Deposes, Besides, Tests}
-use Rattle.esr_core.specs.Tidy.{IsInIndex, ListsListed, IsTidy, TidyRoot, Tidy, TidyIn, AreDeletes}
+use Rattle.esr_core.specs.Turns.{Aborts, TakeReadyShard, SettleFinal, SettleDelete, Failed, AddTest, TestTurn, DrawsTest, AddsTest, RemovesTests, fails, fails_by, plain_ticket, cleaning_ticket, Turn, Stays, Commits, CommitFails, Finds, Raises, Latests, Fetches, SettlesFinal, SettlesDelete, Elects, TakesShard, TakesFinal, TakesDrop, TakesDelete, TakesCleanup, AsksCleanup, CleanDrops, DrawsShard, DrawsPlan, Dones, Ending, Fails, FailsDelete, Drops, AsksCreate, AsksDelete, Merges, Removing, Pages, Deposes, Besides, Tests}
+use Rattle.esr_core.specs.Tidy.{IsInIndex, ListsListed, IsTidy, TidyRoot, Tidy, TidyIn}
 use Rattle.esr_core.proofs.Reading.{some_same, reads_one, held_one, safely_one, safe_root_stands, Has-map, Has-mapped, Has-append, Has-right}
 use Rattle.esr_core.proofs.Results.{choose_true, choose_false, found_done, done_out}
 use Rattle.esr_core.proofs.Deleting.{bool_told}
@@ -347,20 +347,20 @@ module _ (f : Formats) (w : World) (shelf : List Shelved) (l : Law f w shelf) (t
 
   -- ---- a delete settles
 
-  module _ (k n : ℕ) (t : Ticket) (s : Swap) (new : World) (d : SettleDelete f w k n t s new) (commands : s.commands ≡ Delete d.uuids ∷ []) where
+  module _ (k n : ℕ) (t : Ticket) (s : Swap) (new : World) (d : SettleDelete f w k n t s new) where
     delete_law : DeleteLaw w.root w.ops w.deletes t (Some s)
     delete_law = l.lawful.queue.deleting k t d.may.out.there d.may.out.out d.may.unsettled d.present d.uuids (Some s) d.work
 
     prune : PruneLaw f (HeldIn f w) w.safe t d.uuids (Some s)
     prune = l.pruned.unsettled k t d.uuids (Some s) d.may.out.there d.may.out.out d.may.unsettled d.present d.work
 
-    plan : IsPlanned f t.root t.read t.first d.uuids s
-    plan = prune.follows s refl commands
+    plan : IsPlanned f t.clean t.root t.read t.first d.uuids s
+    plan = prune.follows s refl
 
     once : IsOneEach t.root.indices
     once = subst (λ (r : RootData). IsOneEach r.indices) (sym delete_law.root_is) (root_one_each f (HeldIn f w) w.safe w.root c.root_is)
 
-    written : (name : BlobName) (bytes : Bytes) → Has (pruned_blobs f t.read (left_uuids d.uuids (uuids_of t.root)) t.first (pruned_shards f t.root d.uuids t.read)) (name, bytes) → HeldIn f w name bytes
+    written : (name : BlobName) (bytes : Bytes) → Has (pruned_blobs f t.read (left_uuids d.uuids (uuids_of t.root)) t.first (pruned_shards f t.clean t.root d.uuids t.read)) (name, bytes) → HeldIn f w name bytes
     written name bytes m =
         let own : Has s.own (name, bytes) = subst (λ (x : Swap). Has x.own (name, bytes)) (sym plan.swap_is) m in
         ((l.lawful.sound.rooted.tickets k t d.may.out.there).swaps s (record { is = d.may.is; out = d.may.out.out; unsettled = d.may.unsettled }) (inl d.present)).noted name bytes own (d.may.ready name bytes own)
@@ -368,7 +368,7 @@ module _ (f : Formats) (w : World) (shelf : List Shelved) (l : Law f w shelf) (t
     deleted_tidy : TidyRoot f (HeldIn f w) s.root
     deleted_tidy =
         subst (λ (r : RootData). TidyRoot f (HeldIn f w) r) (sym (ap (λ (x : Swap). x.root) plan.swap_is))
-        (left_tidy f (HeldIn f w) (held_one f w) w.safe t.root once d.uuids t.read t.first prune.held plan.are_read plan.of_root plan.writable written
+        (left_tidy f (HeldIn f w) (held_one f w) w.safe t.clean t.root once d.uuids t.read t.first prune.held plan.are_read plan.of_root plan.writable written
         (subst (λ (r : RootData). TidyRoot f (HeldIn f w) r) (sym delete_law.root_is) tidy.rooted))
 
     delete_tidy : TidyIn f new
@@ -412,46 +412,43 @@ module _ (f : Formats) (w : World) (shelf : List Shelved) (l : Law f w shelf) (t
   tests_tidy new (AddsTest m name bytes a) = subst (TidyIn f) (sym a.new_is) (tested name bytes m a)
   tests_tidy new (RemovesTests m names r) = subst (TidyIn f) (sym r.new_is) (removed r.now r.removes.left)
 
-pub turn_tidy : (f : Formats) (w new : World) (shelf : List Shelved) → Law f w shelf → (w.safe < new.safe → AreDeletes w) → TidyIn f w → Turn f w new → TidyIn f new
-turn_tidy f w new shelf l a t (Stays m e) = subst (TidyIn f) (sym e) t
-turn_tidy f w new shelf l a t (Commits m k name d) = subst (TidyIn f) (sym d.new_is)
+pub turn_tidy : (f : Formats) (w new : World) (shelf : List Shelved) → Law f w shelf → TidyIn f w → Turn f w new → TidyIn f new
+turn_tidy f w new shelf l t (Stays m e) = subst (TidyIn f) (sym e) t
+turn_tidy f w new shelf l t (Commits m k name d) = subst (TidyIn f) (sym d.new_is)
     (ticket_put f w shelf l t (fin.insert w.blobs (f.names.text name) d.bytes) k d.t (writing d.t name d.bytes) (added f w shelf l t name d.bytes d.named d.absent) d.out.there (λ o. o) refl refl)
-turn_tidy f w new shelf l a t (CommitFails m k name d) = elim d.leaves [
+turn_tidy f w new shelf l t (CommitFails m k name d) = elim d.leaves [
   | inl e ↦ subst (TidyIn f) (sym e) t
   | inr e ↦ subst (TidyIn f) (sym e.1) (added f w shelf l t name d.bytes d.named e.0)
 ]
-turn_tidy f w new shelf l a t (Finds m k name d) = subst (TidyIn f) (sym d.new_is) (ticket_put f w shelf l t w.blobs k d.t (noting d.t name) t d.out.there (λ o. o) refl refl)
-turn_tidy f w new shelf l a t (Raises m k d) = subst (TidyIn f) (sym d.new_is) (ticket_put f w shelf l t w.blobs k d.t (record d.t { raised = Some w.pending }) t d.out.there (λ o. o) refl refl)
-turn_tidy f w new shelf l a t (Latests m k d) = subst (TidyIn f) (sym d.tries.new_is)
+turn_tidy f w new shelf l t (Finds m k name d) = subst (TidyIn f) (sym d.new_is) (ticket_put f w shelf l t w.blobs k d.t (noting d.t name) t d.out.there (λ o. o) refl refl)
+turn_tidy f w new shelf l t (Raises m k d) = subst (TidyIn f) (sym d.new_is) (ticket_put f w shelf l t w.blobs k d.t (record d.t { raised = Some w.pending }) t d.out.there (λ o. o) refl refl)
+turn_tidy f w new shelf l t (Latests m k d) = subst (TidyIn f) (sym d.tries.new_is)
     (ticket_put f w shelf l t d.now k d.tries.t (record d.tries.t { tried_latest = true }) (more f w shelf l t d.now w.doomed (keeps f w shelf l d.now d.puts)) d.tries.out.there (λ o. o) refl refl)
-turn_tidy f w new shelf l a t (Fetches m k name d) = subst (TidyIn f) (sym d.new_is) (ticket_put f w shelf l t w.blobs k d.t (reading d.t name d.bytes) t d.out.there (λ o. o) refl refl)
-turn_tidy f w new shelf l a t (SettlesFinal m k n u s d) = final_tidy f w shelf l t k n u s m d
-turn_tidy f w new shelf l a t (SettlesDelete m k n u s d) =
-    let above : w.safe ≤ n = settled_above f w shelf l k n u s d.may d.present in
-    let now : m.safe ≡ suc n = ap (λ (x : World). x.safe) d.new_is in
-    delete_tidy f w shelf l t k n u s m d (a (omega (arith, above, now)) k u d.uuids s d.may.out.there d.may.out.out d.may.unsettled d.present d.work)
-turn_tidy f w new shelf l a t (Elects m d) = subst (TidyIn f) (sym d.new_is) t
-turn_tidy f w new shelf l a t (TakesShard m o op s base d) = taken f w shelf l t o op s base m d
-turn_tidy f w new shelf l a t (TakesFinal m o op results d) = subst (TidyIn f) (sym d.new_is) (ticket_other f w shelf l t w.next_ticket (final_ticket f w o op results) (λ e. e))
-turn_tidy f w new shelf l a t (TakesDrop m o d) = subst (TidyIn f) (sym d.new_is) (ticket_other f w shelf l t w.next_ticket (plain_ticket w o Drop) (λ e. e))
-turn_tidy f w new shelf l a t (TakesDelete m n x d) = subst (TidyIn f) (sym d.new_is) (ticket_other f w shelf l t w.next_ticket (plain_ticket w n (Deleting x.uuids None)) (λ e. e))
-turn_tidy f w new shelf l a t (TakesCleanup m n x d) = subst (TidyIn f) (sym d.new_is) (ticket_other f w shelf l t w.next_ticket (plain_ticket w n (Deleting x.uuids None)) (λ e. e))
-turn_tidy f w new shelf l a t (DrawsShard m k n d) = subst (TidyIn f) (sym d.new_is) (ticket_put f w shelf l t w.blobs k d.t (record d.t { first = w.next_id; drawn = n }) t d.out.there (λ o. o) refl refl)
-turn_tidy f w new shelf l a t (DrawsPlan m k n d) = subst (TidyIn f) (sym d.new_is)
+turn_tidy f w new shelf l t (Fetches m k name d) = subst (TidyIn f) (sym d.new_is) (ticket_put f w shelf l t w.blobs k d.t (reading d.t name d.bytes) t d.out.there (λ o. o) refl refl)
+turn_tidy f w new shelf l t (SettlesFinal m k n u s d) = final_tidy f w shelf l t k n u s m d
+turn_tidy f w new shelf l t (SettlesDelete m k n u s d) = delete_tidy f w shelf l t k n u s m d
+turn_tidy f w new shelf l t (Elects m d) = subst (TidyIn f) (sym d.new_is) t
+turn_tidy f w new shelf l t (TakesShard m o op s base d) = taken f w shelf l t o op s base m d
+turn_tidy f w new shelf l t (TakesFinal m o op results d) = subst (TidyIn f) (sym d.new_is) (ticket_other f w shelf l t w.next_ticket (final_ticket f w o op results) (λ e. e))
+turn_tidy f w new shelf l t (TakesDrop m o d) = subst (TidyIn f) (sym d.new_is) (ticket_other f w shelf l t w.next_ticket (plain_ticket w o Drop) (λ e. e))
+turn_tidy f w new shelf l t (TakesDelete m n x d) = subst (TidyIn f) (sym d.new_is) (ticket_other f w shelf l t w.next_ticket (plain_ticket w n (Deleting x.uuids None)) (λ e. e))
+turn_tidy f w new shelf l t (TakesCleanup m n x d) = subst (TidyIn f) (sym d.new_is) (ticket_other f w shelf l t w.next_ticket (cleaning_ticket w n) (λ e. e))
+turn_tidy f w new shelf l t (DrawsShard m k n d) = subst (TidyIn f) (sym d.new_is) (ticket_put f w shelf l t w.blobs k d.t (record d.t { first = w.next_id; drawn = n }) t d.out.there (λ o. o) refl refl)
+turn_tidy f w new shelf l t (DrawsPlan m k n d) = subst (TidyIn f) (sym d.new_is)
     (ticket_other f w shelf l t k (record d.t { first = w.next_id; drawn = n; work = Deleting d.named (Some (record { root = d.root; own = d.own; commands = d.commands })) }) (λ e. e))
-turn_tidy f w new shelf l a t (Dones m k r d) = done_tidy f w shelf l t k r m (found f w shelf l k r m d)
-turn_tidy f w new shelf l a t (Ending m k d) = subst (TidyIn f) (sym d.new_is) (ticket_over f w shelf l t w.ops k (record d.t { out = false }) (same_dones w.ops) refl)
-turn_tidy f w new shelf l a t (Fails m k d) = subst (TidyIn f) (sym d.new_is)
+turn_tidy f w new shelf l t (Dones m k r d) = done_tidy f w shelf l t k r m (found f w shelf l k r m d)
+turn_tidy f w new shelf l t (Ending m k d) = subst (TidyIn f) (sym d.new_is) (ticket_over f w shelf l t w.ops k (record d.t { out = false }) (same_dones w.ops) refl)
+turn_tidy f w new shelf l t (Fails m k d) = subst (TidyIn f) (sym d.new_is)
     (ticket_over f w shelf l t (fin.insert w.ops d.t.op (record d.op { shards = map (fails k) d.op.shards; failed = true })) k (record d.t { out = false }) (failed_dones f w shelf l t k m d) refl)
-turn_tidy f w new shelf l a t (FailsDelete m k d) = subst (TidyIn f) (sym d.new_is) (ticket_over f w shelf l t w.ops k (record d.t { out = false }) (same_dones w.ops) refl)
-turn_tidy f w new shelf l a t (Drops m k d) = subst (TidyIn f) (sym d.new_is) (ticket_over f w shelf l t (fin.remove w.ops d.t.op) k (record d.t { out = false }) (done_removed w.ops d.t.op) refl)
-turn_tidy f w new shelf l a t (AsksCleanup m d) = subst (TidyIn f) (sym d.new_is) t
-turn_tidy f w new shelf l a t (CleanDrops m k d) = subst (TidyIn f) (sym d.new_is) (ticket_over f w shelf l t (fin.remove w.ops d.t.op) k (record d.t { out = false }) (done_removed w.ops d.t.op) refl)
-turn_tidy f w new shelf l a t (AsksCreate m op d) = subst (TidyIn f) (sym d.new_is) (ops_put f w shelf l t (fin.insert w.ops w.next_op op) (done_new w.ops w.next_op op d.pending))
-turn_tidy f w new shelf l a t (AsksDelete m uuids d) = subst (TidyIn f) (sym d.new_is) (ops_put f w shelf l t d.ops (done_aborted w.ops d.ops w.next_op d.aborts))
-turn_tidy f w new shelf l a t (Merges m uuids n d) = subst (TidyIn f) (sym d.new_is) (ops_put f w shelf l t d.ops (done_aborted w.ops d.ops n d.aborts))
-turn_tidy f w new shelf l a t (Removing m k names d) = subst (TidyIn f) (sym d.new_is) (removed f w shelf l t d.now d.removes.left)
-turn_tidy f w new shelf l a t (Deposes m up d e) = subst (TidyIn f) (sym e) (turn_tidy f w up shelf l (λ lt. a (subst (λ (c : ℕ). w.safe < c) (sym (ap (λ (x : World). x.safe) e)) lt)) t d)
-turn_tidy f w new shelf l a t (Tests m d) = tests_tidy f w shelf l t m d
-turn_tidy f w new shelf l a t (Besides m up d r) =
-    kept_aside (TidyIn f) up m (aside_of f up m r) (turn_tidy f w up shelf l (λ lt. a (subst (λ (c : ℕ). w.safe < c) (sym (ap (λ (x : World). x.safe) (aside_of f up m r).new_is)) lt)) t d)
+turn_tidy f w new shelf l t (FailsDelete m k d) = subst (TidyIn f) (sym d.new_is) (ticket_over f w shelf l t w.ops k (record d.t { out = false }) (same_dones w.ops) refl)
+turn_tidy f w new shelf l t (Drops m k d) = subst (TidyIn f) (sym d.new_is) (ticket_over f w shelf l t (fin.remove w.ops d.t.op) k (record d.t { out = false }) (done_removed w.ops d.t.op) refl)
+turn_tidy f w new shelf l t (AsksCleanup m d) = subst (TidyIn f) (sym d.new_is) t
+turn_tidy f w new shelf l t (CleanDrops m k d) = subst (TidyIn f) (sym d.new_is) (ticket_over f w shelf l t (fin.remove w.ops d.t.op) k (record d.t { out = false }) (done_removed w.ops d.t.op) refl)
+turn_tidy f w new shelf l t (AsksCreate m op d) = subst (TidyIn f) (sym d.new_is) (ops_put f w shelf l t (fin.insert w.ops w.next_op op) (done_new w.ops w.next_op op d.pending))
+turn_tidy f w new shelf l t (AsksDelete m uuids d) = subst (TidyIn f) (sym d.new_is) (ops_put f w shelf l t d.ops (done_aborted w.ops d.ops w.next_op d.aborts))
+turn_tidy f w new shelf l t (Merges m uuids n d) = subst (TidyIn f) (sym d.new_is) (ops_put f w shelf l t d.ops (done_aborted w.ops d.ops n d.aborts))
+turn_tidy f w new shelf l t (Removing m k names d) = subst (TidyIn f) (sym d.new_is) (removed f w shelf l t d.now d.removes.left)
+turn_tidy f w new shelf l t (Pages m k page d) = subst (TidyIn f) (sym d.new_is) (ticket_put f w shelf l t w.blobs k d.t (listing d.t page) t d.out.there (λ o. o) refl refl)
+turn_tidy f w new shelf l t (Deposes m up d e) = subst (TidyIn f) (sym e) (turn_tidy f w up shelf l t d)
+turn_tidy f w new shelf l t (Tests m d) = tests_tidy f w shelf l t m d
+turn_tidy f w new shelf l t (Besides m up d r) = kept_aside (TidyIn f) up m (aside_of f up m r) (turn_tidy f w up shelf l t d)

@@ -1,5 +1,5 @@
 -- What each change of tickets, ids and the term leaves of the order of a world.
-use Rattle.std.proofs.Common.{◌≡◌, ◌⊎◌, ℕ, suc, ◌+◌, ◌<◌, ◌≤◌, List, Bool, true, false, Some, refl, sym, ap, ◌∙◌, subst, inl, inr, arith, Option, nat_cmp}
+use Rattle.std.proofs.Common.{◌≡◌, ◌≢◌, ◌⊎◌, ℕ, suc, ◌+◌, ◌<◌, ◌≤◌, List, Bool, true, false, Some, refl, sym, ap, ◌∙◌, subst, inl, inr, arith, Option, nat_cmp}
 use Rattle.std.specs.FinMap.{FinMap}
 use Rattle.std.specs.FinMap as fin
 use Rattle.esr_model.specs.Names.{BlobName}
@@ -9,7 +9,7 @@ use Rattle.esr_model.specs.Kept.{first_id}
 use Rattle.esr_model.specs.Image.{Blobs}
 use Rattle.esr_core.specs.World.{World, Finalize, Drop, Ticket, Deletion, Deleting, Swap}
 use Rattle.esr_core.specs.Ready.{IsShard, IsMaster, SwapIsOut}
-use Rattle.esr_core.specs.Tracked.{ShardTracked, FinalTracked, DropTracked, Tracked, IsWithin, DeleteTracked}
+use Rattle.esr_core.specs.Tracked.{ShardTracked, FinalTracked, DropTracked, Tracked, IsWithin, DeleteTracked, CleanTracked}
 use Rattle.esr_core.proofs.Reading.{some_same}
 use Rattle.esr_core.proofs.Queues.{Ops, was_in, same_in, other_in, split_at}
 use Rattle.esr_core.proofs.Naming.{named_up}
@@ -31,6 +31,7 @@ tracked_aside w l blobs safe pending completed doomed deposed =
       finals = l.finals;
       drops = l.drops;
       deleting = l.deleting;
+      deletions = l.deletions;
       one_swap = l.one_swap;
       named = l.named;
       in_term = record { from = l.in_term.from; below = l.in_term.below };
@@ -47,13 +48,14 @@ pub record Follows (t v : Ticket) : Type 0 where
   pub source : v.source ≡ t.source
   pub term : v.term ≡ t.term
   pub root : v.root ≡ t.root
+  pub clean : v.clean ≡ t.clean
   pub out : v.out ≡ true → t.out ≡ true
   pub settled : v.settled ≡ false → t.settled ≡ false
   -- a shard's stays out
   pub shard : IsShard t.work → t.out ≡ true → v.out ≡ true
 
 pub follows_same : (t : Ticket) → Follows t t
-follows_same t = record { work = refl; op = refl; uuid = refl; place = refl; name = refl; source = refl; term = refl; root = refl; out = λ e. e; settled = λ e. e; shard = λ s e. e }
+follows_same t = record { work = refl; op = refl; uuid = refl; place = refl; name = refl; source = refl; term = refl; root = refl; clean = refl; out = λ e. e; settled = λ e. e; shard = λ s e. e }
 
 shard_follows : (ops : Ops) (j : ℕ) (t v : Ticket) (i n : ℕ) → Follows t v → ShardTracked ops j t i n → ShardTracked ops j v i n
 shard_follows ops j t v i n f h =
@@ -130,6 +132,19 @@ module _ (w : World) (l : Tracked w) (k : ℕ) (t v : Ticket) (there : fin.get w
         deleting = λ j u uuids plan e out uns pres is.
             let (x, xt, f) = was j u e in
             delete_follows w.root w.deletes w.next_id x u plan f (l.deleting j x uuids plan xt (f.out out) (f.settled uns) (sym f.term ∙ pres) (sym f.work ∙ is));
+        deletions = record {
+          modes = λ j u uuids plan e is x at. let (y, yt, f) = was j u e in l.deletions.modes j y uuids plan yt (sym f.work ∙ is) x (ap (fin.get w.deletes) (sym f.op) ∙ at) ∙ sym f.clean;
+          cleaning = λ j u e out pres clean.
+              let (y, yt, f) = was j u e in
+              let h = l.deletions.cleaning j y yt (f.out out) (sym f.term ∙ pres) (sym f.clean ∙ clean) in
+              record {
+                x = h.x;
+                there = ap (fin.get w.deletes) f.op ∙ h.there;
+                cleans = h.cleans;
+                unfailed = h.unfailed;
+                alone = λ i z uuids plan ze zout zpres zis same. let (a, at, g) = was i z ze in h.alone i a uuids plan at (g.out zout) (sym g.term ∙ zpres) (sym g.work ∙ zis) (sym g.op ∙ same ∙ f.op);
+              };
+        };
         one_swap = λ i j a b. l.one_swap i j (swap_was i a) (swap_was j b);
         named = l.named;
         in_term = record { from = l.in_term.from; below = l.in_term.below };
@@ -137,10 +152,20 @@ module _ (w : World) (l : Tracked w) (k : ℕ) (t v : Ticket) (there : fin.get w
 
 -- ---- a new ticket, of no shard
 
+-- of a delete or cleanup: its op is a cleanup where it is one's, and no other ticket of the present term has it where one of them is a cleanup's
+pub record NewMode (w : World) (v : Ticket) : Type 0 where
+  pub x : Deletion
+  pub there : fin.get w.deletes v.op ≡ Some x
+  pub unfailed : x.failed ≡ false
+  pub mode : x.clean ≡ v.clean
+  pub alone : v.clean ≡ true → (k : ℕ) (t : Ticket) → fin.get w.tickets k ≡ Some t → t.out ≡ true → ⊥
+  pub aside : (k : ℕ) (t : Ticket) → fin.get w.tickets k ≡ Some t → t.out ≡ true → t.term ≡ w.term → t.clean ≡ true → t.op ≢ v.op
+
 module _ (w : World) (l : Tracked w) (v : Ticket) (term : v.term ≤ w.term) (drawn : v.first + v.drawn ≤ w.next_id) (begun : v.op < w.next_op) (no_shard : IsShard v.work → ⊥)
     (final : (info : SnapInfo) (results : List ShardResult) (made : Command) → v.work ≡ Finalize info results made → FinalTracked w.root w.ops v info results)
     (drop : v.work ≡ Drop → DropTracked w.ops w.deletes w.tickets v) (alone : IsMaster v.work → (k : ℕ) → SwapIsOut w.tickets w.term k → ⊥)
-    (fresh : (uuids : List ℕ) (plan : Option Swap) → v.work ≡ Deleting uuids plan → DeleteTracked w.root w.deletes w.next_id v plan) where
+    (fresh : (uuids : List ℕ) (plan : Option Swap) → v.work ≡ Deleting uuids plan → DeleteTracked w.root w.deletes w.next_id v plan) (mode : (uuids : List ℕ) (plan : Option Swap) → v.work ≡ Deleting uuids plan → NewMode w v)
+    (plain : v.clean ≡ true → (uuids : List ℕ) × (plan : Option Swap) × (v.work ≡ Deleting uuids plan)) where
   stays : (j : ℕ) (u : Ticket) → fin.get w.tickets j ≡ Some u → fin.get (fin.insert w.tickets w.next_ticket v) j ≡ Some u
   stays j u e = other_in w.tickets w.next_ticket v j (λ q. let b : j < w.next_ticket = (l.tickets j u e).0 in omega (arith, b, q)) ∙ e
 
@@ -157,6 +182,31 @@ module _ (w : World) (l : Tracked w) (v : Ticket) (term : v.term ≤ w.term) (dr
     | inl h ↦ inl (h.0, subst (λ (z : Ticket). IsMaster z.work) (sym h.1) s.swaps)
     | inr h ↦ inr (record { t = s.t; there = h.1; out = s.out; unsettled = s.unsettled; present = s.present; swaps = s.swaps })
   ]
+
+  clean_new : v.clean ≡ true → CleanTracked w.term w.deletes (fin.insert w.tickets w.next_ticket v) w.next_ticket v
+  clean_new clean =
+      let (uuids, plan, work) = plain clean in
+      let m = mode uuids plan work in
+      record {
+        x = m.x;
+        there = m.there;
+        cleans = m.mode ∙ clean;
+        unfailed = m.unfailed;
+        alone = λ i y us p e out pres is same. elim (was_in w.tickets w.next_ticket v i y e) [ inl h ↦ h.0 | inr h ↦ absurd (m.alone clean i y h.1 out) ];
+      }
+
+  clean_on : (j : ℕ) (u : Ticket) → fin.get w.tickets j ≡ Some u → u.out ≡ true → u.term ≡ w.term → u.clean ≡ true → CleanTracked w.term w.deletes w.tickets j u → CleanTracked w.term w.deletes (fin.insert w.tickets w.next_ticket v) j u
+  clean_on j u e out pres clean c =
+      record {
+        x = c.x;
+        there = c.there;
+        cleans = c.cleans;
+        unfailed = c.unfailed;
+        alone = λ i y us p ye yout ypres is same. elim (was_in w.tickets w.next_ticket v i y ye) [
+          | inl h ↦ absurd ((mode us p (ap (λ (z : Ticket). z.work) h.1 ∙ is)).aside j u e out pres clean (sym (ap (λ (z : Ticket). z.op) h.1 ∙ same)))
+          | inr h ↦ c.alone i y us p h.1 yout ypres is same
+        ];
+      }
 
   pub tracked_new : Tracked (record w { tickets = fin.insert w.tickets w.next_ticket v; next_ticket = suc w.next_ticket })
   tracked_new =
@@ -187,6 +237,18 @@ module _ (w : World) (l : Tracked w) (v : Ticket) (term : v.term ≤ w.term) (dr
           | inl h ↦ subst (λ (y : Ticket). DeleteTracked w.root w.deletes w.next_id y plan) h.1 (fresh uuids plan (ap (λ (y : Ticket). y.work) h.1 ∙ is))
           | inr h ↦ l.deleting j u uuids plan h.1 out uns pres is
         ];
+        deletions = record {
+          modes = λ j u uuids plan e is x at. elim (was_in w.tickets w.next_ticket v j u e) [
+            | inl h ↦
+                let m = mode uuids plan (ap (λ (y : Ticket). y.work) h.1 ∙ is) in
+                ap (λ (y : Deletion). y.clean) (some_same x m.x (sym at ∙ ap (λ (y : Ticket). fin.get w.deletes y.op) (sym h.1) ∙ m.there)) ∙ m.mode ∙ ap (λ (y : Ticket). y.clean) h.1
+            | inr h ↦ l.deletions.modes j u uuids plan h.1 is x at
+          ];
+          cleaning = λ j u e out pres clean. elim (was_in w.tickets w.next_ticket v j u e) [
+            | inl h ↦ subst (CleanTracked w.term w.deletes (fin.insert w.tickets w.next_ticket v) j) h.1 (subst (λ (i : ℕ). CleanTracked w.term w.deletes (fin.insert w.tickets w.next_ticket v) i v) (sym h.0) (clean_new (ap (λ (y : Ticket). y.clean) h.1 ∙ clean)))
+            | inr h ↦ clean_on j u h.1 out pres clean (l.deletions.cleaning j u h.1 out pres clean)
+          ];
+        };
         one_swap = λ i j a b. elim (swap_is i a) [
           | inl x ↦ elim (swap_is j b) [ inl y ↦ x.0 ∙ sym y.0 | inr y ↦ absurd (alone x.1 j y) ]
           | inr x ↦ elim (swap_is j b) [ inl y ↦ absurd (alone y.1 i x) | inr y ↦ l.one_swap i j x y ]
@@ -226,6 +288,22 @@ module _ (w : World) (l : Tracked w) (k : ℕ) (t : Ticket) (there : fin.get w.t
     }
     | inr z ↦ record { t = h.t; there = z.1; out = h.out; unsettled = h.unsettled; present = h.present; swaps = h.swaps }
   ]
+
+  clean_now : (j : ℕ) (u : Ticket) → CleanTracked w.term w.deletes w.tickets j u → CleanTracked w.term w.deletes (fin.insert w.tickets k (record t { first = first; drawn = n; work = Deleting uuids q })) j u
+  clean_now j u c =
+      record {
+        x = c.x;
+        there = c.there;
+        cleans = c.cleans;
+        unfailed = c.unfailed;
+        alone = λ i y us plan ye yout ypres is same. elim (was_in w.tickets k now i y ye) [
+          | inl h ↦ h.0 ∙ c.alone k t uuids p there (ap (λ (z : Ticket). z.out) h.1 ∙ yout) (ap (λ (z : Ticket). z.term) h.1 ∙ ypres) work (ap (λ (z : Ticket). z.op) h.1 ∙ same)
+          | inr h ↦ c.alone i y us plan h.1 yout ypres is same
+        ];
+      }
+
+  clean_own : CleanTracked w.term w.deletes w.tickets k t → CleanTracked w.term w.deletes (fin.insert w.tickets k (record t { first = first; drawn = n; work = Deleting uuids q })) k (record t { first = first; drawn = n; work = Deleting uuids q })
+  clean_own c = let n = clean_now k t c in record { x = n.x; there = n.there; cleans = n.cleans; unfailed = n.unfailed; alone = n.alone }
 
   pub tracked_planned : Tracked (record w { tickets = fin.insert w.tickets k (record t { first = first; drawn = n; work = Deleting uuids q }) })
   tracked_planned =
@@ -271,6 +349,19 @@ module _ (w : World) (l : Tracked w) (k : ℕ) (t : Ticket) (there : fin.get w.t
               subst (λ (y : Ticket). DeleteTracked w.root w.deletes w.next_id y plan) h.1 (record { x = old.x; there = old.there; unfailed = old.unfailed; root_is = old.root_is; planned = λ swap at. within o s r swap (same ∙ at) })
           | inr h ↦ l.deleting j u us plan h.1 out uns pres is
         ];
+        deletions = record {
+          modes = λ j u us plan e is x at. elim (was_in w.tickets k now j u e) [
+            | inl h ↦ l.deletions.modes k t uuids p there work x (ap (λ (y : Ticket). fin.get w.deletes y.op) h.1 ∙ at) ∙ ap (λ (y : Ticket). y.clean) h.1
+            | inr h ↦ l.deletions.modes j u us plan h.1 is x at
+          ];
+          cleaning = λ j u e out pres clean. elim (was_in w.tickets k now j u e) [
+            | inl h ↦
+                subst (CleanTracked w.term w.deletes (fin.insert w.tickets k (record t { first = first; drawn = n; work = Deleting uuids q })) j) h.1
+                (subst (λ (i : ℕ). CleanTracked w.term w.deletes (fin.insert w.tickets k (record t { first = first; drawn = n; work = Deleting uuids q })) i now) (sym h.0)
+                (clean_own (l.deletions.cleaning k t there (ap (λ (y : Ticket). y.out) h.1 ∙ out) (ap (λ (y : Ticket). y.term) h.1 ∙ pres) (ap (λ (y : Ticket). y.clean) h.1 ∙ clean))))
+            | inr h ↦ clean_now j u (l.deletions.cleaning j u h.1 out pres clean)
+          ];
+        };
         one_swap = λ i j a b. l.one_swap i j (was_swap i a) (was_swap j b);
         named = l.named;
         in_term = record { from = l.in_term.from; below = l.in_term.below };
@@ -279,7 +370,8 @@ module _ (w : World) (l : Tracked w) (k : ℕ) (t : Ticket) (there : fin.get w.t
 -- ---- a delete that has failed, of which no ticket is out
 
 module _ (w : World) (l : Tracked w) (o : ℕ) (x : Deletion) (there : fin.get w.deletes o ≡ Some x)
-    (idle : (k : ℕ) (t : Ticket) (uuids : List ℕ) (plan : Option Swap) → fin.get w.tickets k ≡ Some t → t.out ≡ true → t.settled ≡ false → t.term ≡ w.term → t.work ≡ Deleting uuids plan → t.op ≡ o → ⊥) where
+    (idle : (k : ℕ) (t : Ticket) (uuids : List ℕ) (plan : Option Swap) → fin.get w.tickets k ≡ Some t → t.out ≡ true → t.settled ≡ false → t.term ≡ w.term → t.work ≡ Deleting uuids plan → t.op ≡ o → ⊥)
+    (no_clean : (k : ℕ) (t : Ticket) → fin.get w.tickets k ≡ Some t → t.out ≡ true → t.term ≡ w.term → t.clean ≡ true → t.op ≢ o) where
   abbrev failed_one : Deletion
   failed_one = record x { failed = true }
 
@@ -303,6 +395,15 @@ module _ (w : World) (l : Tracked w) (o : ℕ) (x : Deletion) (there : fin.get w
         deleting = λ k t uuids plan e out uns pres is.
             let h = l.deleting k t uuids plan e out uns pres is in
             record { x = h.x; there = other_in w.deletes o failed_one t.op (idle k t uuids plan e out uns pres is) ∙ h.there; unfailed = h.unfailed; root_is = h.root_is; planned = h.planned };
+        deletions = record {
+          modes = λ k t uuids plan e is y at. elim (was_in w.deletes o failed_one t.op y at) [
+            | inl h ↦ sym (ap (λ (z : Deletion). z.clean) h.1) ∙ l.deletions.modes k t uuids plan e is x (ap (fin.get w.deletes) h.0 ∙ there)
+            | inr h ↦ l.deletions.modes k t uuids plan e is y h.1
+          ];
+          cleaning = λ k t e out pres clean.
+              let h = l.deletions.cleaning k t e out pres clean in
+              record { x = h.x; there = other_in w.deletes o failed_one t.op (no_clean k t e out pres clean) ∙ h.there; cleans = h.cleans; unfailed = h.unfailed; alone = h.alone };
+        };
         one_swap = l.one_swap;
         named = l.named;
         in_term = record { from = l.in_term.from; below = l.in_term.below };
@@ -325,6 +426,7 @@ tracked_drawn w l n fits =
       finals = l.finals;
       drops = l.drops;
       deleting = λ k t uuids plan e out uns pres is. delete_up w.root w.deletes w.next_id (w.next_id + n) t plan (omega arith) (l.deleting k t uuids plan e out uns pres is);
+      deletions = l.deletions;
       one_swap = l.one_swap;
       named = named_up w.root w.ops w.next_id (w.next_id + n) (omega arith) l.named;
       in_term = record { from = let b : first_id w.term ≤ w.next_id = l.in_term.from in omega (arith, b); below = fits };
@@ -345,6 +447,7 @@ tracked_elect w l =
       finals = λ k t info rs made e out uns pres is. absurd (older k t e pres);
       drops = λ k t e out pres is. absurd (older k t e pres);
       deleting = λ k t uuids plan e out uns pres is. absurd (older k t e pres);
+      deletions = record { modes = l.deletions.modes; cleaning = λ k t e out pres clean. absurd (older k t e pres) };
       one_swap = λ i j a b. absurd (older i a.t a.there a.present);
       named = named_up w.root w.ops w.next_id (first_id (suc w.term)) (let c : w.next_id < first_id (suc w.term) = l.in_term.below in omega (arith, c)) l.named;
       in_term = record { from = omega arith; below = omega arith };

@@ -111,6 +111,15 @@ module _ (w : World) (l : Tracked w) (k : ℕ) (t : Ticket) (out : IsOut w k t) 
               failed = x.failed;
             };
         deleting = λ j u uuids plan e o uns pres is. l.deleting j u uuids plan (out_was j u e o).1 o uns pres is;
+        deletions = record {
+          modes = λ j u uuids plan e is x at. elim (was_in w.tickets k ended j u e) [
+            | inl h ↦ l.deletions.modes k t uuids plan out.there (ap (λ (y : Ticket). y.work) h.1 ∙ is) x (ap (λ (y : Ticket). fin.get w.deletes y.op) h.1 ∙ at) ∙ ap (λ (y : Ticket). y.clean) h.1
+            | inr h ↦ l.deletions.modes j u uuids plan h.1 is x at
+          ];
+          cleaning = λ j u e o pres clean.
+              let h = l.deletions.cleaning j u (out_was j u e o).1 o pres clean in
+              record { x = h.x; there = h.there; cleans = h.cleans; unfailed = h.unfailed; alone = λ i y uuids plan ye yo ypres is same. h.alone i y uuids plan (out_was i y ye yo).1 yo ypres is same };
+        };
         one_swap = λ i j a b. l.one_swap i j (swap_was i a) (swap_was j b);
         named = named_from w.root w.ops ops w.next_id l.named (λ p q e. elim (was_in w.ops t.op now p q e) [ inl h ↦ (op, ap (fin.get w.ops) h.0 ∙ there, subst (Alike w.next_id op) h.1 alike) | inr h ↦ (q, h.1, alike_same w.next_id q) ]);
         in_term = record { from = l.in_term.from; below = l.in_term.below };

@@ -1,5 +1,5 @@
 -- What a shard that is given changes in the order of a world.
-use Rattle.std.proofs.Common.{◌≡◌, ◌≢◌, ℕ, suc, ◌+◌, ◌<◌, ◌≤◌, List, Option, Some, map, refl, sym, ap, ◌∙◌, subst, inl, inr, arith}
+use Rattle.std.proofs.Common.{◌≡◌, ◌≢◌, ℕ, suc, ◌+◌, ◌<◌, ◌≤◌, List, Option, Some, map, refl, sym, ap, ◌∙◌, subst, inl, inr, arith, true≢false}
 use Rattle.std.specs.FinMap as fin
 use Rattle.esr_model.specs.Values.{Has, SnapInfo, ShardResult}
 use Rattle.esr_model.specs.Shelf.{Command}
@@ -186,6 +186,24 @@ module _ (w : World) (l : Tracked w) (o : ℕ) (op : Op) (s : ShardWork) (base :
           | inl h ↦ absurd (shard_delete uuids plan (ap (λ (y : Ticket). y.work) h.1 ∙ is))
           | inr h ↦ l.deleting j u uuids plan h.1 out uns pres is
         ];
+        deletions = record {
+          modes = λ j u uuids plan e is x at. elim (was_in w.tickets k v j u e) [
+            | inl h ↦ absurd (shard_delete uuids plan (ap (λ (y : Ticket). y.work) h.1 ∙ is))
+            | inr h ↦ l.deletions.modes j u uuids plan h.1 is x at
+          ];
+          cleaning = λ j u e out pres clean. elim (was_in w.tickets k v j u e) [
+            | inl h ↦ absurd (true≢false (sym clean ∙ sym (ap (λ (y : Ticket). y.clean) h.1)))
+            | inr h ↦
+                let c = l.deletions.cleaning j u h.1 out pres clean in
+                record {
+                  x = c.x;
+                  there = c.there;
+                  cleans = c.cleans;
+                  unfailed = c.unfailed;
+                  alone = λ i y uuids plan ye yout ypres is same. elim (was_in w.tickets k v i y ye) [ inl z ↦ absurd (shard_delete uuids plan (ap (λ (b : Ticket). b.work) z.1 ∙ is)) | inr z ↦ c.alone i y uuids plan z.1 yout ypres is same ];
+                }
+          ];
+        };
         one_swap = λ i j a b. l.one_swap i j (swap_was i a) (swap_was j b);
         named = named_from w.root w.ops ops w.next_id l.named (λ p q e. elim (was_in w.ops o now p q e) [ inl h ↦ (op, ap (fin.get w.ops) h.0 ∙ ready.op_there, subst (Alike w.next_id op) h.1 alike) | inr h ↦ (q, h.1, alike_same w.next_id q) ]);
         in_term = record { from = l.in_term.from; below = l.in_term.below };

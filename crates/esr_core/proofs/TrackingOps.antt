@@ -4,12 +4,12 @@ use Rattle.std.specs.FinMap as fin
 use Rattle.esr_model.specs.Values.{Has, RootData, SnapInfo, ShardResult}
 use Rattle.esr_model.specs.Shelf.{Command}
 use Rattle.esr_model.specs.Kept.{first_id}
-use Rattle.esr_core.specs.World.{World, Op, ShardWork, Done, Finalize, Ticket, Deleting, Swap}
+use Rattle.esr_core.specs.World.{World, Op, Deletion, ShardWork, Done, Finalize, Ticket, Deleting, Swap}
 use Rattle.esr_core.specs.Ready.{Goes, Stopped, IsShard}
 use Rattle.esr_core.specs.Tracked.{FinalTracked, Named, Tracked, IsWithin}
 use Rattle.esr_core.proofs.Reading.{some_same}
 use Rattle.esr_core.proofs.Results.{done_of}
-use Rattle.esr_core.proofs.Queues.{was_in, other_in, left_in, stays_in}
+use Rattle.esr_core.proofs.Queues.{Deletes, was_in, other_in, left_in, stays_in}
 use Rattle.esr_core.proofs.Evolving.{pending_out}
 use Rattle.esr_core.proofs.Naming.{IsNewOp, named_new}
 use Rattle.esr_core.proofs.Tracking.{delete_up}
@@ -58,23 +58,26 @@ module _ (w : World) (l : Tracked w) (op : Op) (next : ℕ) (c : IsNewOp w op ne
           failed = h.failed;
         };
         deleting = λ k t uuids plan e out uns pres is. delete_up w.root w.deletes w.next_id next t plan c.up (l.deleting k t uuids plan e out uns pres is);
+        deletions = l.deletions;
         one_swap = l.one_swap;
         named = named_new w l.named op next c;
         in_term = record { from = let b : first_id w.term ≤ w.next_id = l.in_term.from in let up : w.next_id ≤ next = c.up in omega (arith, b, up); below = fits };
       }
 
--- ---- an op that leaves, with the root that is safe then
+-- ---- an op that leaves, with the root that is safe then; of deletes it leaves, too, or all stay
 
 module _ (w : World) (l : Tracked w) (o : ℕ) (root : RootData) (named : Named root (fin.remove w.ops o) w.next_id)
     (no_shard : (k : ℕ) (t : Ticket) → fin.get w.tickets k ≡ Some t → t.out ≡ true → IsShard t.work → t.op ≢ o)
     (aside : (k : ℕ) (t : Ticket) (info : SnapInfo) (results : List ShardResult) (made : Command) → fin.get w.tickets k ≡ Some t → t.out ≡ true → t.settled ≡ false → t.term ≡ w.term → t.work ≡ Finalize info results made → (t.op ≢ o) × (root ≡ w.root))
-    (others : (k : ℕ) (t : Ticket) (uuids : List ℕ) (plan : Option Swap) → fin.get w.tickets k ≡ Some t → t.out ≡ true → t.settled ≡ false → t.term ≡ w.term → t.work ≡ Deleting uuids plan → (t.op ≢ o) × (root ≡ w.root)) where
-  pub tracked_left : Tracked (record w { root = root; ops = fin.remove w.ops o; deletes = fin.remove w.deletes o })
+    (others : (k : ℕ) (t : Ticket) (uuids : List ℕ) (plan : Option Swap) → fin.get w.tickets k ≡ Some t → t.out ≡ true → t.settled ≡ false → t.term ≡ w.term → t.work ≡ Deleting uuids plan → (t.op ≢ o) × (root ≡ w.root))
+    (deletes : Deletes) (less : (d : ℕ) (x : Deletion) → fin.get deletes d ≡ Some x → fin.get w.deletes d ≡ Some x) (more : (d : ℕ) → d ≢ o → fin.get deletes d ≡ fin.get w.deletes d)
+    (cleaning : (k : ℕ) (t : Ticket) → fin.get w.tickets k ≡ Some t → t.out ≡ true → t.term ≡ w.term → t.clean ≡ true → fin.get deletes t.op ≡ fin.get w.deletes t.op) where
+  pub tracked_left : Tracked (record w { root = root; ops = fin.remove w.ops o; deletes = deletes })
   tracked_left =
       record {
         numbers = λ p q e. l.numbers p q (left_in w.ops o p q e).1;
-        delete_numbers = λ d x e. l.delete_numbers d x (left_in w.deletes o d x e).1;
-        apart = λ p q d e h. l.apart p q d (left_in w.ops o p q e).1 (left_in w.deletes o p d h).1;
+        delete_numbers = λ d x e. l.delete_numbers d x (less d x e);
+        apart = λ p q d e h. l.apart p q d (left_in w.ops o p q e).1 (less p d h);
         tickets = l.tickets;
         begun = l.begun;
         first_ticket = l.first_ticket;
@@ -99,11 +102,17 @@ module _ (w : World) (l : Tracked w) (o : ℕ) (root : RootData) (named : Named 
             let (away, same) = aside k t info rs made e out uns pres is in
             record { op = h.op; op_there = stays_in w.ops o t.op away ∙ h.op_there; done = h.done; goes = h.goes; uuid_is = h.uuid_is; info_is = h.info_is; root_is = h.root_is ∙ sym same };
         drops = λ k t e out pres is. let h = l.drops k t e out pres is in
-            record { stopped = λ q there. h.stopped q (left_in w.ops o t.op q there).1; idle = h.idle; failed = λ x there. h.failed x (left_in w.deletes o t.op x there).1 };
+            record { stopped = λ q there. h.stopped q (left_in w.ops o t.op q there).1; idle = h.idle; failed = λ x there. h.failed x (less t.op x there) };
         deleting = λ k t uuids plan e out uns pres is.
             let h = l.deleting k t uuids plan e out uns pres is in
             let (away, same) = others k t uuids plan e out uns pres is in
-            record { x = h.x; there = stays_in w.deletes o t.op away ∙ h.there; unfailed = h.unfailed; root_is = h.root_is ∙ sym same; planned = λ s at. subst (λ (r : RootData). IsWithin r s.root w.next_id) (sym same) (h.planned s at) };
+            record { x = h.x; there = more t.op away ∙ h.there; unfailed = h.unfailed; root_is = h.root_is ∙ sym same; planned = λ s at. subst (λ (r : RootData). IsWithin r s.root w.next_id) (sym same) (h.planned s at) };
+        deletions = record {
+          modes = λ k t uuids plan e is x at. l.deletions.modes k t uuids plan e is x (less t.op x at);
+          cleaning = λ k t e out pres clean.
+              let h = l.deletions.cleaning k t e out pres clean in
+              record { x = h.x; there = cleaning k t e out pres clean ∙ h.there; cleans = h.cleans; unfailed = h.unfailed; alone = h.alone };
+        };
         one_swap = l.one_swap;
         named = named;
         in_term = record { from = l.in_term.from; below = l.in_term.below };

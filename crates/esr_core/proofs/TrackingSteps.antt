@@ -9,16 +9,17 @@ use Rattle.esr_model.specs.Shelf.{Command}
 use Rattle.esr_model.specs.Kept.{RootIds, first_id}
 use Rattle.esr_model.specs.Finalize.{finalized_root}
 use Rattle.esr_model.specs.Delete.{PrunedShard, kept_count}
+use Rattle.esr_model.specs.Cleanup.{BlobSize}
 use Rattle.esr_core.specs.Pruning.{delete_swap, planned_work, planned, dooms}
 use Rattle.esr_model.specs.Image.{Image, Blobs}
 use Rattle.esr_core.specs.World.{World, Op, ShardWork, Out, Done, Work, Shard, Finalize, Deleting, Drop, Ticket, Swap, AllDone, swap_of, marked, info_of, made_of, kept_deletes, opened, Deletion}
-use Rattle.esr_core.specs.Ready.{Stopped, IsShard, IsMaster, ReadyDrop, SwapIsOut}
-use Rattle.esr_core.specs.Steps.{with_ticket, completing, final_ticket}
-use Rattle.esr_core.specs.Turns.{plain_ticket, fails}
-use Rattle.esr_core.specs.Entry.{AskedIndex, CloneOf, Snapshot, Clone, Given, GivenShard, GivenFinalize, GivenDrop, Step, Reply, Moment, GivenRestore, DeleteSnapshots, Restore, AskStep, ReadStep, Read, ReadBlob, RestoredShard, ReadFails, WasFetched, WasAbsent, HasEnded, GivenClone, GivenDelete, GivenCleanup, Prune, PruneStep}
-use Rattle.esr_core.specs.After.{asked, asked_op, cloned_op, clone_opened, taken_by, taken_shard, with_given, change, committing, fetching, told_blob, done_of, done_by, failed_of, failed_by, is_stale, settled_of, dropped_of, tried, answered, blobs_in, after, stepped, test_left, delete_settled, delete_failed, delete_failed_by}
+use Rattle.esr_core.specs.Ready.{Goes, Stopped, IsShard, IsMaster, ReadyDrop, SwapIsOut}
+use Rattle.esr_core.specs.Steps.{with_ticket, completing, listing, final_ticket}
+use Rattle.esr_core.specs.Turns.{plain_ticket, cleaning_ticket, fails}
+use Rattle.esr_core.specs.Entry.{AskedIndex, CloneOf, Snapshot, Clone, Given, GivenShard, GivenFinalize, GivenDrop, Step, Reply, Moment, GivenRestore, DeleteSnapshots, Restore, Cleanup, AskStep, ReadStep, Read, ReadBlob, RestoredShard, ReadFails, WasFetched, WasAbsent, HasEnded, GivenClone, GivenDelete, GivenCleanup, Prune, PruneStep}
+use Rattle.esr_core.specs.After.{asked, asked_op, cloned_op, clone_opened, taken_by, taken_shard, with_given, change, committing, fetching, told_blob, done_of, done_by, failed_of, failed_by, is_stale, settled_of, dropped_of, tried, answered, blobs_in, after, stepped, test_left, deletes_left, delete_settled, delete_failed, delete_failed_by}
 use Rattle.esr_core.specs.Allowed as allowed
-use Rattle.esr_core.specs.Allowed.{MayPlan, SettlesDeletion, FailsDeletion, PruneAllows, FetchingShard, ShardMissing, FetchShardFails, Planning, PlanSpent, SettlingDelete, SettleDeleteStale, SettleDeleteFails, RemovingDoomed, RemoveDoomedFails, EndingDelete, FailingDelete, Accepts, Gives, Settles, Fails, Drops, Dones, Allows, Allowed, DeleteAllows, GoingInto, NotNamed, CloneStands, RestoreStands, FullOfOps, DeleteFault, RestoreAllows, OpeningRestore, NotListed, NamedByDelete, FullOfRestores, AcceptsClone, CloneAllows, OpeningClone, CloneUsed, SourceNotListed, SourceDeleted, IndexMissing, FullOfClones, CloneSpent, CloneFault, ReadAllows, ReadFound, ReadMissing, ReadFault, RestoringShard, ReaderFailing, CheckingAll, CheckFailing, VerifyAllows, DrawingTest, TestSpent, BeginningTest, BeginTestFails, CommittingTest, TestTaken, CommitTestFails, RemovingTests, RemoveTestsFails, VerifyingAll, VerifyFailing}
+use Rattle.esr_core.specs.Allowed.{MayPlan, SettlesDeletion, FailsDeletion, PruneAllows, FetchingShard, ShardMissing, FetchShardFails, Planning, PlanSpent, SettlingDelete, SettleDeleteStale, SettleDeleteFails, RemovingDoomed, RemoveDoomedFails, EndingDelete, FailingDelete, Accepts, Gives, Settles, Fails, Drops, Dones, Allows, Allowed, DeleteAllows, GoingInto, NotNamed, CloneStands, RestoreStands, FullOfOps, DeleteFault, CleanupAllows, OpeningCleanup, OpStands, TicketStands, CleanupFault, RestoreAllows, OpeningRestore, NotListed, NamedByDelete, FullOfRestores, AcceptsClone, CloneAllows, OpeningClone, CloneUsed, SourceNotListed, SourceDeleted, IndexMissing, FullOfClones, CloneSpent, CloneFault, ReadAllows, ReadFound, ReadMissing, ReadFault, RestoringShard, ReaderFailing, CheckingAll, CheckFailing, VerifyAllows, DrawingTest, TestSpent, BeginningTest, BeginTestFails, CommittingTest, TestTaken, CommitTestFails, RemovingTests, RemoveTestsFails, VerifyingAll, VerifyFailing}
 use Rattle.esr_core.specs.History.{world_from, IsLegal}
 use Rattle.esr_core.specs.Tracked.{IsOneIndex, FinalTracked, Named, Tracked, IsWithin, DeleteTracked}
 use Rattle.esr_core.proofs.Reading.{some_same}
@@ -26,7 +27,7 @@ use Rattle.esr_core.proofs.Results.{done_same, done_out}
 use Rattle.esr_core.proofs.Marked.{marked_is, marked_ref, marked_number}
 use Rattle.esr_core.proofs.Opening.{nothing}
 use Rattle.esr_core.proofs.Lists.{numbered_from}
-use Rattle.esr_core.proofs.Queues.{was_in}
+use Rattle.esr_core.proofs.Queues.{was_in, left_in, stays_in}
 use Rattle.esr_core.proofs.Evolving.{out_same, pending_out, out_done, up_out, up_done, failed_is, failed_grows}
 use Rattle.esr_core.proofs.Moments.{moment, not_latest, shard_stale, master_stale, no_shard, settled_plain, delete_settled_plain}
 use Rattle.esr_core.proofs.Besides.{aside_opened, aside_taken, aside_by, tracked_aside_of}
@@ -35,7 +36,7 @@ use Rattle.esr_core.proofs.Blocked.{block_leaves}
 use Rattle.esr_core.proofs.Naming.{named_left, named_root, named_within, new_asked, new_cloned}
 use Rattle.esr_core.proofs.Tracking.{Follows, tracked_aside, tracked_ticket, tracked_new, tracked_drawn, tracked_elect, tracked_planned, tracked_failed}
 use Rattle.esr_core.proofs.TrackingOps.{goes_not_stopped, final_apart, tracked_came, tracked_left}
-use Rattle.esr_core.proofs.TrackingDeletes.{tracked_delete}
+use Rattle.esr_core.proofs.TrackingDeletes.{tracked_delete, tracked_cleanup}
 use Rattle.esr_core.proofs.TrackingGiven.{tracked_given}
 use Rattle.esr_core.proofs.Plans.{plan_within}
 use Rattle.esr_core.proofs.TrackingEnds.{GoesOnPast, tracked_went}
@@ -51,15 +52,19 @@ falls w up l u false blobs = tracked_aside w l blobs w.safe w.pending w.complete
 
 -- a ticket that goes on with its own work
 quiet : (t : Ticket) (noted : List BlobName) (wrote read : List (BlobName × Bytes)) (raised : Option ℕ) (tried : Bool) (first drawn : ℕ) → Follows t (record t { noted = noted; wrote = wrote; read = read; raised = raised; tried_latest = tried; first = first; drawn = drawn })
-quiet t noted wrote read raised tried first drawn = record { work = refl; op = refl; uuid = refl; place = refl; name = refl; source = refl; term = refl; root = refl; out = λ e. e; settled = λ e. e; shard = λ s e. e }
+quiet t noted wrote read raised tried first drawn = record { work = refl; op = refl; uuid = refl; place = refl; name = refl; source = refl; term = refl; root = refl; clean = refl; out = λ e. e; settled = λ e. e; shard = λ s e. e }
 
 -- one that ends, of no shard
 ended : (t : Ticket) → (IsShard t.work → ⊥) → Follows t (record t { out = false })
-ended t other = record { work = refl; op = refl; uuid = refl; place = refl; name = refl; source = refl; term = refl; root = refl; out = λ e. absurd (true≢false (sym e)); settled = λ e. e; shard = λ s e. absurd (other s) }
+ended t other = record { work = refl; op = refl; uuid = refl; place = refl; name = refl; source = refl; term = refl; root = refl; clean = refl; out = λ e. absurd (true≢false (sym e)); settled = λ e. e; shard = λ s e. absurd (other s) }
 
 -- one that settles
 settles : (t : Ticket) → Follows t (record t { settled = true })
-settles t = record { work = refl; op = refl; uuid = refl; place = refl; name = refl; source = refl; term = refl; root = refl; out = λ e. e; settled = λ e. absurd (true≢false e); shard = λ s e. e }
+settles t = record { work = refl; op = refl; uuid = refl; place = refl; name = refl; source = refl; term = refl; root = refl; clean = refl; out = λ e. e; settled = λ e. absurd (true≢false e); shard = λ s e. e }
+
+-- one that has listed a page more
+lists_page : (t : Ticket) (page : List BlobSize) → Follows t (listing t page)
+lists_page t page = record { work = refl; op = refl; uuid = refl; place = refl; name = refl; source = refl; term = refl; root = refl; clean = refl; out = λ e. e; settled = λ e. e; shard = λ s e. e }
 
 shard_of : (work : Work) → IsShard work → (i : ℕ) × (n : ℕ) × (work ≡ Shard i n)
 shard_of (Shard i n) h = (i, n, refl)
@@ -123,6 +128,8 @@ module _ (f : Formats) (size : ℕ) (w : World) (l : Tracked w) where
       })
       (λ h. absurd h)
       (λ uuids plan e. absurd (drop_delete uuids plan e))
+      (λ uuids plan e. absurd (drop_delete uuids plan e))
+      (λ c. absurd (true≢false (sym c)))
 
   gives : (o : ℕ) (unit : Given) → Gives f w o unit → Tracked (taken_by f w o unit (fin.get w.ops o))
   gives o (GivenClone index number source base) g =
@@ -136,11 +143,36 @@ module _ (f : Formats) (size : ℕ) (w : World) (l : Tracked w) where
           (λ e. absurd (delete_drop uuids None e))
           (λ h k s. g.1.no_swap k s)
           (λ us plan e. record { x = g.0; there = g.1.there; unfailed = g.1.unfailed; root_is = refl; planned = λ s is. absurd (no_plan uuids us plan s e is) })
+          (λ us plan e. record {
+            x = g.0;
+            there = g.1.there;
+            unfailed = g.1.unfailed;
+            mode = g.1.deletes;
+            alone = λ c. absurd (true≢false (sym c));
+            aside = λ k t at out pres c same.
+                let h = l.deletions.cleaning k t at out pres c in
+                true≢false (sym h.cleans ∙ ap (λ (y : Deletion). y.clean) (some_same _ _ (sym h.there ∙ ap (fin.get w.deletes) same ∙ g.1.there)) ∙ g.1.deletes);
+          })
+          (λ c. absurd (true≢false (sym c)))
 
       deleting : (found : Option Op) → Tracked (taken_by f w o (GivenDelete uuids) found)
       deleting None = given
       deleting (Some op) = given
-  gives o GivenCleanup g = absurd g
+  gives o GivenCleanup g = cleaning (fin.get w.ops o)
+    where
+      given : Tracked (record w { tickets = fin.insert w.tickets w.next_ticket (cleaning_ticket w o); next_ticket = suc w.next_ticket })
+      given =
+          tracked_new w l (cleaning_ticket w o) (omega arith) (omega arith) (l.delete_numbers o g.0 g.1.there) (λ h. h)
+          (λ info rs made e. absurd (delete_final [] None info rs made e))
+          (λ e. absurd (delete_drop [] None e))
+          (λ h k s. g.1.no_ticket k s.t s.there s.out)
+          (λ us plan e. record { x = g.0; there = g.1.there; unfailed = g.1.unfailed; root_is = refl; planned = λ s is. absurd (no_plan [] us plan s e is) })
+          (λ us plan e. record { x = g.0; there = g.1.there; unfailed = g.1.unfailed; mode = g.1.cleans; alone = λ c k t at out. g.1.no_ticket k t at out; aside = λ k t at out. absurd (g.1.no_ticket k t at out) })
+          (λ c. ([], None, refl))
+
+      cleaning : (found : Option Op) → Tracked (taken_by f w o GivenCleanup found)
+      cleaning None = given
+      cleaning (Some op) = given
   gives o (GivenRestore index number uuid) g = tracked_aside_of w _ (aside_taken w o index number (fin.get w.restores o)) l
   gives o (GivenShard index number base) g =
       subst (λ x. Tracked (taken_by f w o (GivenShard index number base) x)) (sym g.ready.op_there) (subst (λ x. Tracked (taken_shard w o g.op base x)) (sym g.found) (tracked_given w l o g.op g.s base g.ready))
@@ -160,7 +192,9 @@ module _ (f : Formats) (size : ℕ) (w : World) (l : Tracked w) where
       })
       (λ e. absurd (final_drop (info_of g.op results) results (made_of f g.op) e))
       (λ h k s. g.ready.no_swap k s)
-      (λ uuids plan e. absurd (final_delete (info_of g.op results) results (made_of f g.op) uuids plan e)))
+      (λ uuids plan e. absurd (final_delete (info_of g.op results) results (made_of f g.op) uuids plan e))
+      (λ uuids plan e. absurd (final_delete (info_of g.op results) results (made_of f g.op) uuids plan e))
+      (λ c. absurd (true≢false (sym c))))
   gives o GivenDrop g = dropping (fin.get w.ops o)
     where
       dropping : (found : Option Op) → Tracked (taken_by f w o GivenDrop found)
@@ -283,10 +317,16 @@ module _ (f : Formats) (size : ℕ) (w : World) (l : Tracked w) where
       let v : World = record w { tickets = fin.insert w.tickets k (record s.t { settled = true }) } in
       let x : World = record v { root = s.s.root; ops = fin.remove w.ops s.t.op; deletes = fin.remove w.deletes s.t.op } in
       subst Tracked (sym (settled_plain f w k s))
-      (tracked_aside x (tracked_left v (tracked_ticket w l k s.t (record s.t { settled = true }) s.may.out.there (settles s.t) (drew k s.t s.may.out.there)) s.t.op s.s.root named shards finals others) w.blobs (suc s.n) w.pending w.completed w.doomed w.deposed)
+      (tracked_aside x (tracked_left v (tracked_ticket w l k s.t (record s.t { settled = true }) s.may.out.there (settles s.t) (drew k s.t s.may.out.there)) s.t.op s.s.root named shards finals others (fin.remove w.deletes s.t.op) (λ d x e. (left_in w.deletes s.t.op d x e).1) (stays_in w.deletes s.t.op) cleans) w.blobs (suc s.n) w.pending w.completed w.doomed w.deposed)
     where
       it : FinalTracked w.root w.ops s.t s.info s.results
       it = l.finals k s.t s.info s.results s.made s.may.out.there s.may.out.out s.may.unsettled s.present s.work
+
+      -- no cleanup's ticket has its op, which is of a snapshot
+      cleans : (j : ℕ) (u : Ticket) → fin.get (fin.insert w.tickets k (record s.t { settled = true })) j ≡ Some u → u.out ≡ true → u.term ≡ w.term → u.clean ≡ true → fin.get (fin.remove w.deletes s.t.op) u.op ≡ fin.get w.deletes u.op
+      cleans j u e out pres clean =
+          let h = (tracked_ticket w l k s.t (record s.t { settled = true }) s.may.out.there (settles s.t) (drew k s.t s.may.out.there)).deletions.cleaning j u e out pres clean in
+          stays_in w.deletes s.t.op u.op (λ same. l.apart u.op it.op h.x (ap (fin.get w.ops) same ∙ it.op_there) h.there)
 
       root_is : s.s.root ≡ finalized_root w.root (info_of it.op s.results) s.results
       root_is = sym (ap (λ (y : Swap). y.root) (some_same _ _ (sym (ap (λ y. swap_of f y s.t.root) s.work) ∙ s.may.is))) ∙ (λ j. finalized_root (it.root_is j) (it.info_is j) s.results)
@@ -319,31 +359,68 @@ module _ (f : Formats) (size : ℕ) (w : World) (l : Tracked w) where
             (record { t = s.t; there = s.may.out.there; out = s.may.out.out; unsettled = s.may.unsettled; present = s.present; swaps = subst IsMaster (sym s.work) tt })))
       ]
 
-  drops_step : (k : ℕ) → Drops w k → Tracked (dropped_of w k (fin.get w.tickets k))
-  drops_step k d =
+  drops_step : (k : ℕ) (image : Option Image) → Drops f w k image → Tracked (dropped_of w k (fin.get w.tickets k))
+  drops_step k image d =
       let v : World = record w { tickets = fin.insert w.tickets k (record d.may.t { out = false }) } in
       subst (λ x. Tracked (dropped_of w k x)) (sym d.may.out.there)
-      (tracked_left v (tracked_ticket w l k d.may.t (record d.may.t { out = false }) d.may.out.there (ended d.may.t (λ h. subst IsShard d.may.work h)) (drew k d.may.t d.may.out.there)) d.may.t.op w.root (named_left w.root w.ops w.next_id d.may.t.op l.named) shards finals others)
+      (tracked_left v now d.may.t.op w.root (named_left w.root w.ops w.next_id d.may.t.op l.named) shards finals others (fin.remove w.deletes d.may.t.op) (λ e x h. (left_in w.deletes d.may.t.op e x h).1) (stays_in w.deletes d.may.t.op) cleans)
     where
-      out_was : (j : ℕ) (u : Ticket) → fin.get (fin.insert w.tickets k (record d.may.t { out = false })) j ≡ Some u → u.out ≡ true → fin.get w.tickets j ≡ Some u
-      out_was j u e out = elim (was_in w.tickets k (record d.may.t { out = false }) j u e) [ inl h ↦ absurd (true≢false (sym out ∙ ap (λ (y : Ticket). y.out) (sym h.1))) | inr h ↦ h.1 ]
+      no_shard_of : IsShard d.may.t.work → ⊥
+      no_shard_of shard = elim d.may.unit [ inl drop ↦ subst IsShard drop shard | inr c ↦ subst IsShard c.work shard ]
+
+      now : Tracked (record w { tickets = fin.insert w.tickets k (record d.may.t { out = false }) })
+      now = tracked_ticket w l k d.may.t (record d.may.t { out = false }) d.may.out.there (ended d.may.t no_shard_of) (drew k d.may.t d.may.out.there)
+
+      out_was : (j : ℕ) (u : Ticket) → fin.get (fin.insert w.tickets k (record d.may.t { out = false })) j ≡ Some u → u.out ≡ true → (j ≢ k) × (fin.get w.tickets j ≡ Some u)
+      out_was j u e out = elim (was_in w.tickets k (record d.may.t { out = false }) j u e) [ inl h ↦ absurd (true≢false (sym out ∙ ap (λ (y : Ticket). y.out) (sym h.1))) | inr h ↦ h ]
+
+      -- where an op of snapshots of this number goes, it is stopped; beside a cleanup there is none
+      stopped : (op : Op) → Goes op → fin.get w.ops d.may.t.op ≡ Some op → ⊥
+      stopped op goes there = elim d.may.unit [
+        | inl drop ↦ goes_not_stopped op goes ((l.drops k d.may.t d.may.out.there d.may.out.out d.present drop).stopped op there)
+        | inr c ↦ let (x, at, clean) = c.open_op d.present in l.apart d.may.t.op op x there at
+      ]
 
       shards : (j : ℕ) (u : Ticket) → fin.get (fin.insert w.tickets k (record d.may.t { out = false })) j ≡ Some u → u.out ≡ true → IsShard u.work → u.op ≢ d.may.t.op
-      shards j u e out shard = (l.drops k d.may.t d.may.out.there d.may.out.out d.present d.may.work).idle j u (out_was j u e out) out shard
+      shards j u e out shard same = elim d.may.unit [
+        | inl drop ↦ (l.drops k d.may.t d.may.out.there d.may.out.out d.present drop).idle j u (out_was j u e out).1 out shard same
+        | inr c ↦
+            let (i, n, work) = shard_of u.work shard in
+            let y = l.shards j u i n (out_was j u e out).1 out work in
+            let (x, at, clean) = c.open_op d.present in
+            l.apart d.may.t.op y.op x (ap (fin.get w.ops) (sym same) ∙ y.op_there) at
+      ]
 
       finals : (j : ℕ) (u : Ticket) (info : SnapInfo) (results : List ShardResult) (made : Command) → fin.get (fin.insert w.tickets k (record d.may.t { out = false })) j ≡ Some u → u.out ≡ true → u.settled ≡ false → u.term ≡ w.term → u.work ≡ Finalize info results made
           → (u.op ≢ d.may.t.op) × (w.root ≡ w.root)
       finals j u info results made e out uns pres is =
-          let y = l.finals j u info results made (out_was j u e out) out uns pres is in
-          let x = l.drops k d.may.t d.may.out.there d.may.out.out d.present d.may.work in
-          ((λ same. goes_not_stopped y.op y.goes (x.stopped y.op (ap (fin.get w.ops) (sym same) ∙ y.op_there))), refl)
+          let y = l.finals j u info results made (out_was j u e out).1 out uns pres is in
+          ((λ same. stopped y.op y.goes (ap (fin.get w.ops) (sym same) ∙ y.op_there)), refl)
 
       others : (j : ℕ) (u : Ticket) (uuids : List ℕ) (plan : Option Swap) → fin.get (fin.insert w.tickets k (record d.may.t { out = false })) j ≡ Some u → u.out ≡ true → u.settled ≡ false → u.term ≡ w.term → u.work ≡ Deleting uuids plan
           → (u.op ≢ d.may.t.op) × (w.root ≡ w.root)
       others j u uuids plan e out uns pres is =
-          let y = l.deleting j u uuids plan (out_was j u e out) out uns pres is in
-          let x = l.drops k d.may.t d.may.out.there d.may.out.out d.present d.may.work in
-          ((λ same. true≢false (sym (x.failed y.x (ap (fin.get w.deletes) (sym same) ∙ y.there)) ∙ y.unfailed)), refl)
+          let was = out_was j u e out in
+          let y = l.deleting j u uuids plan was.1 out uns pres is in (
+            (λ same. elim d.may.unit [
+              | inl drop ↦
+                  let x = l.drops k d.may.t d.may.out.there d.may.out.out d.present drop in
+                  true≢false (sym (x.failed y.x (ap (fin.get w.deletes) (sym same) ∙ y.there)) ∙ y.unfailed)
+              | inr c ↦ was.0 ((l.deletions.cleaning k d.may.t d.may.out.there d.may.out.out d.present c.clean).alone j u uuids plan was.1 out pres is same)
+            ]),
+            refl,
+          )
+
+      cleans : (j : ℕ) (u : Ticket) → fin.get (fin.insert w.tickets k (record d.may.t { out = false })) j ≡ Some u → u.out ≡ true → u.term ≡ w.term → u.clean ≡ true → fin.get (fin.remove w.deletes d.may.t.op) u.op ≡ fin.get w.deletes u.op
+      cleans j u e out pres clean =
+          let was = out_was j u e out in
+          let h = l.deletions.cleaning j u was.1 out pres clean in
+          stays_in w.deletes d.may.t.op u.op (λ same. elim d.may.unit [
+            | inl drop ↦
+                let x = l.drops k d.may.t d.may.out.there d.may.out.out d.present drop in
+                true≢false (sym (x.failed h.x (ap (fin.get w.deletes) (sym same) ∙ h.there)) ∙ h.unfailed)
+            | inr c ↦ was.0 (sym (h.alone k d.may.t c.uuids (Some c.s) d.may.out.there d.may.out.out d.present c.work (sym same)))
+          ])
 
   -- ---- steps of a delete's ticket
 
@@ -352,9 +429,9 @@ module _ (f : Formats) (size : ℕ) (w : World) (l : Tracked w) where
       let drawn : World = record w { next_id = w.next_id + kept_count shards } in
       subst (λ (o : Option Ticket). Tracked (record (with_given w k (planned f shards w.next_id) o) { next_id = w.next_id + kept_count shards })) (sym p.deleting.out.there)
       (subst (λ (x : Work). Tracked (record drawn { tickets = fin.insert w.tickets k (record p.t { first = w.next_id; drawn = kept_count shards; work = planned_work f p.t shards w.next_id x }) })) (sym p.deleting.work)
-      (tracked_planned drawn (tracked_drawn w l (kept_count shards) fits) k p.t p.deleting.out.there p.uuids None (Some (delete_swap f p.t.root p.t.read p.uuids shards w.next_id)) p.deleting.work w.next_id (kept_count shards) (omega arith) within))
+      (tracked_planned drawn (tracked_drawn w l (kept_count shards) fits) k p.t p.deleting.out.there p.uuids None (Some (delete_swap f p.t.clean p.t.root p.t.read p.uuids shards w.next_id)) p.deleting.work w.next_id (kept_count shards) (omega arith) within))
     where
-      within : p.t.out ≡ true → p.t.settled ≡ false → p.t.term ≡ w.term → (s : Swap) → ◌≡◌ {A = Option Swap} (Some (delete_swap f p.t.root p.t.read p.uuids shards w.next_id)) (Some s) → IsWithin w.root s.root (w.next_id + kept_count shards)
+      within : p.t.out ≡ true → p.t.settled ≡ false → p.t.term ≡ w.term → (s : Swap) → ◌≡◌ {A = Option Swap} (Some (delete_swap f p.t.clean p.t.root p.t.read p.uuids shards w.next_id)) (Some s) → IsWithin w.root s.root (w.next_id + kept_count shards)
       within out uns pres s is =
           let root_is : p.t.root ≡ w.root = (l.deleting k p.t p.uuids None p.deleting.out.there out uns pres p.deleting.work).root_is in
           let ids : RootIds p.t.root w.next_id = subst (λ (r : RootData). RootIds r w.next_id) (sym root_is) l.named.root_below in
@@ -364,10 +441,26 @@ module _ (f : Formats) (size : ℕ) (w : World) (l : Tracked w) where
   deletion_settles : (k : ℕ) (s : SettlesDeletion f w k) → s.t.term ≡ w.term → Tracked (delete_settled f w k (fin.get w.tickets k))
   deletion_settles k s present =
       let v : World = record w { tickets = fin.insert w.tickets k (record s.t { settled = true }) } in
-      let x : World = record v { root = s.s.root; ops = fin.remove w.ops s.t.op; deletes = fin.remove w.deletes s.t.op } in
+      let x : World = record v { root = s.s.root; ops = fin.remove w.ops s.t.op; deletes = deletes_left w s.t } in
       subst Tracked (sym (delete_settled_plain f w k s.n s.t s.s s.may))
-      (tracked_aside x (tracked_left v (tracked_ticket w l k s.t (record s.t { settled = true }) s.may.out.there (settles s.t) (drew k s.t s.may.out.there)) s.t.op s.s.root named shards finals others) w.blobs (suc s.n) w.pending w.completed (dooms f s.t ++ w.doomed) w.deposed)
+      (tracked_aside x (tracked_left v (tracked_ticket w l k s.t (record s.t { settled = true }) s.may.out.there (settles s.t) (drew k s.t s.may.out.there)) s.t.op s.s.root named shards finals others (deletes_left w s.t) (left_less s.t.clean) (left_more s.t.clean) (λ j u e out pres clean. cleans s.t.clean refl j u e out pres clean)) w.blobs (suc s.n) w.pending w.completed (dooms f s.t ++ w.doomed) w.deposed)
     where
+      left_less : (b : Bool) (d : ℕ) (x : Deletion) → fin.get (if b then w.deletes else fin.remove w.deletes s.t.op) d ≡ Some x → fin.get w.deletes d ≡ Some x
+      left_less true d x e = e
+      left_less false d x e = (left_in w.deletes s.t.op d x e).1
+
+      left_more : (b : Bool) (d : ℕ) → d ≢ s.t.op → fin.get (if b then w.deletes else fin.remove w.deletes s.t.op) d ≡ fin.get w.deletes d
+      left_more true d away = refl
+      left_more false d away = stays_in w.deletes s.t.op d away
+
+      -- the op of a cleanup stays, and no cleanup's ticket has that of a delete
+      cleans : (b : Bool) → s.t.clean ≡ b → (j : ℕ) (u : Ticket) → fin.get (fin.insert w.tickets k (record s.t { settled = true })) j ≡ Some u → u.out ≡ true → u.term ≡ w.term → u.clean ≡ true
+          → fin.get (if b then w.deletes else fin.remove w.deletes s.t.op) u.op ≡ fin.get w.deletes u.op
+      cleans true is j u e out pres clean = refl
+      cleans false is j u e out pres clean =
+          let h = (tracked_ticket w l k s.t (record s.t { settled = true }) s.may.out.there (settles s.t) (drew k s.t s.may.out.there)).deletions.cleaning j u e out pres clean in
+          stays_in w.deletes s.t.op u.op (λ same. true≢false (sym h.cleans ∙ l.deletions.modes k s.t s.uuids (Some s.s) s.may.out.there s.deleting.work h.x (ap (fin.get w.deletes) (sym same) ∙ h.there) ∙ is))
+
       it : DeleteTracked w.root w.deletes w.next_id s.t (Some s.s)
       it = l.deleting k s.t s.uuids (Some s.s) s.may.out.there s.may.out.out s.may.unsettled present s.deleting.work
 
@@ -421,16 +514,31 @@ module _ (f : Formats) (size : ℕ) (w : World) (l : Tracked w) where
       alone : c.t.term ≡ w.term → (j : ℕ) (u : Ticket) (uuids : List ℕ) (plan : Option Swap) → fin.get (fin.insert w.tickets k (record c.t { out = false })) j ≡ Some u → u.out ≡ true → u.settled ≡ false → u.term ≡ w.term → u.work ≡ Deleting uuids plan → u.op ≡ c.t.op → ⊥
       alone present j u uuids plan e out uns pres is same = elim (was_in w.tickets k (record c.t { out = false }) j u e) [
         | inl h ↦ true≢false (sym out ∙ ap (λ (y : Ticket). y.out) (sym h.1))
-        | inr h ↦ h.0 (l.one_swap j k (record { t = u; there = h.1; out = out; unsettled = uns; present = pres; swaps = subst IsMaster (sym is) tt })
-            (record { t = c.t; there = c.deleting.out.there; out = c.deleting.out.out; unsettled = c.unsettled; present = present; swaps = master }))
+        | inr h ↦ elim c.may [
+          | inl own ↦ h.0 (l.one_swap j k (record { t = u; there = h.1; out = out; unsettled = uns; present = pres; swaps = subst IsMaster (sym is) tt })
+              (record { t = c.t; there = c.deleting.out.there; out = c.deleting.out.out; unsettled = own; present = present; swaps = master }))
+          | inr own ↦ h.0 ((l.deletions.cleaning k c.t c.deleting.out.there c.deleting.out.out present own.0).alone j u uuids plan h.1 out pres is same)
+        ]
+      ]
+
+      no_clean : c.t.term ≡ w.term → (j : ℕ) (u : Ticket) → fin.get (fin.insert w.tickets k (record c.t { out = false })) j ≡ Some u → u.out ≡ true → u.term ≡ w.term → u.clean ≡ true → u.op ≢ c.t.op
+      no_clean present j u e out pres clean same = elim (was_in w.tickets k (record c.t { out = false }) j u e) [
+        | inl h ↦ true≢false (sym out ∙ ap (λ (y : Ticket). y.out) (sym h.1))
+        | inr h ↦ h.0 (sym ((l.deletions.cleaning j u h.1 out pres clean).alone k c.t c.uuids c.plan c.deleting.out.there c.deleting.out.out present c.deleting.work (sym same)))
+      ]
+
+      op_of : c.t.term ≡ w.term → (x : Deletion) × (fin.get w.deletes c.t.op ≡ Some x)
+      op_of present = elim c.may [
+        | inl own ↦ let it = l.deleting k c.t c.uuids c.plan c.deleting.out.there c.deleting.out.out own present c.deleting.work in (it.x, it.there)
+        | inr own ↦ own.1 present
       ]
 
       failing : c.t.term ≡ w.term → Tracked (delete_failed_by w k c.t (fin.get w.deletes c.t.op))
       failing present =
-          let it = l.deleting k c.t c.uuids c.plan c.deleting.out.there c.deleting.out.out c.unsettled present c.deleting.work in
+          let (x, at) = op_of present in
           let v : World = record w { tickets = fin.insert w.tickets k (record c.t { out = false }) } in
-          subst (λ x. Tracked (delete_failed_by w k c.t x)) (sym it.there)
-          (tracked_failed v (deletion_ends k c.t c.uuids c.plan c.deleting.out.there c.deleting.work) c.t.op it.x it.there (alone present))
+          subst (λ o. Tracked (delete_failed_by w k c.t o)) (sym at)
+          (tracked_failed v (deletion_ends k c.t c.uuids c.plan c.deleting.out.there c.deleting.work) c.t.op x at (alone present) (no_clean present))
 
   prunes : (k : ℕ) (prune : Prune) (reply : Reply) (image : Option Image) → PruneAllows f w k prune reply image → Tracked (stepped f w (moment k (PruneStep prune) reply image))
   prunes who prune reply image (FetchingShard k name im g found) = kept _ (fetches k g.t g.deleting.out.there name (told_blob f im name)) (blobs_in im w.blobs)
@@ -467,6 +575,14 @@ module _ (f : Formats) (size : ℕ) (w : World) (l : Tracked w) where
   asks_delete names reply image (RestoreStands o clear named no_clone lowest) = kept w l (blobs_in image w.blobs)
   asks_delete names reply image (FullOfOps may new full) = kept w l (blobs_in image w.blobs)
   asks_delete names reply image (DeleteFault acc) = falls w _ l (tracked_delete w l names) _ (blobs_in image w.blobs)
+
+  -- ---- a cleanup that is asked
+
+  asks_cleanup : (reply : Reply) (image : Option Image) → CleanupAllows w reply → Tracked (stepped f w (moment 0 (AskStep Cleanup) reply image))
+  asks_cleanup reply image (OpeningCleanup acc) = kept _ (tracked_cleanup w l) (blobs_in image w.blobs)
+  asks_cleanup reply image (OpStands o clear lowest) = kept w l (blobs_in image w.blobs)
+  asks_cleanup reply image (TicketStands j none lowest) = kept w l (blobs_in image w.blobs)
+  asks_cleanup reply image (CleanupFault acc) = falls w _ l (tracked_cleanup w l) _ (blobs_in image w.blobs)
 
   -- ---- restores and reading
 
@@ -520,18 +636,19 @@ module _ (f : Formats) (size : ℕ) (w : World) (l : Tracked w) where
   tracked_by who step reply image (allowed.Replacing k im c named puts) = kept _ (tries k c.t c.out.there) (blobs_in im w.blobs)
   tracked_by who step reply image (allowed.Fetching k name im g found) = kept _ (fetches k g.t g.out.there name (told_blob f im name)) (blobs_in im w.blobs)
   tracked_by who step reply image (allowed.Missing k name im g found) = kept w l (blobs_in im w.blobs)
-  tracked_by who step reply image (allowed.Listing k im t out same) = kept w l (blobs_in im w.blobs)
+  tracked_by who step reply image (allowed.Listing k from page im g shape here) = kept _ (changed k g.t g.out.there (λ (t : Ticket). listing t page) (lists_page g.t page) (drew k g.t g.out.there)) (blobs_in im w.blobs)
   tracked_by who step reply image (allowed.Raising k n im r same) = kept _ (raises k r.may.t r.may.out.there) (blobs_in im w.blobs)
   tracked_by who step reply image (allowed.Settling k im s same) = kept _ (settles_step k s) (blobs_in im w.blobs)
   tracked_by who step reply image (allowed.Doing k r im d same) = kept _ (does k r im d) (blobs_in im w.blobs)
   tracked_by who step reply image (allowed.Failing k why im c same) = kept _ (fails_step k c) (blobs_in im w.blobs)
   tracked_by who step reply image (allowed.Finishing k im c same) = kept _ (changed k c.t c.out.there (λ (t : Ticket). record t { out = false }) (ended c.t c.no_shard) (drew k c.t c.out.there)) (blobs_in im w.blobs)
-  tracked_by who step reply image (allowed.Dropping k im c same) = kept _ (drops_step k c) (blobs_in im w.blobs)
+  tracked_by who step reply image (allowed.Dropping k im c same) = kept _ (drops_step k im c) (blobs_in im w.blobs)
   tracked_by who step reply image (allowed.Electing im room same) = kept _ (tracked_elect w l) (blobs_in im w.blobs)
   tracked_by who step reply image (allowed.Looking im same) = kept w l (blobs_in im w.blobs)
   tracked_by who step reply image (allowed.AskingRestore name place rep im h same) = kept _ (asks_restore name place rep im h) (blobs_in im w.blobs)
   tracked_by who step reply image (allowed.AskingClone source name names time taken rep im h same) = asks_clone source name names time taken rep im h
   tracked_by who step reply image (allowed.AskingDelete names rep im h same) = asks_delete names rep im h
+  tracked_by who step reply image (allowed.AskingCleanup rep im h same) = asks_cleanup rep im h
   tracked_by who step reply image (allowed.Reading k read rep im h same) = kept _ (reads k read rep im h) (blobs_in im w.blobs)
   tracked_by who step reply image (allowed.Pruning k prune rep im h) = prunes k prune rep im h
   tracked_by who step reply image (allowed.Verifying read rep im h) = kept _ (verifies read rep im h) (blobs_in im w.blobs)
@@ -551,11 +668,11 @@ module _ (f : Formats) (size : ℕ) (w : World) (l : Tracked w) where
   tracked_by who step reply image (allowed.CommitFails k name im c leaves) = kept w l (blobs_in im w.blobs)
   tracked_by who step reply image (allowed.ReplaceFails k im c named puts) = kept _ (tries k c.t c.out.there) (blobs_in im w.blobs)
   tracked_by who step reply image (allowed.FetchFails k name im g same) = kept w l (blobs_in im w.blobs)
-  tracked_by who step reply image (allowed.ListFails k im t out same) = kept w l (blobs_in im w.blobs)
+  tracked_by who step reply image (allowed.ListFails k from im g same) = kept w l (blobs_in im w.blobs)
   tracked_by who step reply image (allowed.AskFails name indices time im acc same) = falls w _ l (asks name indices time w.next_op acc) _ (blobs_in im w.blobs)
   tracked_by who step reply image (allowed.RaiseFails k im r same) = falls w _ l (raises k r.may.t r.may.out.there) _ (blobs_in im w.blobs)
   tracked_by who step reply image (allowed.SettleFails k im s same) = falls w _ l (settles_step k s) _ (blobs_in im w.blobs)
-  tracked_by who step reply image (allowed.DropFails k im c same) = falls w _ l (drops_step k c) _ (blobs_in im w.blobs)
+  tracked_by who step reply image (allowed.DropFails k im c same) = falls w _ l (drops_step k im c) _ (blobs_in im w.blobs)
   tracked_by who step reply image (allowed.ElectFails im room same) = falls w _ l (tracked_elect w l) _ (blobs_in im w.blobs)
 
 pub tracked_step : (f : Formats) (size : ℕ) (w : World) (m : Moment) → Tracked w → Allowed f size w m → Tracked (after f w m)
@@ -586,6 +703,7 @@ tracked_opened blobs cluster root ids one =
       finals = λ k t info rs made e. absurd (nothing k t e);
       drops = λ k t e. absurd (nothing k t e);
       deleting = λ k t uuids plan e. absurd (nothing k t e);
+      deletions = record { modes = λ k t uuids plan e. absurd (nothing k t e); cleaning = λ k t e. absurd (nothing k t e) };
       one_swap = λ i j a. absurd (nothing i a.t a.there);
       named = record {
         unlisted = λ o op s e. absurd (nothing o op e);

@@ -5,18 +5,20 @@ use Rattle.std.specs.FinMap as fin
 use Rattle.esr_model.specs.Names.{BlobName}
 use Rattle.esr_model.specs.Values.{Formats, ShardResult}
 use Rattle.esr_model.specs.Shelf.{Shelved, shelf_after}
+use Rattle.esr_model.specs.Cleanup.{BlobSize}
 use Rattle.esr_model.specs.Image.{Has}
 use Rattle.esr_core.specs.World.{World, Op, ShardWork, Done, Ticket, AllDone, marked}
 use Rattle.esr_core.specs.Ready.{IsMaster, IsShard}
-use Rattle.esr_core.specs.Steps.{CommitDone, CommitFault, Raise, TriesLatest, FetchFound, reading, noting, CommitExists, DoneShard, Ends, Elect, Remove, writing, completing}
+use Rattle.esr_core.specs.Steps.{CommitDone, CommitFault, Raise, TriesLatest, FetchFound, reading, listing, ListMore, noting, CommitExists, DoneShard, Ends, Elect, Remove, writing, completing}
 use Rattle.esr_core.specs.Queue.{Queue, QueueIn, Lawful}
-use Rattle.esr_core.specs.Turns.{Turn, Stays, Commits, CommitFails, Finds, Raises, Latests, Fetches, SettlesFinal, SettlesDelete, Elects, TakesShard, TakesFinal, TakesDrop, TakesDelete, TakesCleanup, AsksCleanup, CleanDrops, DrawsShard, DrawsPlan, Dones, Ending, Fails, FailsDelete, Drops, AsksCreate, AsksDelete, Merges, Removing, Deposes, commands_of, Besides, Tests}
+use Rattle.esr_core.specs.Turns.{Turn, Stays, Commits, CommitFails, Finds, Raises, Latests, Fetches, SettlesFinal, SettlesDelete, Elects, TakesShard, TakesFinal, TakesDrop, TakesDelete, TakesCleanup, AsksCleanup, CleanDrops, DrawsShard, DrawsPlan, Dones, Ending, Fails, FailsDelete, Drops, AsksCreate, AsksDelete, Merges, Removing, Pages, Deposes, commands_of, Besides, Tests}
 use Rattle.esr_core.proofs.Law.{raise_law, commit_law, commit_fault_law, latest_sound, fetch_sound, finish_sound, done_sound, elect_law, deposed_same}
 use Rattle.esr_core.proofs.Besides.{aside_of, lawful_aside}
 use Rattle.esr_core.proofs.Testing.{tests_lawful}
 use Rattle.esr_core.proofs.Removes.{remove_sound}
 use Rattle.esr_core.proofs.Queues.{Like, Evolves, was_in, queue_ticket, queue_ops, queued_back, queue_elect}
 use Rattle.esr_core.proofs.Evolving.{marked_grows, marked_outs, evolve_map, one_back, one_forth, one_outs, outs_map, completing_has, completing_more, completing_was, results_of, all_done_on, marked_leaves}
+use Rattle.esr_core.proofs.Paging.{page_sound}
 use Rattle.esr_core.proofs.Taking.{shard_lawful, final_lawful, drop_lawful, delete_lawful, cleanup_lawful}
 use Rattle.esr_core.proofs.Leaving.{dropped_lawful, clean_dropped_lawful, like_ended}
 use Rattle.esr_core.proofs.Settling.{settle_final_lawful, settle_delete_lawful}
@@ -35,8 +37,8 @@ use Rattle.esr_core.proofs.DeletionLaws.{turn_pruned}
 
 module _ (f : Formats) (w : World) (shelf : List Shelved) (l : Lawful f w shelf) where
   -- a ticket that the queue sees as it was
-  seen_same : (k : ℕ) (t v : Ticket) → fin.get w.tickets k ≡ Some t → Like t v → v.work ≡ t.work → v.root ≡ t.root → Queue w.term w.root w.ops w.deletes w.completed w.next_op (fin.insert w.tickets k v)
-  seen_same k t v there like work root =
+  seen_same : (k : ℕ) (t v : Ticket) → fin.get w.tickets k ≡ Some t → Like t v → v.work ≡ t.work → v.root ≡ t.root → v.clean ≡ t.clean → Queue w.term w.root w.ops w.deletes w.completed w.next_op (fin.insert w.tickets k v)
+  seen_same k t v there like work root clean =
       queue_ticket w.term w.tickets k t v there like w.root w.ops w.deletes w.completed w.next_op
       (λ out uns pres uuids plan is.
       let h = l.queue.deleting k t there (like.out out) (like.settled uns) (sym like.term ∙ pres) uuids plan (sym work ∙ is) in
@@ -47,7 +49,7 @@ module _ (f : Formats) (w : World) (shelf : List Shelved) (l : Lawful f w shelf)
         first = λ p q lt e. h.first p q (subst (λ x. p < x) like.op lt) e;
         root_is = root ∙ h.root_is;
         planned = h.planned;
-        named = λ u p e. h.named u p (sym work ∙ e);
+        named = λ c u p e. h.named (sym clean ∙ c) u p (sym work ∙ e);
         keeps = h.keeps;
       }) l.queue
 
@@ -64,7 +66,7 @@ module _ (f : Formats) (w : World) (shelf : List Shelved) (l : Lawful f w shelf)
       }
 
   commit_lawful : (k : ℕ) (name : BlobName) (new : World) → CommitDone f w k name new → Lawful f new shelf
-  commit_lawful k name new c = record { sound = commit_law f w shelf l.sound k name new c; queue = subst QueueIn (sym c.new_is) (seen_same k c.t (writing c.t name c.bytes) c.out.there (like_of c.t (writing c.t name c.bytes) refl refl refl refl refl) refl refl) }
+  commit_lawful k name new c = record { sound = commit_law f w shelf l.sound k name new c; queue = subst QueueIn (sym c.new_is) (seen_same k c.t (writing c.t name c.bytes) c.out.there (like_of c.t (writing c.t name c.bytes) refl refl refl refl refl) refl refl refl) }
 
   commit_fault_lawful : (k : ℕ) (name : BlobName) (new : World) → CommitFault f w k name new → Lawful f new shelf
   commit_fault_lawful k name new c = record {
@@ -73,19 +75,19 @@ module _ (f : Formats) (w : World) (shelf : List Shelved) (l : Lawful f w shelf)
   }
 
   raise_lawful : (k : ℕ) (new : World) → Raise f w k new → Lawful f new shelf
-  raise_lawful k new r = record { sound = raise_law f w shelf l.sound k new r; queue = subst QueueIn (sym r.new_is) (seen_same k r.t (record r.t { raised = Some w.pending }) r.out.there (like_of r.t (record r.t { raised = Some w.pending }) refl refl refl refl refl) refl refl) }
+  raise_lawful k new r = record { sound = raise_law f w shelf l.sound k new r; queue = subst QueueIn (sym r.new_is) (seen_same k r.t (record r.t { raised = Some w.pending }) r.out.there (like_of r.t (record r.t { raised = Some w.pending }) refl refl refl refl refl) refl refl refl) }
 
   latest_lawful : (k : ℕ) (new : World) → TriesLatest f w k new → Lawful f new shelf
-  latest_lawful k new h = record { sound = latest_sound f w shelf l.sound k new h; queue = subst QueueIn (sym h.new_is) (seen_same k h.t (record h.t { tried_latest = true }) h.out.there (like_of h.t (record h.t { tried_latest = true }) refl refl refl refl refl) refl refl) }
+  latest_lawful k new h = record { sound = latest_sound f w shelf l.sound k new h; queue = subst QueueIn (sym h.new_is) (seen_same k h.t (record h.t { tried_latest = true }) h.out.there (like_of h.t (record h.t { tried_latest = true }) refl refl refl refl refl) refl refl refl) }
 
   fetch_lawful : (k : ℕ) (name : BlobName) (new : World) → FetchFound f w k name new → Lawful f new shelf
-  fetch_lawful k name new h = record { sound = fetch_sound f w shelf l.sound k name new h; queue = subst QueueIn (sym h.new_is) (seen_same k h.t (reading h.t name h.bytes) h.out.there (like_of h.t (reading h.t name h.bytes) refl refl refl refl refl) refl refl) }
+  fetch_lawful k name new h = record { sound = fetch_sound f w shelf l.sound k name new h; queue = subst QueueIn (sym h.new_is) (seen_same k h.t (reading h.t name h.bytes) h.out.there (like_of h.t (reading h.t name h.bytes) refl refl refl refl refl) refl refl refl) }
 
   exists_lawful : (x : Law f w shelf) (k : ℕ) (name : BlobName) (new : World) → CommitExists f w k name new → Lawful f new shelf
-  exists_lawful x k name new h = record { sound = exists_sound f w shelf x x.texts k name new h; queue = subst QueueIn (sym h.new_is) (seen_same k h.t (noting h.t name) h.out.there (like_of h.t (noting h.t name) refl refl refl refl refl) refl refl) }
+  exists_lawful x k name new h = record { sound = exists_sound f w shelf x x.texts k name new h; queue = subst QueueIn (sym h.new_is) (seen_same k h.t (noting h.t name) h.out.there (like_of h.t (noting h.t name) refl refl refl refl refl) refl refl refl) }
 
   ends_lawful : (k : ℕ) (new : World) → Ends w k new → Lawful f new shelf
-  ends_lawful k new h = record { sound = finish_sound f w shelf l.sound k new h; queue = subst QueueIn (sym h.new_is) (seen_same k h.t (record h.t { out = false }) h.out.there (like_ended h.t) refl refl) }
+  ends_lawful k new h = record { sound = finish_sound f w shelf l.sound k new h; queue = subst QueueIn (sym h.new_is) (seen_same k h.t (record h.t { out = false }) h.out.there (like_ended h.t) refl refl refl) }
 
   elect_lawful : (new : World) → Elect w new → Lawful f new shelf
   elect_lawful new h = record {
@@ -95,6 +97,9 @@ module _ (f : Formats) (w : World) (shelf : List Shelved) (l : Lawful f w shelf)
 
   remove_lawful : (k : ℕ) (names : List BlobName) (new : World) → Remove f w k names new → Lawful f new shelf
   remove_lawful k names new r = record { sound = remove_sound f w new shelf k names l.sound r; queue = subst QueueIn (sym r.new_is) l.queue }
+
+  page_lawful : (k : ℕ) (page : List BlobSize) (new : World) → ListMore w k page new → Lawful f new shelf
+  page_lawful k page new h = record { sound = page_sound f w shelf l.sound k page new h; queue = subst QueueIn (sym h.new_is) (seen_same k h.t (listing h.t page) h.out.there (like_of h.t (listing h.t page) refl refl refl refl refl) refl refl refl) }
 
   deposed_lawful : Lawful f (record w { deposed = true }) shelf
   deposed_lawful = record { sound = deposed_same f w shelf true l.sound; queue = l.queue }
@@ -168,6 +173,7 @@ turn_lawful f w new shelf law d (AsksCreate m op h) = create_lawful f w shelf la
 turn_lawful f w new shelf law d (AsksDelete m uuids h) = delete_asked_lawful f w shelf law.lawful uuids m h
 turn_lawful f w new shelf law d (Merges m uuids n h) = merge_lawful f w shelf law.lawful uuids n m h
 turn_lawful f w new shelf law d (Removing m k names h) = remove_lawful f w shelf law.lawful k names m h
+turn_lawful f w new shelf law d (Pages m k page h) = page_lawful f w shelf law.lawful k page m h
 turn_lawful f w new shelf law d (Deposes m up h e) =
     subst (λ v. Lawful f v (shelf_after shelf (commands_of f w up h))) (sym e) (deposed_lawful f up (shelf_after shelf (commands_of f w up h)) (turn_lawful f w up shelf law d h))
 turn_lawful f w new shelf law d (Tests m t) = tests_lawful f w shelf law m t

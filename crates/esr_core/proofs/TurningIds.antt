@@ -11,8 +11,8 @@ use Rattle.esr_model.specs.Finalize.{Finalizes, finalized_root, done_at}
 use Rattle.esr_model.specs.Reach.{Reached, ReachSnap, ReachMeta, ReachIndexMeta, ReachIndex, ReachShardSnap, ReachPart}
 use Rattle.esr_core.specs.World.{World, Op, ShardWork, Pending, Done, Work, Shard, Finalize, Deleting, Drop, Ticket, Swap, AllDone, swap, HeldIn, info_of, marked}
 use Rattle.esr_core.specs.Ready.{IsShard}
-use Rattle.esr_core.specs.Steps.{IsOut, reading, Largest, given, shard_ticket, final_ticket, noting, writing}
-use Rattle.esr_core.specs.Turns.{Turn, Stays, Commits, CommitFails, Finds, Raises, Latests, Fetches, SettlesFinal, SettlesDelete, Elects, TakesShard, TakesFinal, TakesDrop, TakesDelete, TakesCleanup, AsksCleanup, CleanDrops, DrawsShard, DrawsPlan, Dones, Ending, Fails, FailsDelete, Drops, AsksCreate, AsksDelete, Merges, Removing, Deposes, SettleDelete, DrawPlan, AskCreate, Aborts, fails, plain_ticket, Besides, Tests}
+use Rattle.esr_core.specs.Steps.{IsOut, reading, listing, Largest, given, shard_ticket, final_ticket, noting, writing}
+use Rattle.esr_core.specs.Turns.{cleaning_ticket, Turn, Stays, Commits, CommitFails, Finds, Raises, Latests, Fetches, SettlesFinal, SettlesDelete, Elects, TakesShard, TakesFinal, TakesDrop, TakesDelete, TakesCleanup, AsksCleanup, CleanDrops, DrawsShard, DrawsPlan, Dones, Ending, Fails, FailsDelete, Drops, AsksCreate, AsksDelete, Merges, Removing, Pages, Deposes, SettleDelete, DrawPlan, AskCreate, Aborts, fails, plain_ticket, Besides, Tests}
 use Rattle.esr_core.specs.Generations.{DoneAt, OpLaw}
 use Rattle.esr_core.specs.Ids.{OfUuid, OfId, TicketIds, OpIds, DoomedIds, Ids, IdsIn, Law}
 use Rattle.esr_model.specs.Kept.{first_id, IdsBelow, RootIds}
@@ -31,6 +31,7 @@ use Rattle.esr_core.proofs.TakeShard.{given_is}
 use Rattle.esr_core.proofs.Evolving.{failed_is, out_done, up_done}
 use Rattle.esr_core.proofs.Deleting.{left_has}
 use Rattle.esr_core.proofs.Settling.{no_shard}
+use Rattle.esr_core.proofs.Paging.{page_ids}
 use Rattle.esr_core.proofs.Below.{ticket_up, ids_up, ids_put, ids_again, ids_new, ids_ops, ids_add, ids_blobs, ids_root, commits_below}
 use Rattle.esr_core.proofs.Ordered.{shard_ref}
 use Rattle.esr_core.proofs.Queues.{Ops, was_in, left_in}
@@ -120,7 +121,11 @@ module _ (f : Formats) (w : World) (shelf : List Shelved) (l : Law f w shelf) wh
   -- a ticket without a swap, and of no shard
   plain_ids : (o : ℕ) (work : Work) → (IsShard work → ⊥) → ((s : Swap) → swap f (plain_ticket w o work) ≡ Some s → ⊥) → TicketIds f w.next_id (plain_ticket w o work)
   plain_ids o work not none =
-      record { drawn = omega arith; uuid = λ s. absurd (not s); index = λ i j e. absurd (not (subst IsShard (sym e) tt)); base = λ b e. absurd (none_some b e); copy = l.ids.root; own = λ s e. absurd (none s e); root = λ s e. absurd (none s e) }
+      record { drawn = omega arith; uuid = λ s. absurd (not s); index = λ i j e. absurd (not (subst IsShard (sym e) tt)); base = λ b e. absurd (none_some b e); copy = l.ids.root; own = λ s e. absurd (none s e); root = λ s e. absurd (none s e); listed = λ name m. absurd m }
+
+  cleaning_ids : (o : ℕ) → TicketIds f w.next_id (cleaning_ticket w o)
+  cleaning_ids o =
+      record { drawn = omega arith; uuid = λ s. absurd s; index = λ i j e. absurd (subst IsShard (sym e) tt); base = λ b e. absurd (none_some b e); copy = l.ids.root; own = λ s e. absurd (none_some s e); root = λ s e. absurd (none_some s e); listed = λ name m. absurd m }
 
   shard_ids : (o : ℕ) (op : Op) (s : ShardWork) (base : Option ℕ) → fin.get w.ops o ≡ Some op → Has op.shards s → Largest w s.ref.id s.number base → TicketIds f w.next_id (shard_ticket w o op s base)
   shard_ids o op s base there m largest =
@@ -132,6 +137,7 @@ module _ (f : Formats) (w : World) (shelf : List Shelved) (l : Law f w shelf) wh
         copy = l.ids.root;
         own = λ z e. absurd (none_some z e);
         root = λ z e. absurd (none_some z e);
+        listed = λ name m. absurd m;
       }
     where
       shard_index : {i k : ℕ} → Shard s.ref.id s.number ≡ Shard i k → s.ref.id ≡ i
@@ -187,6 +193,7 @@ module _ (f : Formats) (w : World) (shelf : List Shelved) (l : Law f w shelf) wh
           copy = l.ids.root;
           own = λ s e name b m. own_below name b (kinds f (info_of op results) name b (subst (λ (y : Swap). Has y.own (name, b)) (sym (some_same _ _ e)) m));
           root = λ s e. subst (λ (y : Swap). RootIds y.root w.next_id) (some_same _ _ e) final_root;
+          listed = λ name m. absurd m;
         }
 
   -- a plan's
@@ -199,6 +206,7 @@ module _ (f : Formats) (w : World) (shelf : List Shelved) (l : Law f w shelf) wh
         index = λ i j e. absurd (subst IsShard (sym e) tt);
         base = old.base;
         copy = old.copy;
+        listed = old.listed;
         own = λ s e name b m. let z = d.own_drawn name b (subst (λ (y : Swap). Has y.own (name, b)) (sym (some_same _ _ e)) m) in subst (λ q. IdsBelow q (w.next_id + n)) (sym z.3) (subst (λ q. q < w.next_id + n) z.6.2 (old.copy.ids z.6.0 z.6.1), z.5);
         root = λ s e. subst (λ (y : Swap). RootIds y.root (w.next_id + n)) (some_same _ _ e) (record {
           generations = λ i x g gen. elim (d.without.generations i x g gen) [ inl was ↦ old.copy.generations i x g was | inr fresh ↦ (d.fresh_drawn i x g fresh).1 ];
@@ -211,7 +219,7 @@ module _ (f : Formats) (w : World) (shelf : List Shelved) (l : Law f w shelf) wh
 
   -- a ticket given anew in what isn't an id
   quiet_ids : (k : ℕ) (t : Ticket) → fin.get w.tickets k ≡ Some t → (noted : List BlobName) (wrote read : List (BlobName × Bytes)) (raised : Option ℕ) (tried settled out : Bool) → TicketIds f w.next_id (record t { noted = noted; wrote = wrote; read = read; raised = raised; tried_latest = tried; settled = settled; out = out })
-  quiet_ids k t there noted wrote read raised tried settled out = let h = l.ids.tickets k t there in record { drawn = h.drawn; uuid = h.uuid; index = h.index; base = h.base; copy = h.copy; own = h.own; root = h.root }
+  quiet_ids k t there noted wrote read raised tried settled out = let h = l.ids.tickets k t there in record { drawn = h.drawn; uuid = h.uuid; index = h.index; base = h.base; copy = h.copy; own = h.own; root = h.root; listed = h.listed }
 
   -- a ticket that ends draws nothing more
   ended_ids : (ops : Ops) (tickets_ids : Ids f w.next_id w.blobs w.doomed w.root ops w.tickets) (k : ℕ) (t : Ticket) → fin.get w.tickets k ≡ Some t → Ids f w.next_id w.blobs w.doomed w.root ops (fin.insert w.tickets k (record t { out = false }))
@@ -287,7 +295,7 @@ module _ (f : Formats) (w : World) (shelf : List Shelved) (l : Law f w shelf) wh
     settled_doomed name m =
         record {
           below = elim (Has-either d.names w.doomed name m) [
-            | inl h ↦ elim (d.reach name h) [ inl r ↦ reached_below name r | inr (inl z) ↦ subst (λ y. IdsBelow y w.next_id) (sym z.1) tt | inr (inr z) ↦ l.ids.blobs name z.1 ]
+            | inl h ↦ elim (d.reach name h) [ inl r ↦ reached_below name r | inr (inl z) ↦ subst (λ y. IdsBelow y w.next_id) (sym z.1) tt | inr (inr z) ↦ z.1.below ]
             | inr h ↦ (l.ids.doomed name h).below
           ];
           uuids = λ o op e of. let was = (left_in w.ops t.op o op e).1 in elim (Has-either d.names w.doomed name m) [
@@ -348,7 +356,7 @@ turn_ids f w new shelf l d (DrawsShard m k n h) = subst (IdsIn f) (sym h.new_is)
     (let le : w.next_id ≤ w.next_id + n = omega arith in
     let old = ticket_up f h.t w.next_id (w.next_id + n) le (l.ids.tickets k h.t h.out.there) in
     ids_put f (w.next_id + n) w.blobs w.doomed w.root w.ops w.tickets (ids_up f w.next_id (w.next_id + n) le w.blobs w.doomed w.root w.ops w.tickets l.ids) k (record h.t { first = w.next_id; drawn = n })
-    (record { drawn = le_refl (w.next_id + n); uuid = old.uuid; index = old.index; base = old.base; copy = old.copy; own = old.own; root = old.root })
+    (record { drawn = le_refl (w.next_id + n); uuid = old.uuid; index = old.index; base = old.base; copy = old.copy; own = old.own; root = old.root; listed = old.listed })
     (λ name q o s id drew of. let a : w.next_id ≤ id = drew.from in let b : id < w.next_id = id_below name id w.next_id of (l.ids.doomed name q).below in omega arith))
 turn_ids f w new shelf l d (DrawsPlan m k n h) = subst (IdsIn f) (sym h.new_is)
     (ids_put f (w.next_id + n) w.blobs w.doomed w.root w.ops w.tickets (ids_up f w.next_id (w.next_id + n) (omega arith) w.blobs w.doomed w.root w.ops w.tickets l.ids) k
@@ -363,12 +371,13 @@ turn_ids f w new shelf l d (Fails m k h) = subst (IdsIn f) (sym h.new_is)
     ended_ids f w shelf l (fin.insert w.ops h.t.op now) (ops_on f w shelf l h.t.op h.op now h.op_there refl (op_on f w shelf l (fails k) h.op h.t.op true h.op_there (λ z r e. inl (failed_done f w shelf l k z r e)))) k h.t h.out.there)
 turn_ids f w new shelf l d (FailsDelete m k h) = subst (IdsIn f) (sym h.new_is) (ended_ids f w shelf l w.ops l.ids k h.t h.out.there)
 turn_ids f w new shelf l d (Drops m k h) = subst (IdsIn f) (sym h.new_is) (ended_ids f w shelf l (fin.remove w.ops h.t.op) (removed_ids f w shelf l h.t.op) k h.t h.out.there)
-turn_ids f w new shelf l d (TakesCleanup m n y h) = subst (IdsIn f) (sym h.new_is) (ids_new f w.next_id w.blobs w.doomed w.root w.ops w.tickets l.ids w.next_ticket (plain_ticket w n (Deleting y.uuids None)) (plain_ids f w shelf l n (Deleting y.uuids None) (λ s. s) (λ s e. none_some s e)) refl)
+turn_ids f w new shelf l d (TakesCleanup m n y h) = subst (IdsIn f) (sym h.new_is) (ids_new f w.next_id w.blobs w.doomed w.root w.ops w.tickets l.ids w.next_ticket (cleaning_ticket w n) (cleaning_ids f w shelf l n) refl)
 turn_ids f w new shelf l d (AsksCleanup m h) = subst (IdsIn f) (sym h.new_is) l.ids
 turn_ids f w new shelf l d (CleanDrops m k h) = subst (IdsIn f) (sym h.new_is) (ended_ids f w shelf l (fin.remove w.ops h.t.op) (removed_ids f w shelf l h.t.op) k h.t h.out.there)
 turn_ids f w new shelf l d (AsksCreate m op h) = subst (IdsIn f) (sym h.new_is) (created_ids f w shelf l op m h)
 turn_ids f w new shelf l d (AsksDelete m uuids h) = subst (IdsIn f) (sym h.new_is) (aborted_ids f w shelf l h.ops w.next_op h.aborts)
 turn_ids f w new shelf l d (Merges m uuids n h) = subst (IdsIn f) (sym h.new_is) (aborted_ids f w shelf l h.ops n h.aborts)
+turn_ids f w new shelf l d (Pages m k page h) = subst (IdsIn f) (sym h.new_is) (again f w shelf l k h.t (listing h.t page) h.out.there (page_ids f w shelf l k page m h) refl refl (λ e. e) (λ i. i))
 turn_ids f w new shelf l d (Removing m k names h) = subst (IdsIn f) (sym h.new_is) (ids_blobs f w.next_id w.blobs w.doomed w.root w.ops w.tickets l.ids h.now (λ name p. inl (p.0, (h.removes.left (f.names.text name) p.0 p.1.0, p.1.1))))
 turn_ids f w new shelf l d (Deposes m up h e) = subst (IdsIn f) (sym e) (turn_ids f w up shelf l d h)
 turn_ids f w new shelf l d (Besides m up h r) = kept_aside (IdsIn f) up m (aside_of f up m r) (turn_ids f w up shelf l d h)

@@ -7,11 +7,11 @@ use Rattle.esr_model.specs.Shelf.{Shelved}
 use Rattle.esr_model.specs.Image.{IsStored, Blobs, Reads, IndexStands, At}
 use Rattle.esr_core.specs.World.{World, Work, Shard, Finalize, Deleting, Drop, Ticket, Swap, swap_of, HeldIn}
 use Rattle.esr_core.specs.Ready.{IsShard}
-use Rattle.esr_core.specs.Steps.{Drew, ShardCommits, MayCommit, CommitDone, Remove, FetchFound, reading, writing, noting, shard_ticket, final_ticket, Removes}
+use Rattle.esr_core.specs.Steps.{Drew, ShardCommits, MayCommit, CommitDone, Remove, FetchFound, reading, listing, writing, noting, shard_ticket, final_ticket, Removes}
 use Rattle.esr_core.specs.Generations.{Base}
 use Rattle.esr_core.specs.Ids.{OfId, Law}
 use Rattle.esr_core.specs.Written.{WroteLaw, Written}
-use Rattle.esr_core.specs.Turns.{DrawShard, plain_ticket, Turn, Stays, Commits, CommitFails, Finds, Raises, Latests, Fetches, SettlesFinal, SettlesDelete, Elects, TakesShard, TakesFinal, TakesDrop, TakesDelete, TakesCleanup, AsksCleanup, CleanDrops, DrawsShard, DrawsPlan, Dones, Ending, Fails, FailsDelete, Drops, AsksCreate, AsksDelete, Merges, Removing, Deposes, Besides, Tests, TestTurn, DrawsTest, AddsTest, RemovesTests}
+use Rattle.esr_core.specs.Turns.{DrawShard, plain_ticket, cleaning_ticket, Turn, Stays, Commits, CommitFails, Finds, Raises, Latests, Fetches, SettlesFinal, SettlesDelete, Elects, TakesShard, TakesFinal, TakesDrop, TakesDelete, TakesCleanup, AsksCleanup, CleanDrops, DrawsShard, DrawsPlan, Dones, Ending, Fails, FailsDelete, Drops, AsksCreate, AsksDelete, Merges, Removing, Pages, Deposes, Besides, Tests, TestTurn, DrawsTest, AddsTest, RemovesTests}
 use Rattle.esr_core.proofs.Besides.{aside_of, kept_aside}
 use Rattle.esr_core.proofs.Adds.{at_kept, at_new}
 use Rattle.esr_core.proofs.Reading.{none_some, some_same}
@@ -239,7 +239,7 @@ turned f w new shelf l h (TakesShard m o op s base d) = subst (λ (x : World). W
 turned f w new shelf l h (TakesFinal m o op results d) = subst (λ (x : World). Written f x.blobs x.tickets) (sym d.new_is) (new_one f w.blobs w.tickets h w.next_ticket (final_ticket f w o op results) refl refl refl)
 turned f w new shelf l h (TakesDrop m o d) = subst (λ (x : World). Written f x.blobs x.tickets) (sym d.new_is) (new_one f w.blobs w.tickets h w.next_ticket (plain_ticket w o Drop) refl refl refl)
 turned f w new shelf l h (TakesDelete m n x d) = subst (λ (x : World). Written f x.blobs x.tickets) (sym d.new_is) (new_one f w.blobs w.tickets h w.next_ticket (plain_ticket w n (Deleting x.uuids None)) refl refl refl)
-turned f w new shelf l h (TakesCleanup m n x d) = subst (λ (x : World). Written f x.blobs x.tickets) (sym d.new_is) (new_one f w.blobs w.tickets h w.next_ticket (plain_ticket w n (Deleting x.uuids None)) refl refl refl)
+turned f w new shelf l h (TakesCleanup m n x d) = subst (λ (x : World). Written f x.blobs x.tickets) (sym d.new_is) (new_one f w.blobs w.tickets h w.next_ticket (cleaning_ticket w n) refl refl refl)
 turned f w new shelf l h (DrawsShard m k n d) = drawn_shard f w shelf l h k n m d
 turned f w new shelf l h (DrawsPlan m k n d) = subst (λ (x : World). Written f x.blobs x.tickets) (sym d.new_is)
     (put f w.blobs w.tickets h k (record d.t { first = w.next_id; drawn = n; work = Deleting d.named (Some (record { root = d.root; own = d.own; commands = d.commands })) }) (λ o s. absurd s))
@@ -253,6 +253,7 @@ turned f w new shelf l h (CleanDrops m k d) = subst (λ (x : World). Written f x
 turned f w new shelf l h (AsksCreate m op d) = subst (λ (x : World). Written f x.blobs x.tickets) (sym d.new_is) h
 turned f w new shelf l h (AsksDelete m uuids d) = subst (λ (x : World). Written f x.blobs x.tickets) (sym d.new_is) h
 turned f w new shelf l h (Merges m uuids n d) = subst (λ (x : World). Written f x.blobs x.tickets) (sym d.new_is) h
+turned f w new shelf l h (Pages m k page d) = subst (λ (x : World). Written f x.blobs x.tickets) (sym d.new_is) (same f w.blobs w.tickets h k d.t (listing d.t page) d.out.there (λ o. o) refl refl refl refl refl refl refl refl)
 turned f w new shelf l h (Removing m k names d) = removed f w shelf l h k names m d
 turned f w new shelf l h (Deposes m up d e) = subst (λ (x : World). Written f x.blobs x.tickets) (sym e) (turned f w up shelf l h d)
 turned f w new shelf l h (Tests m t) = tested f w shelf l h m t

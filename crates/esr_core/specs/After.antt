@@ -1,5 +1,7 @@
 -- The world after a step.
 use Rattle.std.specs.Prelude.{ℕ, zero, suc, ◌+◌, Bool, true, false, List, [], ◌∷◌, ◌++◌, Option, Some, None, map, ◌==◌, ◌&&◌, if◌then◌else◌}
+use Rattle.std.specs.Ordering.{nat_cmp}
+use Rattle.std.specs.FinMap.{FinMap}
 use Rattle.std.specs.FinMap as fin
 use Rattle.esr_model.specs.Names.{BlobName, Latest}
 use Rattle.esr_model.specs.Values.{Bytes, IndexRef, RootIndex, ShardResult, Formats}
@@ -11,11 +13,11 @@ use Rattle.esr_model.specs.Image.{Blobs, Image}
 use Rattle.esr_core.specs.World.{World, Op, Deletion, ShardWork, Pending, Done, ReadState, Restored, NotRestored, RestoreShard, Restoring, Reader, Caller, no_caller, Work, Shard, Finalize, Deleting, Drop, Ticket, Swap, swap, marked, record_of}
 use Rattle.esr_core.specs.Past.{with_entry}
 use Rattle.esr_core.specs.Restores.{restore_shard, restore_opened, shard_handed, more_read, shard_ended}
-use Rattle.esr_core.specs.Steps.{with_ticket, noting, writing, reading, given, completing, settled, shard_ticket, final_ticket}
-use Rattle.esr_core.specs.Turns.{plain_ticket, fails}
+use Rattle.esr_core.specs.Steps.{with_ticket, noting, writing, reading, given, completing, settled, shard_ticket, final_ticket, listing}
+use Rattle.esr_core.specs.Turns.{plain_ticket, cleaning_ticket, fails}
 use Rattle.esr_core.specs.Pruning.{planned, dooms}
 use Rattle.esr_core.specs.Deletes.{asked_delete}
-use Rattle.esr_core.specs.Entry.{AskedIndex, CloneOf, Asked, Snapshot, Clone, DeleteSnapshots, Restore, Cleanup, is_recorded, Given, GivenShard, GivenFinalize, GivenDrop, GivenRestore, GivenClone, GivenDelete, Read, ReadBlob, RestoredShard, CheckedAll, DrawTest, CommitTest, RemoveTests, VerifiedAll, ReadFails, Prune, FetchShard, PlanShards, SettlePruned, RemoveDoomed, EndDelete, DeleteFails, Step, AskStep, TakeStep, DrawStep, BeginStep, CommitStep, LatestStep, FetchStep, RaiseStep, SettleStep, DoneStep, FailedStep, FinishStep, DroppedStep, ElectStep, LookStep, ReadStep, PruneStep, StaleTerm, AbortedBy, IdsSpent, DeposedAt, DepotFault, Reply, Gave, DrawnFrom, WasRemoved, WasDone, WasThere, WasFetched, WasAbsent, HasEnded, Refused, AcceptedRestore, Moment}
+use Rattle.esr_core.specs.Entry.{AskedIndex, CloneOf, Asked, Snapshot, Clone, DeleteSnapshots, Restore, Cleanup, is_recorded, Given, GivenShard, GivenFinalize, GivenDrop, GivenRestore, GivenClone, GivenDelete, GivenCleanup, Read, ReadBlob, RestoredShard, CheckedAll, DrawTest, CommitTest, RemoveTests, VerifiedAll, ReadFails, Prune, FetchShard, PlanShards, SettlePruned, RemoveDoomed, EndDelete, DeleteFails, Step, AskStep, TakeStep, DrawStep, BeginStep, CommitStep, LatestStep, FetchStep, ListStep, RaiseStep, SettleStep, DoneStep, FailedStep, FinishStep, DroppedStep, ElectStep, LookStep, ReadStep, PruneStep, StaleTerm, AbortedBy, IdsSpent, DeposedAt, DepotFault, Reply, Gave, DrawnFrom, WasRemoved, WasDone, WasThere, WasFetched, WasAbsent, WasListed, HasEnded, Refused, AcceptedRestore, Moment}
 
 abbrev pub or_else : {A : Type 0} → Option A → Option A → Option A
 or_else None b = b
@@ -122,6 +124,9 @@ clone_opened w name moment taken =
     let op : Op = cloned_op w name moment taken in
     record w { ops = fin.insert w.ops w.next_op op; next_op = suc w.next_op; completed = completing w.completed w.next_op op.shards; next_id = suc w.next_id }
 
+abbrev pub cleanup_opened : World → World
+cleanup_opened w = record w { deletes = fin.insert w.deletes w.next_op (record { uuids = []; clean = true; failed = false }); next_op = suc w.next_op }
+
 abbrev pub asked : World → Asked → World
 asked w (Snapshot name indices moment) =
     let op : Op = asked_op w name indices moment in
@@ -129,9 +134,9 @@ asked w (Snapshot name indices moment) =
 asked w (DeleteSnapshots names) = asked_delete w names
 asked w (Clone source name indices moment None) = w
 asked w (Clone source name indices moment (Some taken)) = clone_opened w name moment taken
--- what a restore reads its acceptance tells; a cleanup is not accepted so far
+asked w Cleanup = cleanup_opened w
+-- what a restore reads its acceptance tells
 asked w (Restore name place) = w
-asked w Cleanup = w
 
 -- ---- take
 
@@ -164,7 +169,7 @@ taken_by f w o (GivenFinalize info results) None = w
 taken_by f w o GivenDrop op = record w { tickets = fin.insert w.tickets w.next_ticket (plain_ticket w o Drop); next_ticket = suc w.next_ticket }
 taken_by f w o (GivenRestore index number uuid) op = taken_restore w o index number (fin.get w.restores o)
 taken_by f w o (GivenDelete uuids) op = record w { tickets = fin.insert w.tickets w.next_ticket (plain_ticket w o (Deleting uuids None)); next_ticket = suc w.next_ticket }
-taken_by f w o unit op = w
+taken_by f w o GivenCleanup op = record w { tickets = fin.insert w.tickets w.next_ticket (cleaning_ticket w o); next_ticket = suc w.next_ticket }
 
 -- ---- steps of a ticket
 
@@ -231,11 +236,15 @@ abbrev pub dropped_of : World → ℕ → Option Ticket → World
 dropped_of w k None = w
 dropped_of w k (Some t) = record w { ops = fin.remove w.ops t.op; deletes = fin.remove w.deletes t.op; tickets = fin.insert w.tickets k (record t { out = false }) }
 
--- ---- steps of a delete's ticket
+-- ---- steps of the ticket of a delete or cleanup
+
+-- the op of a delete leaves with its settle, that of a cleanup stays
+abbrev pub deletes_left : World → Ticket → FinMap nat_cmp Deletion
+deletes_left w t = if t.clean then w.deletes else fin.remove w.deletes t.op
 
 -- the new root, and the names that it dooms
 abbrev pub delete_settled_by : Formats → World → ℕ → Ticket → Option Swap → Option ℕ → World
-delete_settled_by f w k t (Some s) (Some n) = record (settled w k t n s.root) { deletes = fin.remove w.deletes t.op; doomed = dooms f t ++ w.doomed }
+delete_settled_by f w k t (Some s) (Some n) = record (settled w k t n s.root) { deletes = deletes_left w t; doomed = dooms f t ++ w.doomed }
 delete_settled_by f w k t (Some s) None = w
 delete_settled_by f w k t None n = w
 
@@ -299,12 +308,14 @@ done_step f w k (AskStep (Snapshot name indices moment)) reply image = asked w (
 done_step f w k (AskStep (Clone source name indices moment taken)) reply image = asked w (Clone source name indices moment taken)
 done_step f w k (AskStep (DeleteSnapshots names)) reply image = asked w (DeleteSnapshots names)
 done_step f w k (AskStep (Restore name place)) (AcceptedRestore o uuid indices) image = restore_opened w uuid place indices
+done_step f w k (AskStep Cleanup) reply image = asked w Cleanup
 done_step f w k TakeStep (Gave ticket op unit) image = taken_by f w op unit (fin.get w.ops op)
 done_step f w k (DrawStep n) reply image = record (change w k (λ t. record t { first = w.next_id; drawn = n })) { next_id = w.next_id + n }
 done_step f w k (CommitStep name) WasDone image = change w k (committing name (told_blob f image name))
 done_step f w k (CommitStep name) WasThere image = change w k (λ t. noting t name)
 done_step f w k LatestStep reply image = change w k (λ t. record t { tried_latest = true })
 done_step f w k (FetchStep name) WasFetched image = change w k (fetching name (told_blob f image name))
+done_step f w k (ListStep from) (WasListed page) image = change w k (λ t. listing t page)
 done_step f w k RaiseStep reply image = raised w k
 done_step f w k SettleStep reply image = settled_of f w k (fin.get w.tickets k)
 done_step f w k (DoneStep result) reply image = done_of w k result (fin.get w.tickets k)

@@ -7,22 +7,23 @@ use Rattle.esr_model.specs.Values.{Bytes, Has, IndexRef, RootSnap, RootIndex, Ro
 use Rattle.esr_model.specs.Shelf.{Command, Delete, names_uuid}
 use Rattle.esr_model.specs.Delete.{PrunedShard, kept_count, deleted_root}
 use Rattle.esr_model.specs.Kept.{first_id}
+use Rattle.esr_model.specs.Cleanup.{BlobSize, last_text, IsPage, IsPageOf}
 use Rattle.esr_model.specs.Finalize.{finalized_root}
 use Rattle.esr_model.specs.Image.{Blobs, Image, AllPairs, IsStored, At, Present, Reads, FileStands, Generation}
 use Rattle.esr_model.specs.Agreement.{RootAgrees}
 use Rattle.esr_model.specs.Reach.{Reached}
 use Rattle.esr_model.specs.Uploads.{entries_from, id_after, shard_blobs, clone_blobs, with_snap, no_files}
 use Rattle.esr_core.specs.World.{World, Op, Deletion, ShardWork, Out, Unread, RestoreShard, Restoring, Reader, Shard, Finalize, Deleting, Drop, Ticket, Swap, swap, info_of, metadata, record_of}
-use Rattle.esr_core.specs.Past.{entries_by, removal_names, WasStale, IsNewStep}
+use Rattle.esr_core.specs.Past.{entries_by, removal_names, gone_names, IsRemoval, WasStale, IsNewStep}
 use Rattle.esr_core.specs.Generations.{OpTexts, AreNamedOnce}
-use Rattle.esr_core.specs.Ready.{IsShard, IsMaster, ReadyShard, ReadyFinalize, ReadyDrop, ReadyDelete, ReadyCleanup, ReadyRestore, AnyReady}
-use Rattle.esr_core.specs.Pruning.{IsToRead, AreRead, pruned_shards, AreOfRoot, AreWritable, dooms}
+use Rattle.esr_core.specs.Ready.{IsShard, IsMaster, ReadyShard, ReadyFinalize, ReadyDrop, ReadyDelete, ReadyCleanup, ReadyRestore, AnyReady, IsOpen}
+use Rattle.esr_core.specs.Pruning.{IsToRead, AreRead, pruned_shards, AreOfRoot, AreWritable, commands_by, dooms}
 use Rattle.esr_core.specs.Restores.{IsTestOf, AreOnce, AreApart, IsReading, WasRead, IsPiece, ListsPiece, restore_shard}
 use Rattle.esr_core.specs.Steps.{IsOut, Drew, Largest, MayCommit, MaySettle, IsToFetch, MostDrawn, Removes}
 use Rattle.esr_core.specs.Texts.{IsMetaOf}
 use Rattle.std.specs.Int.{w64, to_be_bytes}
 use Rattle.esr_core.specs.Deletes.{named_uuids, waiting_delete, running_delete, delete_number}
-use Rattle.esr_core.specs.Entry.{AskedIndex, CloneOf, Asked, Snapshot, Clone, DeleteSnapshots, Restore, is_recorded, Given, GivenShard, GivenFinalize, GivenDrop, GivenRestore, GivenClone, GivenDelete, GivenCleanup, Why, Read, ReadBlob, RestoredShard, CheckedAll, DrawTest, BeginTest, CommitTest, RemoveTests, VerifiedAll, ReadFails, Prune, FetchShard, PlanShards, SettlePruned, RemoveDoomed, EndDelete, DeleteFails, Step, AskStep, TakeStep, DrawStep, BeginStep, CommitStep, LatestStep, FetchStep, ListStep, RaiseStep, SettleStep, DoneStep, FailedStep, FinishStep, DroppedStep, ElectStep, LookStep, ReadStep, PruneStep, CleanupRunning, NameInUse, TooMany, DeposedAt, AbortedBy, StaleTerm, GenerationsSpent, TermsSpent, IdsSpent, NameTaken, DepotFault, NoSnapshot, NoIndex, BeingDeleted, CloneRunning, RestoreRunning, Refusal, Reply, Accepted, NothingReady, Gave, DrawnFrom, WasBegun, WasDone, WasThere, WasReplaced, WasFetched, WasAbsent, WasListed, RaisedTo, WasSettled, HasEnded, ElectedTerm, Looked, Refused, WasRemoved, AcceptedRestore, Moment}
+use Rattle.esr_core.specs.Entry.{AskedIndex, CloneOf, Asked, Snapshot, Clone, DeleteSnapshots, Restore, Cleanup, is_recorded, Given, GivenShard, GivenFinalize, GivenDrop, GivenRestore, GivenClone, GivenDelete, GivenCleanup, Why, Read, ReadBlob, RestoredShard, CheckedAll, DrawTest, BeginTest, CommitTest, RemoveTests, VerifiedAll, ReadFails, Prune, FetchShard, PlanShards, SettlePruned, RemoveDoomed, EndDelete, DeleteFails, Step, AskStep, TakeStep, DrawStep, BeginStep, CommitStep, LatestStep, FetchStep, ListStep, RaiseStep, SettleStep, DoneStep, FailedStep, FinishStep, DroppedStep, ElectStep, LookStep, ReadStep, PruneStep, CleanupRunning, NameInUse, TooMany, DeposedAt, AbortedBy, StaleTerm, GenerationsSpent, TermsSpent, IdsSpent, NameTaken, DepotFault, NoSnapshot, NoIndex, BeingDeleted, CloneRunning, RestoreRunning, BusyOp, BusyTicket, Refusal, Reply, Accepted, NothingReady, Gave, DrawnFrom, WasBegun, WasDone, WasThere, WasReplaced, WasFetched, WasAbsent, WasListed, RaisedTo, WasSettled, HasEnded, ElectedTerm, Looked, Refused, WasRemoved, AcceptedRestore, Entry, Moment}
 use Rattle.esr_core.specs.After.{asked_op, new_names, chosen_refs, cloned_op, shard_of, after}
 
 -- what `index.latest` holds: the generation as 8 bytes, the highest first
@@ -258,6 +259,29 @@ pub data DeleteAllows (w : World) (names : List Bytes) : Reply → Type 0 where
   -- the record swap failed
   DeleteFault : AcceptsDelete w names → DeleteAllows w names (Refused DepotFault)
 
+-- ---- ask: a cleanup
+
+-- a ticket is out under this number; those of restores are others
+abbrev pub HasTicket : World → ℕ → Type 0
+HasTicket w k = (t : Ticket) × IsOut w k t
+
+-- neither a snapshot, a clone nor a delete is open
+abbrev pub NoneOpen : World → Type 0
+NoneOpen w = (o : ℕ) → IsOpen w o → ⊥
+
+-- and no ticket but those of restores is out
+pub record AcceptsCleanup (w : World) : Type 0 where
+  pub none_open : NoneOpen w
+  pub no_ticket : (k : ℕ) → HasTicket w k → ⊥
+
+-- how a cleanup may be answered where none is open
+pub data CleanupAllows (w : World) : Reply → Type 0 where
+  OpeningCleanup : AcceptsCleanup w → CleanupAllows w (Accepted w.next_op)
+  OpStands : (o : ℕ) → NoCleanup w → IsLowest (IsOpen w) o → CleanupAllows w (Refused (BusyOp o))
+  TicketStands : (k : ℕ) → NoneOpen w → IsLowest (HasTicket w) k → CleanupAllows w (Refused (BusyTicket k))
+  -- the record swap failed
+  CleanupFault : AcceptsCleanup w → CleanupAllows w (Refused DepotFault)
+
 -- ---- take
 
 -- some unit of this op is ready
@@ -305,7 +329,7 @@ Gives f w o GivenDrop = ReadyDrop w o
 Gives f w o (GivenRestore index number uuid) = GivesRestore w o index number uuid
 Gives f w o (GivenClone index number source base) = GivesShard w o index number (Some source) base
 Gives f w o (GivenDelete uuids) = (x : Deletion) × ReadyDelete w o x × (uuids ≡ x.uuids)
-Gives f w o GivenCleanup = ⊥
+Gives f w o GivenCleanup = (x : Deletion) × ReadyCleanup w o x
 
 -- ---- steps of a ticket
 
@@ -340,7 +364,12 @@ abbrev pub IsNumbered : Formats → ℕ → Ticket → ℕ → BlobName → Opti
 IsNumbered f part_size t number name None = f.known t.place t.name number ≡ true → IsPartOfOne part_size (files_told f t.place t.name number) name
 IsNumbered f part_size t number name (Some source) = IsNoPart name
 
--- a ticket commits a blob of its unit, before its settle
+-- nothing was listed so far
+pub record IsUnlisted (t : Ticket) : Type 0 where
+  pub listed : t.listed ≡ []
+  pub whole : t.whole ≡ false
+
+-- a ticket commits a blob of its unit, before its settle; once a cleanup has listed it commits no other name than its root's
 pub record Commits (f : Formats) (part_size : ℕ) (w : World) (k : ℕ) (name : BlobName) : Type 0 where
   pub t : Ticket
   pub out : IsOut w k t
@@ -349,6 +378,7 @@ pub record Commits (f : Formats) (part_size : ℕ) (w : World) (k : ℕ) (name :
   pub named : IsStored f name
   pub may : MayCommit f t name bytes
   pub numbered : (index number : ℕ) → t.work ≡ Shard index number → IsNumbered f part_size t number name t.source
+  pub late : t.clean ≡ true → IsUnlisted t ⊎ ((n : ℕ) × (name ≡ Root n))
 
 -- a finalization's name may be there already, before its settle
 pub record Refinds (f : Formats) (w : World) (k : ℕ) (name : BlobName) : Type 0 where
@@ -490,14 +520,49 @@ pub record Finishes (w : World) (k : ℕ) : Type 0 where
   pub no_shard : IsShard t.work → ⊥
   pub done : ((t.settled ≡ true) × ((uuids : List ℕ) (plan : Option Swap) → t.work ≡ Deleting uuids plan → ⊥)) ⊎ IsStale w k t
 
-pub record MayDrop (w : World) (k : ℕ) : Type 0 where
+-- `index.latest` was replaced by the ticket
+pub record HasPutLatest (w : World) (k : ℕ) : Type 0 where
+  pub entry : Entry
+  pub there : Has (entries_by w.entries k) entry
+  pub step_is : entry.step ≡ LatestStep
+  pub reply_is : entry.reply ≡ WasReplaced
+
+-- a cleanup has settled, its op is open, and its `latest` and its removals were answered Ok; where the container tells, these have
+-- named all that it doomed
+pub record HasCleaned (f : Formats) (w : World) (k : ℕ) (t : Ticket) (image : Option Image) : Type 0 where
+  pub uuids : List ℕ
+  pub s : Swap
+  pub work : t.work ≡ Deleting uuids (Some s)
+  pub clean : t.clean ≡ true
+  pub settled : t.settled ≡ true
+  pub open_op : t.term ≡ w.term → (x : Deletion) × (fin.get w.deletes t.op ≡ Some x) × (x.clean ≡ true)
+  pub latest : HasPutLatest w k
+  pub removals : (e : Entry) → Has (entries_by w.entries k) e → IsRemoval e.step → e.reply ≡ WasRemoved
+  pub removed : Told image (λ blobs. (name : BlobName) → Has (dooms f t) name → Has (gone_names (entries_by w.entries k)) name)
+
+-- an op leaves: by its drop, or by a cleanup that has come to its end
+pub record MayDrop (f : Formats) (w : World) (k : ℕ) (image : Option Image) : Type 0 where
   pub t : Ticket
   pub out : IsOut w k t
-  pub work : t.work ≡ Drop
+  pub unit : (t.work ≡ Drop) ⊎ HasCleaned f w k t image
 
-pub record Drops (w : World) (k : ℕ) : Type 0 where
-  pub may : MayDrop w k
+pub record Drops (f : Formats) (w : World) (k : ℕ) (image : Option Image) : Type 0 where
+  pub may : MayDrop f w k image
   pub present : may.t.term ≡ w.term
+
+-- ---- a listing
+
+-- before its settle a cleanup lists page after page, each after the last name of the one before, until a page ends the listing
+pub record ListsPage (w : World) (k : ℕ) (from : Option Bytes) : Type 0 where
+  pub t : Ticket
+  pub out : IsOut w k t
+  pub uuids : List ℕ
+  pub plan : Option Swap
+  pub work : t.work ≡ Deleting uuids plan
+  pub clean : t.clean ≡ true
+  pub unsettled : t.settled ≡ false
+  pub unended : t.whole ≡ false
+  pub from_is : from ≡ last_text t.listed
 
 -- the name is that of a finalization's metadata
 abbrev pub IsMetadata : BlobName → Type 0
@@ -632,13 +697,14 @@ pub data VerifyAllows (f : Formats) (w : World) : Read → Reply → Option Imag
   VerifyingAll : (image : Option Image) → Verifies w → SameBlobs w image → VerifyAllows f w VerifiedAll HasEnded image
   VerifyFailing : (why : Why) (image : Option Image) → IsVerifying w → SameBlobs w image → VerifyAllows f w (ReadFails why) HasEnded image
 
--- ---- steps of a delete's ticket
+-- ---- steps of the ticket of a delete or cleanup
 
--- A delete's ticket is out, with these uuids. Its op is no cleanup.
+-- A ticket of a delete with these uuids is out, or of a cleanup, which has none. Its op is a cleanup exactly where it is a cleanup's.
 pub record IsDeleting (w : World) (k : ℕ) (t : Ticket) (uuids : List ℕ) (plan : Option Swap) : Type 0 where
   pub out : IsOut w k t
   pub work : t.work ≡ Deleting uuids plan
-  pub deletes : (x : Deletion) → fin.get w.deletes t.op ≡ Some x → x.clean ≡ false
+  pub bare : t.clean ≡ true → uuids ≡ []
+  pub mode : (x : Deletion) → fin.get w.deletes t.op ≡ Some x → x.clean ≡ t.clean
 
 -- before its plan it fetches the indices of shards of the root that it copied
 pub record FetchesShard (f : Formats) (w : World) (k : ℕ) (name : BlobName) : Type 0 where
@@ -650,7 +716,7 @@ pub record FetchesShard (f : Formats) (w : World) (k : ℕ) (name : BlobName) : 
   pub index : ℕ
   pub number : ℕ
   pub generation : ℕ
-  pub to_read : IsToRead t.root uuids index number generation
+  pub to_read : IsToRead t.clean t.root uuids index number generation
   pub name_is : name ≡ ShardIndex index number generation
 
 -- It plans once: over a container that tells exactly the shards that follow from what it read, all that were to be read, and what is
@@ -665,10 +731,11 @@ pub record MayPlan (f : Formats) (w : World) (k : ℕ) (shards : List PrunedShar
   -- the root that it copied lists each index once
   pub one_each : IsOneEach t.root.indices
   pub of_root : AreOfRoot t.root shards
-  pub are_read : Told image (λ blobs. AreRead f t.root uuids t.read)
-  pub exact : Told image (λ blobs. shards ≡ pruned_shards f t.root uuids t.read)
+  pub are_read : Told image (λ blobs. AreRead f t.clean t.root uuids t.read)
+  pub exact : Told image (λ blobs. shards ≡ pruned_shards f t.clean t.root uuids t.read)
   pub writable : Told image (λ blobs. AreWritable f t.root uuids t.read shards)
 
+-- a cleanup settles once it has listed to the last page
 pub record SettlesDeletion (f : Formats) (w : World) (k : ℕ) : Type 0 where
   pub t : Ticket
   pub s : Swap
@@ -676,7 +743,8 @@ pub record SettlesDeletion (f : Formats) (w : World) (k : ℕ) : Type 0 where
   pub uuids : List ℕ
   pub may : MaySettle f w k n t s
   pub deleting : IsDeleting w k t uuids (Some s)
-  pub commands : s.commands ≡ Delete uuids ∷ []
+  pub commands : s.commands ≡ commands_by t.clean uuids
+  pub listed : t.clean ≡ true → t.whole ≡ true
 
 -- at most 1,000 names at once, each doomed by its own settle
 pub record RemovesDoomed (f : Formats) (w : World) (k : ℕ) (names : List BlobName) (image : Option Image) : Type 0 where
@@ -688,24 +756,25 @@ pub record RemovesDoomed (f : Formats) (w : World) (k : ℕ) (names : List BlobN
   pub few : length names ≤ 1000
   pub doomed : Told image (λ blobs. (name : BlobName) → Has names name → Has (dooms f t) name)
 
--- it ends once its removals have named all that it doomed
+-- a delete ends once its removals have named all that it doomed
 pub record EndsDelete (f : Formats) (w : World) (k : ℕ) (image : Option Image) : Type 0 where
   pub t : Ticket
   pub uuids : List ℕ
   pub s : Swap
   pub deleting : IsDeleting w k t uuids (Some s)
+  pub deletes : t.clean ≡ false
   pub settled : t.settled ≡ true
   pub removed : Told image (λ blobs. (name : BlobName) → Has (dooms f t) name → Has (removal_names (entries_by w.entries k)) name)
 
--- it fails before its settle; what a stale one tells ends it alone
+-- a delete fails before its settle, a cleanup also later on, while its op is open; what a stale one tells ends it alone
 pub record FailsDeletion (w : World) (k : ℕ) : Type 0 where
   pub t : Ticket
   pub uuids : List ℕ
   pub plan : Option Swap
   pub deleting : IsDeleting w k t uuids plan
-  pub unsettled : t.settled ≡ false
+  pub may : (t.settled ≡ false) ⊎ ((t.clean ≡ true) × (t.term ≡ w.term → (x : Deletion) × (fin.get w.deletes t.op ≡ Some x)))
 
--- How a step of a delete's ticket may be answered.
+-- How a step of the ticket of a delete or cleanup may be answered.
 pub data PruneAllows (f : Formats) (w : World) : ℕ → Prune → Reply → Option Image → Type 0 where
   FetchingShard : (k : ℕ) (name : BlobName) (image : Option Image) → FetchesShard f w k name → Told image (λ blobs. (bytes : Bytes) × (fin.get w.blobs (f.names.text name) ≡ Some bytes) × (blobs ≡ w.blobs)) → PruneAllows f w k (FetchShard name) WasFetched image
   ShardMissing : (k : ℕ) (name : BlobName) (image : Option Image) → FetchesShard f w k name → Told image (λ blobs. (fin.get w.blobs (f.names.text name) ≡ None) × (blobs ≡ w.blobs)) → PruneAllows f w k (FetchShard name) WasAbsent image
@@ -737,22 +806,23 @@ pub data Allows (f : Formats) (part_size : ℕ) (w : World) : ℕ → Step → R
   Replacing : (k : ℕ) (image : Option Image) (p : Puts f w k) → ReadsBack f.names Latest → Told image (λ blobs. blobs ≡ fin.insert w.blobs (f.names.text Latest) (latest_text p.n)) → Allows f part_size w k LatestStep WasReplaced image
   Fetching : (k : ℕ) (name : BlobName) (image : Option Image) → Fetches f w k name → Told image (λ blobs. (bytes : Bytes) × (fin.get w.blobs (f.names.text name) ≡ Some bytes) × (blobs ≡ w.blobs)) → Allows f part_size w k (FetchStep name) WasFetched image
   Missing : (k : ℕ) (name : BlobName) (image : Option Image) → Fetches f w k name → Told image (λ blobs. (fin.get w.blobs (f.names.text name) ≡ None) × (blobs ≡ w.blobs)) → Allows f part_size w k (FetchStep name) WasAbsent image
-  Listing : (k : ℕ) (image : Option Image) (t : Ticket) → IsOut w k t → SameBlobs w image → Allows f part_size w k ListStep WasListed image
+  Listing : (k : ℕ) (from : Option Bytes) (page : List BlobSize) (image : Option Image) → ListsPage w k from → IsPage from page → Told image (λ blobs. IsPageOf w.blobs from page × (blobs ≡ w.blobs)) → Allows f part_size w k (ListStep from) (WasListed page) image
   Raising : (k n : ℕ) (image : Option Image) → Raises f w k n → SameBlobs w image → Allows f part_size w k RaiseStep (RaisedTo n) image
   Settling : (k : ℕ) (image : Option Image) → Settles f w k → SameBlobs w image → Allows f part_size w k SettleStep WasSettled image
   Doing : (k : ℕ) (r : ShardResult) (image : Option Image) → Dones f part_size w k r image → SameBlobs w image → Allows f part_size w k (DoneStep r) HasEnded image
   Failing : (k : ℕ) (why : Why) (image : Option Image) → Fails w k → SameBlobs w image → Allows f part_size w k (FailedStep why) HasEnded image
   Finishing : (k : ℕ) (image : Option Image) → Finishes w k → SameBlobs w image → Allows f part_size w k FinishStep HasEnded image
-  Dropping : (k : ℕ) (image : Option Image) → Drops w k → SameBlobs w image → Allows f part_size w k DroppedStep HasEnded image
+  Dropping : (k : ℕ) (image : Option Image) → Drops f w k image → SameBlobs w image → Allows f part_size w k DroppedStep HasEnded image
   Electing : (image : Option Image) → suc w.term < 2 ^ 63 → SameBlobs w image → Allows f part_size w 0 ElectStep (ElectedTerm (suc w.term)) image
   Looking : (image : Option Image) → SameBlobs w image → Allows f part_size w 0 LookStep (Looked w.root.snapshots w.safe) image
   AskingRestore : (name place : Bytes) (reply : Reply) (image : Option Image) → RestoreAllows f w name reply image → SameBlobs w image → Allows f part_size w 0 (AskStep (Restore name place)) reply image
   AskingClone : (source name : Bytes) (names : List Bytes) (moment : ℕ) (taken : Option CloneOf) (reply : Reply) (image : Option Image) → CloneAllows f w source name names moment taken reply image → SameBlobs w image → Allows f part_size w 0 (AskStep (Clone source name names moment taken)) reply image
   AskingDelete : (names : List Bytes) (reply : Reply) (image : Option Image) → DeleteAllows w names reply → SameBlobs w image → Allows f part_size w 0 (AskStep (DeleteSnapshots names)) reply image
+  AskingCleanup : (reply : Reply) (image : Option Image) → CleanupAllows w reply → SameBlobs w image → Allows f part_size w 0 (AskStep Cleanup) reply image
   Verifying : (read : Read) (reply : Reply) (image : Option Image) → VerifyAllows f w read reply image → Allows f part_size w 0 (ReadStep read) reply image
   Reading : (k : ℕ) (read : Read) (reply : Reply) (image : Option Image) → ReadAllows f w k read reply image → SameBlobs w image → Allows f part_size w k (ReadStep read) reply image
   Pruning : (k : ℕ) (prune : Prune) (reply : Reply) (image : Option Image) → PruneAllows f w k prune reply image → Allows f part_size w k (PruneStep prune) reply image
-  -- refusals by rule
+  -- refusals by rule; no command that is recorded is accepted while a cleanup is open
   Cleaning : (command : Asked) (d : ℕ) (x : Deletion) (image : Option Image) → is_recorded command ≡ true → fin.get w.deletes d ≡ Some x → x.clean ≡ true → SameBlobs w image → Allows f part_size w 0 (AskStep command) (Refused (CleanupRunning d)) image
   Used : (name : Bytes) (indices : List AskedIndex) (moment uuid : ℕ) (image : Option Image) → NoCleanup w → IsNameOf w name uuid → SameBlobs w image → Allows f part_size w 0 (AskStep (Snapshot name indices moment)) (Refused (NameInUse uuid)) image
   Full : (name : Bytes) (indices : List AskedIndex) (moment : ℕ) (image : Option Image) → NoCleanup w → IsUnused w name → 1000 ≤ open_count w → SameBlobs w image → Allows f part_size w 0 (AskStep (Snapshot name indices moment)) (Refused (TooMany 1000)) image
@@ -761,7 +831,7 @@ pub data Allows (f : Formats) (part_size : ℕ) (w : World) : ℕ → Step → R
   DrawSpent : (k n : ℕ) (image : Option Image) → MayDraw f w k n → first_id (suc w.term) ≤ w.next_id + n → SameBlobs w image → Allows f part_size w k (DrawStep n) (Refused (IdsSpent w.next_id)) image
   RaiseStale : (k : ℕ) (image : Option Image) (may : MayRaise f w k) → may.t.term ≢ w.term → SameBlobs w image → Allows f part_size w k RaiseStep (Refused (StaleTerm may.t.term w.term)) image
   SettleStale : (k n : ℕ) (t : Ticket) (s : Swap) (image : Option Image) → MaySettle f w k n t s → t.term ≢ w.term → SameBlobs w image → Allows f part_size w k SettleStep (Refused (StaleTerm t.term w.term)) image
-  DropStale : (k : ℕ) (image : Option Image) (may : MayDrop w k) → may.t.term ≢ w.term → SameBlobs w image → Allows f part_size w k DroppedStep (Refused (StaleTerm may.t.term w.term)) image
+  DropStale : (k : ℕ) (image : Option Image) (may : MayDrop f w k image) → may.t.term ≢ w.term → SameBlobs w image → Allows f part_size w k DroppedStep (Refused (StaleTerm may.t.term w.term)) image
   RaiseSpent : (k : ℕ) (image : Option Image) (may : MayRaise f w k) → may.t.term ≡ w.term → 2 ^ 63 ≤ w.pending → SameBlobs w image → Allows f part_size w k RaiseStep (Refused (GenerationsSpent w.pending)) image
   ElectSpent : (image : Option Image) → 2 ^ 63 ≤ suc w.term → SameBlobs w image → Allows f part_size w 0 ElectStep (Refused (TermsSpent w.term)) image
   Taken : (k : ℕ) (name : BlobName) (image : Option Image) → Commits f part_size w k name → (IsMetadata name → ⊥) → Told image (λ blobs. Present f w.blobs name × (blobs ≡ w.blobs)) → Allows f part_size w k (CommitStep name) (Refused (NameTaken name)) image
@@ -771,11 +841,11 @@ pub data Allows (f : Formats) (part_size : ℕ) (w : World) : ℕ → Step → R
   CommitFails : (k : ℕ) (name : BlobName) (image : Option Image) (c : Commits f part_size w k name) → Told image (λ blobs. (blobs ≡ w.blobs) ⊎ Adds f w name c.bytes blobs) → Allows f part_size w k (CommitStep name) (Refused DepotFault) image
   ReplaceFails : (k : ℕ) (image : Option Image) (p : Puts f w k) → ReadsBack f.names Latest → Told image (λ blobs. (blobs ≡ w.blobs) ⊎ (blobs ≡ fin.insert w.blobs (f.names.text Latest) (latest_text p.n))) → Allows f part_size w k LatestStep (Refused DepotFault) image
   FetchFails : (k : ℕ) (name : BlobName) (image : Option Image) → Fetches f w k name → SameBlobs w image → Allows f part_size w k (FetchStep name) (Refused DepotFault) image
-  ListFails : (k : ℕ) (image : Option Image) (t : Ticket) → IsOut w k t → SameBlobs w image → Allows f part_size w k ListStep (Refused DepotFault) image
+  ListFails : (k : ℕ) (from : Option Bytes) (image : Option Image) → ListsPage w k from → SameBlobs w image → Allows f part_size w k (ListStep from) (Refused DepotFault) image
   AskFails : (name : Bytes) (indices : List AskedIndex) (moment : ℕ) (image : Option Image) → Accepts f w name indices moment w.next_op → SameBlobs w image → Allows f part_size w 0 (AskStep (Snapshot name indices moment)) (Refused DepotFault) image
   RaiseFails : (k : ℕ) (image : Option Image) → Raises f w k w.pending → SameBlobs w image → Allows f part_size w k RaiseStep (Refused DepotFault) image
   SettleFails : (k : ℕ) (image : Option Image) → Settles f w k → SameBlobs w image → Allows f part_size w k SettleStep (Refused DepotFault) image
-  DropFails : (k : ℕ) (image : Option Image) → Drops w k → SameBlobs w image → Allows f part_size w k DroppedStep (Refused DepotFault) image
+  DropFails : (k : ℕ) (image : Option Image) → Drops f w k image → SameBlobs w image → Allows f part_size w k DroppedStep (Refused DepotFault) image
   ElectFails : (image : Option Image) → suc w.term < 2 ^ 63 → SameBlobs w image → Allows f part_size w 0 ElectStep (Refused DepotFault) image
 
 -- ---- steps that are refused before they are looked at

@@ -7,7 +7,7 @@ use Rattle.esr_model.specs.Kept.{first_id}
 use Rattle.esr_model.specs.Image.{Image, Present}
 use Rattle.esr_core.specs.World.{World, Deletion, Ticket}
 use Rattle.esr_core.specs.Steps.{IsOut}
-use Rattle.esr_core.specs.Entry.{Asked, Given, CommitTest, SettlePruned, Step, AskStep, TakeStep, CommitStep, SettleStep, ReadStep, PruneStep, Refusal, CleanupRunning, NameInUse, TooMany, StaleTerm, GenerationsSpent, TermsSpent, IdsSpent, NameTaken, DepotFault, NoSnapshot, NoIndex, BeingDeleted, CloneRunning, RestoreRunning}
+use Rattle.esr_core.specs.Entry.{Asked, Given, CommitTest, SettlePruned, Step, AskStep, TakeStep, CommitStep, SettleStep, ReadStep, PruneStep, Refusal, CleanupRunning, NameInUse, TooMany, StaleTerm, GenerationsSpent, TermsSpent, IdsSpent, NameTaken, DepotFault, NoSnapshot, NoIndex, BeingDeleted, CloneRunning, RestoreRunning, BusyOp, BusyTicket}
 use Rattle.esr_core.specs.Allowed.{Told, HasReady, Gives, Commits, Settles, IsMetadata, IsOwnTest, SettlesDeletion}
 
 -- a rule of accepting commands gives the refusal
@@ -19,6 +19,8 @@ IsRule (NoIndex place) = Unit {0}
 IsRule (BeingDeleted op) = Unit {0}
 IsRule (CloneRunning op) = Unit {0}
 IsRule (RestoreRunning op) = Unit {0}
+IsRule (BusyOp op) = Unit {0}
+IsRule (BusyTicket ticket) = Unit {0}
 IsRule refusal = ⊥
 
 pub data RefusalCause (f : Formats) (part_size : ℕ) (w : World) (who : ℕ) (step : Step) (image : Option Image) : Refusal → Type 0 where
@@ -44,6 +46,6 @@ pub record TakeGave (f : Formats) (w : World) (who : ℕ) (step : Step) (k o : �
   pub lowest : (p : ℕ) → p < o → HasReady w p → ⊥
   pub gives : Gives f w o unit
 
--- the swap of a finalization or of a delete of the present term was settled
+-- the swap of a finalization, or of a delete or cleanup, of the present term was settled
 abbrev pub SettleDid : Formats → World → ℕ → Step → Type 0
 SettleDid f w who step = ((step ≡ SettleStep) × Settles f w who) ⊎ ((step ≡ PruneStep SettlePruned) × ((s : SettlesDeletion f w who) × (s.t.term ≡ w.term)))

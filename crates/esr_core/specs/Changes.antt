@@ -1,6 +1,6 @@
 -- What a step changes, whoever makes it and whatever it is answered: one case for each kind of change, so that a fact over all steps goes
 -- over these alone.
-use Rattle.std.specs.Prelude.{◌≡◌, ◌≢◌, ℕ, suc, ◌≤◌, ◌⊎◌, Bool, true, false, List, ◌∷◌, ◌++◌, Option, Some, None}
+use Rattle.std.specs.Prelude.{◌≡◌, ◌≢◌, ℕ, suc, ◌≤◌, ◌⊎◌, Bool, true, false, List, [], ◌∷◌, ◌++◌, Option, Some, None}
 use Rattle.std.specs.Ordering.{nat_cmp}
 use Rattle.std.specs.FinMap.{FinMap}
 use Rattle.std.specs.FinMap as fin
@@ -12,7 +12,7 @@ use Rattle.esr_core.specs.World.{World, Op, Deletion, Deleting, Ticket, ReadStat
 use Rattle.esr_core.specs.Restores.{IsReading, put_restore, shard_handed, more_read, shard_ended}
 use Rattle.esr_core.specs.Steps.{IsOut, settled, Removes}
 use Rattle.esr_core.specs.Turns.{Aborts}
-use Rattle.esr_core.specs.Entry.{ReadBlob, RestoredShard, CommitTest, RemoveTests, ReadFails, RemoveDoomed, Step, AskStep, TakeStep, CommitStep, LatestStep, DroppedStep, ElectStep, LookStep, ReadStep, PruneStep}
+use Rattle.esr_core.specs.Entry.{ReadBlob, RestoredShard, CommitTest, RemoveTests, ReadFails, RemoveDoomed, Cleanup, Step, AskStep, TakeStep, CommitStep, LatestStep, DroppedStep, ElectStep, LookStep, ReadStep, PruneStep}
 use Rattle.esr_core.specs.After.{swaps_record}
 use Rattle.esr_core.specs.History.{is_settle}
 
@@ -32,6 +32,8 @@ pub record IsNewTicket (w : World) (t : Ticket) : Type 0 where
   pub raised : t.raised ≡ None
   pub settled : t.settled ≡ false
   pub out : t.out ≡ true
+  pub listed : t.listed ≡ []
+  pub whole : t.whole ≡ false
 
 -- the ticket later on: its unit and its copies are the same, a delete's has its plan; what it has noted, written and read it keeps
 pub record SameUnit (t v : Ticket) : Type 0 where
@@ -45,6 +47,7 @@ pub record SameUnit (t v : Ticket) : Type 0 where
   pub safe : v.safe ≡ t.safe
   pub root : v.root ≡ t.root
   pub base : v.base ≡ t.base
+  pub clean : v.clean ≡ t.clean
   pub noted : (name : BlobName) → Has t.noted name → Has v.noted name
   pub wrote : (name : BlobName) (bytes : Bytes) → Has t.wrote (name, bytes) → Has v.wrote (name, bytes)
   pub read : (name : BlobName) (bytes : Bytes) → Has t.read (name, bytes) → Has v.read (name, bytes)
@@ -70,10 +73,10 @@ pub data SameOps (ops : FinMap nat_cmp Op) : FinMap nat_cmp Op → Type 0 where
 -- What the step of who makes of the world, its blobs and what was done so far aside.
 pub data StepChange (f : Formats) (w : World) (who : ℕ) (step : Step) : World → Type 0 where
   NoChange : StepChange f w who step w
-  -- it is asked for: a snapshot or a clone, a delete of its own, one that goes into another, a restore
+  -- it is asked for: a snapshot or a clone, a cleanup or a delete of its own, one that goes into another, a restore
   NewOp : IsAsk step → (op : Op) (completed : List ℕ) (next_id : ℕ) → op.uuid ≡ w.next_id → w.next_id ≤ next_id
       → StepChange f w who step (record w { ops = fin.insert w.ops w.next_op op; next_op = suc w.next_op; completed = completed; next_id = next_id })
-  NewDeletion : IsAsk step → (ops : FinMap nat_cmp Op) (x : Deletion) → Aborts w.ops ops w.next_op → x.clean ≡ false → StepChange f w who step (record w { ops = ops; deletes = fin.insert w.deletes w.next_op x; next_op = suc w.next_op })
+  NewDeletion : IsAsk step → (ops : FinMap nat_cmp Op) (x : Deletion) → Aborts w.ops ops w.next_op → (x.clean ≡ false) ⊎ (step ≡ AskStep Cleanup) → StepChange f w who step (record w { ops = ops; deletes = fin.insert w.deletes w.next_op x; next_op = suc w.next_op })
   MergedDeletion : IsAsk step → (ops : FinMap nat_cmp Op) (d : ℕ) (x v : Deletion) → Aborts w.ops ops d → fin.get w.deletes d ≡ Some x → v.clean ≡ x.clean → v.failed ≡ x.failed
       → StepChange f w who step (record w { ops = ops; deletes = fin.insert w.deletes d v })
   NewRestore : IsAsk step → (r : Restoring) → StepChange f w who step (record w { restores = put_restore w.restores w.next_op r; next_op = suc w.next_op })
@@ -84,8 +87,9 @@ pub data StepChange (f : Formats) (w : World) (who : ℕ) (step : Step) : World 
   -- its ticket goes on, or ends alone: it has drawn, noted, fetched, planned, raised, or is over
   OwnTicket : (t v : Ticket) → fin.get w.tickets who ≡ Some t → SameUnit t v → v.settled ≡ t.settled → (next_id pending : ℕ) → w.next_id ≤ next_id → w.pending ≤ pending
       → StepChange f w who step (record w { tickets = fin.insert w.tickets who v; next_id = next_id; pending = pending })
-  Settlement : is_settle step ≡ true → (t : Ticket) (s : Swap) (n : ℕ) (names : List BlobName) → fin.get w.tickets who ≡ Some t → swap f t ≡ Some s → t.raised ≡ Some n
-      → StepChange f w who step (record (settled w who t n s.root) { deletes = fin.remove w.deletes t.op; doomed = names ++ w.doomed })
+  -- the op of a cleanup stays
+  Settlement : is_settle step ≡ true → (t : Ticket) (s : Swap) (n : ℕ) (names : List BlobName) (deletes : FinMap nat_cmp Deletion) → fin.get w.tickets who ≡ Some t → swap f t ≡ Some s → t.raised ≡ Some n
+      → (deletes ≡ fin.remove w.deletes t.op) ⊎ ((t.clean ≡ true) × (deletes ≡ w.deletes)) → StepChange f w who step (record (settled w who t n s.root) { deletes = deletes; doomed = names ++ w.doomed })
   -- its ticket ends with its shard, or since it failed
   UnitEnd : (t : Ticket) (op v : Op) (completed : List ℕ) → fin.get w.tickets who ≡ Some t → fin.get w.ops t.op ≡ Some op → SameOp op v
       → StepChange f w who step (record w { ops = fin.insert w.ops t.op v; tickets = fin.insert w.tickets who (record t { out = false }); completed = completed })

@@ -3,6 +3,7 @@ use Rattle.std.specs.Prelude.{◌≢◌, ℕ, ℤ, Bool, true, false, List, Opti
 use Rattle.esr_model.specs.Names.{BlobName}
 use Rattle.esr_model.specs.Values.{Bytes, IndexRef, RootSnap, SnapInfo, ShardResult}
 use Rattle.esr_model.specs.Delete.{PrunedShard}
+use Rattle.esr_model.specs.Cleanup.{BlobSize}
 use Rattle.esr_model.specs.Image.{Image}
 
 -- an index that a snapshot is to hold, with the place of its files
@@ -16,7 +17,7 @@ pub record CloneOf : Type 0 where
   pub source : ℕ
   pub indices : List IndexRef
 
--- A command as it is asked. Of cleanups only the refusals in an open one are steps so far.
+-- a command as it is asked
 pub data Asked : Type 0 where
   Snapshot : (name : Bytes) (indices : List AskedIndex) (moment : ℕ) → Asked
   -- of these indices of a listed snapshot, of all where none is named; with what it takes, unless a rule refuses it
@@ -44,7 +45,7 @@ pub data Given : Type 0 where
   GivenClone : (index number source : ℕ) (base : Option ℕ) → Given
   -- an open delete of the snapshots with these uuids
   GivenDelete : (uuids : List ℕ) → Given
-  -- a cleanup: no step gives it so far
+  -- an open cleanup
   GivenCleanup : Given
 
 -- why bytes don't read as their kind: the first rule that they break
@@ -102,7 +103,7 @@ pub data Read : Type 0 where
   VerifiedAll : Read
   ReadFails : (why : Why) → Read
 
--- a step of a delete's ticket, its writing aside
+-- a step of the ticket of a delete or cleanup, its writing and listing aside
 pub data Prune : Type 0 where
   -- the index of a shard is fetched
   FetchShard : (name : BlobName) → Prune
@@ -110,7 +111,7 @@ pub data Prune : Type 0 where
   PlanShards : (shards : List PrunedShard) → Prune
   SettlePruned : Prune
   RemoveDoomed : (names : List BlobName) → Prune
-  -- all that it doomed was named in a removal
+  -- all that a delete doomed was named in a removal
   EndDelete : Prune
   DeleteFails : (why : Why) → Prune
 
@@ -122,7 +123,8 @@ pub data Step : Type 0 where
   CommitStep : (name : BlobName) → Step
   LatestStep : Step
   FetchStep : (name : BlobName) → Step
-  ListStep : Step
+  -- a page of the listing, after this name
+  ListStep : (from : Option Bytes) → Step
   RaiseStep : Step
   SettleStep : Step
   DoneStep : (result : ShardResult) → Step
@@ -133,10 +135,6 @@ pub data Step : Type 0 where
   LookStep : Step
   ReadStep : (read : Read) → Step
   PruneStep : (prune : Prune) → Step
-
--- it asks for no delete
-abbrev pub AsksNoDelete : Step → Type 0
-AsksNoDelete step = (names : List Bytes) → step ≢ AskStep (DeleteSnapshots names)
 
 -- it asks for no clone
 abbrev pub AsksNoClone : Step → Type 0
@@ -179,7 +177,7 @@ pub data Reply : Type 0 where
   WasReplaced : Reply
   WasFetched : Reply
   WasAbsent : Reply
-  WasListed : Reply
+  WasListed : (page : List BlobSize) → Reply
   RaisedTo : (generation : ℕ) → Reply
   WasSettled : Reply
   HasEnded : Reply

@@ -7,6 +7,7 @@ use Rattle.esr_model.specs.Names.{BlobName, Root, Latest, Snap, Meta, IndexMeta,
 use Rattle.esr_model.specs.Values.{Bytes, IndexRef, RootData, ShardResult, Formats}
 use Rattle.esr_model.specs.Shelf.{Shelved}
 use Rattle.esr_model.specs.Kept.{first_id, IdsBelow, RootIds}
+use Rattle.esr_model.specs.Cleanup.{names_listed}
 use Rattle.esr_model.specs.Image.{Blobs, Has, Present}
 use Rattle.esr_core.specs.World.{World, Op, Deletion, ShardWork, Done, Shard, Ticket, Swap, swap}
 use Rattle.esr_core.specs.Ready.{IsShard}
@@ -52,6 +53,8 @@ pub record TicketIds (f : Formats) (c : ℕ) (t : Ticket) : Type 0 where
   pub copy : RootIds t.root c
   pub own : (s : Swap) → swap f t ≡ Some s → (name : BlobName) (b : Bytes) → Has s.own (name, b) → IdsBelow name c
   pub root : (s : Swap) → swap f t ≡ Some s → RootIds s.root c
+  -- and of what it listed
+  pub listed : (name : BlobName) → Has (names_listed f t.listed) name → IdsBelow name c
 
 pub record OpIds (c : ℕ) (op : Op) : Type 0 where
   pub uuid : op.uuid < c

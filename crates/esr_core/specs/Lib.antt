@@ -29,4 +29,5 @@ pub mod Left
 pub mod Refusing
 pub mod Causes
 pub mod Tidy
+pub mod Cleaned
 pub mod Example

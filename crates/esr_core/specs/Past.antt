@@ -2,7 +2,7 @@
 use Rattle.std.specs.Prelude.{◌≡◌, ℕ, zero, Bool, true, false, ◌==◌, if◌then◌else◌, List, [], ◌∷◌, ◌++◌}
 use Rattle.esr_model.specs.Names.{BlobName}
 use Rattle.esr_model.specs.Values.{Has}
-use Rattle.esr_core.specs.Entry.{Read, ReadBlob, CheckedAll, DrawTest, BeginTest, CommitTest, RemoveTests, VerifiedAll, ReadFails, Prune, FetchShard, PlanShards, SettlePruned, RemoveDoomed, Step, AskStep, DrawStep, BeginStep, CommitStep, LatestStep, FetchStep, ListStep, RaiseStep, SettleStep, LookStep, ReadStep, PruneStep, StaleTerm, DeposedAt, Reply, Refused, Entry}
+use Rattle.esr_core.specs.Entry.{Read, ReadBlob, CheckedAll, DrawTest, BeginTest, CommitTest, RemoveTests, VerifiedAll, ReadFails, Prune, FetchShard, PlanShards, SettlePruned, RemoveDoomed, Step, AskStep, DrawStep, BeginStep, CommitStep, LatestStep, FetchStep, ListStep, RaiseStep, SettleStep, LookStep, ReadStep, PruneStep, StaleTerm, DeposedAt, Reply, WasRemoved, Refused, Entry}
 use Rattle.esr_core.specs.World.{World}
 
 -- a step that was refused since a record swap had failed isn't counted
@@ -36,6 +36,19 @@ abbrev pub removal_names : List Entry → List BlobName
 removal_names [] = []
 removal_names (e ∷ entries) = batch_of e.step ++ removal_names entries
 
+-- those that its removals took away: these were answered Ok
+abbrev pub batch_gone : Step → Reply → List BlobName
+batch_gone (PruneStep (RemoveDoomed names)) WasRemoved = names
+batch_gone step reply = []
+
+abbrev pub gone_names : List Entry → List BlobName
+gone_names [] = []
+gone_names (e ∷ entries) = batch_gone e.step e.reply ++ gone_names entries
+
+abbrev pub IsRemoval : Step → Type 0
+IsRemoval (PruneStep (RemoveDoomed names)) = Unit {0}
+IsRemoval step = ⊥
+
 -- a step of the ticket was refused, as its term is over
 pub record WasStale (w : World) (k : ℕ) : Type 0 where
   pub entry : Entry
@@ -66,14 +79,14 @@ RepeatsPrune SettlePruned SettlePruned = Unit {0}
 RepeatsPrune (RemoveDoomed a) (RemoveDoomed b) = ShareName a b
 RepeatsPrune was prune = ⊥
 
--- Each is made once on one name; a draw, a raise, a settle, a list, a replacement of `index.latest` and a removal of nothing are made once.
+-- Each is made once on one name, a page of a listing once after one name; a draw, a raise, a settle, a replacement of `index.latest` and a removal of nothing are made once.
 abbrev pub Repeats : Step → Step → Type 0
 Repeats (DrawStep a) (DrawStep b) = Unit {0}
 Repeats (BeginStep a) (BeginStep b) = a ≡ b
 Repeats (CommitStep a) (CommitStep b) = a ≡ b
 Repeats LatestStep LatestStep = Unit {0}
 Repeats (FetchStep a) (FetchStep b) = a ≡ b
-Repeats ListStep ListStep = Unit {0}
+Repeats (ListStep a) (ListStep b) = a ≡ b
 Repeats RaiseStep RaiseStep = Unit {0}
 Repeats SettleStep SettleStep = Unit {0}
 Repeats (ReadStep a) (ReadStep b) = RepeatsRead a b

@@ -28,7 +28,7 @@ pub record DeleteLaw (root : RootData) (ops : FinMap nat_cmp Op) (deletes : FinM
   pub root_is : t.root ≡ root
   pub planned : (s : Swap) → plan ≡ Some s → Shrinks root s.root
   -- it copied what the op names, and keeps the rest
-  pub named : (uuids : List ℕ) (p : Option Swap) → t.work ≡ Deleting uuids p → uuids ≡ deletion.uuids
+  pub named : t.clean ≡ false → (uuids : List ℕ) (p : Option Swap) → t.work ≡ Deleting uuids p → uuids ≡ deletion.uuids
   pub keeps : (s : Swap) → plan ≡ Some s → (z : RootSnap) → Has root.snapshots z → names_uuid deletion.uuids z.uuid ≡ false → Has s.root.snapshots z
 
 -- of a drop that is out: its op failed or was aborted, and it is the op's one unit

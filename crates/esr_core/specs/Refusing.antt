@@ -4,7 +4,7 @@ use Rattle.esr_model.specs.Names.{BlobName}
 use Rattle.esr_model.specs.Values.{Bytes, Has}
 use Rattle.esr_model.specs.Delete.{PrunedShard}
 use Rattle.esr_core.specs.World.{World}
-use Rattle.esr_core.specs.Entry.{AskedIndex, CloneOf, Asked, Snapshot, Clone, DeleteSnapshots, Restore, is_recorded, ReadBlob, DrawTest, BeginTest, CommitTest, RemoveTests, FetchShard, PlanShards, SettlePruned, RemoveDoomed, Step, AskStep, DrawStep, BeginStep, CommitStep, LatestStep, FetchStep, ListStep, RaiseStep, SettleStep, DroppedStep, ElectStep, ReadStep, PruneStep, Refusal, CleanupRunning, NameInUse, TooMany, StaleTerm, GenerationsSpent, TermsSpent, IdsSpent, NameTaken, DepotFault, NoSnapshot, NoIndex, BeingDeleted, CloneRunning, RestoreRunning, Refused, Moment}
+use Rattle.esr_core.specs.Entry.{AskedIndex, CloneOf, Asked, Snapshot, Clone, DeleteSnapshots, Restore, Cleanup, is_recorded, ReadBlob, DrawTest, BeginTest, CommitTest, RemoveTests, FetchShard, PlanShards, SettlePruned, RemoveDoomed, Step, AskStep, DrawStep, BeginStep, CommitStep, LatestStep, FetchStep, ListStep, RaiseStep, SettleStep, DroppedStep, ElectStep, ReadStep, PruneStep, Refusal, CleanupRunning, NameInUse, TooMany, StaleTerm, GenerationsSpent, TermsSpent, IdsSpent, NameTaken, DepotFault, NoSnapshot, NoIndex, BeingDeleted, CloneRunning, RestoreRunning, BusyOp, BusyTicket, Refused, Moment}
 use Rattle.esr_core.specs.After.{swaps_record}
 use Rattle.esr_core.specs.Allowed.{Blocks}
 
@@ -29,6 +29,9 @@ pub data MayRefuse : Step → Refusal → Type 0 where
   RestoreStands : (names : List Bytes) (op : ℕ) → MayRefuse (AskStep (DeleteSnapshots names)) (RestoreRunning op)
   FullOfOps : (names : List Bytes) → MayRefuse (AskStep (DeleteSnapshots names)) (TooMany 1000)
   AskDeleteFault : (names : List Bytes) → MayRefuse (AskStep (DeleteSnapshots names)) DepotFault
+  OpStands : (op : ℕ) → MayRefuse (AskStep Cleanup) (BusyOp op)
+  TicketStands : (ticket : ℕ) → MayRefuse (AskStep Cleanup) (BusyTicket ticket)
+  AskCleanupFault : MayRefuse (AskStep Cleanup) DepotFault
   NotListed : (name place : Bytes) → MayRefuse (AskStep (Restore name place)) (NoSnapshot 0)
   NamedByDelete : (name place : Bytes) (op : ℕ) → MayRefuse (AskStep (Restore name place)) (BeingDeleted op)
   FullOfRestores : (name place : Bytes) → MayRefuse (AskStep (Restore name place)) (TooMany 1000)
@@ -38,7 +41,7 @@ pub data MayRefuse : Step → Refusal → Type 0 where
   CommitTaken : (name : BlobName) → MayRefuse (CommitStep name) (NameTaken name)
   LatestFault : MayRefuse LatestStep DepotFault
   FetchFault : (name : BlobName) → MayRefuse (FetchStep name) DepotFault
-  ListFault : MayRefuse ListStep DepotFault
+  ListFault : (from : Option Bytes) → MayRefuse (ListStep from) DepotFault
   RaiseFault : MayRefuse RaiseStep DepotFault
   RaiseStale : (own now : ℕ) → MayRefuse RaiseStep (StaleTerm own now)
   RaiseSpent : (pending : ℕ) → MayRefuse RaiseStep (GenerationsSpent pending)

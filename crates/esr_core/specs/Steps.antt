@@ -7,6 +7,7 @@ use Rattle.esr_model.specs.Shelf.{Command}
 use Rattle.esr_model.specs.Image.{Blobs, Has, IsStored, At, Present, Reads, Lists, FileStands}
 use Rattle.esr_model.specs.Kept.{first_id}
 use Rattle.esr_model.specs.Finalize.{finalized_root}
+use Rattle.esr_model.specs.Cleanup.{BlobSize, is_short}
 use Rattle.esr_core.specs.Generations.{IsLive, AreFilesOf}
 use Rattle.esr_core.specs.Ready.{IsShard}
 use Rattle.esr_core.specs.World.{World, Ticket, Op, ShardWork, ShardState, Pending, Shard, Finalize, Deleting, Out, Done, GivenUp, AllDone, Swap, swap, marked, info_of, made_of, metadata, HeldIn}
@@ -97,6 +98,9 @@ final_ticket f w o op results =
       tried_latest = false;
       settled = false;
       out = true;
+      clean = false;
+      listed = [];
+      whole = false;
     }
 
 -- commit: Done, Exists, and what a failed call may leave
@@ -244,6 +248,18 @@ pub record FetchFound (f : Formats) (w : World) (k : ℕ) (name : BlobName) (new
   pub there : At f w.blobs name bytes
   pub new_is : new ≡ with_ticket w k (reading t name bytes)
 
+-- a page more is listed
+abbrev pub listing : Ticket → List BlobSize → Ticket
+listing t page = record t { listed = t.listed ++ page; whole = is_short page }
+
+-- before its settle a ticket lists blobs that are there
+pub record ListMore (w : World) (k : ℕ) (page : List BlobSize) (new : World) : Type 0 where
+  pub t : Ticket
+  pub out : IsOut w k t
+  pub unsettled : t.settled ≡ false
+  pub there : (b : BlobSize) → Has page b → (bytes : Bytes) × (fin.get w.blobs b.text ≡ Some bytes)
+  pub new_is : new ≡ with_ticket w k (listing t page)
+
 -- a settled swap ends, or a unit of an older term
 pub record Ends (w : World) (k : ℕ) (new : World) : Type 0 where
   pub t : Ticket
@@ -283,6 +299,9 @@ shard_ticket w o op s base =
       tried_latest = false;
       settled = false;
       out = true;
+      clean = false;
+      listed = [];
+      whole = false;
     }
 
 pub record TakeShard (w : World) (o : ℕ) (op : Op) (s : ShardWork) (base : Option ℕ) (new : World) : Type 0 where

@@ -6,6 +6,7 @@ use Rattle.std.specs.FinMap as fin
 use Rattle.esr_model.specs.Names.{BlobName, Root}
 use Rattle.esr_model.specs.Values.{Bytes, Ledger, ReadsBack, Formats}
 use Rattle.esr_model.specs.Shelf.{Shelved, shelf_after}
+use Rattle.esr_model.specs.Cleanup.{names_listed}
 use Rattle.esr_model.specs.Image.{Has, RootStands, KeptBy}
 use Rattle.esr_core.specs.World.{World, Ticket, Swap, swap, ledger_of, HeldIn}
 use Rattle.esr_core.specs.Restores.{IsTestOf}
@@ -48,6 +49,8 @@ pub record TicketLaw (f : Formats) (has : BlobName → Bytes → Type 0) (doomed
   -- none of the names that it may commit is doomed
   pub clean : (s : Swap) → IsUnsettled f t s → Counts ledger t → (name : BlobName) (bytes : Bytes) → Has s.own (name, bytes) → Has doomed name → ⊥
   pub clean_root : (n : ℕ) → t.raised ≡ Some n → ledger.safe ≤ n → Has doomed (Root n) → ⊥
+  -- each root that it listed was begun
+  pub listed : (n : ℕ) → Has (names_listed f t.listed) (Root n) → n < ledger.pending
 
 -- the ticket has a swap of this term that is not settled
 pub record IsSwapping (f : Formats) (tickets : FinMap nat_cmp Ticket) (term k : ℕ) : Type 0 where

@@ -1,14 +1,13 @@
 -- Tidy roots, whose deletes doom exactly what they leave behind.
-use Rattle.std.specs.Prelude.{◌≡◌, ◌⊎◌, ℕ, suc, true, false, List, [], ◌∷◌, Some}
+use Rattle.std.specs.Prelude.{◌≡◌, ◌⊎◌, ℕ, suc, true, false, List, Some}
 use Rattle.std.specs.Ordering.{nat_cmp}
 use Rattle.std.specs.FinMap.{FinMap}
 use Rattle.std.specs.FinMap as fin
 use Rattle.esr_model.specs.Names.{BlobName, Root, ShardIndex}
 use Rattle.esr_model.specs.Values.{Bytes, RootSnap, RootIndex, RootData, SnapList, ShardFiles, ClusterRecord, Formats}
-use Rattle.esr_model.specs.Shelf.{Delete}
 use Rattle.esr_model.specs.Image.{Image, Has, At, Reads, RootIs, Generation}
 use Rattle.esr_model.specs.Reach.{Reached}
-use Rattle.esr_core.specs.World.{World, Op, Shard, Deleting, Ticket, Swap, HeldIn}
+use Rattle.esr_core.specs.World.{World, Op, Shard, Ticket, HeldIn}
 use Rattle.esr_core.specs.Generations.{DoneAt}
 use Rattle.esr_core.specs.Pruning.{dooms}
 use Rattle.esr_core.specs.Allowed.{SettlesDeletion}
@@ -42,10 +41,6 @@ pub record Tidy (f : Formats) (has : BlobName → Bytes → Type 0) (root : Root
 -- a tidy world
 abbrev pub TidyIn : Formats → World → Type 0
 TidyIn f w = Tidy f (HeldIn f w) w.root w.ops w.tickets
-
--- each plan that is to be settled is a delete's, none is a cleanup's
-abbrev pub AreDeletes : World → Type 0
-AreDeletes w = (k : ℕ) (t : Ticket) (uuids : List ℕ) (s : Swap) → fin.get w.tickets k ≡ Some t → t.out ≡ true → t.settled ≡ false → t.term ≡ w.term → t.work ≡ Deleting uuids (Some s) → s.commands ≡ Delete uuids ∷ []
 
 -- the safe root of the image is tidy, where its record reads
 abbrev pub TidyImage : Formats → Image → Type 0

@@ -58,6 +58,19 @@ pub record DeleteTracked (root : RootData) (deletes : FinMap nat_cmp Deletion) (
   pub root_is : t.root ≡ root
   pub planned : (s : Swap) → plan ≡ Some s → IsWithin root s.root next
 
+-- a cleanup's ticket of the present term that is out has its op, also once it has settled, and no other ticket has it
+pub record CleanTracked (term : ℕ) (deletes : FinMap nat_cmp Deletion) (tickets : FinMap nat_cmp Ticket) (k : ℕ) (t : Ticket) : Type 0 where
+  pub x : Deletion
+  pub there : fin.get deletes t.op ≡ Some x
+  pub cleans : x.clean ≡ true
+  pub unfailed : x.failed ≡ false
+  pub alone : (j : ℕ) (u : Ticket) (uuids : List ℕ) (plan : Option Swap) → fin.get tickets j ≡ Some u → u.out ≡ true → u.term ≡ term → u.work ≡ Deleting uuids plan → u.op ≡ t.op → j ≡ k
+
+-- the op of a ticket is a cleanup exactly where the ticket is a cleanup's
+pub record ModesTracked (term : ℕ) (deletes : FinMap nat_cmp Deletion) (tickets : FinMap nat_cmp Ticket) : Type 0 where
+  pub modes : (k : ℕ) (t : Ticket) (uuids : List ℕ) (plan : Option Swap) → fin.get tickets k ≡ Some t → t.work ≡ Deleting uuids plan → (x : Deletion) → fin.get deletes t.op ≡ Some x → x.clean ≡ t.clean
+  pub cleaning : (k : ℕ) (t : Ticket) → fin.get tickets k ≡ Some t → t.out ≡ true → t.term ≡ term → t.clean ≡ true → CleanTracked term deletes tickets k t
+
 -- two references to indices have one id exactly where they have one name
 pub record IsOneIndex (a : Bytes) (i : ℕ) (b : Bytes) (j : ℕ) : Type 0 where
   pub one_name : i ≡ j → a ≡ b
@@ -100,6 +113,7 @@ pub record Tracked (w : World) : Type 0 where
       → t.work ≡ Finalize info results made → FinalTracked w.root w.ops t info results
   pub drops : (k : ℕ) (t : Ticket) → fin.get w.tickets k ≡ Some t → t.out ≡ true → t.term ≡ w.term → t.work ≡ Drop → DropTracked w.ops w.deletes w.tickets t
   pub deleting : (k : ℕ) (t : Ticket) (uuids : List ℕ) (plan : Option Swap) → fin.get w.tickets k ≡ Some t → t.out ≡ true → t.settled ≡ false → t.term ≡ w.term → t.work ≡ Deleting uuids plan → DeleteTracked w.root w.deletes w.next_id t plan
+  pub deletions : ModesTracked w.term w.deletes w.tickets
   pub one_swap : (j k : ℕ) → SwapIsOut w.tickets w.term j → SwapIsOut w.tickets w.term k → j ≡ k
   pub named : Named w.root w.ops w.next_id
   pub in_term : InTerm w

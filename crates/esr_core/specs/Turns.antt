@@ -9,7 +9,8 @@ use Rattle.esr_model.specs.Shelf.{Command, Delete}
 use Rattle.esr_model.specs.Image.{Blobs, IsStored, Has, At, Generation, Present, Reads}
 use Rattle.esr_model.specs.Delete.{Deletes, left_snaps}
 use Rattle.esr_model.specs.Shelf.{names_uuid}
-use Rattle.esr_model.specs.Kept.{first_id}
+use Rattle.esr_model.specs.Kept.{first_id, IdsBelow}
+use Rattle.esr_model.specs.Cleanup.{BlobSize}
 use Rattle.esr_model.specs.Finalize.{finalized_root}
 use Rattle.esr_model.specs.Reach.{Reached}
 use Rattle.esr_model.specs.Places.{places}
@@ -21,7 +22,7 @@ use Rattle.esr_core.specs.Entry.{Entry}
 use Rattle.esr_core.specs.Restores.{IsTestOf, AreApart, IsReading, ListsPiece, waits, restore_opened, shard_handed, more_read, shard_ended}
 use Rattle.esr_core.specs.Queue.{Lists}
 use Rattle.esr_core.specs.Pruning.{IsPlanned, dooms}
-use Rattle.esr_core.specs.Steps.{IsOut, Largest, given, shard_ticket, final_ticket, completing, settled, MaySettle, CommitDone, CommitFault, CommitExists, Raise, Elect, TryLatest, FetchFound, Drew, ExtendsBase, Ends, Removes, Remove}
+use Rattle.esr_core.specs.Steps.{IsOut, Largest, given, shard_ticket, final_ticket, completing, settled, MaySettle, CommitDone, CommitFault, CommitExists, Raise, Elect, TryLatest, FetchFound, Drew, ExtendsBase, Ends, Removes, Remove, ListMore}
 
 -- take: the four kinds of unit
 pub record TakeReadyShard (w : World) (o : ℕ) (op : Op) (s : ShardWork) (base : Option ℕ) (new : World) : Type 0 where
@@ -57,7 +58,14 @@ plain_ticket w o work =
       tried_latest = false;
       settled = false;
       out = true;
+      clean = false;
+      listed = [];
+      whole = false;
     }
+
+-- of a cleanup, which names none
+abbrev pub cleaning_ticket : World → ℕ → Ticket
+cleaning_ticket w o = record (plain_ticket w o (Deleting [] None)) { clean = true }
 
 pub record TakeDrop (w : World) (o : ℕ) (new : World) : Type 0 where
   pub ready : ReadyDrop w o
@@ -69,7 +77,7 @@ pub record TakeDelete (w : World) (d : ℕ) (x : Deletion) (new : World) : Type 
 
 pub record TakeCleanup (w : World) (d : ℕ) (x : Deletion) (new : World) : Type 0 where
   pub ready : ReadyCleanup w d x
-  pub new_is : new ≡ record w { tickets = fin.insert w.tickets w.next_ticket (plain_ticket w d (Deleting x.uuids None)); next_ticket = suc w.next_ticket }
+  pub new_is : new ≡ record w { tickets = fin.insert w.tickets w.next_ticket (cleaning_ticket w d); next_ticket = suc w.next_ticket }
 
 -- draw: of a shard unit, and of a delete, which makes its swap with it
 pub record DrawShard (w : World) (k n : ℕ) (new : World) : Type 0 where
@@ -95,7 +103,8 @@ pub record DrawPlan (f : Formats) (w : World) (k n : ℕ) (new : World) : Type 0
   -- a delete prunes what it names, and what isn't listed; a cleanup what isn't listed, and has no command
   pub uuids : List ℕ
   pub commands : List Command
-  pub prunes : (((s : RootSnap) → Has t.root.snapshots s → names_uuid uuids s.uuid ≡ names_uuid named s.uuid) × (commands ≡ Delete named ∷ [])) ⊎ ((commands ≡ []) × ((s : RootSnap) → Has t.root.snapshots s → names_uuid uuids s.uuid ≡ false))
+  pub prunes : ((t.clean ≡ false) × ((s : RootSnap) → Has t.root.snapshots s → names_uuid uuids s.uuid ≡ names_uuid named s.uuid) × (commands ≡ Delete named ∷ []))
+      ⊎ ((t.clean ≡ true) × (commands ≡ []) × ((s : RootSnap) → Has t.root.snapshots s → names_uuid uuids s.uuid ≡ false))
   pub fits : w.next_id + n < first_id (suc w.term)
   pub unsettled : t.settled ≡ false
   pub unraised : t.raised ≡ None
@@ -105,8 +114,8 @@ pub record DrawPlan (f : Formats) (w : World) (k n : ℕ) (new : World) : Type 0
   pub fresh : ℕ → ℕ → Option (Option ℕ)
   pub deletes : t.term ≡ w.term → Deletes f (HeldIn f w) t.root uuids fresh own root
   pub shape : SwapShape f (record { root = root; own = own; commands = commands })
-  -- a delete's follows from what it read
-  pub planned : commands ≡ Delete named ∷ [] → IsPlanned f t.root t.read w.next_id named (record { root = root; own = own; commands = commands })
+  -- it follows from what it read
+  pub planned : IsPlanned f t.clean t.root t.read w.next_id named (record { root = root; own = own; commands = commands })
   -- the new root is the old one without the snapshots, and its new generations are ids of the draw, also where the term is an older one
   pub without : Without t.root uuids fresh root
   pub fresh_drawn : (i s g : ℕ) → fresh i s ≡ Some (Some g) → (w.next_id ≤ g) × (g < w.next_id + n)
@@ -138,6 +147,11 @@ pub record DoneFound (f : Formats) (w : World) (k : ℕ) (r : ShardResult) (new 
   pub files : AreFilesOf f (At f w.blobs) op.source r.index r.shard s snap.files
   pub new_is : new ≡ record w { ops = fin.insert w.ops t.op (record op { shards = map (marked k (Done r)) op.shards }); tickets = fin.insert w.tickets k (record t { out = false }); completed = completing w.completed t.op (map (marked k (Done r)) op.shards) }
 
+-- its ids lie below the next one, and a root of this name was begun
+pub record IsOfPast (w : World) (name : BlobName) : Type 0 where
+  pub below : IdsBelow name w.next_id
+  pub begun : (n : ℕ) → name ≡ Root n → n < w.pending
+
 -- settle: of a finalization, and of a delete with the names that it dooms
 pub record SettleFinal (f : Formats) (w : World) (k n : ℕ) (t : Ticket) (swapped : Swap) (new : World) : Type 0 where
   pub info : SnapInfo
@@ -153,14 +167,14 @@ pub record SettleDelete (f : Formats) (w : World) (k n : ℕ) (t : Ticket) (swap
   pub work : t.work ≡ Deleting uuids (Some swapped)
   pub may : MaySettle f w k n t swapped
   pub present : t.term ≡ w.term
-  -- what the new root doesn't reach: of the old root's reach, or for a cleanup of all that is there
+  -- what the new root doesn't reach: of the old root's reach, or for a cleanup of all that it listed
   pub names : List BlobName
   pub cleans : Bool
   pub deletion : Deletion
   pub there : fin.get w.deletes t.op ≡ Some deletion
   pub cleans_is : deletion.clean ≡ cleans
   pub root_aside : Has names (Root n) → ⊥
-  pub reach : (name : BlobName) → Has names name → Reached f (HeldIn f w) w.root name ⊎ (((m : ℕ) × (name ≡ Root m) × (w.safe ≡ suc m)) ⊎ ((cleans ≡ true) × Present f w.blobs name))
+  pub reach : (name : BlobName) → Has names name → Reached f (HeldIn f w) w.root name ⊎ (((m : ℕ) × (name ≡ Root m) × (w.safe ≡ suc m)) ⊎ ((cleans ≡ true) × IsOfPast w name))
   pub reach_aside : (name : BlobName) → Has names name → Reached f (HeldIn f w) swapped.root name → ⊥
   -- among them all that follows from what it read
   pub gives : (name : BlobName) → Has (dooms f t) name → Has names name
@@ -411,6 +425,7 @@ pub data Turn (f : Formats) (w : World) : World → Type 0 where
   AsksDelete : (new : World) → (uuids : List ℕ) → AskDelete w uuids new → Turn f w new
   Merges : (new : World) → (uuids : List ℕ) (d : ℕ) → MergeDelete w uuids d new → Turn f w new
   Removing : (new : World) → (k : ℕ) (names : List BlobName) → Remove f w k names new → Turn f w new
+  Pages : (new : World) → (k : ℕ) (page : List BlobSize) → ListMore w k page new → Turn f w new
   -- a record swap that failed leaves the world as before, or as where Ok, and deposed
   Deposes : (new up : World) → Turn f w up → new ≡ record up { deposed = true } → Turn f w new
   Tests : (new : World) → TestTurn f w new → Turn f w new
@@ -450,6 +465,7 @@ commands_of f w new (AsksCreate m op h) = []
 commands_of f w new (AsksDelete m uuids h) = []
 commands_of f w new (Merges m uuids d h) = []
 commands_of f w new (Removing m k names h) = []
+commands_of f w new (Pages m k page h) = []
 
 -- a list of turns, each from a world that isn't deposed
 pub data Turns (f : Formats) (w : World) : World → List Command → Type 0 where

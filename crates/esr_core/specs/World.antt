@@ -9,6 +9,7 @@ use Rattle.esr_model.specs.Shelf.{ShelfShard, Shelved, Command, Create, Clone}
 use Rattle.esr_model.specs.Places.{comes_first, sorted_by}
 use Rattle.esr_model.specs.Kept.{first_id}
 use Rattle.esr_model.specs.Finalize.{finalized_root}
+use Rattle.esr_model.specs.Cleanup.{BlobSize}
 use Rattle.esr_model.specs.Image.{Blobs, Image, Has, AllPairs, RootIs, At, global_of}
 use Rattle.esr_core.specs.Entry.{Why, Entry}
 
@@ -53,7 +54,7 @@ pub record Swap : Type 0 where
 pub data Work : Type 0 where
   Shard : (index number : ℕ) → Work
   Finalize : (info : SnapInfo) (shards : List ShardResult) (made : Command) → Work
-  -- of a delete: its swap is made when its ids are drawn
+  -- of a delete or cleanup: its swap is made when its ids are drawn
   Deleting : (uuids : List ℕ) (plan : Option Swap) → Work
   Drop : Work
 
@@ -85,6 +86,10 @@ pub record Ticket : Type 0 where
   pub tried_latest : Bool
   pub settled : Bool
   pub out : Bool
+  -- of a cleanup: what its pages told, the first page first, and whether the last of them ended the listing
+  pub clean : Bool
+  pub listed : List BlobSize
+  pub whole : Bool
 
 -- how far a restore has come with a shard
 pub data ReadState : Type 0 where

@@ -14,7 +14,7 @@ ghost use Rattle.esr_core.specs.Generations.{Carried};
 ghost use Rattle.esr_core.specs.Written.{Written};
 ghost use Rattle.esr_core.specs.Texts.{Texted};
 ghost use Rattle.esr_core.specs.Pruning.{dooms};
-ghost use Rattle.esr_core.specs.Tidy.{TidyRoot, TidyIn, AreDeletes, TidyImage, DoomsExactly};
+ghost use Rattle.esr_core.specs.Tidy.{TidyRoot, TidyIn, TidyImage, DoomsExactly};
 ghost use Rattle.esr_core.specs.Steps.{IsOut, Raise, Remove};
 ghost use Rattle.esr_core.specs.Sound.{Sound};
 ghost use Rattle.esr_core.specs.Queue.{Lists, Sole, QueueIn};
@@ -40,6 +40,7 @@ ghost use Rattle.esr_core.specs.Example.{CanWrite, HasSnapshot};
 ghost use Rattle.esr_core.specs.Allowed.{SameBlobs, SettlesDeletion, ClonedBy, Allowed, RestoredBy, Blocks, IsBlocked};
 ghost use Rattle.esr_core.specs.Causes.{RefusalCause, TakeGave, SettleDid};
 ghost use Rattle.esr_core.specs.History.{world_from, IsLegal, TellsHandedOut, AreTold, AreHonest, committed, counts, Lasts};
+ghost use Rattle.esr_core.specs.Cleaned.{HoldsReachAlone, ListsListedAlone, IsTestCommit, ChangesBlobs, NoneOf, IsFirstPage, IsLastDrop};
 ghost use Rattle.esr_core.specs.Left.{cut_off, Leaves, safe_in};
 ghost use Rattle.esr_core.specs.Refusing.{RefusedSo, SwapFailed};
 
@@ -203,21 +204,22 @@ pub fn doomed_stay_apart()
 {}
 
 /// What a delete dooms with its settle the safe root reached, or it is that root's name; and the new root doesn't reach it.
+/// Nor does a new root reach what a cleanup dooms, which had to be listed alone.
 pub fn a_delete_dooms_what_it_leaves()
-    ensures was { (f : Formats) (w : World) (shelf : List Shelved) (k : ℕ) (s : SettlesDeletion f w k) → Law f w shelf → s.t.term ≡ w.term → (name : BlobName) → Has (dooms f s.t) name → Reached f (HeldIn f w) w.root name ⊎ ((m : ℕ) × (name ≡ Root m) × (w.safe ≡ suc m)) }
+    ensures was { (f : Formats) (w : World) (shelf : List Shelved) (k : ℕ) (s : SettlesDeletion f w k) → Law f w shelf → s.t.term ≡ w.term → s.t.clean ≡ false → (name : BlobName) → Has (dooms f s.t) name → Reached f (HeldIn f w) w.root name ⊎ ((m : ℕ) × (name ≡ Root m) × (w.safe ≡ suc m)) }
     ensures left { (f : Formats) (w : World) (shelf : List Shelved) (k : ℕ) (s : SettlesDeletion f w k) → Law f w shelf → s.t.term ≡ w.term → (name : BlobName) → Has (dooms f s.t) name → Reached f (HeldIn f w) s.s.root name → ⊥ }
 {}
 
 /// Where the safe root is tidy a delete dooms all that it leaves behind: each name that the safe root reached and the new root doesn't, and the safe root's own name.
 pub fn a_delete_dooms_all_that_it_leaves()
-    ensures reached { (f : Formats) (w : World) (shelf : List Shelved) (k : ℕ) (s : SettlesDeletion f w k) → Law f w shelf → s.t.term ≡ w.term → TidyRoot f (HeldIn f w) w.root
+    ensures reached { (f : Formats) (w : World) (shelf : List Shelved) (k : ℕ) (s : SettlesDeletion f w k) → Law f w shelf → s.t.term ≡ w.term → s.t.clean ≡ false → TidyRoot f (HeldIn f w) w.root
         → (name : BlobName) → Reached f (HeldIn f w) w.root name → (Reached f (HeldIn f w) s.s.root name → ⊥) → Has (dooms f s.t) name }
-    ensures root { (f : Formats) (w : World) (shelf : List Shelved) (k : ℕ) (s : SettlesDeletion f w k) → Law f w shelf → s.t.term ≡ w.term → (m : ℕ) → w.safe ≡ suc m → Has (dooms f s.t) (Root m) }
+    ensures root { (f : Formats) (w : World) (shelf : List Shelved) (k : ℕ) (s : SettlesDeletion f w k) → Law f w shelf → s.t.term ≡ w.term → s.t.clean ≡ false → (m : ℕ) → w.safe ≡ suc m → Has (dooms f s.t) (Root m) }
 {}
 
-/// Each turn from a lawful and tidy world leads to a tidy one, where no cleanup has a plan.
+/// Each turn from a lawful and tidy world leads to a tidy one.
 pub fn each_turn_stays_tidy()
-    ensures { (f : Formats) (w new : World) (shelf : List Shelved) → Law f w shelf → AreDeletes w → TidyIn f w → Turn f w new → TidyIn f new }
+    ensures { (f : Formats) (w new : World) (shelf : List Shelved) → Law f w shelf → TidyIn f w → Turn f w new → TidyIn f new }
 {}
 
 /// An image without a record is tidy.
@@ -245,10 +247,18 @@ pub fn each_left_image_is_tidy()
 /// So does each whose settle was answered, or failed in the container.
 pub fn each_delete_dooms_exactly_what_it_leaves()
     ensures may { (f : Formats) (part_size : ℕ) (image : Image) (shelf : List Shelved) (w : World) (log : List Moment) (k : ℕ) → TellsHandedOut f w log → Kept f image shelf → TidyImage f image → Opened f image w → IsLegal f part_size w log
-        → AreTold log → AreHonest f w log → (s : SettlesDeletion f (world_from f w log) k) → s.t.term ≡ (world_from f w log).term → DoomsExactly f (world_from f w log) k s }
+        → AreTold log → AreHonest f w log → (s : SettlesDeletion f (world_from f w log) k) → s.t.term ≡ (world_from f w log).term → s.t.clean ≡ false → DoomsExactly f (world_from f w log) k s }
     ensures settled { (f : Formats) (part_size : ℕ) (image : Image) (shelf : List Shelved) (w : World) (before rest : List Moment) (m : Moment) → TellsHandedOut f w (before ++ m ∷ rest) → Kept f image shelf → TidyImage f image → Opened f image w
         → IsLegal f part_size w (before ++ m ∷ rest) → AreTold (before ++ m ∷ rest) → AreHonest f w (before ++ m ∷ rest) → m.entry.step ≡ PruneStep SettlePruned → counts m.entry.reply ≡ true
-        → (s : SettlesDeletion f (world_from f w before) m.entry.who) × DoomsExactly f (world_from f w before) m.entry.who s }
+        → (s : SettlesDeletion f (world_from f w before) m.entry.who) × (s.t.clean ≡ false → DoomsExactly f (world_from f w before) m.entry.who s) }
+{}
+
+/// A cleanup that came to its end left nothing but the safe root, what it reaches, and `index.latest`, where no test blob was committed between its first page and its end; and the indices of the root's shards list listed snapshots alone.
+/// So it stays until a blob is committed, replaced or removed.
+pub fn a_cleanup_leaves_the_reach_alone()
+    ensures { (f : Formats) (part_size : ℕ) (image : Image) (shelf : List Shelved) (w : World) (before between rest : List Moment) (first last : Moment) (k : ℕ) → Kept f image shelf → Opened f image w → Tracked w
+        → TellsHandedOut f w (before ++ first ∷ (between ++ last ∷ rest)) → IsLegal f part_size w (before ++ first ∷ (between ++ last ∷ rest)) → AreTold (before ++ first ∷ (between ++ last ∷ rest)) → AreHonest f w (before ++ first ∷ (between ++ last ∷ rest))
+        → IsFirstPage first k → IsLastDrop last k → NoneOf IsTestCommit between → NoneOf ChangesBlobs rest → HoldsReachAlone f (world_from f w (before ++ first ∷ (between ++ last ∷ rest))) × ListsListedAlone f (world_from f w (before ++ first ∷ (between ++ last ∷ rest))) }
 {}
 
 /// What a delete's settled ticket doomed stays doomed.

@@ -1,28 +1,30 @@
--- From the settle of a delete to its end.
-use Rattle.std.proofs.Common.{◌≡◌, ◌≤◌, ◌↔◌, ⊎_elim, ℕ, true, false, List, map, Some, None, Result, Ok, Err, IfErr, OnOk, OnErr, refl, sym, ap, ◌∙◌, subst}
+-- From the settle of a delete or cleanup to its end.
+use Rattle.std.proofs.Common.{◌≡◌, ◌≤◌, ◌↔◌, ⊎_elim, ℕ, Bool, true, false, List, map, Some, None, Result, Ok, Err, IfErr, OnOk, OnErr, refl, sym, ap, ◌∙◌, subst}
 use Rattle.std.specs.List.{AllByRecursion}
 use Rattle.std.specs.Result.{IsErrAnd}
 use Rattle.esr_names.specs.declared.blob.BlobName.{BlobName as CodeName}
 use Rattle.esr_names.specs.Layout.{IsName}
 use Rattle.esr_model.specs.Names.{BlobName}
 use Rattle.esr_model.specs.Values.{Has, RootData, Formats}
-use Rattle.esr_core.specs.World.{Ticket, Work, Shard, Finalize, Deleting, Drop}
-use Rattle.esr_core.specs.Pruning.{doomed_by, dooms}
-use Rattle.esr_core.specs.Past.{removal_names}
+use Rattle.esr_core.specs.World.{Ticket, Work, Swap, Shard, Finalize, Deleting, Drop}
+use Rattle.esr_core.specs.Pruning.{doomed_as, doomed_by, dooms}
+use Rattle.esr_core.specs.Past.{IsRemoval}
+use Rattle.esr_core.specs.Allowed.{HasPutLatest}
 use Rattle.esr_core.specs.Entry.{SettlePruned, RemoveDoomed, EndDelete, PruneStep, Reply, HasEnded, Moment}
 use Rattle.esr_formats.specs.Names.{name_of}
 use Rattle.esr_reach.specs.Members.{all_has, has_map, in_map}
 use Rattle.esr_desk.specs.declared.refusal.StepRefusal.{StepRefusal}
-use Rattle.esr_desk.specs.Start.{Start, formats_of, ticket_of}
+use Rattle.esr_desk.specs.Start.{Start, formats_of, ticket_of, world_of}
 use Rattle.esr_desk.specs.Own.{made_of}
 use Rattle.esr_desk.specs.Outcome.{Stepped, Outcome}
 use Rattle.esr_desk.specs.Taken.{HasEndedAs}
 use Rattle.esr_desk.specs.Told.{TellsAll, none_removed}
 use Rattle.esr_desk.specs.Made.{stepped_made}
-use Rattle.esr_desk.specs.Delete.Conditions.{CanSettleDelete, CanEndDelete}
+use Rattle.esr_desk.specs.Delete.Conditions.{CanSettleDelete, CanEndDelete, CanEndCleanup}
 use Rattle.esr_desk.specs.Delete.Named.{AreNamed, ended_named}
+use Rattle.esr_desk.specs.Delete.Cleaned.{AreGone, NoneFailed, none_failed_yet, none_failed_on}
 use Rattle.esr_delete.specs.Ticket.{IsOver}
-use Rattle.esr_delete.specs.Removed.{NoneRemoved, AreUnnamed, IsSettledPlan, MayRemove, IsCleared}
+use Rattle.esr_delete.specs.Removed.{NoneRemoved, AreUnnamed, IsSettledPlan, MayRemove, HasRemoved, IsCleared}
 
 -- an error that was made of a step's refusal
 pub passed_on : {T E : Type 0} (result : Result T E) (P : E → Type 0) (e : E) → IsErrAnd result (λ x. x ≡ e) → P e → IfErr result P
@@ -36,8 +38,12 @@ any_err (Err e) P h = h
 -- ---- what it dooms
 
 -- it is the same after the settle
+as_settled : (f : Formats) (t : Ticket) (uuids : List ℕ) (s : Swap) (clean : Bool) → doomed_as f (record t { settled = true }) uuids s clean ≡ doomed_as f t uuids s clean
+as_settled f t uuids s false = refl
+as_settled f t uuids s true = refl
+
 doomed_settled : (f : Formats) (t : Ticket) (w : Work) → doomed_by f (record t { settled = true }) w ≡ doomed_by f t w
-doomed_settled f t (Deleting uuids (Some s)) = refl
+doomed_settled f t (Deleting uuids (Some s)) = as_settled f t uuids s t.clean
 doomed_settled f t (Deleting uuids None) = refl
 doomed_settled f t (Shard index number) = refl
 doomed_settled f t (Finalize info results made) = refl
@@ -68,6 +74,13 @@ none_yet s old new who reply ticket tells unsettled h e has was is =
     (λ (here : e.step ≡ PruneStep SettlePruned). no_removal was (sym here ∙ is))
     (stepped_made s old new who (PruneStep SettlePruned) reply ticket h e has)
 
+-- and none of its removals has failed
+no_removal_step : IsRemoval (PruneStep SettlePruned) → ⊥
+no_removal_step is = is
+
+pub none_failed : (s : Start) (old new : List Moment) (who : ℕ) (reply : Reply) → 1 ≤ who → TellsAll s old who → (ticket_of s old who).settled ≡ false → Stepped s old new who (PruneStep SettlePruned) reply → NoneFailed s new who
+none_failed s old new who reply ticket tells unsettled h = none_failed_on s old new who (PruneStep SettlePruned) reply ticket (none_failed_yet s old who tells unsettled) (λ is. absurd (no_removal_step is)) h
+
 pub none_named : (s : Start) (log : List Moment) (who : ℕ) (names : List BlobName) → NoneRemoved s log who → AreUnnamed s log who names
 none_named s log who names none e has was is name mine gone = none e has was is
 
@@ -87,15 +100,9 @@ pub once_layout : (items once : List CodeName) → ((name : CodeName) → Has on
 once_layout items once same laid name has = all_has IsName items name laid ((same name).0 has)
 
 -- all of it was named
-dooms_named : (s : Start) (log : List Moment) (who : ℕ) (names once : List CodeName) → map name_of names ≡ dooms (formats_of s) (ticket_of s log who) → ((name : CodeName) → Has once name ↔ Has names name) → AreNamed s log who (map name_of once)
-    → AreNamed s log who (dooms (formats_of s) (ticket_of s log who))
-dooms_named s log who names once are same named name has =
-    let found = has_map name_of names name (subst (λ (l : List BlobName). Has l name) (sym are) has) in
-    subst (Has (removal_names (made_of s log who))) found.2 (named (name_of found.0) (in_map name_of once found.0 ((same found.0).1 found.1)))
-
-pub can_end : (s : Start) (old log : List Moment) (who : ℕ) (names once : List CodeName) → ticket_of s log who ≡ ticket_of s old who → IsSettledPlan (ticket_of s old who) → (s.tells ≡ true → map name_of names ≡ dooms (formats_of s) (ticket_of s old who))
-    → ((name : CodeName) → Has once name ↔ Has names name) → AreNamed s log who (map name_of once) → CanEndDelete s log who
-can_end s old log who names once kept over are same named =
+pub can_end : (s : Start) (old log : List Moment) (who : ℕ) (names : List BlobName) → ticket_of s log who ≡ ticket_of s old who → IsSettledPlan (ticket_of s old who) → (ticket_of s old who).clean ≡ false → (s.tells ≡ true → names ≡ dooms (formats_of s) (ticket_of s old who))
+    → HasRemoved false s old log who names → CanEndDelete s log who
+can_end s old log who names kept over mode are removed =
     let here : IsSettledPlan (ticket_of s log who) = subst IsSettledPlan (sym kept) over in
     record {
       out = here.out;
@@ -103,17 +110,35 @@ can_end s old log who names once kept over are same named =
       uuids = here.uuids;
       plan = here.plan;
       work = here.work;
-      removed = λ tells. dooms_named s log who names once (are tells ∙ ap (dooms (formats_of s)) (sym kept)) same named;
+      deletes = ap (λ (t : Ticket). t.clean) kept ∙ mode;
+      removed = λ tells. subst (AreNamed s log who) (are tells ∙ ap (dooms (formats_of s)) (sym kept)) removed.named;
+    }
+
+-- or taken away
+pub can_end_cleanup : (s : Start) (old log : List Moment) (who : ℕ) (names : List BlobName) → ticket_of s log who ≡ ticket_of s old who → IsSettledPlan (ticket_of s old who) → (ticket_of s old who).clean ≡ true → (s.tells ≡ true → names ≡ dooms (formats_of s) (ticket_of s old who))
+    → NoneFailed s old who → HasPutLatest (world_of s old) who → HasRemoved true s old log who names → CanEndCleanup s log who
+can_end_cleanup s old log who names kept over mode are well put removed =
+    let here : IsSettledPlan (ticket_of s log who) = subst IsSettledPlan (sym kept) over in
+    record {
+      out = here.out;
+      settled = here.settled;
+      uuids = here.uuids;
+      plan = here.plan;
+      work = here.work;
+      cleans = ap (λ (t : Ticket). t.clean) kept ∙ mode;
+      latest = removed.put put;
+      removals = removed.well refl well;
+      removed = λ tells. subst (AreGone s log who) (are tells ∙ ap (dooms (formats_of s)) (sym kept)) (removed.gone refl);
     }
 
 -- ---- the end
 
 -- by its answer
 pub ended_ok : (s : Start) (old mid new : List Moment) (who : ℕ) (result : Result (Unit {0}) StepRefusal) → 1 ≤ who → ticket_of s mid who ≡ ticket_of s old who → CanEndDelete s mid who → OnOk result (HasEndedAs (ticket_of s mid who) (ticket_of s new who))
-    → Outcome s mid new who (PruneStep EndDelete) (λ x. HasEnded) result → OnOk result (IsCleared s old new who)
+    → Outcome s mid new who (PruneStep EndDelete) (λ x. HasEnded) result → OnOk result (IsCleared false s old new who)
 ended_ok s old mid new who (Ok x) ticket kept can own step = record {
   own = own ∙ ap (λ (t : Ticket). record t { out = false }) kept;
-  named = ended_named s mid new who ticket can step;
+  done = ended_named s mid new who ticket can step;
 }
 ended_ok s old mid new who (Err e) ticket kept can own step = tt
 
@@ -121,12 +146,13 @@ pub ended_kept : (a b c : Ticket) (result : Result (Unit {0}) StepRefusal) → b
 ended_kept a b c (Ok x) kept h = tt
 ended_kept a b c (Err e) kept h = h ∙ kept
 
-pub still_settled : (a b c : Ticket) → b ≡ record a { settled = true } → c ≡ b → c ≡ record a { settled = true }
-still_settled a b c settled kept = kept ∙ settled
+-- what went before left the ticket as it was
+pub cleared_on : (clean : Bool) (s : Start) (old mid new : List Moment) (who : ℕ) → ticket_of s mid who ≡ ticket_of s old who → IsCleared clean s mid new who → IsCleared clean s old new who
+cleared_on clean s old mid new who kept cleared = record { own = cleared.own ∙ ap (λ (t : Ticket). record t { out = false }) kept; done = cleared.done }
 
 -- after the settle
-pub over_cleared : (s : Start) (old mid new : List Moment) (who : ℕ) → ticket_of s mid who ≡ record (ticket_of s old who) { settled = true } → IsCleared s mid new who → IsOver s old new who
-over_cleared s old mid new who settled cleared = record {
+pub over_cleared : (clean : Bool) (s : Start) (old mid new : List Moment) (who : ℕ) → ticket_of s mid who ≡ record (ticket_of s old who) { settled = true } → IsCleared clean s mid new who → IsOver clean s old new who
+over_cleared clean s old mid new who settled cleared = record {
   is = cleared.own ∙ ap (λ (t : Ticket). record t { out = false }) settled;
-  named = cleared.named;
+  done = cleared.done;
 }

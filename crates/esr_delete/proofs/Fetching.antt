@@ -73,12 +73,13 @@ pub came_found : (s : Start) (old new : List Moment) (who : ℕ) (name : BlobNam
 came_found s old new who name o b is step =
     stepped_had s old new who (PruneStep (FetchShard name)) WasFetched (subst (λ (reply : Reply). Stepped s old new who (PruneStep (FetchShard name)) reply) (ap (λ (x : Option Bytes). fetch_reply x) is) step)
 
--- the index is one that the delete is to read
+-- the index is one that is to be read
 of_delete : (old new : Ticket) (name : BlobName) → CanFetchShard old name → HasRead old new → IsOfDelete new name
 of_delete old new name can read = subst (λ (t : Ticket). IsOfDelete t name) (sym read.is) (record {
   uuids = can.uuids;
   plan = None;
   work = can.work;
+  unsettled = can.unsettled;
   index = can.index;
   number = can.number;
   base = can.base;
@@ -179,9 +180,9 @@ gathered_more f blobs p bytes files before reads apart are q m = elim (has_push 
 
 -- ---- the shards one after another
 
--- it may be fetched, where the delete is to read it
-pub can_fetch : (old mid : Ticket) (root : RootData) (uuids : List ℕ) (p : PrunedShard) → IsUnplanned old root uuids → HasRead old mid → IsToRead root uuids p.index p.number p.base → CanFetchShard mid (index_name p)
-can_fetch old mid root uuids p free read h = subst (λ (t : Ticket). CanFetchShard t (index_name p)) (sym read.is) (record {
+-- it may be fetched, where it is to be read
+pub can_fetch : (old mid : Ticket) (clean : Bool) (root : RootData) (uuids : List ℕ) (p : PrunedShard) → IsUnplanned old clean root uuids → HasRead old mid → IsToRead clean root uuids p.index p.number p.base → CanFetchShard mid (index_name p)
+can_fetch old mid clean root uuids p free read h = subst (λ (t : Ticket). CanFetchShard t (index_name p)) (sym read.is) (record {
   out = free.out;
   unsettled = free.unsettled;
   uuids = uuids;
@@ -189,7 +190,7 @@ can_fetch old mid root uuids p free read h = subst (λ (t : Ticket). CanFetchSha
   index = p.index;
   number = p.number;
   base = p.base;
-  to_read = subst (λ (r : RootData). IsToRead r uuids p.index p.number p.base) free.root_is h;
+  to_read = subst (λ (c : Bool). IsToRead c old.root uuids p.index p.number p.base) (sym free.mode) (subst (λ (r : RootData). IsToRead clean r uuids p.index p.number p.base) free.root_is h);
   name_is = refl;
 })
 
@@ -243,14 +244,17 @@ more_so_far s old mid new who before held now p files so_far there apart fetched
     }
 
 -- all are gathered
-pub gathered_all : (s : Start) (old new : List Moment) (who : ℕ) (root : RootData) (uuids : List ℕ) (shards : List PrunedShard) (held : List HeldShard) → IsUnplanned (ticket_of s old who) root uuids → IsSoFar s old new who shards held → HasToRead root uuids shards
+pub gathered_all : (s : Start) (old new : List Moment) (who : ℕ) (clean : Bool) (root : RootData) (uuids : List ℕ) (shards : List PrunedShard) (held : List HeldShard) → IsUnplanned (ticket_of s old who) clean root uuids → IsSoFar s old new who shards held
+    → HasToRead clean root uuids shards
     → IsGathered s (ticket_of s new who) uuids held
-gathered_all s old new who root uuids shards held free so_far all =
+gathered_all s old new who clean root uuids shards held free so_far all =
+    let mode : (ticket_of s new who).clean ≡ clean = ap (λ (t : Ticket). t.clean) so_far.read.is ∙ free.mode in
     let same : root ≡ (ticket_of s new who).root = free.root_is ∙ sym (ap (λ (t : Ticket). t.root) so_far.read.is) in record {
       blobs = so_far.blobs;
       told = so_far.told;
       are_held = subst (λ (r : RootData). HoldsRead (formats_of s) r so_far.blobs held) (sym free.root_is ∙ same) so_far.are_held;
-      are_read = λ index number base h. so_far.gathered (bare_shard index number base) (all index number base (subst (λ (r : RootData). IsToRead r uuids index number base) (sym same) h));
+      are_read = λ index number base h. so_far.gathered (bare_shard index number base) (all index number base
+          (subst (λ (c : Bool). IsToRead c root uuids index number base) mode (subst (λ (r : RootData). IsToRead (ticket_of s new who).clean r uuids index number base) (sym same) h)));
     }
 
 pub only_fetches : (shards : List PrunedShard) (s : Start) (log : List Moment) (who : ℕ) → MadeFetches shards s log who → HasMadeFetches s log who

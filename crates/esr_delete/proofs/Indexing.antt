@@ -1,4 +1,4 @@
--- The shard indices that a delete writes, one after another.
+-- The shard indices that a delete or cleanup writes, one after another.
 use Rattle.std.proofs.Common.{◌≡◌, ◌⊎◌, ◌<◌, ◌≤◌, ◌^◌, inl, inr, ⊎_elim, ℕ, zero, suc, ◌+◌, Bool, true, false, List, [], ◌∷◌, ◌++◌, map, length, take, get_or, Option, Some, None, refl, sym, ap, ◌∙◌, subst, arith}
 use Rattle.std.specs.Prelude.{if◌then◌else◌}
 use Rattle.std.proofs.lemmas.List.{length-map, length-take-le}
@@ -7,6 +7,7 @@ use Rattle.esr_model.specs.Values.{Bytes, Has, RootSnap, RootData, ShardFiles, F
 use Rattle.esr_model.specs.Delete.{PrunedShard, names_uuid, next_after, kept_count, left_snaps, left_uuids, uuids_of, surviving, is_index, index_bytes, files_by, files_read, left_text, pruned_blobs}
 use Rattle.esr_core.specs.World.{Ticket, Work, Swap, swap_of, swap}
 use Rattle.esr_core.specs.Pruning.{bare_shard, delete_swap}
+use Rattle.esr_core.specs.Allowed.{IsUnlisted}
 use Rattle.esr_core.proofs.DeletedRoots.{deleted_snapshots}
 use Rattle.esr_core.proofs.Plans.{of_root_apart, in_root, own_is}
 use Rattle.esr_core.proofs.Results.{choose_true, choose_false}
@@ -238,19 +239,20 @@ not_latest : (i k g : ℕ) → ShardIndex i k g ≡ Latest → ⊥
 not_latest i k g e = cc
 
 -- the plan is its swap, and stays it
-pub plan_is : (s : Start) (t : Ticket) (held : List HeldShard) (shards : List PrunedShard) (first : ℕ) (root : RootData) (free : IsUnwritten s t held shards first root) → swap (formats_of s) t ≡ Some (delete_swap (formats_of s) t.root t.read free.uuids shards first)
+pub plan_is : (s : Start) (t : Ticket) (held : List HeldShard) (shards : List PrunedShard) (first : ℕ) (root : RootData) (free : IsUnwritten s t held shards first root) → swap (formats_of s) t ≡ Some (delete_swap (formats_of s) t.clean t.root t.read free.uuids shards first)
 plan_is s t held shards first root free = ap (λ (w : Work). swap_of (formats_of s) w t.root) free.work
 
 -- the next one may be committed, where it is among the blobs of the plan and isn't noted
-can_commit : (s : Start) (t : Ticket) (change : Swap) (index number id : ℕ) (text : Bytes) → t.out ≡ true → t.settled ≡ false → swap (formats_of s) t ≡ Some change → Has change.own (ShardIndex index number id, text) → (Has t.noted (ShardIndex index number id) → ⊥)
+can_commit : (s : Start) (t : Ticket) (change : Swap) (index number id : ℕ) (text : Bytes) → t.out ≡ true → t.settled ≡ false → IsUnlisted t → swap (formats_of s) t ≡ Some change → Has change.own (ShardIndex index number id, text) → (Has t.noted (ShardIndex index number id) → ⊥)
     → CanCommit s t (ShardIndex index number id) text
-can_commit s t change index number id text out unsettled is own unnoted = record {
+can_commit s t change index number id text out unsettled unlisted is own unnoted = record {
   out = out;
   unsettled = unsettled;
   may = inl (change, is, inl own);
   stored = not_latest index number id;
   once = λ other. unnoted;
   numbered = λ i k shard. absurd (swaps_no_shard (formats_of s) t.work t.root change is i k shard);
+  late = λ us plan deletes clean. inl unlisted;
 }
 
 -- so it is of the ticket that has noted those before it
@@ -264,7 +266,7 @@ index_at s old held items shards k first id root left wrote free same less left_
     let before = map pruned_of (take k items) in
     let some = d.some_held p there in
     let of_p : held_at held p.index p.number ≡ files_read f d.blobs p = d.are_held p.index p.number p.base (in_root old.root (map pruned_of shards) p d.of_root there) ∙ sym (read_bare f d.blobs p) in
-    let change = delete_swap f old.root old.read free.uuids (map pruned_of shards) first in
+    let change = delete_swap f old.clean old.root old.read free.uuids (map pruned_of shards) first in
     let noted = noted_with (pruned_blobs f old.read left first before) old.noted in
     let mid : Ticket = record old { noted = noted; wrote = wrote } in
     let unnoted : Has noted (ShardIndex p.index p.number id) → ⊥ =
@@ -275,7 +277,7 @@ index_at s old held items shards k first id root left wrote free same less left_
       files = some.0;
       is_held = some.1;
       told = λ tells. ap (λ (blobs : List (BlobName × Bytes)). files_read f blobs p) (d.told tells) ∙ sym of_p ∙ some.1;
-      may = λ kept. can_commit s mid change p.index p.number id (left_text f left (files_read f old.read p)) free.out free.unsettled (plan_is s old held (map pruned_of shards) first root free)
+      may = λ kept. can_commit s mid change p.index p.number id (left_text f left (files_read f old.read p)) free.out free.unsettled (record { listed = free.unlisted.listed; whole = free.unlisted.whole }) (plan_is s old held (map pruned_of shards) first root free)
           (own_there f old.read left (left_uuids free.uuids (uuids_of old.root)) items shards k first id left_is same id_is less kept) unnoted;
       new = λ kept. unnoted;
     }
@@ -304,7 +306,7 @@ notes_more s old mid new items k first id left item more id_is first_notes secon
 pub notes_all : (s : Start) (old new : Ticket) (held : List HeldShard) (shards : List PrunedShard) (first : ℕ) (root : RootData) (left : List ℕ) (free : IsUnwritten s old held shards first root) → left ≡ left_uuids free.uuids (uuids_of old.root)
     → Notes s old new (pruned_blobs (formats_of s) old.read left first shards) → NotesOwn s old new
 notes_all s old new held shards first root left free left_is notes = record {
-  change = delete_swap (formats_of s) old.root old.read free.uuids shards first;
+  change = delete_swap (formats_of s) old.clean old.root old.read free.uuids shards first;
   is = plan_is s old held shards first root free;
   notes = subst (λ (us : List ℕ). Notes s old new (pruned_blobs (formats_of s) old.read us first shards)) left_is notes;
 }

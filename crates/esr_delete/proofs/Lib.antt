@@ -12,3 +12,5 @@ pub mod Clearing
 pub mod Once
 pub mod Ends
 pub mod Rooting
+pub mod Cleaning
+pub mod Listing

@@ -1,23 +1,25 @@
 -- Names that are removed, one batch after another.
-use Rattle.std.proofs.Common.{◌≡◌, ℕ, ◌-◌, ◌≤◌, List, [], ◌∷◌, ◌++◌, map, length, take, drop, append-nil, append_assoc, inl, inr, ⊎_elim, refl, sym, ap, ◌∙◌, subst, arith}
+use Rattle.std.proofs.Common.{◌≡◌, ◌↔◌, ℕ, ◌-◌, ◌≤◌, Bool, true, List, [], ◌∷◌, ◌++◌, map, length, take, drop, append-nil, append_assoc, inl, inr, ⊎_elim, refl, sym, ap, ◌∙◌, subst, arith}
 use Rattle.std.proofs.lemmas.List.{map-append, length-map, length-drop, length-take-le, take-append-drop, take_all}
 use Rattle.esr_names.specs.declared.blob.BlobName.{BlobName as CodeName}
 use Rattle.esr_names.specs.Layout.{IsName}
 use Rattle.esr_model.specs.Names.{BlobName}
 use Rattle.esr_model.specs.Values.{Has}
 use Rattle.esr_core.specs.World.{Ticket}
-use Rattle.esr_core.specs.Entry.{RemoveDoomed, Step, PruneStep, Moment}
+use Rattle.esr_core.specs.Entry.{RemoveDoomed, Step, PruneStep, Reply, Moment}
 use Rattle.esr_core.specs.Past.{Repeats, ShareName, removal_names}
 use Rattle.esr_formats.specs.Names.{name_of}
 use Rattle.esr_reach.specs.Names.{AreOnce}
 use Rattle.esr_reach.specs.Members.{has_left, has_right, has_either, has_map, in_map}
 use Rattle.esr_desk.specs.Start.{Start}
 use Rattle.esr_desk.specs.Own.{made_of}
+use Rattle.esr_desk.specs.Outcome.{Stepped}
 use Rattle.esr_desk.specs.Once.{IsFresh}
 use Rattle.esr_desk.specs.Made.{stepped_made}
 use Rattle.esr_desk.specs.Delete.Conditions.{CanRemove}
 use Rattle.esr_desk.specs.Delete.Named.{AreNamed}
-use Rattle.esr_delete.specs.Removed.{AreUnnamed, MayRemove, Removed}
+use Rattle.esr_desk.specs.Delete.Cleaned.{AreGone, removal_gone, still_gone, none_failed_on, still_put}
+use Rattle.esr_delete.specs.Removed.{AreUnnamed, MayRemove, Removed, HasRemoved}
 
 -- ---- parts of a list
 
@@ -103,23 +105,23 @@ batch_layout names batch n is laid name has = laid name (has_take n names name (
 same_names : (one other : List BlobName) → PruneStep (RemoveDoomed one) ≡ PruneStep (RemoveDoomed other) → other ≡ one
 same_names one other e = cc
 
-rest_new : (s : Start) (old new : List Moment) (who : ℕ) (names more : List BlobName) → 1 ≤ who → AreUnnamed s old who (names ++ more) → AreOnce (names ++ more) → Removed s old new who names → AreUnnamed s new who more
-rest_new s old new who names more ticket fresh once removed e has was is name mine gone =
+rest_new : (clean : Bool) (s : Start) (old new : List Moment) (who : ℕ) (names more : List BlobName) → 1 ≤ who → AreUnnamed s old who (names ++ more) → AreOnce (names ++ more) → Removed clean s old new who names → AreUnnamed s new who more
+rest_new clean s old new who names more ticket fresh once removed e has was is name mine gone =
     ⊎_elim
     (λ (before : Has (made_of s old who) e). fresh e before was is name (has_right names more name mine) gone)
     (λ (here : e.step ≡ PruneStep (RemoveDoomed names)). once_apart names more once name (subst (λ (l : List BlobName). Has l name) (same_names names was (sym here ∙ is)) gone) mine)
     (stepped_made s old new who (PruneStep (RemoveDoomed names)) removed.reply ticket removed.step e has)
 
-pub still_new : (s : Start) (old new : List Moment) (who : ℕ) (rest : List CodeName) (n : ℕ) → 1 ≤ who → AreUnnamed s old who (map name_of rest) → AreOnce (map name_of rest) → Removed s old new who (map name_of (take n rest)) → AreUnnamed s new who (map name_of (rest_of n rest))
-still_new s old new who rest n ticket fresh once removed =
-    rest_new s old new who (map name_of (take n rest)) (map name_of (rest_of n rest)) ticket (subst (AreUnnamed s old who) (names_are n rest) fresh) (subst AreOnce (names_are n rest) once) removed
+pub still_new : (clean : Bool) (s : Start) (old new : List Moment) (who : ℕ) (rest : List CodeName) (n : ℕ) → 1 ≤ who → AreUnnamed s old who (map name_of rest) → AreOnce (map name_of rest) → Removed clean s old new who (map name_of (take n rest)) → AreUnnamed s new who (map name_of (rest_of n rest))
+still_new clean s old new who rest n ticket fresh once removed =
+    rest_new clean s old new who (map name_of (take n rest)) (map name_of (rest_of n rest)) ticket (subst (AreUnnamed s old who) (names_are n rest) fresh) (subst AreOnce (names_are n rest) once) removed
 
 pub still_once : (rest : List CodeName) (n : ℕ) → AreOnce (map name_of rest) → AreOnce (map name_of (rest_of n rest))
 still_once rest n once = once_rest (map name_of (take n rest)) (map name_of (rest_of n rest)) (subst AreOnce (names_are n rest) once)
 
 -- what was named so far, and then some more
-pub more_named : (s : Start) (old new : List Moment) (who : ℕ) (front names : List CodeName) → AreNamed s old who (map name_of front) → Removed s old new who (map name_of names) → AreNamed s new who (map name_of (front ++ names))
-more_named s old new who front names was removed name has =
+more_named : (clean : Bool) (s : Start) (old new : List Moment) (who : ℕ) (front names : List CodeName) → AreNamed s old who (map name_of front) → Removed clean s old new who (map name_of names) → AreNamed s new who (map name_of (front ++ names))
+more_named clean s old new who front names was removed name has =
     let ns : List BlobName = map name_of names in
     let before : List BlobName = removal_names (made_of s old who) in
     removed.more name
@@ -127,6 +129,33 @@ more_named s old new who front names was removed name has =
     (λ (earlier : Has (map name_of front) name). has_right ns before name (was name earlier))
     (λ (now : Has ns name). has_left ns before name now)
     (has_either (map name_of front) ns name (subst (λ (l : List BlobName). Has l name) (map-append name_of front names) has)))
+
+more_gone : (clean : Bool) (s : Start) (old new : List Moment) (who : ℕ) (front names : List CodeName) → 1 ≤ who → clean ≡ true → AreGone s old who (map name_of front) → Removed clean s old new who (map name_of names) → AreGone s new who (map name_of (front ++ names))
+more_gone clean s old new who front names ticket cleans was removed name has =
+    let ns : List BlobName = map name_of names in
+    let step : Step = PruneStep (RemoveDoomed ns) in
+    ⊎_elim
+    (λ (earlier : Has (map name_of front) name). still_gone s old new who step removed.reply ticket removed.step name (was name earlier))
+    (λ (now : Has ns name). removal_gone s old new who ns ticket (subst (λ (r : Reply). Stepped s old new who step r) (removed.well cleans) removed.step) name now)
+    (has_either (map name_of front) ns name (subst (λ (l : List BlobName). Has l name) (map-append name_of front names) has))
+
+pub none_removed : (clean : Bool) (s : Start) (log : List Moment) (who : ℕ) → HasRemoved clean s log log who (map name_of [])
+none_removed clean s log who = record {
+  named = λ name none. absurd none;
+  gone = λ cleans name none. absurd none;
+  well = λ cleans well. well;
+  put = λ put. put;
+}
+
+pub more_removed : (clean : Bool) (s : Start) (old mid new : List Moment) (who : ℕ) (front names : List CodeName) → 1 ≤ who → HasRemoved clean s old mid who (map name_of front) → Removed clean s mid new who (map name_of names) → HasRemoved clean s old new who (map name_of (front ++ names))
+more_removed clean s old mid new who front names ticket was removed =
+    let step : Step = PruneStep (RemoveDoomed (map name_of names)) in
+    record {
+      named = more_named clean s mid new who front names was.named removed;
+      gone = λ cleans. more_gone clean s mid new who front names ticket cleans (was.gone cleans) removed;
+      well = λ cleans well. none_failed_on s mid new who step removed.reply ticket (was.well cleans well) (λ is. removed.well cleans) removed.step;
+      put = λ put. still_put s mid new who step removed.reply ticket (was.put put) removed.step;
+    }
 
 pub whole_more : (all front rest : List CodeName) (n : ℕ) → all ≡ front ++ rest → all ≡ (front ++ take n rest) ++ rest_of n rest
 whole_more all front rest n is = is ∙ ap (λ (l : List CodeName). front ++ l) (sym (parts_are n rest)) ∙ sym (append_assoc front (take n rest) (rest_of n rest))
@@ -148,5 +177,19 @@ no_items : {A : Type 0} (xs : List A) → length xs ≡ 0 → xs ≡ []
 no_items [] e = refl
 no_items (x ∷ xs) e = absurd (cc)
 
-pub all_named : (s : Start) (log : List Moment) (who : ℕ) (all front rest : List CodeName) → all ≡ front ++ rest → length rest ≡ 0 → AreNamed s log who (map name_of front) → AreNamed s log who (map name_of all)
-all_named s log who all front rest is none named = subst (λ (l : List CodeName). AreNamed s log who (map name_of l)) (sym (is ∙ ap (λ (l : List CodeName). front ++ l) (no_items rest none) ∙ append-nil front)) named
+pub all_removed : (clean : Bool) (s : Start) (old new : List Moment) (who : ℕ) (all front rest : List CodeName) → all ≡ front ++ rest → length rest ≡ 0 → HasRemoved clean s old new who (map name_of front) → HasRemoved clean s old new who (map name_of all)
+all_removed clean s old new who all front rest is none removed =
+    subst (λ (l : List CodeName). HasRemoved clean s old new who (map name_of l)) (sym (is ∙ ap (λ (l : List CodeName). front ++ l) (no_items rest none) ∙ append-nil front)) removed
+
+-- names that are the same ones
+pub same_removed : (clean : Bool) (s : Start) (old new : List Moment) (who : ℕ) (names once : List CodeName) → ((name : CodeName) → Has once name ↔ Has names name) → HasRemoved clean s old new who (map name_of once) → HasRemoved clean s old new who (map name_of names)
+same_removed clean s old new who names once same removed =
+    let among : (name : BlobName) → Has (map name_of names) name → Has (map name_of once) name =
+    λ name has. let found = has_map name_of names name has in
+    subst (Has (map name_of once)) found.2 (in_map name_of once found.0 ((same found.0).1 found.1)) in
+    record {
+      named = λ name has. removed.named name (among name has);
+      gone = λ cleans name has. removed.gone cleans name (among name has);
+      well = removed.well;
+      put = removed.put;
+    }

@@ -1,5 +1,5 @@
--- What a delete's ticket has read of shards, and what is held of them.
-use Rattle.std.specs.Prelude.{◌≡◌, ℕ, true, false, List, [], Some, None}
+-- What the ticket of a delete or cleanup has read of shards, and what is held of them.
+use Rattle.std.specs.Prelude.{◌≡◌, ℕ, Bool, true, false, List, [], Some, None}
 use Rattle.esr_model.specs.Names.{BlobName, ShardIndex}
 use Rattle.esr_model.specs.Values.{Bytes, Has, RootData, ShardFiles, Formats}
 use Rattle.esr_model.specs.Image.{Generation}
@@ -8,22 +8,25 @@ use Rattle.esr_core.specs.World.{Ticket, Deleting}
 use Rattle.esr_core.specs.After.{fetching}
 use Rattle.esr_core.specs.Entry.{PruneStep, FetchShard, Entry, Moment}
 use Rattle.esr_core.specs.Pruning.{AreRead, bare_shard}
+use Rattle.esr_core.specs.Allowed.{IsUnlisted}
 use Rattle.esr_formats.specs.Shards.{shard_index_kind}
 use Rattle.esr_reach.specs.Held.{HeldShard, held_at}
 use Rattle.esr_desk.specs.Start.{Start, formats_of, ticket_of, told_bytes}
 use Rattle.esr_desk.specs.Own.{made_of}
 use Rattle.esr_desk.specs.Grew.{GrewBy}
 
--- the ticket of a delete of these snapshots of the root is out, and has no plan yet
-pub record IsUnplanned (t : Ticket) (root : RootData) (uuids : List ℕ) : Type 0 where
+-- the ticket of a delete of these snapshots of the root, or of a cleanup, is out, and has no plan yet
+pub record IsUnplanned (t : Ticket) (clean : Bool) (root : RootData) (uuids : List ℕ) : Type 0 where
   pub out : t.out ≡ true
   pub unsettled : t.settled ≡ false
   pub work : t.work ≡ Deleting uuids None
+  pub mode : t.clean ≡ clean
   pub root_is : root ≡ t.root
   pub unraised : t.raised ≡ None
   pub unnoted : t.noted ≡ []
   pub undrawn : t.drawn ≡ 0
   pub untried : t.tried_latest ≡ false
+  pub unlisted : IsUnlisted t
 
 -- the ticket has read more, and nothing else of it changed
 pub record HasRead (old new : Ticket) : Type 0 where
@@ -50,12 +53,12 @@ HoldsRead f root blobs held = (index number base : ℕ) → Generation root inde
 abbrev pub AreGathered : Formats → List (BlobName × Bytes) → List PrunedShard → Type 0
 AreGathered f blobs shards = (p : PrunedShard) → Has shards p → (was : ShardFiles) × (files_read f blobs p ≡ Some was)
 
--- Each index that the delete is to read was read, and is held. What was read the ticket tells where the container does.
+-- Each index that is to be read was read, and is held. What was read the ticket tells where the container does.
 pub record IsGathered (s : Start) (t : Ticket) (uuids : List ℕ) (held : List HeldShard) : Type 0 where
   pub blobs : List (BlobName × Bytes)
   pub told : s.tells ≡ true → t.read ≡ blobs
   pub are_held : HoldsRead (formats_of s) t.root blobs held
-  pub are_read : AreRead (formats_of s) t.root uuids blobs
+  pub are_read : AreRead (formats_of s) t.clean t.root uuids blobs
 
 -- ---- while it gathers
 

@@ -5,3 +5,4 @@ pub mod Went
 pub mod Ticket
 pub mod Refused
 pub mod Removed
+pub mod Listing

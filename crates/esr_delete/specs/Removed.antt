@@ -1,4 +1,4 @@
--- What a delete's ticket has named in its removals, and what it may remove.
+-- What the ticket of a delete or cleanup has named in its removals, and what it may remove.
 use Rattle.std.specs.Prelude.{◌≡◌, false, ◌⊎◌, ◌↔◌, ℕ, Bool, true, List, ◌++◌, map, Some, Result, Ok, Err}
 use Rattle.esr_names.specs.declared.blob.BlobName.{BlobName as CodeName}
 use Rattle.esr_model.specs.Names.{BlobName}
@@ -6,15 +6,18 @@ use Rattle.esr_model.specs.Values.{Has}
 use Rattle.esr_core.specs.World.{Ticket, Deleting, Swap}
 use Rattle.esr_core.specs.Pruning.{dooms}
 use Rattle.esr_core.specs.Past.{removal_names}
-use Rattle.esr_core.specs.Entry.{RemoveDoomed, PruneStep, Reply, Entry, Moment}
+use Rattle.esr_core.specs.Allowed.{HasPutLatest}
+use Rattle.esr_core.specs.Entry.{RemoveDoomed, PruneStep, Reply, WasRemoved, Entry, Moment}
 use Rattle.esr_formats.specs.Names.{name_of}
 use Rattle.esr_desk.specs.declared.refusal.StepRefusal.{StepRefusal}
 use Rattle.esr_desk.specs.declared.refusal.StepRefusal.TheVariants as steps
 use Rattle.esr_desk.specs.declared.refusal.EntryRefusal.TheVariants.{DepotFault}
-use Rattle.esr_desk.specs.Start.{Start, formats_of, ticket_of}
+use Rattle.esr_desk.specs.Start.{Start, formats_of, ticket_of, world_of}
 use Rattle.esr_desk.specs.Own.{made_of}
 use Rattle.esr_desk.specs.Outcome.{Stepped}
-use Rattle.esr_desk.specs.Delete.Named.{AreNamed, HasNamed}
+use Rattle.esr_desk.specs.Delete.Named.{AreNamed}
+use Rattle.esr_desk.specs.Delete.Cleaned.{AreGone, NoneFailed}
+use Rattle.esr_delete.specs.Ticket.{HasDone}
 
 -- the ticket has made no removal
 abbrev pub NoneRemoved : Start → List Moment → ℕ → Type 0
@@ -37,22 +40,36 @@ pub record MayRemove (s : Start) (t : Ticket) (names : List BlobName) : Type 0 w
   pub over : IsSettledPlan t
   pub doomed : s.tells ≡ true → (name : BlobName) → Has names name → Has (dooms (formats_of s) t) name
 
--- these names were named in one removal, whether or not the container failed in it, and what was named before it still is
-pub record Removed (s : Start) (old new : List Moment) (who : ℕ) (names : List BlobName) : Type 0 where
+-- these names were named in one removal, whether or not the container failed in it, which it hasn't of a cleanup; and what was named
+-- before it still is
+pub record Removed (clean : Bool) (s : Start) (old new : List Moment) (who : ℕ) (names : List BlobName) : Type 0 where
   pub reply : Reply
   pub step : Stepped s old new who (PruneStep (RemoveDoomed names)) reply
   pub more : AreNamed s new who (names ++ removal_names (made_of s old who))
+  pub well : clean ≡ true → reply ≡ WasRemoved
 
--- the ticket has ended, and all that it dooms was named before
-pub record IsCleared (s : Start) (old new : List Moment) (who : ℕ) : Type 0 where
+-- these names were named in removals; those of a cleanup were answered Ok, and took them away
+pub record HasRemoved (clean : Bool) (s : Start) (old new : List Moment) (who : ℕ) (names : List BlobName) : Type 0 where
+  pub named : AreNamed s new who names
+  pub gone : clean ≡ true → AreGone s new who names
+  pub well : clean ≡ true → NoneFailed s old who → NoneFailed s new who
+  pub put : HasPutLatest (world_of s old) who → HasPutLatest (world_of s new) who
+
+-- the ticket has ended, and all that it dooms was removed before
+pub record IsCleared (clean : Bool) (s : Start) (old new : List Moment) (who : ℕ) : Type 0 where
   pub own : ticket_of s new who ≡ record (ticket_of s old who) { out = false }
-  pub named : HasNamed s new who
+  pub done : HasDone clean s new who
 
 -- a removal in which the container failed counts as made
-abbrev pub passed_by : Result (Unit {0}) StepRefusal → Result (Unit {0}) StepRefusal
-passed_by (Ok x) = Ok x
-passed_by (Err (steps.Refused DepotFault)) = Ok tt
-passed_by (Err e) = Err e
+abbrev pub borne_by : Result (Unit {0}) StepRefusal → Result (Unit {0}) StepRefusal
+borne_by (Ok x) = Ok x
+borne_by (Err (steps.Refused DepotFault)) = Ok tt
+borne_by (Err e) = Err e
+
+-- of a delete, not of a cleanup
+abbrev pub passed_by : Bool → Result (Unit {0}) StepRefusal → Result (Unit {0}) StepRefusal
+passed_by true r = r
+passed_by false r = borne_by r
 
 -- the set has just these names
 abbrev pub IsSetOf : (CodeName → Bool) → List CodeName → Type 0

@@ -1,13 +1,14 @@
--- How far the unit of a delete went, whatever it was answered.
+-- How far the unit of a delete or cleanup went, whatever it was answered.
 use Rattle.std.specs.Prelude.{◌≡◌, ℕ, Bool, List, Option}
 use Rattle.esr_model.specs.Names.{BlobName}
 use Rattle.esr_model.specs.Values.{Bytes}
+use Rattle.esr_model.specs.Cleanup.{BlobSize}
 use Rattle.esr_core.specs.World.{Ticket, Deleting, Swap}
 use Rattle.esr_core.specs.Entry.{Moment}
 use Rattle.esr_desk.specs.Start.{Start, ticket_of}
 use Rattle.esr_desk.specs.Grew.{GrewBy}
 
--- the ticket, of a delete of the same snapshots, has read, planned, noted and written blobs, raised and tried `index.latest` at most
+-- the ticket, of the same snapshots, has read, planned, noted and written blobs, listed, raised and tried `index.latest` at most
 pub record Worked (old new : Ticket) : Type 0 where
   pub uuids : List ℕ
   pub before : Option Swap
@@ -20,7 +21,20 @@ pub record Worked (old new : Ticket) : Type 0 where
   pub read : List (BlobName × Bytes)
   pub raised : Option ℕ
   pub tried : Bool
-  pub is : new ≡ record old { work = Deleting uuids plan; first = first; drawn = drawn; noted = noted; wrote = wrote; read = read; raised = raised; tried_latest = tried }
+  pub listed : List BlobSize
+  pub whole : Bool
+  pub is : new ≡ record old {
+    work = Deleting uuids plan;
+    first = first;
+    drawn = drawn;
+    noted = noted;
+    wrote = wrote;
+    read = read;
+    raised = raised;
+    tried_latest = tried;
+    listed = listed;
+    whole = whole;
+  }
 
 pub record Went (s : Start) (old new : List Moment) (who : ℕ) : Type 0 where
   pub grew : GrewBy s who old new

@@ -1,4 +1,4 @@
-//! The indices of the shards that may lose a snapshot.
+//! The indices of the shards that a delete or cleanup reads.
 ghost use Rattle.std.specs.Prelude.{◌≡◌, ◌<◌, [], map, IfErr, IfOk};
 ghost use Rattle.esr_model.specs.Names.{ShardIndex as IndexName};
 ghost use Rattle.esr_core.specs.After.{fetching};
@@ -88,17 +88,18 @@ fn fetch_index<Q: Desk>(
     }
 }
 
-/// The index of each shard with a generation, of the indices that have a snapshot of these uuids: each is fetched and read
-/// to its end.
+/// The index of each shard with a generation; of a delete, of the indices that have a snapshot of these uuids: each is fetched
+/// and read to its end.
 pub fn gather<Q: Desk>(
     alloc: Global,
     desk: &mut Q,
     ticket: u64,
+    clean: bool,
     root: &RootData,
     uuids: &Ids,
 ) -> Result<ShardIndices, Trouble<Q::Stage, Q::Fetch>>
     requires mine { HasTaken (Q.calls desk.old) ticket }
-    requires may { IsUnplanned (ticket_of Q.start (Q.seen desk.old) ticket) (root_of root.now) (map number_of uuids.now) }
+    requires may { IsUnplanned (ticket_of Q.start (Q.seen desk.old) ticket) clean (root_of root.now) (map number_of uuids.now) }
     requires unread { (ticket_of Q.start (Q.seen desk.old) ticket).read ≡ [] }
     requires new { made_of Q.start (Q.seen desk.old) ticket ≡ [] }
     ensures ok { IfOk result (λ held. IsGathered Q.start (ticket_of Q.start (Q.seen desk.new) ticket) (map number_of uuids.now) held) }
@@ -108,7 +109,7 @@ pub fn gather<Q: Desk>(
     ensures grew { GrewBy Q.start ticket (Q.seen desk.old) (Q.seen desk.new) }
     ensures calls { Q.calls desk.new ≡ Q.calls desk.old }
 {
-    let shards = to_read(alloc, root, uuids)?;
+    let shards = to_read(alloc, clean, root, uuids)?;
     let mut held = ShardIndices::new(alloc);
     for shard in shards.as_slice() {
         let index = fetch_index(alloc, desk, ticket, shard.shard, shard.base)?;

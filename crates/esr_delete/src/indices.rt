@@ -1,4 +1,4 @@
-//! The shard indices that a delete writes.
+//! The shard indices that a delete or cleanup writes.
 ghost use Rattle.std.specs.Prelude.{◌≡◌, ◌+◌, ◌<◌, ◌^◌, [], ◌∷◌, map, IfErr, IfOk, OnOk};
 ghost use Rattle.esr_model.specs.Names.{ShardIndex as IndexName};
 ghost use Rattle.esr_model.specs.Delete.{next_after, uuids_of, surviving, pruned_blobs};
@@ -30,7 +30,7 @@ use esr_unit::Trouble;
 use std::alloc::{AllocError, Global};
 
 /// The uuids of the snapshots of a root.
-fn uuids_of(alloc: Global, root: &RootData) -> Result<Ids, AllocError>
+pub fn uuids_of(alloc: Global, root: &RootData) -> Result<Ids, AllocError>
     ensures { IfOk result (λ us. map number_of us ≡ uuids_of (root_of root.now)) }
 {
     let mut uuids = Seq::new(alloc);
@@ -72,7 +72,7 @@ fn write_index<Q: Desk>(
     )
 }
 
-/// The same, where something is left of the shard; answers the id for the next one.
+/// Writes the new index of a shard of which something is left; answers the id for the next one.
 fn write_shard<Q: Desk>(
     alloc: Global,
     desk: &mut Q,

@@ -1,10 +1,12 @@
-//! The unit of a delete: it writes the indices of shards that lose a snapshot and the new root, settles on it, and removes what
-//! nothing reaches any more.
+//! The unit of a delete or cleanup: it writes the indices of shards that lose a snapshot and the new root, settles on it, and
+//! removes what nothing reaches any more. A cleanup finds that by listing the container.
 #![tactic(auto)]
 
+mod doom;
 mod end;
 mod gather;
 mod indices;
+mod list;
 mod plan;
 mod remove;
 mod root;

@@ -1,4 +1,4 @@
-//! The plan of a delete.
+//! The plan of a delete or cleanup.
 ghost use Rattle.std.specs.Prelude.{◌≡◌, map, IfErr, IfOk, OnErr};
 ghost use Rattle.esr_formats.specs.Ids.{number_of};
 ghost use Rattle.esr_formats.specs.Roots.{root_of};
@@ -23,7 +23,7 @@ use esr_root::RootData;
 use esr_unit::Trouble;
 use std::alloc::Global;
 
-/// What a delete is to write: an index for each of these shards of which something is left, under ids from the first one on,
+/// What is to be written: an index for each of these shards of which something is left, under ids from the first one on,
 /// and the root.
 #[derive(Drop)]
 pub struct Draft {
@@ -32,17 +32,18 @@ pub struct Draft {
     pub root: RootData,
 }
 
-/// Plans the delete over what was gathered.
+/// Plans over what was gathered.
 pub fn plan<Q: Desk>(
     alloc: Global,
     desk: &mut Q,
     ticket: u64,
+    clean: bool,
     root: &RootData,
     uuids: &Ids,
     held: &ShardIndices,
 ) -> Result<Draft, Trouble<Q::Stage, Q::Fetch>>
     requires mine { HasTaken (Q.calls desk.old) ticket }
-    requires may { IsUnplanned (ticket_of Q.start (Q.seen desk.old) ticket) (root_of root.now) (map number_of uuids.now) }
+    requires may { IsUnplanned (ticket_of Q.start (Q.seen desk.old) ticket) clean (root_of root.now) (map number_of uuids.now) }
     requires gathered { IsGathered Q.start (ticket_of Q.start (Q.seen desk.old) ticket) (map number_of uuids.now) held.now }
     requires made { HasMadeFetches Q.start (Q.seen desk.old) ticket }
     ensures ok { IfOk result (λ d. HasPlanned Q.start (ticket_of Q.start (Q.seen desk.old) ticket) (ticket_of Q.start (Q.seen desk.new) ticket) (map number_of uuids.now) held.now (map pruned_of d.shards) d.first.number (root_of d.root)) }
@@ -54,7 +55,7 @@ pub fn plan<Q: Desk>(
     ensures calls { Q.calls desk.new ≡ Q.calls desk.old }
 {
     esr_core::refusals_are_of_their_steps();
-    let shards = pruned(alloc, root, uuids, held)?;
+    let shards = pruned(alloc, clean, root, uuids, held)?;
     let planned = desk.plan(alloc, ticket, root, uuids, &shards)?;
     let Planned { first, root } = planned;
     Ok(Draft {

@@ -1,5 +1,5 @@
 //! The removal of doomed blobs, each once.
-ghost use Rattle.std.specs.Prelude.{◌≡◌, ◌<◌, ◌≤◌, ◌↔◌, length, map, take, true, IfErr, IfOk, OnOk};
+ghost use Rattle.std.specs.Prelude.{◌≡◌, ◌<◌, ◌≤◌, ◌↔◌, length, map, take, IfErr, IfOk, OnOk};
 ghost use Rattle.std.specs.BTreeSet.{contains};
 ghost use Rattle.esr_names.specs.declared.blob.BlobName.{BlobName as CodeName};
 ghost use Rattle.esr_names.specs.Layout.{IsName};
@@ -9,9 +9,8 @@ ghost use Rattle.esr_reach.specs.Names.{AreOnce};
 ghost use Rattle.esr_desk.specs.Calls.{HasTaken};
 ghost use Rattle.esr_desk.specs.Start.{ticket_of};
 ghost use Rattle.esr_desk.specs.Grew.{GrewBy};
-ghost use Rattle.esr_desk.specs.Halts.{Halts};
-ghost use Rattle.esr_desk.specs.Delete.Named.{AreNamed};
-ghost use Rattle.esr_delete.specs.Removed.{AreUnnamed, MayRemove, Removed, passed_by, IsSetOf, IsWith};
+ghost use Rattle.esr_delete.specs.Refused.{IsRemovalRefused};
+ghost use Rattle.esr_delete.specs.Removed.{AreUnnamed, MayRemove, Removed, HasRemoved, borne_by, passed_by, IsSetOf, IsWith};
 
 use esr_desk::{Desk, EntryRefusal, StepRefusal};
 use esr_names::BlobName;
@@ -53,8 +52,8 @@ pub fn distinct(alloc: Global, names: &[BlobName]) -> Result<Seq<BlobName>, Allo
 }
 
 /// The answer of a removal, in which the container may have failed.
-fn passed(answer: Result<(), StepRefusal>) -> Result<(), StepRefusal>
-    ensures { result ≡ passed_by answer }
+fn borne(answer: Result<(), StepRefusal>) -> Result<(), StepRefusal>
+    ensures { result ≡ borne_by answer }
 {
     match answer {
         Err(StepRefusal::Refused(EntryRefusal::DepotFault)) => Ok(()),
@@ -62,11 +61,20 @@ fn passed(answer: Result<(), StepRefusal>) -> Result<(), StepRefusal>
     }
 }
 
-/// Takes the first of these blobs away, at most 1,000, and answers how many. Where the container fails in it they stay named.
+/// The answer of a removal of a delete, in which the container may have failed; or of a cleanup, in which it hasn't.
+fn passed(clean: bool, answer: Result<(), StepRefusal>) -> Result<(), StepRefusal>
+    ensures { result ≡ passed_by clean answer }
+{
+    if clean { answer } else { borne(answer) }
+}
+
+/// Takes the first of these blobs away, at most 1,000, and answers how many. Where the container fails in it those of a delete
+/// stay named.
 fn remove_first<Q: Desk>(
     alloc: Global,
     desk: &mut Q,
     ticket: u64,
+    clean: bool,
     names: &[BlobName],
 ) -> Result<usize, StepRefusal>
     requires mine { HasTaken (Q.calls desk.old) ticket }
@@ -76,16 +84,16 @@ fn remove_first<Q: Desk>(
     requires new { AreUnnamed Q.start (Q.seen desk.old) ticket (map name_of names.now) }
     ensures some { IfOk result (λ n. 0 < n) }
     ensures within { IfOk result (λ n. n ≤ length names.now) }
-    ensures removed { IfOk result (λ n. Removed Q.start (Q.seen desk.old) (Q.seen desk.new) ticket (map name_of (take n names.now))) }
+    ensures removed { IfOk result (λ n. Removed clean Q.start (Q.seen desk.old) (Q.seen desk.new) ticket (map name_of (take n names.now))) }
     ensures own { ticket_of Q.start (Q.seen desk.new) ticket ≡ ticket_of Q.start (Q.seen desk.old) ticket }
-    ensures refused { IfErr result (λ e. Halts Q.start (Q.seen desk.new) ticket e) }
+    ensures refused { IfErr result (λ e. IsRemovalRefused clean Q.start (Q.seen desk.new) ticket e) }
     ensures grew { GrewBy Q.start ticket (Q.seen desk.old) (Q.seen desk.new) }
     ensures calls { Q.calls desk.new ≡ Q.calls desk.old }
 {
     esr_core::refusals_are_of_their_steps();
     let count = names.len().min(1000);
     let batch = Seq::from_slice(alloc, &names[..count])?;
-    passed(desk.remove(alloc, ticket, &batch))?;
+    passed(clean, desk.remove(alloc, ticket, &batch))?;
     Ok(count)
 }
 
@@ -94,6 +102,7 @@ pub fn remove_all<Q: Desk>(
     alloc: Global,
     desk: &mut Q,
     ticket: u64,
+    clean: bool,
     names: &[BlobName],
 ) -> Result<(), StepRefusal>
     requires mine { HasTaken (Q.calls desk.old) ticket }
@@ -101,15 +110,15 @@ pub fn remove_all<Q: Desk>(
     requires once { AreOnce (map name_of names.now) }
     requires may { MayRemove Q.start (ticket_of Q.start (Q.seen desk.old) ticket) (map name_of names.now) }
     requires new { AreUnnamed Q.start (Q.seen desk.old) ticket (map name_of names.now) }
-    ensures named { OnOk result (AreNamed Q.start (Q.seen desk.new) ticket (map name_of names.now)) }
+    ensures removed { OnOk result (HasRemoved clean Q.start (Q.seen desk.old) (Q.seen desk.new) ticket (map name_of names.now)) }
     ensures own { ticket_of Q.start (Q.seen desk.new) ticket ≡ ticket_of Q.start (Q.seen desk.old) ticket }
-    ensures refused { IfErr result (λ e. Halts Q.start (Q.seen desk.new) ticket e) }
+    ensures refused { IfErr result (λ e. IsRemovalRefused clean Q.start (Q.seen desk.new) ticket e) }
     ensures grew { GrewBy Q.start ticket (Q.seen desk.old) (Q.seen desk.new) }
     ensures calls { Q.calls desk.new ≡ Q.calls desk.old }
 {
     let mut rest = names;
     while !rest.is_empty() {
-        let count = remove_first(alloc, desk, ticket, rest)?;
+        let count = remove_first(alloc, desk, ticket, clean, rest)?;
         rest = &rest[count..];
     }
     Ok(())

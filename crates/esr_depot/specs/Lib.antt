@@ -4,5 +4,6 @@ pub mod Image
 pub mod Listing
 pub mod Look
 pub mod Moments
+pub mod Pages
 pub mod Told
 pub mod Untold

@@ -1,7 +1,7 @@
 //! The container of a repository.
-ghost use Rattle.std.specs.Prelude.{◌≡◌, ◌≤◌, ◌<◌, ℕ, IsTrue, true, [], Option, Some, None, length, map, option_map, IfOk, IfSome};
+ghost use Rattle.std.specs.Prelude.{◌≡◌, ◌≤◌, ◌<◌, ℕ, IsTrue, true, [], Option, Some, None, length, map, option_copied, option_map, IfOk, IfSome};
 ghost use Rattle.esr_depot.specs.Image.{Image, blob_known, sizes_of, IsFree, IsTaken};
-ghost use Rattle.esr_depot.specs.Listing.{size_of};
+ghost use Rattle.esr_depot.specs.Listing.{size_of, page_from, IsPage};
 ghost use Rattle.esr_depot.specs.Look.{Look, now};
 ghost use Rattle.esr_depot.specs.Calls.{HasCause, Serves, Called, SameImage, is_wanting, has_failed, without_memory};
 ghost use Rattle.esr_depot.specs.Changes.{Committed, CommitMay, Replaced, ReplaceMay, Removed, RemoveMay, Swapped, SwapMay};
@@ -9,6 +9,7 @@ ghost use Rattle.esr_depot.specs.Changes.{Committed, CommitMay, Replaced, Replac
 use crate::counted::Counted;
 use crate::error::{CallError, Failed};
 use crate::fetch::Fetch;
+use crate::listing::Pages;
 use crate::stage::Stage;
 use esr_seq::{Bytes, Seq, Text};
 use std::alloc::Global;
@@ -22,16 +23,6 @@ pub enum Commit {
 
 /// Names of blobs.
 pub type Names = Seq<Text>;
-
-/// A blob that is listed, by its name and its length in bytes.
-#[derive(Debug, Drop)]
-pub struct Listed {
-    pub name: Text,
-    pub length: u64,
-}
-
-/// The blobs of a container, in the byte order of their names.
-pub type Listing = Seq<Listed>;
 
 /// Blobs by name, and one record. A call that doesn't want memory counts as a moment.
 pub trait Depot: Counted + Drop {
@@ -87,10 +78,13 @@ pub trait Depot: Counted + Drop {
         ensures cause { HasCause (Self.faults self.old) (Self.faults self.new) (has_failed result) }
         ensures sure { Serves (look self.old).sure (look self.new).sure (has_failed result) };
 
-    /// All names with the lengths of their blobs, in the byte order of names.
-    fn list(&mut self, alloc: Global) -> Result<Listing, CallError>
-        ensures listing { IfOk result (λ l.
-            (i : Image) → now (look self.old) ≡ Some i → map size_of l ≡ sizes_of i.blobs) }
+    /// A page of the names with the lengths of their blobs, in the byte order of names: the first 1,000 after this name, or
+    /// of all names. One of fewer ends the listing. The page is given twice.
+    fn list(&mut self, alloc: Global, after: Option<&str>) -> Result<Pages, CallError>
+        ensures page { IfOk result (λ p. IsPage (option_copied after.entry) (map size_of p.page)) }
+        ensures listing { IfOk result (λ p. (i : Image) → now (look self.old) ≡ Some i
+            → map size_of p.page ≡ page_from (option_copied after.entry) (sizes_of i.blobs)) }
+        ensures copy { IfOk result (λ p. p.copy ≡ p.page) }
         ensures call { Called (look self.old) (look self.new) (λ _. SameImage) SameImage result }
         ensures memory { is_wanting result ≡ true → Self.faults self.new ≡ Self.faults self.old }
         ensures cause { HasCause (Self.faults self.old) (Self.faults self.new) (has_failed result) }

@@ -5,12 +5,14 @@ mod counted;
 mod depot;
 mod error;
 mod fetch;
+mod listing;
 mod stage;
 mod whole;
 
 pub use counted::Counted;
-pub use depot::{Commit, Depot, Listed, Listing, Names};
+pub use depot::{Commit, Depot, Names};
 pub use error::{CallError, Failed};
 pub use fetch::Fetch;
+pub use listing::{Listed, Listing, PAGE, Pages, copy_listing, is_after, page_of};
 pub use stage::Stage;
 pub use whole::read_whole;

@@ -11,7 +11,7 @@ use Rattle.esr_core.specs.Restores.{reader_of, read_more, restore_shard}
 use Rattle.esr_core.specs.Entry.{CloneOf, Read, Prune, Step, TakeStep, Reply, Given, GivenShard, GivenFinalize, GivenDrop, GivenRestore, GivenClone, GivenDelete, GivenCleanup, Gave, Refusal, Refused, Moment}
 use Rattle.esr_core.specs.After.{shard_of, taken_shard, taken_restore_shard, taken_restore, taken_by, answered, after}
 use Rattle.esr_core.specs.Allowed as allowed
-use Rattle.esr_core.specs.Allowed.{DeleteAllows, RestoreAllows, OpeningRestore, CloneAllows, OpeningClone, ReadAllows, ReadFound, VerifyAllows, DrawingTest, PruneAllows, Allows, Gives, Allowed, Blocks, ByFailedSwap, ByDelete, IsBlocked}
+use Rattle.esr_core.specs.Allowed.{DeleteAllows, CleanupAllows, RestoreAllows, OpeningRestore, CloneAllows, OpeningClone, ReadAllows, ReadFound, VerifyAllows, DrawingTest, PruneAllows, Allows, Gives, Allowed, Blocks, ByFailedSwap, ByDelete, IsBlocked}
 use Rattle.esr_core.specs.Changes.{StepChange, NoChange, NewOp, NewDeletion, MergedDeletion, NewRestore, NewTicket, NewReader, OwnTicket, Settlement, UnitEnd, DeletionFailure, OpDrop, Election, ReaderFetch, ReaderEnd, PlainDraw, TestBlob, SwapFault, Maker, ClientStep, ReaderStep, UnitStep}
 use Rattle.esr_core.specs.History.{world_from, IsLegal}
 use Rattle.esr_desk.specs.Start.{Start, formats_of, world_of, Legal}
@@ -89,7 +89,7 @@ module _ (least : ℕ) where
   numbered_step f w who step new (NewTicket takes t fresh ops same) n = record { next = later w n; tickets = more_numbered w t n; readers = more_readers w n }
   numbered_step f w who step new (NewReader takes o r s is) n = record { next = later w n; tickets = more_tickets w n; readers = put_reader w (reader_of o r s) n }
   numbered_step f w who step new (OwnTicket t v is same settled next_id pending ids roots) n = record { next = n.next; tickets = put_numbered w who t v n is; readers = n.readers }
-  numbered_step f w who step new (Settlement settles t s roots names is swaps raised) n = record { next = n.next; tickets = put_numbered w who t (record t { settled = true }) n is; readers = n.readers }
+  numbered_step f w who step new (Settlement settles t s roots names deletes is swaps raised left) n = record { next = n.next; tickets = put_numbered w who t (record t { settled = true }) n is; readers = n.readers }
   numbered_step f w who step new (UnitEnd t op v completed is op_is same) n = record { next = n.next; tickets = put_numbered w who t (record t { out = false }) n is; readers = n.readers }
   numbered_step f w who step new (DeletionFailure t x is x_is) n = record { next = n.next; tickets = put_numbered w who t (record t { out = false }) n is; readers = n.readers }
   numbered_step f w who step new (OpDrop drops t is) n = record { next = n.next; tickets = put_numbered w who t (record t { out = false }) n is; readers = n.readers }
@@ -155,6 +155,10 @@ gift_delete : (f : Formats) (w : World) (names : List Bytes) (step : Step) (repl
 gift_delete f w names step reply (allowed.GoingInto acc) = tt
 gift_delete f w names step reply a = tt
 
+gift_cleanup : (f : Formats) (w : World) (step : Step) (reply : Reply) → CleanupAllows w reply → IsGift f w 0 step reply
+gift_cleanup f w step reply (allowed.OpeningCleanup acc) = tt
+gift_cleanup f w step reply a = tt
+
 gift_read : (f : Formats) (w : World) (who : ℕ) (read : Read) (step : Step) (reply : Reply) (image : Option Image) → ReadAllows f w who read reply image → IsGift f w who step reply
 gift_read f w who read step reply image (ReadFound k name im stored by found) = tt
 gift_read f w who read step reply image a = tt
@@ -172,6 +176,7 @@ gift f size w who step reply image (allowed.Giving k o unit im is lowest g same)
 gift f size w who step reply image (allowed.AskingRestore name place rep im a same) = gift_restore f w name step rep im a
 gift f size w who step reply image (allowed.AskingClone source name names time taken rep im a same) = gift_clone f w source name names time taken step rep im a
 gift f size w who step reply image (allowed.AskingDelete names rep im a same) = gift_delete f w names step rep a
+gift f size w who step reply image (allowed.AskingCleanup rep im a same) = gift_cleanup f w step rep a
 gift f size w who step reply image (allowed.Reading k read rep im a same) = gift_read f w k read step rep im a
 gift f size w who step reply image (allowed.Verifying read rep im a) = gift_verify f w read step rep im a
 gift f size w who step reply image (allowed.Pruning k prune rep im a) = gift_prune f w k prune step rep im a
@@ -209,7 +214,8 @@ next_given f w o (GivenRestore index number uuid) None is g = ap (λ (r : Option
 next_given f w o (GivenRestore index number uuid) (Some op) is g = ap (λ (r : Option Restoring). (taken_restore w o index number r).next_ticket) g.ready.there ∙ next_restore w o g.r g.s (restore_shard g.r.shards index number) g.found
 next_given f w o (GivenDelete uuids) None is g = refl
 next_given f w o (GivenDelete uuids) (Some op) is g = refl
-next_given f w o GivenCleanup found is g = absurd g
+next_given f w o GivenCleanup None is g = refl
+next_given f w o GivenCleanup (Some op) is g = refl
 
 next_after : (f : Formats) (w : World) (m : Moment) (ticket op : ℕ) (unit : Given) → IsGift f w m.entry.who m.entry.step (Gave ticket op unit) → m.entry.reply ≡ Gave ticket op unit → (after f w m).next_ticket ≡ suc w.next_ticket
 next_after f w m ticket op unit gift is =

@@ -34,7 +34,7 @@ one_step (BeginStep n) (BeginStep k) is same = let e : n ≡ k = cc in e
 one_step (CommitStep n) (CommitStep k) is same = let e : n ≡ k = cc in e
 one_step LatestStep LatestStep is same = tt
 one_step (FetchStep n) (FetchStep k) is same = let e : n ≡ k = cc in e
-one_step ListStep ListStep is same = tt
+one_step (ListStep n) (ListStep k) is same = let e : n ≡ k = cc in e
 one_step RaiseStep RaiseStep is same = tt
 one_step SettleStep SettleStep is same = tt
 one_step (ReadStep (ReadBlob n)) (ReadStep (ReadBlob k)) is same = let e : n ≡ k = cc in e
@@ -47,7 +47,7 @@ one_step a (BeginStep k) is same = absurd cc
 one_step a (CommitStep k) is same = absurd cc
 one_step a LatestStep is same = absurd cc
 one_step a (FetchStep k) is same = absurd cc
-one_step a ListStep is same = absurd cc
+one_step a (ListStep k) is same = absurd cc
 one_step a RaiseStep is same = absurd cc
 one_step a SettleStep is same = absurd cc
 one_step a (ReadStep (ReadBlob k)) is same = absurd cc

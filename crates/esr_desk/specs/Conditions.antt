@@ -5,7 +5,7 @@ use Rattle.esr_model.specs.Values.{Bytes, Has, RootData, ShardResult}
 use Rattle.esr_core.specs.World.{Ticket, Shard, Deleting, Drop, Swap, swap}
 use Rattle.esr_core.specs.Ready.{IsShard, IsMaster}
 use Rattle.esr_core.specs.Steps.{Drew, MayCommit, IsToFetch, MostDrawn}
-use Rattle.esr_core.specs.Allowed.{DoneAs, IsMetadata, IsNumbered}
+use Rattle.esr_core.specs.Allowed.{DoneAs, IsMetadata, IsNumbered, IsUnlisted}
 use Rattle.esr_core.specs.Entry.{Moment}
 use Rattle.esr_core.specs.Past.{WasStale}
 use Rattle.esr_desk.specs.Start.{Start, formats_of, ticket_of, world_of, told_bytes}
@@ -28,6 +28,8 @@ pub record CanCommit (s : Start) (t : Ticket) (name : BlobName) (bytes : Bytes) 
   pub once : (IsMetadata name → ⊥) → Has t.noted name → ⊥
   -- a part has the number of one of the parts of a told file
   pub numbered : (index number : ℕ) → t.work ≡ Shard index number → IsNumbered (formats_of s) s.part_size t number name t.source
+  -- once a cleanup has listed it commits its root alone
+  pub late : (uuids : List ℕ) (plan : Option Swap) → t.work ≡ Deleting uuids plan → t.clean ≡ true → IsUnlisted t ⊎ ((n : ℕ) × (name ≡ Root n))
 
 -- `index.latest` follows the root that the ticket raised and committed
 pub record CanPut (s : Start) (t : Ticket) (n : ℕ) : Type 0 where
@@ -59,7 +61,7 @@ pub record CanRaise (s : Start) (t : Ticket) : Type 0 where
   pub unsettled : t.settled ≡ false
   pub once : t.raised ≡ None
 
--- the ticket is of no delete, which settles, fails and ends by steps of its own
+-- the ticket is of no delete or cleanup, which settle, fail and end by steps of their own
 abbrev pub IsUnpruned : Ticket → Type 0
 IsUnpruned t = (uuids : List ℕ) (plan : Option Swap) → t.work ≡ Deleting uuids plan → ⊥
 

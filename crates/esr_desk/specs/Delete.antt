@@ -1,4 +1,5 @@
--- What the steps of a delete need, and what shows that one failed.
+-- What the steps of a delete or cleanup need, and what shows that one failed.
 pub mod Conditions
 pub mod Named
+pub mod Cleaned
 pub mod Shown

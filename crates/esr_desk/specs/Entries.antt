@@ -28,6 +28,7 @@ use Rattle.esr_desk.specs.declared.entry.Given.TheVariants as units
 use Rattle.esr_desk.specs.declared.entry.Answer.{Answer}
 use Rattle.esr_desk.specs.declared.entry.Answer.TheVariants as answers
 use Rattle.esr_desk.specs.Refusals.{refusal_of}
+use Rattle.esr_desk.specs.Listing.{page_of}
 
 abbrev pub why_of : Why → entry.Why
 why_of whys.Depot = OfDepot
@@ -75,7 +76,7 @@ step_of (steps.Begin name) = BeginStep (name_of name)
 step_of (steps.Commit name) = CommitStep (name_of name)
 step_of steps.Latest = LatestStep
 step_of (steps.Fetch name) = FetchStep (name_of name)
-step_of steps.List = ListStep
+step_of (steps.List after) = ListStep after
 step_of steps.Raise = RaiseStep
 step_of steps.Settle = SettleStep
 step_of (steps.Done result) = DoneStep (result_of result)
@@ -108,7 +109,7 @@ answer_of answers.Exists = WasThere
 answer_of answers.Replaced = WasReplaced
 answer_of answers.Fetched = WasFetched
 answer_of answers.Absent = WasAbsent
-answer_of answers.Listed = WasListed
+answer_of (answers.Listed page) = WasListed (page_of page)
 answer_of answers.Removed = WasRemoved
 answer_of (answers.Raised generation) = RaisedTo generation
 answer_of answers.Settled = WasSettled

@@ -17,7 +17,7 @@ use Rattle.esr_desk.specs.Calls.{Call, IsMine}
 use Rattle.esr_desk.specs.Hands.{MayFail}
 use Rattle.esr_desk.specs.Evidence.{Evidence, HadReply}
 use Rattle.esr_desk.specs.Unit.Shown.{Matters, IsUnitShown, IsUntold, IsOf, IsBase, HasSnapshot, HasDrawn}
-use Rattle.esr_desk.specs.Delete.Shown.{IsDeleteShown, IsOfDelete}
+use Rattle.esr_desk.specs.Delete.Shown.{MattersTo, IsDeleteShown, IsOfDelete}
 use Rattle.esr_desk.specs.Restore.Shown.{IsRestoreShown, IsFaultyTarget, IsMisprinted, IsMiscut, IsSnap}
 use Rattle.esr_desk.specs.Shown.{IsShown}
 
@@ -74,7 +74,7 @@ module _ {S F H T : Type 0} (e : Evidence S F H T) (s : Start) (old new : List M
   delete_on : (why : Why) (b : By S F H T) → IsDeleteShown e s old who why b → IsDeleteShown e s new who why b
   delete_on OfDepot (shows.Object (objects.Stage stage)) h = h
   delete_on OfDepot (shows.Object (objects.Fetch fetch)) h = h
-  delete_on OfDepot shows.Entry h = ((h.0.0, goes h.0.0 (Refused DepotFault) h.0.1, last_on s old new who h.0.0 (Refused DepotFault) some w h.0.2, subst (λ (t : Ticket). Matters t.work h.0.0) own_ticket h.0.3), h.1)
+  delete_on OfDepot shows.Entry h = ((h.0.0, goes h.0.0 (Refused DepotFault) h.0.1, last_on s old new who h.0.0 (Refused DepotFault) some w h.0.2, subst (λ (t : Ticket). MattersTo t h.0.0) own_ticket h.0.3), h.1)
   delete_on (OfAbsence name) shows.Nothing h = (subst (λ (t : Ticket). IsOfDelete t name) own_ticket h.0, goes (PruneStep (FetchShard name)) WasAbsent h.1)
   delete_on (OfUnreadable name reason) shows.Nothing h = (
     subst (λ (t : Ticket). IsOfDelete t name) own_ticket h.0,

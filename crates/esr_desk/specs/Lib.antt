@@ -1,4 +1,5 @@
 pub mod Refusals
+pub mod Listing
 pub mod Entries
 pub mod Start
 pub mod Own

@@ -75,13 +75,21 @@ stepped_world s old new who step reply h =
     ap (λ (log : List Moment). world_of s log) h.is
     ∙ world_more (formats_of s) s.world h.front (record { entry = record { who = who; step = step; reply = reply }; image = h.image } ∷ [])
 
+last_or_before : (s : Start) (old new : List Moment) (who : ℕ) (step : Step) (reply : Reply) (h : Stepped s old new who step reply) (e : Entry) → Has (made_of s new who) e → (e ≡ record { who = who; step = step; reply = reply }) ⊎ Has (made_of s h.front who) e
+last_or_before s old new who step reply h e has =
+    let last : Entry = record { who = who; step = step; reply = reply } in
+    ⊎_elim
+    (λ (same : last ≡ e). inl (sym same))
+    (λ (before : Has (made_of s h.front who) e). inr before)
+    (counted_or_before (world_of s h.front).entries last who e (subst (λ (w : World). Has (entries_by w.entries who) e) (stepped_world s old new who step reply h) has))
+
 own_or_before : (s : Start) (old new : List Moment) (who : ℕ) (step : Step) (reply : Reply) (h : Stepped s old new who step reply) (e : Entry) → Has (made_of s new who) e → (e.step ≡ step) ⊎ Has (made_of s h.front who) e
 own_or_before s old new who step reply h e has =
     let last : Entry = record { who = who; step = step; reply = reply } in
     ⊎_elim
-    (λ (same : last ≡ e). inl (ap (λ (x : Entry). x.step) (sym same)))
+    (λ (same : e ≡ last). inl (ap (λ (x : Entry). x.step) same))
     (λ (before : Has (made_of s h.front who) e). inr before)
-    (counted_or_before (world_of s h.front).entries last who e (subst (λ (w : World). Has (entries_by w.entries who) e) (stepped_world s old new who step reply h) has))
+    (last_or_before s old new who step reply h e has)
 
 -- each step that a ticket has made it made before, or is this one
 pub stepped_made : (s : Start) (old new : List Moment) (who : ℕ) (step : Step) (reply : Reply) → 1 ≤ who → Stepped s old new who step reply → (e : Entry) → Has (made_of s new who) e → Has (made_of s old who) e ⊎ (e.step ≡ step)
@@ -90,7 +98,16 @@ stepped_made s old new who step reply ticket h e has = ⊎_elim
     (λ (before : Has (made_of s h.front who) e). inl (subst (λ (entries : List Entry). Has entries e) (waited_made s old h.front who ticket h.waited) before))
     (own_or_before s old new who step reply h e has)
 
--- so it is of who 0, where nobody else makes a step
+-- each entry of a ticket was there before, or is this one
+pub stepped_entry : (s : Start) (old new : List Moment) (who : ℕ) (step : Step) (reply : Reply) → 1 ≤ who → Stepped s old new who step reply → (e : Entry) → Has (made_of s new who) e → Has (made_of s old who) e ⊎ (e ≡ record { who = who; step = step; reply = reply })
+stepped_entry s old new who step reply ticket h e has =
+    let last : Entry = record { who = who; step = step; reply = reply } in
+    ⊎_elim
+    (λ (here : e ≡ last). inr here)
+    (λ (before : Has (made_of s h.front who) e). inl (subst (λ (entries : List Entry). Has entries e) (waited_made s old h.front who ticket h.waited) before))
+    (last_or_before s old new who step reply h e has)
+
+-- a step of who 0 it made before, or it is this one, where nobody else makes a step
 pub client_made : (s : Start) (old new : List Moment) (step : Step) (reply : Reply) → s.alone ≡ true → Stepped s old new 0 step reply → (e : Entry) → Has (made_of s new 0) e → Has (made_of s old 0) e ⊎ (e.step ≡ step)
 client_made s old new step reply alone h e has =
     let front : h.front ≡ old = h.waited.grew ∙ ap (λ (others : List Moment). old ++ others) (h.waited.nobody alone) ∙ append-nil old in
@@ -161,7 +178,7 @@ own_made s old new who step reply counted old_one h =
 
 -- ---- what a ticket made stands there
 
-ticket_stays : (who : ℕ) (step : Step) → 1 ≤ who → begins_anew who step ≡ false
+pub ticket_stays : (who : ℕ) (step : Step) → 1 ≤ who → begins_anew who step ≡ false
 ticket_stays zero step some = absurd (omega (arith, some))
 ticket_stays (suc k) step some = refl
 

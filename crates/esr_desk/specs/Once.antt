@@ -37,7 +37,7 @@ IsSingle (BeginStep name) = Unit {0}
 IsSingle (CommitStep name) = Unit {0}
 IsSingle LatestStep = Unit {0}
 IsSingle (FetchStep name) = Unit {0}
-IsSingle ListStep = Unit {0}
+IsSingle (ListStep after) = Unit {0}
 IsSingle RaiseStep = Unit {0}
 IsSingle SettleStep = Unit {0}
 IsSingle (ReadStep read) = IsBlobRead read
@@ -67,7 +67,7 @@ IsNew log who step = (m : Moment) → Has log m → m.entry.who ≡ who → WasM
 abbrev pub HasMadeNone : List Moment → ℕ → Type 0
 HasMadeNone log who = (m : Moment) → Has log m → m.entry.who ≡ who → WasMade m.entry.reply → ⊥
 
--- no ticket makes a step twice on one name, and each draws, raises, lists, puts `index.latest` and settles at most once
+-- no ticket makes a step twice on one name, or lists twice after one, and each draws, raises, puts `index.latest` and settles at most once
 abbrev pub NoneTwice : List Moment → Type 0
 NoneTwice log = (front back : List Moment) (m : Moment) → log ≡ front ++ m ∷ back → 1 ≤ m.entry.who → IsSingle m.entry.step → WasMade m.entry.reply → IsNew front m.entry.who m.entry.step
 

@@ -59,6 +59,9 @@ no_ticket =
       tried_latest = false;
       settled = false;
       out = false;
+      clean = false;
+      listed = [];
+      whole = false;
     }
 
 abbrev pub or_no_ticket : Option Ticket → Ticket

@@ -48,6 +48,9 @@ fresh work op uuid place name term copy =
       tried_latest = false;
       settled = false;
       out = true;
+      clean = false;
+      listed = [];
+      whole = false;
     }
 
 -- the root that a finalization is to write
@@ -66,7 +69,8 @@ TookWork (works.CloneShard source uuid shard index) new op copy t =
     (term : ℕ) × (place : Bytes) × (t ≡ record (fresh (Shard shard.index.number shard.number) op uuid.number place index term copy) { source = Some source.number }) × (shard.number < 1024)
 TookWork works.Drop new op copy t = (term : ℕ) × (t ≡ fresh Drop op 0 [] [] term copy)
 TookWork (works.Delete uuids) new op copy t = (term : ℕ) × (t ≡ fresh (Deleting (map number_of uuids) None) op 0 [] [] term copy)
--- a restore's ticket is none of these, and a cleanup is not given so far
+TookWork works.Cleanup new op copy t = (term : ℕ) × (t ≡ record (fresh (Deleting [] None) op 0 [] [] term copy) { clean = true })
+-- a restore's ticket is none of these
 TookWork work new op copy t = ⊥
 
 -- the unit's ticket is out, and has done nothing yet

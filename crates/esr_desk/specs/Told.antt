@@ -1,12 +1,17 @@
--- A ticket that tells which steps it has made, its fetches and the plan of a delete aside.
-use Rattle.std.specs.Prelude.{◌≡◌, ◌≢◌, ◌⊎◌, ℕ, ◌≤◌, false, true, List, [], Option, Some, None}
+-- A ticket that tells which steps it has made, its fetches and the plan of a delete or cleanup aside.
+use Rattle.std.specs.Prelude.{◌≡◌, ◌≢◌, ◌⊎◌, ℕ, ◌≤◌, Bool, false, true, List, [], ◌∷◌, ◌++◌, Option, Some, None}
 use Rattle.std.proofs.Common.{refl, sym, ap, ◌∙◌, subst, inl, inr, ⊎_elim, true≢false}
+use Rattle.std.specs.declared.cmp.Ordering.TheVariants.{Less, Greater}
+use Rattle.std.specs.Ordering.{nat_cmp, ordering_reverse}
+use Rattle.std.specs.Cmp.Lexicographic.{slice_cmp, nat_list_cmp_total}
 use Rattle.esr_model.specs.Names.{BlobName, Latest}
 use Rattle.esr_model.specs.Values.{Bytes, Has}
+use Rattle.esr_model.specs.Cleanup.{BlobSize, IsAfter, last_text, is_short, IsPage}
 use Rattle.esr_core.specs.World.{Ticket}
-use Rattle.esr_core.specs.Entry.{Step, DrawStep, BeginStep, CommitStep, LatestStep, FetchStep, RaiseStep, SettleStep, ListStep, ReadStep, PruneStep, Prune, FetchShard, PlanShards, SettlePruned, RemoveDoomed, Reply, WasBegun, Entry, Moment}
+use Rattle.esr_core.specs.Entry.{Step, DrawStep, BeginStep, CommitStep, LatestStep, FetchStep, RaiseStep, SettleStep, ListStep, ReadStep, PruneStep, Prune, FetchShard, PlanShards, SettlePruned, RemoveDoomed, Reply, WasBegun, WasListed, Entry, Moment}
 use Rattle.esr_core.specs.Past.{Repeats, RepeatsPrune}
 use Rattle.esr_core.specs.After.{fetching}
+use Rattle.esr_core.specs.Steps.{listing}
 use Rattle.esr_depot.specs.declared.depot.Commit.{Commit}
 use Rattle.esr_depot.specs.declared.depot.Commit.TheVariants as commits
 use Rattle.esr_desk.specs.Start.{Start, ticket_of}
@@ -16,12 +21,22 @@ use Rattle.esr_desk.specs.Taken.{tried, committed_by, fetched_by}
 use Rattle.esr_desk.specs.Once.{IsFresh}
 use Rattle.esr_desk.specs.Made.{stepped_made, fresh_after}
 
+-- the first name comes before the second; where there is no first one, it is before each
+abbrev pub ComesBefore : Option Bytes → Option Bytes → Type 0
+ComesBefore after None = ⊥
+ComesBefore after (Some text) = IsAfter after text
+
+-- what was listed goes past the name, or the listing has ended
+abbrev pub HasListed : List BlobSize → Bool → Option Bytes → Type 0
+HasListed listed whole after = (whole ≡ true) ⊎ ComesBefore after (last_text listed)
+
 -- the ticket tells that it made the step
 abbrev pub TellsStep : Ticket → Step → Type 0
 TellsStep t (DrawStep count) = t.drawn ≢ 0
 TellsStep t (BeginStep name) = ((name ≢ Latest) × Has t.noted name) ⊎ ((name ≡ Latest) × (t.tried_latest ≡ true))
 TellsStep t (CommitStep name) = Has t.noted name
 TellsStep t LatestStep = t.tried_latest ≡ true
+TellsStep t (ListStep after) = HasListed t.listed t.whole after
 TellsStep t RaiseStep = t.raised ≢ None
 TellsStep t SettleStep = t.settled ≡ true
 TellsStep t (PruneStep SettlePruned) = t.settled ≡ true
@@ -52,7 +67,7 @@ repeats_told t (BeginStep a) (BeginStep b) same told = subst (λ (name : BlobNam
 repeats_told t (CommitStep a) (CommitStep b) same told = subst (λ (name : BlobName). TellsStep t (CommitStep name)) same told
 repeats_told t LatestStep LatestStep same told = told
 repeats_told t (FetchStep a) (FetchStep b) same told = tt
-repeats_told t ListStep ListStep same told = tt
+repeats_told t (ListStep a) (ListStep b) same told = subst (λ (after : Option Bytes). TellsStep t (ListStep after)) same told
 repeats_told t RaiseStep RaiseStep same told = told
 repeats_told t SettleStep SettleStep same told = told
 repeats_told t (ReadStep a) (ReadStep b) same told = tt
@@ -95,6 +110,7 @@ pub record HasGoneOn (old new : Ticket) : Type 0 where
   pub tried : old.tried_latest ≡ true → new.tried_latest ≡ true
   pub raised : old.raised ≢ None → new.raised ≢ None
   pub settled : old.settled ≡ true → new.settled ≡ true
+  pub listed : (after : Option Bytes) → HasListed old.listed old.whole after → HasListed new.listed new.whole after
 
 pub gone_tells : (old new : Ticket) → HasGoneOn old new → TellsAsMuch old new
 gone_tells old new on (DrawStep count) h = on.drawn h
@@ -102,6 +118,7 @@ gone_tells old new on (BeginStep name) (inl noted) = inl (noted.0, on.noted name
 gone_tells old new on (BeginStep name) (inr tried) = inr (tried.0, on.tried tried.1)
 gone_tells old new on (CommitStep name) h = on.noted name h
 gone_tells old new on LatestStep h = on.tried h
+gone_tells old new on (ListStep after) h = on.listed after h
 gone_tells old new on RaiseStep h = on.raised h
 gone_tells old new on SettleStep h = on.settled h
 gone_tells old new on (PruneStep SettlePruned) h = on.settled h
@@ -109,7 +126,7 @@ gone_tells old new on (PruneStep (RemoveDoomed names)) h = on.settled h
 gone_tells old new on step h = tt
 
 pub gone_not : (t : Ticket) → HasGoneOn t t
-gone_not t = record { drawn = λ h. h; noted = λ name h. h; tried = λ h. h; raised = λ h. h; settled = λ h. h }
+gone_not t = record { drawn = λ h. h; noted = λ name h. h; tried = λ h. h; raised = λ h. h; settled = λ h. h; listed = λ after h. h }
 
 -- ---- each step
 
@@ -125,9 +142,9 @@ commit_fresh s old new who name ticket tells unnoted h = fresh_after s old new w
     differ same = same
 
 committed_on : (name : BlobName) (contents : Option Bytes) (c : Commit) (t : Ticket) → HasGoneOn t (committed_by name contents c t)
-committed_on name None commits.Done t = record { drawn = λ h. h; noted = λ other h. inr h; tried = λ h. h; raised = λ h. h; settled = λ h. h }
-committed_on name (Some bytes) commits.Done t = record { drawn = λ h. h; noted = λ other h. inr h; tried = λ h. h; raised = λ h. h; settled = λ h. h }
-committed_on name contents commits.Exists t = record { drawn = λ h. h; noted = λ other h. inr h; tried = λ h. h; raised = λ h. h; settled = λ h. h }
+committed_on name None commits.Done t = record { drawn = λ h. h; noted = λ other h. inr h; tried = λ h. h; raised = λ h. h; settled = λ h. h; listed = λ after h. h }
+committed_on name (Some bytes) commits.Done t = record { drawn = λ h. h; noted = λ other h. inr h; tried = λ h. h; raised = λ h. h; settled = λ h. h; listed = λ after h. h }
+committed_on name contents commits.Exists t = record { drawn = λ h. h; noted = λ other h. inr h; tried = λ h. h; raised = λ h. h; settled = λ h. h; listed = λ after h. h }
 
 committed_has : (name : BlobName) (contents : Option Bytes) (c : Commit) (t : Ticket) → Has (committed_by name contents c t).noted name
 committed_has name None commits.Done t = inl refl
@@ -155,7 +172,7 @@ latest_fresh s old new who ticket tells untried h = fresh_after s old new who La
     differ same = same
 
 tried_on : (t : Ticket) → HasGoneOn t (tried t)
-tried_on t = record { drawn = λ h. h; noted = λ name h. h; tried = λ h. refl; raised = λ h. h; settled = λ h. h }
+tried_on t = record { drawn = λ h. h; noted = λ name h. h; tried = λ h. refl; raised = λ h. h; settled = λ h. h; listed = λ after h. h }
 
 tried_much : (t u : Ticket) → u ≡ tried t → TellsAsMuch t u
 tried_much t u is = subst (TellsAsMuch t) (sym is) (gone_tells t (tried t) (tried_on t))
@@ -181,7 +198,7 @@ pub raise_tells : (s : Start) (old new : List Moment) (who n : ℕ) (reply : Rep
     → ticket_of s new who ≡ record (ticket_of s old who) { raised = Some n } → TellsAll s new who
 raise_tells s old new who n reply ticket tells h is =
     let t = ticket_of s old who in
-    let on : HasGoneOn t (record t { raised = Some n }) = record { drawn = λ h. h; noted = λ name h. h; tried = λ h. h; raised = λ h. some; settled = λ h. h } in
+    let on : HasGoneOn t (record t { raised = Some n }) = record { drawn = λ h. h; noted = λ name h. h; tried = λ h. h; raised = λ h. some; settled = λ h. h; listed = λ after h. h } in
     stepped_tells s old new who RaiseStep reply ticket tells h (subst (TellsAsMuch t) (sym is) (gone_tells t (record t { raised = Some n }) on)) (subst (λ (u : Ticket). u.raised ≢ None) (sym is) some)
   where
     some : Some n ≡ None → ⊥
@@ -199,13 +216,13 @@ pub draw_tells : (s : Start) (old new : List Moment) (who first count : ℕ) (re
     → TellsAll s new who
 draw_tells s old new who first count reply ticket tells h is some =
     let t = ticket_of s old who in
-    let on : HasGoneOn t (record t { first = first; drawn = count }) = record { drawn = λ h. some; noted = λ name h. h; tried = λ h. h; raised = λ h. h; settled = λ h. h } in
+    let on : HasGoneOn t (record t { first = first; drawn = count }) = record { drawn = λ h. some; noted = λ name h. h; tried = λ h. h; raised = λ h. h; settled = λ h. h; listed = λ after h. h } in
     stepped_tells s old new who (DrawStep count) reply ticket tells h (subst (TellsAsMuch t) (sym is) (gone_tells t (record t { first = first; drawn = count }) on)) (subst (λ (u : Ticket). u.drawn ≢ 0) (sym is) some)
 
 -- a fetch
 fetching_on : (name : BlobName) (bytes : Option Bytes) (t : Ticket) → HasGoneOn t (fetching name bytes t)
 fetching_on name None t = gone_not t
-fetching_on name (Some bytes) t = record { drawn = λ h. h; noted = λ name h. h; tried = λ h. h; raised = λ h. h; settled = λ h. h }
+fetching_on name (Some bytes) t = record { drawn = λ h. h; noted = λ name h. h; tried = λ h. h; raised = λ h. h; settled = λ h. h; listed = λ after h. h }
 
 fetched_on : {F : Type 0} (left : F → Option Bytes) (name : BlobName) (o : Option F) (t : Ticket) → HasGoneOn t (fetched_by left name o t)
 fetched_on left name None t = gone_not t
@@ -217,10 +234,80 @@ fetch_tells s old new who name left o ticket tells h is =
     let t = ticket_of s old who in
     stepped_tells s old new who (FetchStep name) (fetch_reply o) ticket tells h (subst (TellsAsMuch t) (sym is) (gone_tells t (fetched_by left name o t) (fetched_on left name o t))) tt
 
--- a delete's settle and its removals
+-- the settle of a delete or cleanup, and its removals
 pub prune_fresh : (s : Start) (log : List Moment) (who : ℕ) → TellsAll s log who → (ticket_of s log who).settled ≡ false → IsFresh s log who (PruneStep SettlePruned)
 prune_fresh s log who tells unsettled = untold_fresh s log who (PruneStep SettlePruned) tells (λ told. true≢false (sym told ∙ unsettled))
 
 -- a ticket that hasn't settled has removed nothing
 pub none_removed : (s : Start) (log : List Moment) (who : ℕ) (e : Entry) (names : List BlobName) → TellsAll s log who → (ticket_of s log who).settled ≡ false → Has (made_of s log who) e → e.step ≡ PruneStep (RemoveDoomed names) → ⊥
 none_removed s log who e names tells unsettled has is = true≢false (sym (subst (TellsStep (ticket_of s log who)) is (tells e has)) ∙ unsettled)
+
+-- ---- pages of a listing
+
+less_greater : Less ≡ Greater → ⊥
+less_greater e = cc
+
+not_before_itself : (text : Bytes) → slice_cmp nat_cmp text text ≡ Less → ⊥
+not_before_itself text e = less_greater (sym e ∙ nat_list_cmp_total.antisymm text text ∙ ap ordering_reverse e)
+
+not_before : (after : Option Bytes) → ComesBefore after after → ⊥
+not_before None h = h
+not_before (Some text) h = not_before_itself text h
+
+before_next : (a b c : Option Bytes) → ComesBefore a b → ComesBefore b c → ComesBefore a c
+before_next a None c first second = absurd first
+before_next a (Some y) None first second = absurd second
+before_next None (Some y) (Some z) first second = tt
+before_next (Some x) (Some y) (Some z) first second = nat_list_cmp_total.trans x y z first second
+
+last_append : (xs : List BlobSize) (b : BlobSize) (rest : List BlobSize) → last_text (xs ++ b ∷ rest) ≡ last_text (b ∷ rest)
+last_append [] b rest = refl
+last_append (x ∷ []) b rest = refl
+last_append (x ∷ y ∷ xs) b rest = last_append (y ∷ xs) b rest
+
+-- the last text of some blobs is that of one of them
+last_has : (b : BlobSize) (rest : List BlobSize) → (x : BlobSize) × Has (b ∷ rest) x × (last_text (b ∷ rest) ≡ Some x.text)
+last_has b [] = (b, inl refl, refl)
+last_has b (c ∷ rest) = let found = last_has c rest in (found.0, inr found.1, found.2)
+
+-- a page that doesn't end the listing goes past the name at which it begins
+page_past : (after : Option Bytes) (listed page : List BlobSize) → IsPage after page → is_short page ≡ false → ComesBefore after (last_text (listed ++ page))
+page_past after listed [] h long = absurd (true≢false long)
+page_past after listed (b ∷ rest) h long =
+    let found = last_has b rest in
+    subst (ComesBefore after) (sym (last_append listed b rest ∙ found.2)) (h.follow found.0 found.1)
+
+page_told : (after : Option Bytes) (listed page : List BlobSize) → IsPage after page → HasListed (listed ++ page) (is_short page) after
+page_told after listed page h = go (is_short page) refl
+  where
+    go : (short : Bool) → is_short page ≡ short → HasListed (listed ++ page) (is_short page) after
+    go true short = inl short
+    go false long = inr (page_past after listed page h long)
+
+listing_on : (t : Ticket) (page : List BlobSize) → t.whole ≡ false → IsPage (last_text t.listed) page → HasGoneOn t (listing t page)
+listing_on t page unended h = record { drawn = λ h. h; noted = λ name h. h; tried = λ h. h; raised = λ h. h; settled = λ h. h; listed = later }
+  where
+    past : (after : Option Bytes) → ComesBefore after (last_text t.listed) → HasListed (t.listed ++ page) (is_short page) (last_text t.listed) → HasListed (t.listed ++ page) (is_short page) after
+    past after before (inl whole) = inl whole
+    past after before (inr next) = inr (before_next after (last_text t.listed) (last_text (t.listed ++ page)) before next)
+
+    later : (after : Option Bytes) → HasListed t.listed t.whole after → HasListed (t.listed ++ page) (is_short page) after
+    later after (inl whole) = absurd (true≢false (sym whole ∙ unended))
+    later after (inr before) = past after before (page_told (last_text t.listed) t.listed page h)
+
+-- before the listing has ended the ticket doesn't tell a page after the last name that was listed
+untold_list : (t : Ticket) (after : Option Bytes) → t.whole ≡ false → after ≡ last_text t.listed → HasListed t.listed t.whole after → ⊥
+untold_list t after unended is (inl whole) = true≢false (sym whole ∙ unended)
+untold_list t after unended is (inr before) = not_before after (subst (ComesBefore after) (sym is) before)
+
+-- the next page begins after the last name that was listed
+pub list_fresh : (s : Start) (log : List Moment) (who : ℕ) (after : Option Bytes) → TellsAll s log who → (ticket_of s log who).whole ≡ false → after ≡ last_text (ticket_of s log who).listed → IsFresh s log who (ListStep after)
+list_fresh s log who after tells unended is = untold_fresh s log who (ListStep after) tells (untold_list (ticket_of s log who) after unended is)
+
+pub list_tells : (s : Start) (old new : List Moment) (who : ℕ) (after : Option Bytes) (page : List BlobSize) → 1 ≤ who → TellsAll s old who → (ticket_of s old who).whole ≡ false → after ≡ last_text (ticket_of s old who).listed
+    → Stepped s old new who (ListStep after) (WasListed page) → IsPage after page → ticket_of s new who ≡ listing (ticket_of s old who) page → TellsAll s new who
+list_tells s old new who after page ticket tells unended from h is_page is =
+    let t = ticket_of s old who in
+    stepped_tells s old new who (ListStep after) (WasListed page) ticket tells h
+    (subst (TellsAsMuch t) (sym is) (gone_tells t (listing t page) (listing_on t page unended (subst (λ (o : Option Bytes). IsPage o page) from is_page))))
+    (subst (λ (u : Ticket). HasListed u.listed u.whole after) (sym is) (page_told after t.listed page is_page))

@@ -4,7 +4,7 @@ ghost use Rattle.esr_model.specs.Values.{Has};
 ghost use Rattle.esr_core.specs.World.{no_caller};
 ghost use Rattle.esr_core.specs.Restores.{AreOnce};
 ghost use Rattle.esr_core.specs.After.{caller_wrote};
-ghost use Rattle.esr_core.specs.Entry.{CloneOf, Clone, DeleteSnapshots, Restore, AskStep, LookStep, ReadStep, CheckedAll, DrawTest, BeginTest, CommitTest, RemoveTests, VerifiedAll, Accepted, AcceptedRestore as AcceptedAs, Looked, DrawnFrom, WasBegun, WasDone, WasRemoved, HasEnded};
+ghost use Rattle.esr_core.specs.Entry.{CloneOf, Clone, DeleteSnapshots, Restore, Cleanup, AskStep, LookStep, ReadStep, CheckedAll, DrawTest, BeginTest, CommitTest, RemoveTests, VerifiedAll, Accepted, AcceptedRestore as AcceptedAs, Looked, DrawnFrom, WasBegun, WasDone, WasRemoved, HasEnded};
 ghost use Rattle.esr_names.specs.Layout.{IsName};
 ghost use Rattle.esr_formats.specs.Names.{name_of, name_kind};
 ghost use Rattle.esr_formats.specs.Refs.{ref_of_code};
@@ -56,6 +56,11 @@ pub trait Client: Desk {
     fn delete(&mut self, alloc: Global, names: &SnapNames) -> Result<u64, StepRefusal>
         ensures step { Outcome Self.start (Self.seen self.old) (Self.seen self.new) 0 (AskStep (DeleteSnapshots names.now)) (λ op. Accepted op) result }
         ensures calls { Self.calls self.new ≡ called (Self.seen self.new) (AskStep (DeleteSnapshots names.now)) (λ op. Accepted op) result (Self.calls self.old) };
+
+    /// Asks for a cleanup, which is accepted as the op that is answered.
+    fn cleanup(&mut self, alloc: Global) -> Result<u64, StepRefusal>
+        ensures step { Outcome Self.start (Self.seen self.old) (Self.seen self.new) 0 (AskStep Cleanup) (λ op. Accepted op) result }
+        ensures calls { Self.calls self.new ≡ called (Self.seen self.new) (AskStep Cleanup) (λ op. Accepted op) result (Self.calls self.old) };
 
     /// Asks for a restore of the files of the snapshot of that name below a place. The answer tells its indices.
     fn restore(

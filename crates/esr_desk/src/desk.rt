@@ -1,11 +1,13 @@
 //! One call for each step that works on a repository.
-ghost use Rattle.std.specs.Prelude.{◌≡◌, ◌+◌, ◌<◌, ◌≤◌, ◌^◌, ℕ, List, [], map, length, Some, true, false, IsTrue, IfOk, IfErr, IfSome, OnOk, OnErr};
+ghost use Rattle.std.specs.Prelude.{◌≡◌, ◌+◌, ◌<◌, ◌≤◌, ◌^◌, ℕ, List, [], map, option_copied, length, Some, true, false, IsTrue, IfOk, IfErr, IfSome, OnOk, OnErr};
 ghost use Rattle.esr_model.specs.Names.{Latest};
 ghost use Rattle.esr_model.specs.Values.{Bytes, Has};
 ghost use Rattle.esr_model.specs.Delete.{deleted_root};
-ghost use Rattle.esr_core.specs.Entry.{Moment, TakeStep, DrawStep, BeginStep, CommitStep, LatestStep, RaiseStep, SettleStep, DoneStep, FinishStep, DroppedStep, ElectStep, ReadStep, RestoredShard, PruneStep, PlanShards, SettlePruned, RemoveDoomed, EndDelete, DrawnFrom, WasBegun, WasReplaced, RaisedTo, WasSettled, WasRemoved, HasEnded, ElectedTerm};
+ghost use Rattle.esr_model.specs.Cleanup.{IsPage};
+ghost use Rattle.esr_core.specs.Entry.{Moment, TakeStep, DrawStep, BeginStep, CommitStep, LatestStep, ListStep, RaiseStep, SettleStep, DoneStep, FinishStep, DroppedStep, ElectStep, ReadStep, RestoredShard, PruneStep, PlanShards, SettlePruned, RemoveDoomed, EndDelete, DrawnFrom, WasBegun, WasReplaced, WasListed, RaisedTo, WasSettled, WasRemoved, HasEnded, ElectedTerm};
 ghost use Rattle.esr_core.specs.Allowed.{IsMetadata, latest_text};
 ghost use Rattle.esr_core.specs.Pruning.{planned};
+ghost use Rattle.esr_core.specs.Steps.{listing};
 ghost use Rattle.esr_names.specs.Layout.{IsName};
 ghost use Rattle.esr_formats.specs.Ids.{number_of};
 ghost use Rattle.esr_formats.specs.Names.{name_of, name_kind};
@@ -13,6 +15,7 @@ ghost use Rattle.esr_formats.specs.Roots.{root_of};
 ghost use Rattle.esr_results.specs.Pruned.{pruned_of};
 ghost use Rattle.esr_results.specs.Results.{result_of};
 ghost use Rattle.esr_desk.specs.Entries.{why_of};
+ghost use Rattle.esr_desk.specs.Listing.{page_of};
 ghost use Rattle.esr_desk.specs.Start.{Start, formats_of, ticket_of};
 ghost use Rattle.esr_desk.specs.Own.{own_of, reader_of, made_of};
 ghost use Rattle.esr_desk.specs.Once.{IsFresh};
@@ -22,7 +25,7 @@ ghost use Rattle.esr_desk.specs.Shown.{IsShown};
 ghost use Rattle.esr_desk.specs.Hands.{fetch_step, fail_step, MayFetch, MayFail, own_fetched, own_failed};
 ghost use Rattle.esr_desk.specs.Outcome.{Outcome, commit_reply, fetch_reply, take_reply};
 ghost use Rattle.esr_desk.specs.Conditions.{CanDraw, CanCommit, CanPut, CanBegin, Holds, CanRaise, IsUnpruned, CanSettle, CanEnd, CanFinish, CanDrop};
-ghost use Rattle.esr_desk.specs.Delete.Conditions.{CanPlan, CanSettleDelete, CanRemove, CanEndDelete};
+ghost use Rattle.esr_desk.specs.Delete.Conditions.{CanPlan, CanList, CanSettleDelete, CanRemove, CanEndDelete, CanEndCleanup};
 ghost use Rattle.esr_desk.specs.Restore.Conditions.{CanEndRestore};
 ghost use Rattle.esr_desk.specs.Restore.Targets.{IsFilled, refused_of};
 ghost use Rattle.esr_desk.specs.Readers.{TookUnit, IsBare};
@@ -30,7 +33,7 @@ ghost use Rattle.esr_desk.specs.Taken.{committed_by, begun_by, tried_by, LeftBy,
 ghost use Rattle.esr_desk.specs.declared.refusal.StepRefusal.{StepRefusal};
 
 use crate::{By, Hand, Named, Planned, RestoredTarget, StepRefusal, Unended, Unit, Why};
-use esr_depot::{Commit, Fetch, Stage};
+use esr_depot::{Commit, Fetch, Listing, Stage};
 use esr_names::{BlobName, Id, Ids};
 use esr_results::{PrunedShards, ShardResult};
 use esr_root::RootData;
@@ -222,8 +225,8 @@ pub trait Desk {
         ensures kept { LeftBy (IsSettled (ticket_of start (seen self.old) ticket)) result (ticket_of start (seen self.old) ticket) (ticket_of start (seen self.new) ticket) }
         ensures calls { calls self.new ≡ calls self.old };
 
-    /// Plans a delete: draws an id for each of these shards of which something is left, and answers the first one and the root
-    /// without the named snapshots. `root` and `uuids` are those of the ticket.
+    /// Plans a delete or cleanup: draws an id for each of these shards of which something is left, and answers the first one and
+    /// the root without the named snapshots. `root` and `uuids` are those of the ticket; a cleanup names none.
     fn plan(
         &mut self,
         alloc: Global,
@@ -244,8 +247,26 @@ pub trait Desk {
         ensures kept { OnErr result (ticket_of start (seen self.new) ticket ≡ ticket_of start (seen self.old) ticket) }
         ensures calls { calls self.new ≡ calls self.old };
 
-    /// Makes the root that a delete's ticket committed the safe one. The delete leaves the list, and what its plan dooms may be
-    /// removed.
+    /// A page of the container's blobs, by name and length: the first 1,000 after this name, or from the first one on, in the byte
+    /// order of their names. A cleanup lists page after page, until one of fewer than 1,000 ends the listing.
+    fn list(
+        &mut self,
+        alloc: Global,
+        ticket: u64,
+        after: Option<&str>,
+    ) -> Result<Listing, StepRefusal>
+        requires mine { HasTaken (calls self.old) ticket }
+        requires may { CanList (ticket_of start (seen self.old) ticket) (option_copied after) }
+        requires new { IsFresh start (seen self.old) ticket (ListStep (option_copied after)) }
+        ensures step { Outcome start (seen self.old) (seen self.new) ticket (ListStep (option_copied after.entry)) (λ page. WasListed (page_of page)) result }
+        ensures own { IfOk result (λ page. ticket_of start (seen self.new) ticket
+            ≡ listing (ticket_of start (seen self.old) ticket) (page_of page)) }
+        ensures page { IfOk result (λ page. IsPage (option_copied after.entry) (page_of page)) }
+        ensures kept { OnErr result (ticket_of start (seen self.new) ticket ≡ ticket_of start (seen self.old) ticket) }
+        ensures calls { calls self.new ≡ calls self.old };
+
+    /// Makes the root that the ticket of a delete or cleanup committed the safe one, and what it dooms may be removed. A delete
+    /// leaves the list, a cleanup stays.
     fn settle_delete(
         &mut self,
         alloc: Global,
@@ -261,8 +282,8 @@ pub trait Desk {
         ensures kept { LeftBy (IsSettled (ticket_of start (seen self.old) ticket)) result (ticket_of start (seen self.old) ticket) (ticket_of start (seen self.new) ticket) }
         ensures calls { calls self.new ≡ calls self.old };
 
-    /// Takes blobs that the ticket's plan dooms away; those that are gone already are no failure. Where the container fails in it,
-    /// they count as named, too.
+    /// Takes blobs that the ticket dooms away; those that are gone already are no failure. Where the container fails in it, they
+    /// count as named, too.
     fn remove(
         &mut self,
         alloc: Global,
@@ -326,6 +347,15 @@ pub trait Desk {
     fn end_drop(&mut self, alloc: Global, ticket: u64) -> Result<(), StepRefusal>
         requires mine { HasTaken (calls self.old) ticket }
         requires may { CanDrop (ticket_of start (seen self.old) ticket) }
+        ensures step { Outcome start (seen self.old) (seen self.new) ticket DroppedStep (λ _. HasEnded) result }
+        ensures own { OnOk result (HasEndedAs (ticket_of start (seen self.old) ticket) (ticket_of start (seen self.new) ticket)) }
+        ensures kept { LeftBy (HasEndedAs (ticket_of start (seen self.old) ticket)) result (ticket_of start (seen self.old) ticket) (ticket_of start (seen self.new) ticket) }
+        ensures calls { calls self.new ≡ calls self.old };
+
+    /// A cleanup is over: its removals took all that it dooms away. Its op leaves the list; its ticket ends.
+    fn end_cleanup(&mut self, alloc: Global, ticket: u64) -> Result<(), StepRefusal>
+        requires mine { HasTaken (calls self.old) ticket }
+        requires may { CanEndCleanup start (seen self.old) ticket }
         ensures step { Outcome start (seen self.old) (seen self.new) ticket DroppedStep (λ _. HasEnded) result }
         ensures own { OnOk result (HasEndedAs (ticket_of start (seen self.old) ticket) (ticket_of start (seen self.new) ticket)) }
         ensures kept { LeftBy (HasEndedAs (ticket_of start (seen self.old) ticket)) result (ticket_of start (seen self.old) ticket) (ticket_of start (seen self.new) ticket) }

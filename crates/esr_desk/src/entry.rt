@@ -1,5 +1,6 @@
 //! The history of a repository's steps.
 use crate::EntryRefusal;
+use esr_depot::Listing;
 use esr_hash::Print;
 use esr_json::Reason;
 use esr_meta::SnapInfo;
@@ -7,7 +8,7 @@ use esr_names::{BlobName, Id, Ids, IndexNames, IndexRefs, ShardId, SnapName};
 use esr_progress::Command;
 use esr_results::{PrunedShards, ShardResult, ShardResults};
 use esr_root::RootSnaps;
-use esr_seq::Seq;
+use esr_seq::{Seq, Text};
 use std::marker::Model;
 
 /// Why a unit failed.
@@ -87,7 +88,7 @@ pub enum Read {
     Failed { why: Why },
 }
 
-/// A step of a delete's ticket, its writing aside.
+/// A step of the ticket of a delete or cleanup, its writing and listing aside.
 #[derive(Drop)]
 pub enum Prune {
     /// The index of a shard is fetched.
@@ -135,7 +136,10 @@ pub enum Step {
     Fetch {
         name: BlobName,
     },
-    List,
+    /// A page of the container's blobs is listed: those after this name, or from the first one on.
+    List {
+        after: Option<Text>,
+    },
     Raise,
     Settle,
     Done {
@@ -215,7 +219,9 @@ pub enum Answer {
     Replaced,
     Fetched,
     Absent,
-    Listed,
+    Listed {
+        page: Listing,
+    },
     /// The test blobs are gone.
     Removed,
     Raised {

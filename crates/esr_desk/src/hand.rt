@@ -5,6 +5,7 @@
 pub enum Hand {
     /// A unit of a snapshot or a clone: a shard, a finalization, or the drop of an op that failed.
     Unit,
+    /// A delete or cleanup.
     Delete,
     /// A shard of a restore.
     Restore,

@@ -29,7 +29,7 @@ pub struct AcceptedRestore {
     pub indices: IndexRefs,
 }
 
-/// What a delete writes: the root, and the first id of its shard indices.
+/// What a delete or cleanup writes: the root, and the first id of its shard indices.
 #[derive(Drop)]
 pub struct Planned {
     pub first: Id,

@@ -6,7 +6,7 @@ ghost use Rattle.esr_depot.specs.Untold.{untold};
 use crate::fetch::DirFetch;
 use crate::folder::Folder;
 use crate::stage::DirStage;
-use esr_depot::{CallError, Commit, Counted, Depot, Failed, Listing, Names};
+use esr_depot::{CallError, Commit, Counted, Depot, Failed, Names, Pages};
 use esr_seq::{Bytes, Text};
 use std::alloc::{AllocError, Global};
 use std::fs::File;
@@ -148,11 +148,11 @@ impl<'a, R: Files<File = File> + Eprint + Drop> Depot for DirDepot<'a, R> {
         }
     }
 
-    fn list(&mut self, alloc: Global) -> Result<Listing, CallError> {
-        match self.folder.list(alloc) {
-            Ok(listing) => {
+    fn list(&mut self, alloc: Global, after: Option<&str>) -> Result<Pages, CallError> {
+        match self.folder.list(alloc, after) {
+            Ok(pages) => {
                 self.pass();
-                Ok(listing)
+                Ok(pages)
             }
             Err(error) if is_wanting(&error) => Err(CallError::Memory),
             Err(_) => {

@@ -1,4 +1,7 @@
 //! The calls of a container, on its folder.
+ghost use Rattle.std.specs.Prelude.{◌≡◌, map, option_copied, IfOk};
+ghost use Rattle.esr_depot.specs.Listing.{size_of, IsPage};
+
 use crate::entries::{
     clear_way, has_file, make_folder, make_way, open_file, parent_of, remove_file, sync_folder,
 };
@@ -6,9 +9,9 @@ use crate::hold::{Hold, open_lock, take_lock};
 use crate::name::is_inside;
 use crate::paths::Paths;
 use crate::stage::StageFile;
-use crate::walk::files_below;
-use esr_depot::{Commit, Listing};
-use esr_seq::{Bytes, Seq, Text};
+use crate::walk::first_below;
+use esr_depot::{Commit, Pages, page_of};
+use esr_seq::{Bytes, Text};
 use std::alloc::{AllocError, Global};
 use std::fs::{self, File};
 use std::io::{self, ErrorKind, Read, Write};
@@ -201,14 +204,16 @@ impl<'a, R: Files<File = File> + Eprint> Folder<'a, R> {
         open_file(self.files, self.paths.aimed.as_str())
     }
 
-    /// All blobs, in the byte order of their names.
-    pub fn list(&mut self, alloc: Global) -> io::Result<Listing> {
+    /// A page of the blobs.
+    pub fn list(&mut self, alloc: Global, after: Option<&str>) -> io::Result<Pages>
+        ensures page { IfOk result (λ p. IsPage (option_copied after.entry) (map size_of p.page)) }
+        ensures copy { IfOk result (λ p. p.copy ≡ p.page) }
+    {
         if !self.find()? || !fs::exists(self.files, self.paths.blobs.as_str())? {
-            return Ok(Seq::new(alloc));
+            return Ok(Pages::new(alloc));
         }
-        let mut listed = files_below(self.files, alloc, self.paths.blobs.as_str())?;
-        listed.sort_unstable_by(|one, other| one.name.cmp(&other.name));
-        Ok(Seq::from_vec(listed))
+        let lengths = first_below(self.files, alloc, self.paths.blobs.as_str(), after)?;
+        Ok(page_of(alloc, after, lengths)?)
     }
 
     /// Removes those of the blobs that are there. It takes no memory.
@@ -227,12 +232,18 @@ impl<'a, R: Files<File = File> + Eprint> Folder<'a, R> {
         self.clear_folders_of(names)
     }
 
-    /// Removes the folders of these blobs that are empty now. A power cut may bring one back, as an empty folder.
+    /// Removes the folders of these blobs that are empty now, once for neighbours in one folder. A power cut may bring one back, as
+    /// an empty folder.
     fn clear_folders_of(&mut self, names: &[Text]) -> io::Result<()> {
         let start = self.paths.blobs.len().saturating_add(1);
+        let mut cleared = None;
         for name in names {
-            self.paths.aim(name.as_str())?;
-            clear_way(self.files, self.paths.aimed.as_str(), start);
+            let folder = parent_of(name.as_str());
+            if cleared != Some(folder) {
+                self.paths.aim(name.as_str())?;
+                clear_way(self.files, self.paths.aimed.as_str(), start);
+                cleared = Some(folder);
+            }
         }
         Ok(())
     }

@@ -6,3 +6,5 @@ pub mod Changed
 pub mod Naming
 pub mod Placed
 pub mod Laid
+pub mod Renewing
+pub mod Unreaching

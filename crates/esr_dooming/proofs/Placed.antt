@@ -1,7 +1,6 @@
 -- The shards that are pushed for the indices of a root: each is one of the root, once, with its generation.
 use Rattle.std.proofs.Common.{◌≡◌, ◌⊎◌, ℕ, zero, suc, ◌+◌, ◌<◌, ◌≤◌, Bool, true, false, List, [], ◌∷◌, ◌++◌, map, flat_map, length, Option, Some, None, option_map, refl, sym, ap, ◌∙◌, subst, inl, inr, arith}
 use Rattle.std.specs.Prelude.{if◌then◌else◌}
-use Rattle.std.specs.List.{list_any}
 use Rattle.std.proofs.lemmas.List.{length-map}
 use Rattle.esr_names.specs.declared.ids.Id.{Id}
 use Rattle.esr_root.specs.Root.{Root}
@@ -18,7 +17,7 @@ use Rattle.esr_model.specs.Names.{BlobName}
 use Rattle.esr_model.specs.Values.{Bytes, Has, RootIndex, RootData, ShardFiles, ReadsBack}
 use Rattle.esr_model.specs.Image.{Generation, at_shard, at_shard_of}
 use Rattle.esr_model.specs.Delete.{PrunedShard, names_uuid, left_uuids, uuids_of, index_bytes, is_index, files_by, surviving, gone_shards}
-use Rattle.esr_core.specs.Pruning.{has_named, bare_shard, AreOfRoot, AreWritable}
+use Rattle.esr_core.specs.Pruning.{is_touched, bare_shard, AreOfRoot, AreWritable}
 use Rattle.esr_core.proofs.DeletedRoots.{AreApart, one_found}
 use Rattle.esr_core.proofs.DoomedNames.{of_indices}
 use Rattle.esr_reach.specs.Held.{HeldShard, held_at, AreWhole}
@@ -27,7 +26,8 @@ use Rattle.esr_reach.specs.Members.{has_left, has_right, has_either, has_if, in_
 use Rattle.esr_reach.proofs.Apart.{indices_once, one_each}
 use Rattle.esr_results.specs.declared.pruned_root.PrunedShard.{PrunedShard as CodePruned}
 use Rattle.esr_results.specs.Pruned.{pruned_of}
-use Rattle.esr_dooming.specs.Pieces.{Added, is_one, one_shard, of_places, kept_by, one_piece, read_piece, place_piece, loses_all, index_piece, read_place, read_index}
+use Rattle.esr_dooming.specs.declared.prune.Loss.{Loss}
+use Rattle.esr_dooming.specs.Pieces.{Added, is_one, one_shard, of_places, touches, loss_of, kept_by, one_piece, read_piece, place_piece, loses_all, index_piece, read_place, read_index}
 use Rattle.esr_dooming.specs.Reading.{IsHeld, AreToRead, HasToRead, AreHeldSome, AreFew}
 use Rattle.esr_dooming.proofs.Numbers.{of_ids}
 use Rattle.esr_dooming.proofs.Pruning.{touched_same}
@@ -59,13 +59,13 @@ one_pieces : (index number base : ℕ) (kept : Option Bool) → IsPiece index nu
 one_pieces index number base None = inl refl
 one_pieces index number base (Some kept) = inr (one_shard index number base kept, refl, refl, refl, refl)
 
-known_pieces : (named listed : ℕ → Bool) (leaves : Bool) (index number base : ℕ) (o : Option ShardFiles) → IsPiece index number (Some base) (read_piece named listed leaves index number base o)
-known_pieces named listed leaves index number base None = inl refl
-known_pieces named listed leaves index number base (Some was) = one_pieces index number base (kept_by named listed leaves was.snapshots)
+known_pieces : (named listed : ℕ → Bool) (loss : Loss) (index number base : ℕ) (o : Option ShardFiles) → IsPiece index number (Some base) (read_piece named listed loss index number base o)
+known_pieces named listed loss index number base None = inl refl
+known_pieces named listed loss index number base (Some was) = one_pieces index number base (kept_by named listed loss was.snapshots)
 
-place_pieces : (named listed : ℕ → Bool) (leaves : Bool) (held : List HeldShard) (index : ℕ) → ArePieces index (place_piece named listed leaves held index)
-place_pieces named listed leaves held index number None = inl refl
-place_pieces named listed leaves held index number (Some base) = known_pieces named listed leaves index number base (held_at held index number)
+place_pieces : (named listed : ℕ → Bool) (loss : Loss) (held : List HeldShard) (index : ℕ) → ArePieces index (place_piece named listed loss held index)
+place_pieces named listed loss held index number None = inl refl
+place_pieces named listed loss held index number (Some base) = known_pieces named listed loss index number base (held_at held index number)
 
 piece_has : (index number : ℕ) (g : Option ℕ) (ps : List PrunedShard) (p : PrunedShard) → IsPiece index number g ps → Has ps p → (p.index ≡ index) × (p.number ≡ number) × (g ≡ Some p.base)
 piece_has index number g ps p (inl none) m = absurd (subst (λ (l : List PrunedShard). Has l p) none m)
@@ -138,34 +138,35 @@ in_read index number (suc place) base (g ∷ gs) at =
 
 -- ---- all indices
 
--- what an index gives: shards of it, apart, each with its generation; and nothing where it has no named snapshot
-pub record AreOfIndex (named : ℕ → Bool) (of : RootIndex → List PrunedShard) : Type 0 where
-  pub at : (x : RootIndex) (p : PrunedShard) → Has (of x) p → (list_any named x.snapshots ≡ true) × IsAt x.id 0 x.generations p
+-- what an index gives: shards of it, apart, each with its generation; and nothing where the test of its snapshots fails
+pub record AreOfIndex (test : List ℕ → Bool) (of : RootIndex → List PrunedShard) : Type 0 where
+  pub at : (x : RootIndex) (p : PrunedShard) → Has (of x) p → (test x.snapshots ≡ true) × IsAt x.id 0 x.generations p
   pub apart : (x : RootIndex) → AreApart (of x)
 
 apart_if : (b : Bool) (ps : List PrunedShard) → AreApart ps → AreApart (if b then ps else [])
 apart_if true ps h = h
 apart_if false ps h = tt
 
-of_pieces : (named : ℕ → Bool) (piece : RootIndex → ℕ → Option ℕ → List PrunedShard) → ((x : RootIndex) → ArePieces x.id (piece x)) → AreOfIndex named (λ x. if list_any named x.snapshots then of_places (piece x) 0 x.generations else [])
-of_pieces named piece are = record {
-  at = λ x p m. elim (has_if (list_any named x.snapshots) (of_places (piece x) 0 x.generations) [] p m) [
+of_pieces : (test : List ℕ → Bool) (piece : RootIndex → ℕ → Option ℕ → List PrunedShard) → ((x : RootIndex) → ArePieces x.id (piece x)) → AreOfIndex test (λ x. if test x.snapshots then of_places (piece x) 0 x.generations else [])
+of_pieces test piece are = record {
+  at = λ x p m. elim (has_if (test x.snapshots) (of_places (piece x) 0 x.generations) [] p m) [
     | inl here ↦ (here.0, places_has x.id (piece x) (are x) 0 x.generations p here.1)
     | inr none ↦ absurd none.1
   ];
-  apart = λ x. apart_if (list_any named x.snapshots) (of_places (piece x) 0 x.generations) (places_apart x.id (piece x) (are x) 0 x.generations);
+  apart = λ x. apart_if (test x.snapshots) (of_places (piece x) 0 x.generations) (places_apart x.id (piece x) (are x) 0 x.generations);
 }
 
-pub read_of_index : (named : ℕ → Bool) → AreOfIndex named (read_index named)
-read_of_index named = of_pieces named (λ x. read_place x.id) (λ x. read_places x.id)
+pub read_of_index : (clean : Bool) (named : ℕ → Bool) → AreOfIndex (touches clean named) (read_index clean named)
+read_of_index clean named = of_pieces (touches clean named) (λ x. read_place x.id) (λ x. read_places x.id)
 
-pub pruned_of_index : (named listed : ℕ → Bool) (held : List HeldShard) → AreOfIndex named (index_piece named listed held)
-pruned_of_index named listed held = of_pieces named (λ x. place_piece named listed (loses_all named x.snapshots) held x.id) (λ x. place_pieces named listed (loses_all named x.snapshots) held x.id)
+pub pruned_of_index : (clean : Bool) (named listed : ℕ → Bool) (held : List HeldShard) → AreOfIndex (touches clean named) (index_piece clean named listed held)
+pruned_of_index clean named listed held =
+    of_pieces (touches clean named) (λ x. place_piece named listed (loss_of clean (loses_all named x.snapshots)) held x.id) (λ x. place_pieces named listed (loss_of clean (loses_all named x.snapshots)) held x.id)
 
-flat_apart : (named : ℕ → Bool) (of : RootIndex → List PrunedShard) → AreOfIndex named of → (xs : List RootIndex) → AreOnce (map (λ (x : RootIndex). x.id) xs) → AreApart (flat_map of xs)
-flat_apart named of are [] once = tt
-flat_apart named of are (x ∷ xs) once =
-    apart_both (of x) (flat_map of xs) (are.apart x) (flat_apart named of are xs once.1)
+flat_apart : (test : List ℕ → Bool) (of : RootIndex → List PrunedShard) → AreOfIndex test of → (xs : List RootIndex) → AreOnce (map (λ (x : RootIndex). x.id) xs) → AreApart (flat_map of xs)
+flat_apart test of are [] once = tt
+flat_apart test of are (x ∷ xs) once =
+    apart_both (of x) (flat_map of xs) (are.apart x) (flat_apart test of are xs once.1)
     (λ p q m n same number.
     let own : p.index ≡ x.id = (are.at x p m).1.index_is in
     let later = has_flat of xs q n in
@@ -177,7 +178,7 @@ of_root_by : (root : RootData) (ps : List PrunedShard) → ((p : PrunedShard) �
 of_root_by root [] each apart = tt
 of_root_by root (p ∷ ps) each apart = (each p (inl refl), apart.0, of_root_by root ps (λ q m. each q (inr m)) apart.1)
 
-module _ (named : ℕ → Bool) (of : RootIndex → List PrunedShard) (are : AreOfIndex named of) (root : RootData) (once : AreOnce (map (λ (x : RootIndex). x.id) root.indices)) where
+module _ (test : List ℕ → Bool) (of : RootIndex → List PrunedShard) (are : AreOfIndex test of) (root : RootData) (once : AreOnce (map (λ (x : RootIndex). x.id) root.indices)) where
   generation : (p : PrunedShard) → Has (flat_map of root.indices) p → Generation root p.index p.number p.base
   generation p m =
       let found = has_flat of root.indices p m in
@@ -186,8 +187,8 @@ module _ (named : ℕ → Bool) (of : RootIndex → List PrunedShard) (are : Are
       let number : p.number ≡ at.place = at.number_is ∙ from_zero at.place in
       ap (λ (o : Option RootIndex). at_shard_of o p.number) there ∙ ap (at_shard found.0.generations) number ∙ at.at
 
-  pub to_read : (uuids : List ℕ) → named ≡ names_uuid uuids → ((us : List ℕ) → has_named uuids us ≡ list_any (names_uuid uuids) us) → AreToRead root uuids (flat_map of root.indices)
-  to_read uuids names touched p m =
+  pub to_read : (clean : Bool) (uuids : List ℕ) → ((us : List ℕ) → is_touched clean uuids us ≡ test us) → AreToRead clean root uuids (flat_map of root.indices)
+  to_read clean uuids touched p m =
       let found = has_flat of root.indices p m in
       let own = are.at found.0 p found.2 in
       let number : p.number ≡ own.1.place = own.1.number_is ∙ from_zero own.1.place in
@@ -195,42 +196,46 @@ module _ (named : ℕ → Bool) (of : RootIndex → List PrunedShard) (are : Are
         x = found.0;
         there = found.1;
         id = sym own.1.index_is;
-        victim = touched found.0.snapshots ∙ ap (λ (t : ℕ → Bool). list_any t found.0.snapshots) (sym names) ∙ own.0;
+        victim = touched found.0.snapshots ∙ own.0;
         at = ap (at_shard found.0.generations) number ∙ own.1.at;
       }
 
   pub of_root : AreOfRoot root (flat_map of root.indices)
-  of_root = of_root_by root (flat_map of root.indices) generation (flat_apart named of are root.indices once)
+  of_root = of_root_by root (flat_map of root.indices) generation (flat_apart test of are root.indices once)
+
+-- an index is read where the test of its snapshots holds
+pub touched_by : (clean : Bool) (named : ℕ → Bool) (uuids : List ℕ) → named ≡ names_uuid uuids → (us : List ℕ) → is_touched clean uuids us ≡ touches clean named us
+touched_by clean named uuids names us = touched_same clean uuids us ∙ ap (λ (t : ℕ → Bool). touches clean t us) (sym names)
 
 -- each that is to be read is given
-pub has_to_read : (named : ℕ → Bool) (root : RootData) (uuids : List ℕ) → named ≡ names_uuid uuids → ((us : List ℕ) → has_named uuids us ≡ list_any (names_uuid uuids) us) → HasToRead root uuids (flat_map (read_index named) root.indices)
-has_to_read named root uuids names touched index number base h =
+pub has_to_read : (clean : Bool) (named : ℕ → Bool) (root : RootData) (uuids : List ℕ) → named ≡ names_uuid uuids → HasToRead clean root uuids (flat_map (read_index clean named) root.indices)
+has_to_read clean named root uuids names index number base h =
     let place : one_shard h.x.id (0 + number) base false ≡ bare_shard index number base = (λ j. one_shard (h.id j) (from_zero number j) base false) in
-    let test : list_any named h.x.snapshots ≡ true = ap (λ (t : ℕ → Bool). list_any t h.x.snapshots) names ∙ sym (touched h.x.snapshots) ∙ h.victim in
-    in_flat (read_index named) root.indices h.x (bare_shard index number base) h.there
-    (in_then (list_any named h.x.snapshots) (of_places (read_place h.x.id) 0 h.x.generations) [] (bare_shard index number base) test
+    let passes : touches clean named h.x.snapshots ≡ true = sym (touched_by clean named uuids names h.x.snapshots) ∙ h.victim in
+    in_flat (read_index clean named) root.indices h.x (bare_shard index number base) h.there
+    (in_then (touches clean named h.x.snapshots) (of_places (read_place h.x.id) 0 h.x.generations) [] (bare_shard index number base) passes
     (subst (λ (p : PrunedShard). Has (of_places (read_place h.x.id) 0 h.x.generations) p) place (in_read h.x.id 0 number base h.x.generations h.at)))
 
 -- ---- what is held of those that are pruned
 
-known_held : (named listed : ℕ → Bool) (leaves : Bool) (index number base : ℕ) (o : Option ShardFiles) (p : PrunedShard) → Has (read_piece named listed leaves index number base o) p → (v : ShardFiles) × (o ≡ Some v)
-known_held named listed leaves index number base None p m = absurd m
-known_held named listed leaves index number base (Some was) p m = (was, refl)
+known_held : (named listed : ℕ → Bool) (loss : Loss) (index number base : ℕ) (o : Option ShardFiles) (p : PrunedShard) → Has (read_piece named listed loss index number base o) p → (v : ShardFiles) × (o ≡ Some v)
+known_held named listed loss index number base None p m = absurd m
+known_held named listed loss index number base (Some was) p m = (was, refl)
 
-place_held : (named listed : ℕ → Bool) (leaves : Bool) (held : List HeldShard) (index number : ℕ) (g : Option ℕ) (p : PrunedShard) → Has (place_piece named listed leaves held index number g) p → (v : ShardFiles) × (held_at held p.index p.number ≡ Some v)
-place_held named listed leaves held index number None p m = absurd m
-place_held named listed leaves held index number (Some base) p m =
-    let own = piece_has index number (Some base) (place_piece named listed leaves held index number (Some base)) p (place_pieces named listed leaves held index number (Some base)) m in
-    let some = known_held named listed leaves index number base (held_at held index number) p m in
+place_held : (named listed : ℕ → Bool) (loss : Loss) (held : List HeldShard) (index number : ℕ) (g : Option ℕ) (p : PrunedShard) → Has (place_piece named listed loss held index number g) p → (v : ShardFiles) × (held_at held p.index p.number ≡ Some v)
+place_held named listed loss held index number None p m = absurd m
+place_held named listed loss held index number (Some base) p m =
+    let own = piece_has index number (Some base) (place_piece named listed loss held index number (Some base)) p (place_pieces named listed loss held index number (Some base)) m in
+    let some = known_held named listed loss index number base (held_at held index number) p m in
     (some.0, (λ j. held_at held (own.0 j) (own.1 j)) ∙ some.1)
 
-pub pruned_held : (named listed : ℕ → Bool) (held : List HeldShard) (xs : List RootIndex) → AreHeldSome held (flat_map (index_piece named listed held) xs)
-pruned_held named listed held xs p m =
-    let found = has_flat (index_piece named listed held) xs p m in
+pub pruned_held : (clean : Bool) (named listed : ℕ → Bool) (held : List HeldShard) (xs : List RootIndex) → AreHeldSome held (flat_map (index_piece clean named listed held) xs)
+pruned_held clean named listed held xs p m =
+    let found = has_flat (index_piece clean named listed held) xs p m in
     let x = found.0 in
-    let leaves = loses_all named x.snapshots in
-    elim (has_if (list_any named x.snapshots) (of_places (place_piece named listed leaves held x.id) 0 x.generations) [] p found.2) [
-      | inl here ↦ all_places (λ (q : PrunedShard). (v : ShardFiles) × (held_at held q.index q.number ≡ Some v)) (place_piece named listed leaves held x.id) (place_held named listed leaves held x.id) 0 x.generations p here.1
+    let loss = loss_of clean (loses_all named x.snapshots) in
+    elim (has_if (touches clean named x.snapshots) (of_places (place_piece named listed loss held x.id) 0 x.generations) [] p found.2) [
+      | inl here ↦ all_places (λ (q : PrunedShard). (v : ShardFiles) × (held_at held q.index q.number ≡ Some v)) (place_piece named listed loss held x.id) (place_held named listed loss held x.id) 0 x.generations p here.1
       | inr none ↦ absurd none.1
     ]
 
@@ -250,8 +255,8 @@ place_few is rule x m k g at =
     let below : k < length x.generations = at_below x.generations k g at in
     omega (arith, few, len, below)
 
-pub read_few : (is : List CodeIndex) → AreIndices is → (root : RootData) (uuids : List ℕ) (shards : List PrunedShard) → map root_index_of is ≡ root.indices → AreToRead root uuids shards → AreFew shards
-read_few is rule root uuids shards same are p m =
+pub read_few : (is : List CodeIndex) → AreIndices is → (clean : Bool) (root : RootData) (uuids : List ℕ) (shards : List PrunedShard) → map root_index_of is ≡ root.indices → AreToRead clean root uuids shards → AreFew shards
+read_few is rule clean root uuids shards same are p m =
     let h = are p m in
     place_few is rule h.x (subst (λ (xs : List RootIndex). Has xs h.x) (sym same) h.there) p.number p.base h.at
 
@@ -270,23 +275,23 @@ pub pushed_are : (of : RootIndex → List PrunedShard) (root : Root) (indices : 
 pushed_are of root indices start end none same added = added ∙ (λ j. map pruned_of (none j) ++ flat_map of (map root_index_of (same j)))
 
 -- they are shards of the root that are to be read
-pub record AreChosen (root : RootData) (uuids : List ℕ) (shards : List PrunedShard) : Type 0 where
-  pub each : AreToRead root uuids shards
+pub record AreChosen (clean : Bool) (root : RootData) (uuids : List ℕ) (shards : List PrunedShard) : Type 0 where
+  pub each : AreToRead clean root uuids shards
   pub of_root : AreOfRoot root shards
   pub few : AreFew shards
 
 pub named_by : (uuids ids : List Id) (named : ℕ → Bool) → ids ≡ uuids → named ≡ is_one (map number_of ids) → named ≡ names_uuid (map number_of uuids)
 named_by uuids ids named same is = is ∙ ap (λ (us : List Id). is_one (map number_of us)) same ∙ of_ids (map number_of uuids)
 
-pub chosen : (named : ℕ → Bool) (of : RootIndex → List PrunedShard) → AreOfIndex named of → (root : Root) (uuids : List ℕ) (shards : List PrunedShard) → named ≡ names_uuid uuids → AreIndices root.indices → shards ≡ flat_map of (root_of root).indices
-    → AreChosen (root_of root) uuids shards
-chosen named of are root uuids shards names rule same =
+pub chosen : (clean : Bool) (test : List ℕ → Bool) (of : RootIndex → List PrunedShard) → AreOfIndex test of → (root : Root) (uuids : List ℕ) (shards : List PrunedShard) → ((us : List ℕ) → is_touched clean uuids us ≡ test us) → AreIndices root.indices
+    → shards ≡ flat_map of (root_of root).indices → AreChosen clean (root_of root) uuids shards
+chosen clean test of are root uuids shards touched rule same =
     let once = indices_once root.indices rule in
-    let each = to_read named of are (root_of root) once uuids names (touched_same uuids) in
-    subst (AreChosen (root_of root) uuids) (sym same) (record {
+    let each = to_read test of are (root_of root) once clean uuids touched in
+    subst (AreChosen clean (root_of root) uuids) (sym same) (record {
       each = each;
-      of_root = of_root named of are (root_of root) once;
-      few = read_few root.indices rule (root_of root) uuids (flat_map of (root_of root).indices) refl each;
+      of_root = of_root test of are (root_of root) once;
+      few = read_few root.indices rule clean (root_of root) uuids (flat_map of (root_of root).indices) refl each;
     })
 
 -- ---- what is left can be written
@@ -304,10 +309,10 @@ bare_bytes : (blobs : List (BlobName × Bytes)) (p : PrunedShard) → index_byte
 bare_bytes [] p = refl
 bare_bytes (b ∷ blobs) p = ap (λ (o : Option Bytes). if is_index p.index p.number p.base b.0 then Some b.1 else o) (bare_bytes blobs p)
 
-pub writable : (known : Bytes → Bytes → ℕ → Bool) (told : Bytes → Bytes → ℕ → Option (List (Bytes × Bytes))) (root : RootData) (uuids : List ℕ) (blobs : List (BlobName × Bytes)) (held : List HeldShard) (shards : List PrunedShard)
-    → AreWhole held → AreToRead root uuids shards → IsHeld (formats known told) root uuids blobs held → AreWritable (formats known told) root uuids blobs shards
+pub writable : (known : Bytes → Bytes → ℕ → Bool) (told : Bytes → Bytes → ℕ → Option (List (Bytes × Bytes))) (clean : Bool) (root : RootData) (uuids : List ℕ) (blobs : List (BlobName × Bytes)) (held : List HeldShard) (shards : List PrunedShard)
+    → AreWhole held → AreToRead clean root uuids shards → IsHeld (formats known told) clean root uuids blobs held → AreWritable (formats known told) root uuids blobs shards
 unfolding formats
-writable known told root uuids blobs held shards whole are is_held p was m read =
+writable known told clean root uuids blobs held shards whole are is_held p was m read =
     let f = formats known told in
     let own : held_at held p.index p.number ≡ Some was = is_held p.index p.number p.base (are p m) ∙ ap (files_by f) (sym (bare_bytes blobs p)) ∙ read in
     let (v, rule, same) = whole p.index p.number was own in

@@ -1,5 +1,5 @@
--- What a delete prunes and dooms, piece by piece: by sets of numbers, and by what is held of the shards.
-use Rattle.std.specs.Prelude.{◌≡◌, ℕ, suc, ◌==◌, ◌&&◌, not, Bool, false, if◌then◌else◌, List, [], ◌∷◌, ◌++◌, flat_map, map, Option, Some, None}
+-- What a delete or cleanup prunes and dooms, piece by piece: by sets of numbers, and by what is held of the shards.
+use Rattle.std.specs.Prelude.{◌≡◌, ℕ, suc, ◌==◌, ◌&&◌, ◌||◌, not, Bool, false, if◌then◌else◌, List, [], ◌∷◌, ◌++◌, flat_map, map, Option, Some, None}
 use Rattle.std.specs.List.{list_any}
 use Rattle.esr_model.specs.Names.{BlobName, Root, Snap, Meta, IndexMeta, ShardSnap, ShardIndex}
 use Rattle.esr_model.specs.Values.{RootSnap, RootIndex, RootData, FileEntry, SnapList, ShardFiles}
@@ -9,6 +9,8 @@ use Rattle.esr_model.specs.Delete.{PrunedShard, names_uuid, uuids_of, gone_by, g
 use Rattle.esr_reach.specs.Held.{HeldShard, held_at}
 use Rattle.esr_results.specs.declared.pruned_root.PrunedShard.{PrunedShard as CodePruned}
 use Rattle.esr_results.specs.Pruned.{pruned_of}
+use Rattle.esr_dooming.specs.declared.prune.Loss.{Loss}
+use Rattle.esr_dooming.specs.declared.prune.Loss.TheVariants as losses
 
 -- these shards were appended
 abbrev pub Added : List CodePruned → List CodePruned → List PrunedShard → Type 0
@@ -32,41 +34,60 @@ one_shard index number base kept = record { index = index; number = number; base
 
 -- ---- the shards that it prunes
 
+-- an index whose shards are read: a delete's has a named snapshot, a cleanup reads all
+abbrev pub touches : Bool → (ℕ → Bool) → List ℕ → Bool
+touches clean named us = clean || list_any named us
+
 -- a listed snapshot that is named has the shard
 abbrev pub has_victim : (ℕ → Bool) → (ℕ → Bool) → List SnapList → Bool
 has_victim named listed lists = list_any (λ l. named l.uuid && listed l.uuid) lists
+
+-- one that isn't listed has it
+abbrev pub has_unlisted : (ℕ → Bool) → List SnapList → Bool
+has_unlisted listed lists = list_any (λ l. not (listed l.uuid)) lists
 
 -- a listed one that isn't named has it
 abbrev pub has_left : (ℕ → Bool) → (ℕ → Bool) → List SnapList → Bool
 has_left named listed lists = list_any (λ l. listed l.uuid && not (named l.uuid)) lists
 
+-- what the shards of an index lose, where it leaves or not
+abbrev pub loss_of : Bool → Bool → Loss
+loss_of clean leaves = if leaves then losses.All else (if clean then losses.Unlisted else losses.Named)
+
+-- whether something is left of a shard that has victims
+abbrev pub kept_where : Bool → Bool → Option Bool
+kept_where victim left = if victim then Some left else None
+
 -- whether something is left of a shard that is pruned; None where it loses nothing. Of an index that leaves nothing is left
-abbrev pub kept_by : (ℕ → Bool) → (ℕ → Bool) → Bool → List SnapList → Option Bool
-kept_by named listed leaves lists = if leaves then Some false else (if has_victim named listed lists then Some (has_left named listed lists) else None)
+abbrev pub kept_by : (ℕ → Bool) → (ℕ → Bool) → Loss → List SnapList → Option Bool
+kept_by named listed losses.All lists = Some false
+kept_by named listed losses.Named lists = kept_where (has_victim named listed lists) (has_left named listed lists)
+kept_by named listed losses.Unlisted lists = kept_where (has_unlisted listed lists) (has_left named listed lists)
 
 abbrev pub one_piece : ℕ → ℕ → ℕ → Option Bool → List PrunedShard
 one_piece index number base None = []
 one_piece index number base (Some kept) = one_shard index number base kept ∷ []
 
 -- of a shard by what was read of it
-abbrev pub read_piece : (ℕ → Bool) → (ℕ → Bool) → Bool → ℕ → ℕ → ℕ → Option ShardFiles → List PrunedShard
-read_piece named listed leaves index number base None = []
-read_piece named listed leaves index number base (Some was) = one_piece index number base (kept_by named listed leaves was.snapshots)
+abbrev pub read_piece : (ℕ → Bool) → (ℕ → Bool) → Loss → ℕ → ℕ → ℕ → Option ShardFiles → List PrunedShard
+read_piece named listed loss index number base None = []
+read_piece named listed loss index number base (Some was) = one_piece index number base (kept_by named listed loss was.snapshots)
 
-abbrev pub known_piece : (ℕ → Bool) → (ℕ → Bool) → Bool → List HeldShard → ℕ → ℕ → ℕ → List PrunedShard
-known_piece named listed leaves held index number base = read_piece named listed leaves index number base (held_at held index number)
+abbrev pub known_piece : (ℕ → Bool) → (ℕ → Bool) → Loss → List HeldShard → ℕ → ℕ → ℕ → List PrunedShard
+known_piece named listed loss held index number base = read_piece named listed loss index number base (held_at held index number)
 
-abbrev pub place_piece : (ℕ → Bool) → (ℕ → Bool) → Bool → List HeldShard → ℕ → ℕ → Option ℕ → List PrunedShard
-place_piece named listed leaves held index number None = []
-place_piece named listed leaves held index number (Some base) = known_piece named listed leaves held index number base
+abbrev pub place_piece : (ℕ → Bool) → (ℕ → Bool) → Loss → List HeldShard → ℕ → ℕ → Option ℕ → List PrunedShard
+place_piece named listed loss held index number None = []
+place_piece named listed loss held index number (Some base) = known_piece named listed loss held index number base
 
 -- no snapshot of the index is left
 abbrev pub loses_all : (ℕ → Bool) → List ℕ → Bool
 loses_all named us = not (list_any (λ u. not (named u)) us)
 
--- of an index that has a named snapshot
-abbrev pub index_piece : (ℕ → Bool) → (ℕ → Bool) → List HeldShard → RootIndex → List PrunedShard
-index_piece named listed held x = if list_any named x.snapshots then of_places (place_piece named listed (loses_all named x.snapshots) held x.id) 0 x.generations else []
+-- of an index that is read
+abbrev pub index_piece : Bool → (ℕ → Bool) → (ℕ → Bool) → List HeldShard → RootIndex → List PrunedShard
+index_piece clean named listed held x =
+    if touches clean named x.snapshots then of_places (place_piece named listed (loss_of clean (loses_all named x.snapshots)) held x.id) 0 x.generations else []
 
 -- ---- the shards that it is to read
 
@@ -74,9 +95,9 @@ abbrev pub read_place : ℕ → ℕ → Option ℕ → List PrunedShard
 read_place index number None = []
 read_place index number (Some base) = one_shard index number base false ∷ []
 
--- of an index that has a named snapshot
-abbrev pub read_index : (ℕ → Bool) → RootIndex → List PrunedShard
-read_index named x = if list_any named x.snapshots then of_places (read_place x.id) 0 x.generations else []
+-- of an index that is read
+abbrev pub read_index : Bool → (ℕ → Bool) → RootIndex → List PrunedShard
+read_index clean named x = if touches clean named x.snapshots then of_places (read_place x.id) 0 x.generations else []
 
 -- ---- the shards whose generation the new root hasn't
 
@@ -87,7 +108,7 @@ gone_place new index number (Some base) = gone_by base (at_shard_of (index_at ne
 abbrev pub gone_index : List RootIndex → RootIndex → List PrunedShard
 gone_index new x = of_places (gone_place new x.id) 0 x.generations
 
--- ---- the names that it dooms
+-- ---- the names that a delete dooms
 
 abbrev pub root_piece : Option ℕ → List BlobName
 root_piece None = []

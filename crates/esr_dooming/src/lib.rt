@@ -1,6 +1,7 @@
-//! What a delete leaves of a shard, the shards that it prunes, and the names that it dooms.
+//! What a delete or cleanup leaves of a shard, the shards that it prunes, and the names that it dooms.
 #![tactic(auto)]
 
+mod clean;
 mod doom;
 mod gone;
 mod names;
@@ -9,6 +10,7 @@ mod sets;
 mod survive;
 mod touched;
 
+pub use clean::{push_unreached, reach_set, renew, without_root};
 pub use doom::doomed;
 pub use names::DoomedNames;
 pub use prune::pruned;

@@ -29,7 +29,7 @@ impl Model for DoomedNames {
 
 impl DoomedNames {
     /// None yet; asks for no memory.
-    pub(crate) fn new(alloc: Global) -> DoomedNames
+    pub fn new(alloc: Global) -> DoomedNames
         ensures { result ≡ [] }
     {
         DoomedNames {

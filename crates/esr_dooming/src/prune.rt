@@ -1,4 +1,4 @@
-//! The shards that a delete prunes.
+//! The shards that a delete or cleanup prunes.
 ghost use Rattle.std.specs.Prelude.{◌≡◌, ◌&&◌, not, ℕ, Bool, List, IfOk, map, flat_map, option_map, Option};
 ghost use Rattle.std.specs.List.{list_any};
 ghost use Rattle.std.specs.Ordering.{nat_cmp};
@@ -11,7 +11,7 @@ ghost use Rattle.esr_formats.specs.Roots.{root_of, root_index_of};
 ghost use Rattle.esr_formats.specs.Shards.{shard_index_of};
 ghost use Rattle.esr_core.specs.Pruning.{AreOfRoot, AreWritable, pruned_shards};
 ghost use Rattle.esr_results.specs.Pruned.{pruned_of};
-ghost use Rattle.esr_dooming.specs.Pieces.{Added, has_victim, has_left, kept_by, one_piece, known_piece, place_piece, of_places, index_piece};
+ghost use Rattle.esr_dooming.specs.Pieces.{Added, touches, has_victim, has_unlisted, has_left, loses_all, loss_of, kept_where, kept_by, one_piece, known_piece, place_piece, of_places, index_piece};
 ghost use Rattle.esr_dooming.specs.Reading.{IsHeld, AreToRead, AreHeldSome, AreFew};
 
 use crate::sets::id_set;
@@ -23,6 +23,15 @@ use esr_seq::Seq;
 use esr_shardidx::{ShardIndex, SnapList};
 use std::alloc::{AllocError, Global};
 use std::collections::BTreeSet;
+
+/// What the shards of an index lose: all, where no snapshot of the index is left; or the listed snapshots that are named; or
+/// those that aren't listed.
+#[derive(Clone, Copy)]
+pub enum Loss {
+    All,
+    Named,
+    Unlisted,
+}
 
 /// Some of the ids is among the numbers.
 fn has_some(numbers: &BTreeSet<u128>, ids: &[Id]) -> bool
@@ -39,10 +48,17 @@ fn has_other(numbers: &BTreeSet<u128>, ids: &[Id]) -> bool
 }
 
 /// The index has a named snapshot.
-pub(crate) fn is_touched(named: &BTreeSet<u128>, index: &RootIndex) -> bool
+fn has_named(named: &BTreeSet<u128>, index: &RootIndex) -> bool
     ensures { result ≡ list_any (contains nat_cmp named.now) (root_index_of index.now).snapshots }
 {
     has_some(named, index.snapshots.as_slice())
+}
+
+/// The shards of the index are to be read: by a delete where it has a named snapshot, by a cleanup always.
+pub(crate) fn is_touched(clean: bool, named: &BTreeSet<u128>, index: &RootIndex) -> bool
+    ensures { result ≡ touches clean (contains nat_cmp named.now) (root_index_of index.now).snapshots }
+{
+    clean || has_named(named, index)
 }
 
 /// The index has another one.
@@ -57,6 +73,13 @@ fn victim_among(named: &BTreeSet<u128>, listed: &BTreeSet<u128>, lists: &[SnapLi
     ensures { result ≡ list_any (λ l. contains nat_cmp named.now l.uuid.number && contains nat_cmp listed.now l.uuid.number) lists.now }
 {
     lists.iter().any(|list| named.contains(&list.uuid.number) && listed.contains(&list.uuid.number))
+}
+
+/// Some list is of a snapshot that isn't listed.
+fn unlisted_among(listed: &BTreeSet<u128>, lists: &[SnapList]) -> bool
+    ensures { result ≡ list_any (λ l. not (contains nat_cmp listed.now l.uuid.number)) lists.now }
+{
+    lists.iter().any(|list| !listed.contains(&list.uuid.number))
 }
 
 /// Some list is of a listed snapshot that isn't named.
@@ -74,6 +97,13 @@ fn has_victim(named: &BTreeSet<u128>, listed: &BTreeSet<u128>, held: &ShardIndex
     victim_among(named, listed, held.snapshots())
 }
 
+/// The shard has a snapshot that isn't listed.
+fn has_unlisted(listed: &BTreeSet<u128>, held: &ShardIndex) -> bool
+    ensures { result ≡ has_unlisted (contains nat_cmp listed.now) (shard_index_of held.now).snapshots }
+{
+    unlisted_among(listed, held.snapshots())
+}
+
 /// The shard has a listed snapshot that isn't named.
 fn has_left(named: &BTreeSet<u128>, listed: &BTreeSet<u128>, held: &ShardIndex) -> bool
     ensures { result ≡ has_left (contains nat_cmp named.now) (contains nat_cmp listed.now) (shard_index_of held.now).snapshots }
@@ -81,22 +111,30 @@ fn has_left(named: &BTreeSet<u128>, listed: &BTreeSet<u128>, held: &ShardIndex) 
     left_among(named, listed, held.snapshots())
 }
 
+/// Whether something is left of a shard, where some snapshot of it goes.
+fn kept_where(victim: bool, left: bool) -> Option<bool>
+    ensures { result ≡ kept_where victim left }
+{
+    if victim { Some(left) } else { None }
+}
+
 /// Whether something is left of a shard that is pruned; `None` where the shard loses nothing. Of an index that leaves nothing
 /// is left.
 fn kept_of(
     named: &BTreeSet<u128>,
     listed: &BTreeSet<u128>,
-    leaves: bool,
+    loss: Loss,
     held: &ShardIndex,
 ) -> Option<bool>
-    ensures { result ≡ kept_by (contains nat_cmp named.now) (contains nat_cmp listed.now) leaves (shard_index_of held.now).snapshots }
+    ensures { result ≡ kept_by (contains nat_cmp named.now) (contains nat_cmp listed.now) loss (shard_index_of held.now).snapshots }
 {
-    if leaves {
-        Some(false)
-    } else if has_victim(named, listed, held) {
-        Some(has_left(named, listed, held))
-    } else {
-        None
+    match loss {
+        Loss::All => Some(false),
+        Loss::Named => kept_where(
+            has_victim(named, listed, held),
+            has_left(named, listed, held),
+        ),
+        Loss::Unlisted => kept_where(has_unlisted(listed, held), has_left(named, listed, held)),
     }
 }
 
@@ -120,15 +158,15 @@ fn push_shard(
     shards: &mut PrunedShards,
     named: &BTreeSet<u128>,
     listed: &BTreeSet<u128>,
-    leaves: bool,
+    loss: Loss,
     read: &ShardIndices,
     shard: ShardId,
     base: Id,
 ) -> Result<(), AllocError>
-    ensures { IfOk result (λ _. Added shards.old shards.new (known_piece (contains nat_cmp named.now) (contains nat_cmp listed.now) leaves read.now shard.index.number shard.number base.number)) }
+    ensures { IfOk result (λ _. Added shards.old shards.new (known_piece (contains nat_cmp named.now) (contains nat_cmp listed.now) loss read.now shard.index.number shard.number base.number)) }
 {
     match read.get(shard) {
-        Some(held) => push_kept(shards, shard, base, kept_of(named, listed, leaves, held)),
+        Some(held) => push_kept(shards, shard, base, kept_of(named, listed, loss, held)),
         None => Ok(()),
     }
 }
@@ -138,15 +176,15 @@ fn push_place(
     shards: &mut PrunedShards,
     named: &BTreeSet<u128>,
     listed: &BTreeSet<u128>,
-    leaves: bool,
+    loss: Loss,
     read: &ShardIndices,
     shard: ShardId,
     base: Option<Id>,
 ) -> Result<(), AllocError>
-    ensures { IfOk result (λ _. Added shards.old shards.new (place_piece (contains nat_cmp named.now) (contains nat_cmp listed.now) leaves read.now shard.index.number shard.number (option_map number_of base))) }
+    ensures { IfOk result (λ _. Added shards.old shards.new (place_piece (contains nat_cmp named.now) (contains nat_cmp listed.now) loss read.now shard.index.number shard.number (option_map number_of base))) }
 {
     match base {
-        Some(base) => push_shard(shards, named, listed, leaves, read, shard, base),
+        Some(base) => push_shard(shards, named, listed, loss, read, shard, base),
         None => Ok(()),
     }
 }
@@ -156,71 +194,88 @@ fn push_places(
     shards: &mut PrunedShards,
     named: &BTreeSet<u128>,
     listed: &BTreeSet<u128>,
-    leaves: bool,
+    loss: Loss,
     read: &ShardIndices,
     index: &RootIndex,
 ) -> Result<(), AllocError>
-    ensures { IfOk result (λ _. Added shards.old shards.new (of_places (place_piece (contains nat_cmp named.now) (contains nat_cmp listed.now) leaves read.now index.now.id.number) 0 (root_index_of index.now).generations)) }
+    ensures { IfOk result (λ _. Added shards.old shards.new (of_places (place_piece (contains nat_cmp named.now) (contains nat_cmp listed.now) loss read.now index.now.id.number) 0 (root_index_of index.now).generations)) }
 {
     for (number, base) in index.generations.as_slice().iter().enumerate() {
         let shard = ShardId {
             index: index.id,
             number: number as u32,
         };
-        push_place(shards, named, listed, leaves, read, shard, *base)?;
+        push_place(shards, named, listed, loss, read, shard, *base)?;
     }
     Ok(())
 }
 
-/// The same of an index that has a named snapshot.
+/// What the shards of the index lose.
+fn loss_of(clean: bool, named: &BTreeSet<u128>, index: &RootIndex) -> Loss
+    ensures { result ≡ loss_of clean (loses_all (contains nat_cmp named.now) (root_index_of index.now).snapshots) }
+{
+    if !is_left(named, index) {
+        Loss::All
+    } else if clean {
+        Loss::Unlisted
+    } else {
+        Loss::Named
+    }
+}
+
+/// Appends the shards of an index that are pruned.
 fn push_index(
     shards: &mut PrunedShards,
+    clean: bool,
     named: &BTreeSet<u128>,
     listed: &BTreeSet<u128>,
     read: &ShardIndices,
     index: &RootIndex,
 ) -> Result<(), AllocError>
-    ensures { IfOk result (λ _. Added shards.old shards.new (index_piece (contains nat_cmp named.now) (contains nat_cmp listed.now) read.now (root_index_of index.now))) }
+    ensures { IfOk result (λ _. Added shards.old shards.new (index_piece clean (contains nat_cmp named.now) (contains nat_cmp listed.now) read.now (root_index_of index.now))) }
 {
-    if is_touched(named, index) {
-        push_places(shards, named, listed, !is_left(named, index), read, index)
+    if is_touched(clean, named, index) {
+        let loss = loss_of(clean, named, index);
+        push_places(shards, named, listed, loss, read, index)
     } else {
         Ok(())
     }
 }
 
-/// The same of all indices.
+/// Appends the shards of all indices that are pruned.
 fn push_indices(
     shards: &mut PrunedShards,
+    clean: bool,
     named: &BTreeSet<u128>,
     listed: &BTreeSet<u128>,
     read: &ShardIndices,
     indices: &[RootIndex],
 ) -> Result<(), AllocError>
-    ensures { IfOk result (λ _. Added shards.old shards.new (flat_map (index_piece (contains nat_cmp named.now) (contains nat_cmp listed.now) read.now) (map root_index_of indices.now))) }
+    ensures { IfOk result (λ _. Added shards.old shards.new (flat_map (index_piece clean (contains nat_cmp named.now) (contains nat_cmp listed.now) read.now) (map root_index_of indices.now))) }
 {
     for index in indices {
-        push_index(shards, named, listed, read, index)?;
+        push_index(shards, clean, named, listed, read, index)?;
     }
     Ok(())
 }
 
-/// The shards that a delete of these uuids prunes, in the order in which they draw their ids, where what is held is what was
-/// read of them; each is one that was to be read, and is held. Want of memory is the only error.
+/// The shards that a delete of these uuids, or a cleanup, prunes, in the order in which they draw their ids, where what is held
+/// is what was read of them; each is one that was to be read, and is held. Want of memory is the only error.
 pub fn pruned(
     alloc: Global,
+    clean: bool,
     root: &RootData,
     uuids: &Ids,
     read: &ShardIndices,
 ) -> Result<PrunedShards, AllocError>
-    ensures exact { IfOk result (λ shards. (f : Formats) (blobs : List (BlobName × Bytes)) → IsHeld f (root_of root.now) (map number_of uuids.now) blobs read.now
-        → map pruned_of shards ≡ pruned_shards f (root_of root.now) (map number_of uuids.now) blobs) }
-    ensures each { IfOk result (λ shards. AreToRead (root_of root.now) (map number_of uuids.now) (map pruned_of shards)) }
+    ensures exact { IfOk result (λ shards. (f : Formats) (blobs : List (BlobName × Bytes)) → IsHeld f clean (root_of root.now) (map number_of uuids.now) blobs read.now
+        → map pruned_of shards ≡ pruned_shards f clean (root_of root.now) (map number_of uuids.now) blobs) }
+    ensures each { IfOk result (λ shards. AreToRead clean (root_of root.now) (map number_of uuids.now) (map pruned_of shards)) }
     ensures held { IfOk result (λ shards. AreHeldSome read.now (map pruned_of shards)) }
     ensures of_root { IfOk result (λ shards. AreOfRoot (root_of root.now) (map pruned_of shards)) }
     ensures few { IfOk result (λ shards. AreFew (map pruned_of shards)) }
     ensures writable { IfOk result (λ shards. (known : Bytes → Bytes → ℕ → Bool) (told : Bytes → Bytes → ℕ → Option (List (Bytes × Bytes))) (blobs : List (BlobName × Bytes))
-        → IsHeld (formats known told) (root_of root.now) (map number_of uuids.now) blobs read.now → AreWritable (formats known told) (root_of root.now) (map number_of uuids.now) blobs (map pruned_of shards)) }
+        → IsHeld (formats known told) clean (root_of root.now) (map number_of uuids.now) blobs read.now → AreWritable (formats known told) (root_of root.now) (map number_of uuids.now) blobs (map pruned_of shards)) }
     ensures one_each { IfOk result (λ shards. IsOneEach (root_of root.now).indices) }
 {
     read.whole();
@@ -230,6 +285,6 @@ pub fn pruned(
     let listed = listed_uuids(alloc, snaps)?;
     let indices = root.indices.as_slice();
     let mut shards = Seq::new(alloc);
-    push_indices(&mut shards, &named, &listed, read, indices)?;
+    push_indices(&mut shards, clean, &named, &listed, read, indices)?;
     Ok(shards)
 }

@@ -1,4 +1,4 @@
-//! The shards that a delete is to read.
+//! The shards that a delete or cleanup is to read.
 ghost use Rattle.std.specs.Prelude.{map, flat_map, option_map, IfOk};
 ghost use Rattle.std.specs.Ordering.{nat_cmp};
 ghost use Rattle.std.specs.BTreeSet.{contains};
@@ -43,40 +43,47 @@ fn push_places(shards: &mut PrunedShards, index: &RootIndex) -> Result<(), Alloc
     Ok(())
 }
 
-/// The same of an index, where it has a named snapshot.
+/// Appends the shards of an index, where it is to be read.
 fn push_index(
     shards: &mut PrunedShards,
+    clean: bool,
     named: &BTreeSet<u128>,
     index: &RootIndex,
 ) -> Result<(), AllocError>
-    ensures { IfOk result (λ _. Added shards.old shards.new (read_index (contains nat_cmp named.now) (root_index_of index.now))) }
+    ensures { IfOk result (λ _. Added shards.old shards.new (read_index clean (contains nat_cmp named.now) (root_index_of index.now))) }
 {
-    if is_touched(named, index) {
+    if is_touched(clean, named, index) {
         push_places(shards, index)
     } else {
         Ok(())
     }
 }
 
-/// The same of all indices.
+/// Appends the shards of all indices that are to be read.
 fn push_indices(
     shards: &mut PrunedShards,
+    clean: bool,
     named: &BTreeSet<u128>,
     indices: &[RootIndex],
 ) -> Result<(), AllocError>
-    ensures { IfOk result (λ _. Added shards.old shards.new (flat_map (read_index (contains nat_cmp named.now)) (map root_index_of indices.now))) }
+    ensures { IfOk result (λ _. Added shards.old shards.new (flat_map (read_index clean (contains nat_cmp named.now)) (map root_index_of indices.now))) }
 {
     for index in indices {
-        push_index(shards, named, index)?;
+        push_index(shards, clean, named, index)?;
     }
     Ok(())
 }
 
-/// The shards that a delete of these uuids is to read, in the order of the root: those with a generation, of the indices that
-/// have such a snapshot. Want of memory is the only error.
-pub fn to_read(alloc: Global, root: &RootData, uuids: &Ids) -> Result<PrunedShards, AllocError>
-    ensures each { IfOk result (λ shards. AreToRead (root_of root.now) (map number_of uuids.now) (map pruned_of shards)) }
-    ensures all { IfOk result (λ shards. HasToRead (root_of root.now) (map number_of uuids.now) (map pruned_of shards)) }
+/// The shards that a delete of these uuids, or a cleanup, is to read, in the order of the root: those with a generation; of a
+/// delete, of the indices that have such a snapshot. Want of memory is the only error.
+pub fn to_read(
+    alloc: Global,
+    clean: bool,
+    root: &RootData,
+    uuids: &Ids,
+) -> Result<PrunedShards, AllocError>
+    ensures each { IfOk result (λ shards. AreToRead clean (root_of root.now) (map number_of uuids.now) (map pruned_of shards)) }
+    ensures all { IfOk result (λ shards. HasToRead clean (root_of root.now) (map number_of uuids.now) (map pruned_of shards)) }
     ensures of_root { IfOk result (λ shards. AreOfRoot (root_of root.now) (map pruned_of shards)) }
     ensures few { IfOk result (λ shards. AreFew (map pruned_of shards)) }
 {
@@ -84,6 +91,6 @@ pub fn to_read(alloc: Global, root: &RootData, uuids: &Ids) -> Result<PrunedShar
     let named = id_set(alloc, ids)?;
     let indices = root.indices.as_slice();
     let mut shards = Seq::new(alloc);
-    push_indices(&mut shards, &named, indices)?;
+    push_indices(&mut shards, clean, &named, indices)?;
     Ok(shards)
 }

@@ -93,7 +93,7 @@ ticket_came f w who step _ k (NewTicket is t new now same) out =
     (put_or_was w.tickets w.next_ticket t k)
 ticket_came f w who step _ k (NewReader is o r s there) out = inl out
 ticket_came f w who step _ k (OwnTicket t v there same settled next_id pending up more) out = inl (ticket_goes w who k t v there same.out out)
-ticket_came f w who step _ k (Settlement settles t s n names there is raised) out = inl (ticket_goes w who k t (record t { settled = true }) there (λ back. back) out)
+ticket_came f w who step _ k (Settlement settles t s n names deletes there is raised left) out = inl (ticket_goes w who k t (record t { settled = true }) there (λ back. back) out)
 ticket_came f w who step _ k (UnitEnd t op v completed there op_there same) out = inl (ticket_goes w who k t (record t { out = false }) there none_back out)
 ticket_came f w who step _ k (DeletionFailure t x there x_there) out = inl (ticket_goes w who k t (record t { out = false }) there none_back out)
 ticket_came f w who step _ k (OpDrop is t there) out = inl (ticket_goes w who k t (record t { out = false }) there none_back out)
@@ -118,7 +118,7 @@ reader_came f w who step _ k (NewReader is o r s there) out =
     (λ (was : fin.get (fin.insert w.readers w.next_ticket (restore_reader o r s)) k ≡ fin.get w.readers k). inl (ap (λ (x : Option Reader). (or_no_reader x).out) (sym was) ∙ out))
     (put_or_was w.readers w.next_ticket (restore_reader o r s) k)
 reader_came f w who step _ k (OwnTicket t v there same settled next_id pending up more) out = inl out
-reader_came f w who step _ k (Settlement settles t s n names there is raised) out = inl out
+reader_came f w who step _ k (Settlement settles t s n names deletes there is raised left) out = inl out
 reader_came f w who step _ k (UnitEnd t op v completed there op_there same) out = inl out
 reader_came f w who step _ k (DeletionFailure t x there x_there) out = inl out
 reader_came f w who step _ k (OpDrop is t there) out = inl out

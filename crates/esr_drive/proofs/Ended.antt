@@ -1,5 +1,5 @@
 -- The ticket of a unit is out as it was taken, and has ended unless the unit was stopped.
-use Rattle.std.proofs.Common.{◌≡◌, ℕ, true, false, List, Option, Result, Ok, Err, OnOk, IfErr, ap, subst}
+use Rattle.std.proofs.Common.{◌≡◌, ℕ, true, false, List, Option, Result, Ok, Err, OnOk, IfErr, inl, inr, ap, subst}
 use Rattle.esr_model.specs.Values.{Bytes}
 use Rattle.esr_core.specs.World.{Ticket, Drop, Reader}
 use Rattle.esr_core.specs.Entry.{Moment}
@@ -32,6 +32,7 @@ took_out (works.CloneShard source uuid shard index) new op copy t took = let (te
 took_out (works.Finalize info shards) new op copy t took = let (term, made, is, root) = took in ap (λ (x : Ticket). x.out) is
 took_out works.Drop new op copy t took = let (term, is) = took in ap (λ (x : Ticket). x.out) is
 took_out (works.Delete uuids) new op copy t took = let (term, is) = took in ap (λ (x : Ticket). x.out) is
+took_out works.Cleanup new op copy t took = let (term, is) = took in ap (λ (x : Ticket). x.out) is
 took_out work new op copy t took = absurd took
 
 pub took_drop : (work : Work) (new : Option Root) (op : ℕ) (copy : Copied) (t : Ticket) → IsDrop work → TookWork work new op copy t → t.work ≡ Drop
@@ -54,6 +55,11 @@ stale_ended e t is h = subst (λ (x : UnitRefusal). EndedBy x t) is h
 pub restored_ended : (s : Start) (old new : List Moment) (who : ℕ) → HasRestored s old new who → (reader_of s new who).out ≡ false
 restored_ended s old new who done = ap (λ (q : Reader). q.out) done.ended
 
+-- that of a delete or cleanup, before its settle or after it
+delete_over : (s : Start) (old new : Ticket) → deletes.HasEnded s old new → new.out ≡ false
+delete_over s old new (inl early) = ap (λ (t : Ticket). t.out) early.is
+delete_over s old new (inr late) = ap (λ (t : Ticket). t.out) late.1.is
+
 module _ {S F H T : Type 0} (e : Evidence S F H T) (s : Start) (old new : List Moment) (who : ℕ) where
   -- ... of a shard
   pub upload_ended : (files : Option (List (Bytes × Bytes))) (result : Result (Unit {0}) UnitRefusal) → OnOk result (uploads.HasDone s old new who) → IfErr result (uploads.IsUnitRefused e files s old new who) → HasEnded result (ticket_of s new who)
@@ -69,12 +75,12 @@ module _ {S F H T : Type 0} (e : Evidence S F H T) (s : Start) (old new : List M
   master_ended (Err (units.Stopped refusal)) done refused = tt
   master_ended (Err units.Stale) done refused = ap (λ (t : Ticket). t.out) refused.0.is
 
-  -- ... of a delete
+  -- ... of a delete or cleanup
   pub delete_ended : (result : Result (Unit {0}) UnitRefusal) → OnOk result (Deleted s old new who) → IfErr result (λ x. deletes.IsUnitRefused e s old new who x) → HasEnded result (ticket_of s new who)
   delete_ended (Ok x) done refused = ap (λ (t : Ticket). t.out) done.settled.is
-  delete_ended (Err (units.Failed why)) done refused = ap (λ (t : Ticket). t.out) refused.0.is
+  delete_ended (Err (units.Failed why)) done refused = delete_over s (ticket_of s old who) (ticket_of s new who) refused.0
   delete_ended (Err (units.Stopped refusal)) done refused = tt
-  delete_ended (Err units.Stale) done refused = ap (λ (t : Ticket). t.out) refused.0.is
+  delete_ended (Err units.Stale) done refused = delete_over s (ticket_of s old who) (ticket_of s new who) refused.0
 
   -- ... of a restore, which has failed
   pub restore_ended : (x : UnitRefusal) (why : Why) → x ≡ units.Failed why → restores.IsUnitRefused e s old new who x → (reader_of s new who).out ≡ false

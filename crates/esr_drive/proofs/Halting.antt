@@ -1,5 +1,5 @@
 -- Which refusals stop the work.
-use Rattle.std.proofs.Common.{◌≡◌, ◌≢◌, ◌≤◌, inl, inr, IfErr, ℕ, true, false, true≢false, List, Option, Result, Ok, Err, refl, sym, ap, ◌∙◌, subst, arith}
+use Rattle.std.proofs.Common.{◌≡◌, ◌≢◌, ◌≤◌, inl, inr, IfErr, ℕ, Bool, true, false, true≢false, List, Option, Result, Ok, Err, refl, sym, ap, ◌∙◌, subst, arith}
 use Rattle.esr_model.specs.Values.{Bytes}
 use Rattle.esr_core.specs.World.{World, Ticket, Drop}
 use Rattle.esr_core.specs.Ready.{IsShard}
@@ -149,9 +149,10 @@ master_halted : (s : Start) (log : List Moment) (who : ℕ) (e : StepRefusal) �
 master_halted s log who (steps.Refused refusals.DepotFault) h = (SettleStep, h, SettleFell)
 master_halted s log who e h = halted s log who e h
 
-delete_halted : (s : Start) (log : List Moment) (who : ℕ) (e : StepRefusal) → deletes.Stops s log who e → IsHalted s log who e
-delete_halted s log who (steps.Refused refusals.DepotFault) h = (PruneStep SettlePruned, h, DeleteFell)
-delete_halted s log who e h = halted s log who e h
+delete_halted : (clean : Bool) (s : Start) (log : List Moment) (who : ℕ) (e : StepRefusal) → deletes.Stops clean s log who e → IsHalted s log who e
+delete_halted clean s log who (steps.Refused refusals.DepotFault) (inl h) = (PruneStep SettlePruned, h, DeleteFell)
+delete_halted clean s log who (steps.Refused refusals.DepotFault) (inr h) = (DroppedStep, h.1, DropFell)
+delete_halted clean s log who e h = halted s log who e h
 
 module _ {S F H T : Type 0} (e : Evidence S F H T) (s : Start) (old new : List Moment) (who : ℕ) where
   -- ... of a shard
@@ -168,11 +169,11 @@ module _ {S F H T : Type 0} (e : Evidence S F H T) (s : Start) (old new : List M
   master_stopped (Err (units.Stopped refusal)) h = master_halted s new who refusal h.2
   master_stopped (Err units.Stale) h = tt
 
-  -- ... of a delete
+  -- ... of a delete or cleanup
   pub delete_stopped : (result : Result (Unit {0}) UnitRefusal) → IfErr result (λ x. deletes.IsUnitRefused e s old new who x) → IfErr result (IsUnitStopped s new who)
   delete_stopped (Ok x) h = tt
   delete_stopped (Err (units.Failed why)) h = tt
-  delete_stopped (Err (units.Stopped refusal)) h = delete_halted s new who refusal h.2
+  delete_stopped (Err (units.Stopped refusal)) h = delete_halted (ticket_of s old who).clean s new who refusal h.1
   delete_stopped (Err units.Stale) h = tt
 
   -- ... of a restore

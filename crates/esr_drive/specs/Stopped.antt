@@ -29,7 +29,7 @@ is_late refusal = false
 pub data StopsWork : Step → Refusal → Type 0 where
   -- a record swap had failed
   SaidDeposed : (step : Step) (place : ℕ) → StopsWork step (DeposedAt place)
-  -- the record swap failed: of a settle, of the drop of an op, or of a delete's settle
+  -- the record swap failed: of a settle, of the step by which an op leaves, or of the settle of a delete or cleanup
   SettleFell : StopsWork SettleStep DepotFault
   DropFell : StopsWork DroppedStep DepotFault
   DeleteFell : StopsWork (PruneStep SettlePruned) DepotFault

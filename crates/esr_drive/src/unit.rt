@@ -96,7 +96,7 @@ fn do_op_unit<Q: Desk<Shard = S::Shard>, S: Sources, G: Gate>(
         Work::CloneShard { .. } => esr_clone::run_unit(alloc, desk, unit),
         Work::Finalize { .. } => esr_finish::run_unit(alloc, desk, unit),
         Work::Drop => drop_op(alloc, desk, unit),
-        Work::Delete { .. } => esr_delete::run_unit(alloc, desk, unit),
+        Work::Delete { .. } | Work::Cleanup => esr_delete::run_unit(alloc, desk, unit),
         _ => unreachable!("no other unit is given"),
     }
 }

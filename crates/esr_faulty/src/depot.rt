@@ -5,7 +5,7 @@ ghost use Rattle.esr_depot.specs.Untold.{untold};
 
 use crate::faults::{Fault, Kind, Turn};
 use crate::pieces::{FaultyFetch, FaultyStage};
-use esr_depot::{CallError, Commit, Counted, Depot, Failed, Listing, Names};
+use esr_depot::{CallError, Commit, Counted, Depot, Failed, Names, Pages};
 use esr_seq::{Bytes, Text};
 use std::alloc::Global;
 
@@ -239,15 +239,15 @@ impl<D: Depot> Depot for Faulty<D> {
         }
     }
 
-    fn list(&mut self, alloc: Global) -> Result<Listing, CallError> {
+    fn list(&mut self, alloc: Global, after: Option<&str>) -> Result<Pages, CallError> {
         if !self.is_made(Kind::List) {
             self.fail();
             return Err(CallError::Failed);
         }
-        match self.depot.list(alloc) {
-            Ok(listing) => {
+        match self.depot.list(alloc, after) {
+            Ok(pages) => {
                 self.pass();
-                Ok(listing)
+                Ok(pages)
             }
             Err(CallError::Memory) => Err(CallError::Memory),
             Err(CallError::Failed) => {

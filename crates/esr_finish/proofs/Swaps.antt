@@ -109,6 +109,7 @@ took_may s t info shards root op copy (term, made, is, root_is) =
       once = ap (λ (u : Ticket). u.raised) is;
       unnoted = ap (λ (u : Ticket). u.noted) is;
       untried = ap (λ (u : Ticket). u.tried_latest) is;
+      plain = ap (λ (u : Ticket). u.clean) is;
     }
 
 pub took_writes : (s : Start) (t : Ticket) (work : Work) (new : Option code.Root) (op : ℕ) (copy : Copied) (info : Info) (shards : List ShardResult) (root : code.Root)

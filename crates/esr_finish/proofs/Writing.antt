@@ -1,5 +1,5 @@
 -- A ticket whose swap's blobs are put one after another.
-use Rattle.std.proofs.Common.{◌≡◌, ◌≢◌, inl, inr, ⊎_elim, ℕ, Bool, true, false, List, [], ◌∷◌, ◌++◌, Option, Some, None, Result, Ok, Err, OnOk, refl, sym, ap, ◌∙◌, subst}
+use Rattle.std.proofs.Common.{◌≡◌, ◌≢◌, inl, inr, ⊎_elim, ℕ, Bool, true, false, List, [], ◌∷◌, ◌++◌, Option, Some, None, Result, Ok, Err, OnOk, refl, sym, ap, ◌∙◌, subst, true≢false}
 use Rattle.std.specs.Prelude.{if◌then◌else◌}
 use Rattle.std.specs.Result.{is_err}
 use Rattle.std.specs.Io.KnownBytes.{append_known}
@@ -46,6 +46,7 @@ may_commit s t b may stored metadata = record {
   stored = stored;
   once = λ other. absurd (other metadata);
   numbered = λ index number shard. absurd (swaps_no_shard (formats_of s) t.work t.root may.0 may.1.is index number shard);
+  late = λ uuids plan deletes clean. absurd (true≢false (sym clean ∙ may.3));
 }
 
 -- the root of the swap, under the generation that was raised
@@ -71,13 +72,14 @@ root_commits s a b root n text may is text_is =
       stored = λ same. cc;
       once = λ other has. may.unnoted n has;
       numbered = λ index number shard. absurd (swaps_no_shard (formats_of s) a.work a.root may.change may.swaps.is index number shard);
+      late = λ uuids plan deletes clean. inr (n, refl);
     })
 
 pub may_put_some : (s : Start) (t : Ticket) (all some : List (BlobName × Bytes)) → MayPut s t all → ((b : BlobName × Bytes) → Has some b → Has all b) → MayPut s t some
-may_put_some s t all some may each = (may.0, may.1, λ b has. may.2 b (each b has))
+may_put_some s t all some may each = (may.0, may.1, (λ b has. may.2 b (each b has)), may.3)
 
 pub may_put_on : (s : Start) (a b : Ticket) (blobs : List (BlobName × Bytes)) → Worked a b → MayPut s a blobs → MayPut s b blobs
-may_put_on s a b blobs worked may = (may.0, swap_stays s a b may.0 worked may.1, may.2)
+may_put_on s a b blobs worked may = (may.0, swap_stays s a b may.0 worked may.1, may.2, ap (λ (t : Ticket). t.clean) worked.is ∙ may.3)
 
 noted_with-append : (xs ys : List (BlobName × Bytes)) (noted : List BlobName) → noted_with (xs ++ ys) noted ≡ noted_with ys (noted_with xs noted)
 noted_with-append [] ys noted = refl

@@ -1,6 +1,7 @@
 -- Why the unit stopped or failed, and where its ticket is then.
 use Rattle.std.specs.Prelude.{◌≡◌, ◌⊎◌, ℕ, Bool, true, false, List, Option, Some, None}
 use Rattle.esr_core.specs.World.{Ticket}
+use Rattle.esr_core.specs.Allowed.{HasPutLatest}
 use Rattle.esr_core.specs.Past.{WasStale}
 use Rattle.esr_core.specs.Entry.{Step, BeginStep, CommitStep, LatestStep, RaiseStep, SettleStep, FinishStep, HasEnded, Refused, Refusal, DepotFault, Moment}
 use Rattle.esr_desk.specs.declared.hand.Hand.TheVariants as hands
@@ -54,6 +55,17 @@ IsPutRefused s faults log who trouble = ⊥
 abbrev pub is_fault : StepRefusal → Bool
 is_fault (steps.Refused refusals.DepotFault) = true
 is_fault refusal = false
+
+-- ---- `index.latest`
+
+-- the last step of the ticket was one that writes, in which the container failed
+abbrev pub HadLatestFault : Start → List Moment → ℕ → Type 0
+HadLatestFault s log who = (before : List Moment) × (step : Step) × Stepped s before log who step (Refused DepotFault) × IsWriting step × (s.quiet ≡ false)
+
+-- the ticket has replaced it, or the container failed in that
+abbrev pub IsLatestPut : Start → List Moment → ℕ → Bool → Type 0
+IsLatestPut s log who true = HasPutLatest (world_of s log) who
+IsLatestPut s log who false = HadLatestFault s log who
 
 -- ---- the end
 

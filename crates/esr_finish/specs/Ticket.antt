@@ -17,9 +17,9 @@ pub record HasSwap (s : Start) (t : Ticket) (change : Swap) : Type 0 where
   pub is : swap (formats_of s) t ≡ Some change
   pub unsettled : t.settled ≡ false
 
--- the blobs are among those that its swap writes before the root
+-- the blobs are among those that its swap writes before the root, and it is no cleanup's
 abbrev pub MayPut : Start → Ticket → List (BlobName × Bytes) → Type 0
-MayPut s t blobs = (change : Swap) × HasSwap s t change × ((b : BlobName × Bytes) → Has blobs b → Has change.own b)
+MayPut s t blobs = (change : Swap) × HasSwap s t change × ((b : BlobName × Bytes) → Has blobs b → Has change.own b) × (t.clean ≡ false)
 
 -- the blob may be committed, as far as the container tells its bytes
 abbrev pub MayStore : Start → Ticket → BlobName → Bytes → Type 0
@@ -47,6 +47,7 @@ pub record MayWrite (s : Start) (t : Ticket) (info : SnapInfo) (root : RootData)
   pub once : t.raised ≡ None
   pub unnoted : t.noted ≡ []
   pub untried : t.tried_latest ≡ false
+  pub plain : t.clean ≡ false
 
 -- the ticket of a finalization is out and hasn't settled, so that the unit may fail
 pub record IsUnsettledMaster (t : Ticket) : Type 0 where

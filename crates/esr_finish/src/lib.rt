@@ -7,5 +7,5 @@ mod root;
 mod unit;
 
 pub use one_blob::put;
-pub use root::{put_latest, put_root};
+pub use root::{put_root, try_latest};
 pub use unit::{is_fault, run_unit};

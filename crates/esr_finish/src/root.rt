@@ -9,7 +9,7 @@ ghost use Rattle.esr_desk.specs.Taken.{tried};
 ghost use Rattle.esr_desk.specs.Told.{TellsAll};
 ghost use Rattle.esr_finish.specs.Ticket.{MayWrite, MayPutRoot, PutsRoot, IsWritten};
 ghost use Rattle.esr_finish.specs.Went.{Went};
-ghost use Rattle.esr_finish.specs.Refused.{IsPutRefused};
+ghost use Rattle.esr_finish.specs.Refused.{IsPutRefused, IsLatestPut};
 
 use crate::metadata::put_metadata;
 use crate::one_blob::put;
@@ -51,26 +51,27 @@ pub fn put_root<Q: Desk>(
     Ok(generation)
 }
 
-/// Puts the generation into `index.latest`. Nothing reads that blob, so where the container fails in a step it is left.
-pub fn put_latest<Q: Desk>(
+/// Tries to put the generation into `index.latest`, and answers whether it was put: not where the container failed in a step.
+pub fn try_latest<Q: Desk>(
     alloc: Global,
     desk: &mut Q,
     ticket: u64,
     generation: u64,
-) -> Result<(), Trouble<Q::Stage, Q::Fetch>>
+) -> Result<bool, Trouble<Q::Stage, Q::Fetch>>
     requires mine { HasTaken (Q.calls desk.old) ticket }
     requires may { CanPut Q.start (ticket_of Q.start (Q.seen desk.old) ticket) generation }
     requires untried { (ticket_of Q.start (Q.seen desk.old) ticket).tried_latest ≡ false }
     requires tells { TellsAll Q.start (Q.seen desk.old) ticket }
-    ensures ok { OnOk result (ticket_of Q.start (Q.seen desk.new) ticket ≡ tried (ticket_of Q.start (Q.seen desk.old) ticket)) }
-    ensures tells { OnOk result (TellsAll Q.start (Q.seen desk.new) ticket) }
+    ensures ok { IfOk result (λ done. ticket_of Q.start (Q.seen desk.new) ticket ≡ tried (ticket_of Q.start (Q.seen desk.old) ticket)) }
+    ensures put { IfOk result (λ done. IsLatestPut Q.start (Q.seen desk.new) ticket done) }
+    ensures tells { IfOk result (λ done. TellsAll Q.start (Q.seen desk.new) ticket) }
     ensures refused { IfErr result (λ e. IsPutRefused Q.start Q.Stage.faults (Q.seen desk.new) ticket e) }
     ensures went { Went Q.start (Q.seen desk.old) (Q.seen desk.new) ticket }
     ensures calls { Q.calls desk.new ≡ Q.calls desk.old }
 {
     let mut named = match desk.begin(alloc, ticket, BlobName::Latest, 8) {
         Ok(named) => named,
-        Err(StepRefusal::Refused(EntryRefusal::DepotFault)) => return Ok(()),
+        Err(StepRefusal::Refused(EntryRefusal::DepotFault)) => return Ok(false),
         Err(refusal) => return Err(Trouble::Step(refusal)),
     };
     if named.stage.write(&generation.to_be_bytes()).is_err() {
@@ -78,17 +79,18 @@ pub fn put_latest<Q: Desk>(
     }
     let Named { name, stage } = named;
     match desk.latest(alloc, ticket, name, stage) {
-        Ok(()) => Ok(()),
+        Ok(()) => Ok(true),
         Err(refusal) => {
             if is_fault(refusal) {
-                return Ok(());
+                return Ok(false);
             }
             Err(Trouble::Step(refusal))
         }
     }
 }
 
-/// Writes all that goes before the settle: the metadata, the root, and `index.latest`.
+/// Writes all that goes before the settle: the metadata, the root, and `index.latest`. Nothing reads that blob, so where the
+/// container fails in a step on it the unit goes on without.
 pub fn write_swap<Q: Desk>(
     alloc: Global,
     desk: &mut Q,
@@ -107,5 +109,6 @@ pub fn write_swap<Q: Desk>(
 {
     put_metadata(alloc, desk, ticket, info)?;
     let generation = put_root(alloc, desk, ticket, root)?;
-    put_latest(alloc, desk, ticket, generation)
+    try_latest(alloc, desk, ticket, generation)?;
+    Ok(())
 }

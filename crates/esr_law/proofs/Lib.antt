@@ -3,3 +3,15 @@ pub mod NoSnapshots
 pub mod Sourceless
 pub mod Whole
 pub mod Retold
+pub mod Maps
+pub mod OwnSteps
+pub mod Turns
+pub mod Pages
+pub mod Worlds
+pub mod Callers
+pub mod Doomed
+pub mod Entries
+pub mod LatestStays
+pub mod OpenedWorlds
+pub mod Reach
+pub mod Exact

@@ -29,6 +29,7 @@ callers f size w who step reply image (allowed.AskFails name indices moment im a
 callers f size w who step reply image (allowed.AskingRestore name place answer im allows same) = refl
 callers f size w who step reply image (allowed.AskingClone source name names moment taken answer im allows same) = refl
 callers f size w who step reply image (allowed.AskingDelete names answer im allows same) = refl
+callers f size w who step reply image (allowed.AskingCleanup answer im allows same) = refl
 callers f size w who step reply image a = tt
 
 clones_after : (f : Formats) (size : ℕ) (w : World) (m : Moment) → Allowed f size w m → (m.entry.who ≡ 0 → AsksNoSnapshot m.entry.step) → AreClones w.ops → AreClones (after f w m).ops

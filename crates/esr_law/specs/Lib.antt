@@ -1,1 +1,5 @@
 pub mod Digests
+pub mod Cleanups
+pub mod Latest
+pub mod Reach
+pub mod Exact

@@ -3,5 +3,4 @@ pub mod MemDepot
 pub mod Meter
 pub mod Past
 pub mod Plan
-pub mod Sizes
 pub mod Stages

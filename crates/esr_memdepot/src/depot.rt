@@ -1,5 +1,5 @@
 //! A container in memory.
-ghost use Rattle.std.specs.Prelude.{◌≡◌, ◌+◌, ◌-◌, ◌^◌, ◌≤◌, ℕ, List, Option, Some, None, [], true, false, map, drop, length, take, option_map, IfOk, IfSome};
+ghost use Rattle.std.specs.Prelude.{◌≡◌, ◌+◌, ◌-◌, ◌^◌, ◌≤◌, ℕ, List, Option, Some, None, [], true, false, map, drop, length, take, option_copied, option_map, IfOk, IfSome};
 ghost use Rattle.esr_memdepot.specs.Past.{all_dated};
 
 use crate::blob::{KeptBlob, copy_left, find, keep, remove_left};
@@ -9,7 +9,7 @@ use crate::meter::{Meter, Turn};
 use crate::plan::{Call, Leaves, Plan, failing_numbers};
 use crate::stage::MemStage;
 use crate::text::{KeptText, copy_texts, keep_text, text_now};
-use esr_depot::{CallError, Commit, Counted, Depot, Failed, Listing, Names};
+use esr_depot::{CallError, Commit, Counted, Depot, Failed, Names, Pages};
 use esr_seq::{Bytes, Seq, Text};
 use std::alloc::{AllocError, Global};
 
@@ -205,7 +205,7 @@ impl Depot for MemDepot {
 
     ghost use Rattle.std.specs.Prelude.{◌<◌, IsTrue};
     ghost use Rattle.esr_depot.specs.Image.{Image, with_blob, with_text, without, blob_known, sizes_of, IsFree, IsTaken};
-    ghost use Rattle.esr_depot.specs.Listing.{size_of};
+    ghost use Rattle.esr_depot.specs.Listing.{size_of, page_from, IsPage};
     ghost use Rattle.esr_depot.specs.Look.{now};
     ghost use Rattle.esr_depot.specs.Calls.{up, HasCause, Serves, Called, SameImage, is_wanting, has_failed, without_memory};
     ghost use Rattle.esr_depot.specs.Changes.{Committed, CommitMay, Replaced, ReplaceMay, Swapped, SwapMay, Removed, RemoveMay};
@@ -296,9 +296,11 @@ impl Depot for MemDepot {
         Ok(found)
     }
 
-    fn list(&mut self, alloc: Global) -> Result<Listing, CallError>
-        ensures listing { IfOk result (λ l.
-            (i : Image) → now (memory_look self.old) ≡ Some i → map size_of l ≡ sizes_of i.blobs) }
+    fn list(&mut self, alloc: Global, after: Option<&str>) -> Result<Pages, CallError>
+        ensures page { IfOk result (λ p. IsPage (option_copied after.entry) (map size_of p.page)) }
+        ensures copy { IfOk result (λ p. p.copy ≡ p.page) }
+        ensures listing { IfOk result (λ p. (i : Image) → now (memory_look self.old) ≡ Some i
+            → map size_of p.page ≡ page_from (option_copied after.entry) (sizes_of i.blobs)) }
         ensures call { Called (memory_look self.old) (memory_look self.new)
             (λ _. SameImage) SameImage result }
         ensures memory { is_wanting result ≡ true → self.new.meter.faults ≡ self.old.meter.faults }
@@ -307,9 +309,9 @@ impl Depot for MemDepot {
         ensures went { Went self.old.meter self.new.meter Call.List result
             (memory_image self.old) (memory_image self.new) }
     {
-        let names = listing(alloc, &self.blobs)?;
+        let pages = listing(alloc, &self.blobs, after)?;
         self.look(Call::List)?;
-        Ok(names)
+        Ok(pages)
     }
 
     fn remove(&mut self, names: &Names) -> Result<(), Failed>

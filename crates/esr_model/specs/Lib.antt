@@ -9,4 +9,5 @@ pub mod Kept
 pub mod Reach
 pub mod Finalize
 pub mod Delete
+pub mod Cleanup
 pub mod Uploads

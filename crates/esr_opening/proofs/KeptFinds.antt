@@ -13,6 +13,7 @@ use Rattle.esr_model.specs.Shelf.{Shelved}
 use Rattle.esr_model.specs.Image.{AllPairs, At, SnapStands, RootStands, Picked, RootIs}
 use Rattle.esr_model.specs.Kept.{RootIds, first_id, IsEmpty, Recorded}
 use Rattle.esr_depot.specs.Image.{Image as Held, Blobs, sizes_of}
+use Rattle.esr_depot.specs.Listing.{page_from}
 use Rattle.esr_record.specs.Record.{Record}
 use Rattle.esr_record.specs.Reading.{record_from}
 use Rattle.esr_root.specs.Root.{Root, empty_root}
@@ -141,7 +142,7 @@ none_listed blobs no_blob =
 
 empty_opens : (i : Held) (shelf : List Shelved) → IsEmpty (image_of i) shelf → IfErr (found i) IsNoDamage
 empty_opens i shelf empty =
-    all_but_stops i empty_record empty_root (record_absent i (sizes_of i.blobs) (sym empty.no_record) refl ∙ ap without_record (none_listed i.blobs empty.no_blob)) refl refl
+    all_but_stops i empty_record empty_root (record_absent i (page_from None (sizes_of i.blobs)) (sym empty.no_record) refl ∙ ap (λ (sizes : List (Bytes × ℕ)). without_record (page_from None sizes)) (none_listed i.blobs empty.no_blob)) refl refl
 
 recorded_opens : (known : Bytes → Bytes → ℕ → Bool) (told : Bytes → Bytes → ℕ → Option (List (Bytes × Bytes))) (i : Held) (shelf : List Shelved) → Recorded (formats known told) (image_of i) shelf → IfErr (found i) IsNoDamage
 unfolding formats

@@ -1,9 +1,10 @@
 -- What opening finds, step by step.
-use Rattle.std.proofs.Common.{◌≡◌, ℕ, ◌+◌, ◌<◌, ℤ, pos, negsuc, List, ◌∷◌, length, drop, get_or, codes, Option, Some, None, Result, Ok, Err, refl, sym, ap, ◌∙◌}
+use Rattle.std.proofs.Common.{◌≡◌, ℕ, ◌+◌, ◌<◌, ℤ, pos, negsuc, List, [], ◌∷◌, length, drop, get_or, codes, Option, Some, None, Result, Ok, Err, refl, sym, ap, ◌∙◌}
 use Rattle.std.specs.FinMap as fin
 use Rattle.std.proofs.lemmas.List.{drop_more}
 use Rattle.esr_model.specs.Values.{Bytes}
 use Rattle.esr_depot.specs.Image.{Image as Held, Blobs, sizes_of}
+use Rattle.esr_depot.specs.Listing.{page_from}
 use Rattle.esr_json.specs.declared.refusal.Reason.{Reason}
 use Rattle.esr_record.specs.Record.{Record}
 use Rattle.esr_record.specs.Reading.{record_from}
@@ -27,8 +28,13 @@ read_there from blobs own name bytes is got = ap (λ (n : Bytes). read_as from n
 pub record_there : (i : Held) (text : Bytes) → Some text ≡ i.text → record_in i.blobs i.text ≡ readable (codes "record") (record_from text)
 record_there i text is = ap (record_in i.blobs) (sym is)
 
-pub record_absent : (i : Held) (sizes : List (Bytes × ℕ)) → None ≡ i.text → sizes ≡ sizes_of i.blobs → record_in i.blobs i.text ≡ without_record sizes
-record_absent i sizes is same = ap (record_in i.blobs) (sym is) ∙ ap without_record (sym same)
+-- the first page has the first name
+first_page : (sizes : List (Bytes × ℕ)) → without_record sizes ≡ without_record (page_from None sizes)
+first_page [] = refl
+first_page (s ∷ sizes) = refl
+
+pub record_absent : (i : Held) (page : List (Bytes × ℕ)) → None ≡ i.text → page ≡ page_from None (sizes_of i.blobs) → record_in i.blobs i.text ≡ without_record page
+record_absent i page is same = ap (record_in i.blobs) (sym is) ∙ first_page (sizes_of i.blobs) ∙ ap without_record (sym same)
 
 -- ---- the root
 

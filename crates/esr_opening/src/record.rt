@@ -28,11 +28,11 @@ fn parse_record<F>(alloc: Global, text: &Bytes) -> Result<ClusterRecord, OpenRef
     }
 }
 
-/// What stands for the record where there is none. There is to be no blob then.
-fn absent_record<F>(alloc: Global, listing: &[Listed]) -> Result<ClusterRecord, OpenRefusal<F>>
-    ensures { Says (without_record (map size_of listing.now)) result }
+/// What stands for the record where there is none, by the first page of the blobs. There is to be no blob then.
+fn absent_record<F>(alloc: Global, page: &[Listed]) -> Result<ClusterRecord, OpenRefusal<F>>
+    ensures { Says (without_record (map size_of page.now)) result }
 {
-    match listing.first() {
+    match page.first() {
         None => Ok(ClusterRecord::new(alloc)),
         Some(listed) => {
             let name = listed.name.try_clone(alloc)?;
@@ -57,8 +57,8 @@ pub(crate) fn find_record<D: Depot>(
     match depot.read_record(alloc)? {
         Some(text) => parse_record(alloc, &text),
         None => {
-            let listing = depot.list(alloc)?;
-            absent_record(alloc, listing.as_slice())
+            let pages = depot.list(alloc, None)?;
+            absent_record(alloc, pages.page.as_slice())
         }
     }
 }

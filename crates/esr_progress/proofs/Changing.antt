@@ -16,7 +16,7 @@ use Rattle.esr_progress.specs.Plan.{Plan, Seat, seat_of_code, ReaderSeat, reader
 use Rattle.esr_progress.specs.Seats.{seat_at, seat_in, reader_in, told_in}
 use Rattle.esr_progress.specs.Inside.{plan_with, seats_with, readers_with, numbers_of, AreNumbers, IsProgress}
 use Rattle.esr_progress.specs.Restores.{is_waiting}
-use Rattle.esr_progress.specs.Changes.{with_seat, without_op, with_completed, op_changed, op_marked, op_failed, seat_ended, done_by, failed_by, with_reader, reader_ended, restore_over, restore_changed, restore_kept, put_plan, read_by, delete_changed}
+use Rattle.esr_progress.specs.Changes.{with_seat, without_snap, without_op, with_completed, op_changed, op_marked, op_failed, seat_ended, done_by, failed_by, with_reader, reader_ended, restore_over, restore_changed, restore_kept, read_by, delete_changed}
 use Rattle.esr_progress.proofs.Lists.{none_some, some_same}
 use Rattle.esr_progress.proofs.Entries.{FirstAt, position_found, position_missed, get_from, get_put, get_left, same_maps, from_set, from_filter}
 use Rattle.esr_progress.proofs.Numbers.{numbers-set, numbers-filter, kept_number}
@@ -119,6 +119,21 @@ module _ (ops : List (ℕ × Op)) (deletes : List (ℕ × Deletion)) (o : ℕ) w
   pub left_is : (completed : List ℕ) (seats : List Slot) (next : ℕ) (restores : List (ℕ × RestorePlan))
       → plan_with (filter (λ e. not (eqb e.0 o)) ops) (filter (λ e. not (eqb e.0 o)) deletes) completed seats next restores ≡ without_op (plan_with ops deletes completed seats next restores) o
   left_is completed seats next restores = λ j. record (plan_with ops deletes completed seats next restores) { ops = from_filter ops o j; deletes = from_filter deletes o j }
+
+  -- a snapshot alone
+  pub snap_left_keeps : (next : ℕ) (restores : List (ℕ × RestorePlan)) → IsProgress ops deletes next restores → IsProgress (filter (λ e. not (eqb e.0 o)) ops) deletes next restores
+  snap_left_keeps next restores h = record {
+    ops_numbered = numbers-filter (λ e. not (eqb e.0 o)) ops next h.ops_numbered;
+    deletes_numbered = h.deletes_numbered;
+    restores_numbered = h.restores_numbered;
+    apart = λ n a b. h.apart n (kept_number (λ e. not (eqb e.0 o)) ops n a) b;
+    first = h.first;
+    most = h.most;
+  }
+
+  pub snap_left_is : (completed : List ℕ) (seats : List Slot) (next : ℕ) (restores : List (ℕ × RestorePlan))
+      → plan_with (filter (λ e. not (eqb e.0 o)) ops) deletes completed seats next restores ≡ without_snap (plan_with ops deletes completed seats next restores) o
+  snap_left_is completed seats next restores = λ j. record (plan_with ops deletes completed seats next restores) { ops = from_filter ops o j }
 
 -- ---- a delete
 

@@ -1,5 +1,5 @@
 -- When a unit of an op is ready.
-use Rattle.std.proofs.Common.{◌≡◌, ◌≢◌, ◌⊎◌, ℕ, suc, zero, ◌+◌, ◌<◌, ◌≤◌, Bool, true, false, ◌&&◌, ◌||◌, List, [], ◌∷◌, Option, Some, None, cond, eqb, option_map, map, length, get_or, take, refl, sym, ap, ◌∙◌, subst, inl, inr, true≢false, arith, eq-eqb, nat_cmp}
+use Rattle.std.proofs.Common.{◌≡◌, ◌≢◌, ◌⊎◌, ℕ, suc, zero, ◌+◌, ◌<◌, Bool, true, false, ◌&&◌, ◌||◌, List, [], ◌∷◌, Option, Some, None, cond, length, get_or, take, refl, sym, ap, ◌∙◌, subst, inl, inr, true≢false, arith, eq-eqb, nat_cmp}
 use Rattle.std.specs.Prelude.{not, is_some, nat_lt, slice_get, ◌==◌}
 use Rattle.std.specs.List.{list_any, position}
 use Rattle.std.specs.FinMap as fin
@@ -16,10 +16,10 @@ use Rattle.esr_progress.specs.declared.ready.Kind.{Kind}
 use Rattle.esr_progress.specs.declared.ready.Kind.TheVariants as ready
 use Rattle.esr_progress.specs.declared.unit.Slot.{Slot}
 use Rattle.esr_progress.specs.Plan.{RestorePlan}
-use Rattle.esr_progress.specs.Shards.{is_pending, waits, waits_for, is_shard, op_before, restore_before}
+use Rattle.esr_progress.specs.Shards.{is_pending, waits, waits_for, op_before, restore_before}
 use Rattle.esr_progress.specs.Ops.{has_stopped, is_free}
 use Rattle.esr_progress.specs.Inside.{numbers_of, Rise}
-use Rattle.esr_progress.specs.Choice.{barred, is_going, goes_in, is_first_at, is_earliest, is_out_of, is_swapping, ready_by, is_final, ready_of, NoneBefore, IsReadyAt, IsPossible, AreShards}
+use Rattle.esr_progress.specs.Choice.{barred, is_going, goes_in, is_first_at, is_earliest, is_out_of, ready_by, is_final, ready_of, NoneBefore, IsReadyAt, IsPossible}
 use Rattle.esr_progress.proofs.Lists.{Has-at, Has-map, position-None, some_same, none_some}
 use Rattle.esr_progress.proofs.Entries.{eqb_is, find-member}
 use Rattle.esr_progress.proofs.Numbers.{found_member}

@@ -1,8 +1,7 @@
 -- Maps by their lists of entries.
-use Rattle.std.proofs.Common.{◌≡◌, ◌≢◌, ◌⊎◌, ℕ, zero, suc, ◌+◌, ◌<◌, ◌≤◌, Bool, true, false, cond, eqb, List, [], ◌∷◌, ◌++◌, Option, Some, None, option_map, map, length, get_or, refl, sym, ap, ◌∙◌, subst, inl, inr, true≢false, arith, slice_get, nat_cmp}
+use Rattle.std.proofs.Common.{◌≡◌, ◌≢◌, ℕ, zero, suc, ◌<◌, Bool, true, false, cond, eqb, List, [], ◌∷◌, ◌++◌, Option, Some, None, length, get_or, refl, sym, ap, ◌∙◌, inl, inr, true≢false, arith, slice_get, nat_cmp}
 use Rattle.std.specs.Prelude.{not}
 use Rattle.std.specs.List.{position, filter}
-use Rattle.std.specs.Ordering.{eq_by_cmp}
 use Rattle.std.specs.Cmp.{nat_cmp_total, unsigned_tied}
 use Rattle.std.specs.FinMap.{FinMap, nat_cmp-IsAntisymmetric}
 use Rattle.std.specs.FinMap as fin
@@ -10,7 +9,7 @@ use Rattle.std.proofs.lemmas.Bool.Decides.{eqb_tells}
 use Rattle.std.proofs.lemmas.List.Quantifiers.{position-Some}
 use Rattle.std.proofs.Math.ListN.{set}
 use Rattle.esr_model.specs.Values.{Has}
-use Rattle.esr_progress.proofs.Lists.{position-None, Has-at, some_same, none_some}
+use Rattle.esr_progress.proofs.Lists.{position-None, some_same, none_some}
 
 pub eqb_is : (a b : ℕ) → eqb a b ≡ true → a ≡ b
 eqb_is a b e = elim (eqb_tells a b) [ inl t ↦ t.1 | inr t ↦ absurd (true≢false (sym e ∙ t.0)) ]

@@ -26,6 +26,7 @@ pub mod Unread
 pub mod Restorables
 pub mod Lowest
 pub mod NextDeletes
+pub mod Cleanups
 pub mod Reopening
 pub mod NamedUuids
 pub mod DeleteTickets

@@ -1,7 +1,7 @@
 -- Members of lists, and what holds of each.
-use Rattle.std.proofs.Common.{◌≡◌, ◌≢◌, ◌⊎◌, ℕ, zero, suc, ◌+◌, ◌<◌, ◌≤◌, Bool, true, false, cond, eqb, List, [], ◌∷◌, ◌++◌, Option, Some, None, option_map, map, length, get_or, take, drop, refl, sym, ap, ◌∙◌, subst, inl, inr, true≢false, arith, slice_get, ltb, eq-eqb}
-use Rattle.std.specs.List.{AllByRecursion, position, position_or_len, prefix_len, filter, list_any}
-use Rattle.std.specs.Prelude.{not, ◌||◌}
+use Rattle.std.proofs.Common.{◌≡◌, ◌⊎◌, ℕ, zero, suc, ◌+◌, ◌<◌, ◌≤◌, Bool, true, false, cond, eqb, List, [], ◌∷◌, ◌++◌, Option, Some, None, map, length, get_or, take, drop, refl, sym, ap, ◌∙◌, subst, inl, inr, true≢false, arith, slice_get, ltb, eq-eqb}
+use Rattle.std.specs.List.{AllByRecursion, position, position_or_len, prefix_len, filter}
+use Rattle.std.specs.Prelude.{not}
 use Rattle.std.proofs.lemmas.List.{get_or_default, length-map}
 use Rattle.std.proofs.lemmas.List.Edits.{map_over_more}
 use Rattle.std.proofs.lemmas.Bool.Decides.{Decides-ltb, eqb_tells}

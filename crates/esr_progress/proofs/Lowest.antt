@@ -1,14 +1,13 @@
 -- The unit of the lowest number, of units of restores, deletes and snapshots.
-use Rattle.std.proofs.Common.{◌≡◌, ◌⊎◌, ℕ, ◌<◌, ◌≤◌, Bool, true, false, cond, Option, Some, None, refl, sym, ap, ◌∙◌, inl, inr, true≢false, arith}
+use Rattle.std.proofs.Common.{◌≡◌, ◌⊎◌, ℕ, ◌<◌, ◌≤◌, Bool, true, false, cond, Option, Some, None, refl, sym, ◌∙◌, inl, inr, true≢false, arith}
 use Rattle.std.specs.Prelude.{IfOk, Result, Ok, Err}
 use Rattle.std.proofs.lemmas.Bool.{cases_lt}
 use Rattle.std.proofs.lemmas.Bool.Decides.{Decides-ltb}
-use Rattle.std.specs.FinMap as fin
-use Rattle.esr_core.specs.World.{World, Deletion}
+use Rattle.esr_core.specs.World.{World}
 use Rattle.esr_core.specs.Ready.{ReadyDrop, AnyReady, AShard, AFinalize, ADrop, ADelete, ACleanup, ARestore}
-use Rattle.esr_core.specs.Allowed.{NoCleanup, HasReady}
+use Rattle.esr_core.specs.Allowed.{HasReady}
 use Rattle.esr_progress.specs.declared.unit.ReadyUnit.{ReadyUnit}
-use Rattle.esr_progress.specs.Plan.{Plan, IsPlanOf}
+use Rattle.esr_progress.specs.Plan.{Plan}
 use Rattle.esr_progress.specs.Units.{HasSnapReady, HasDeleteReady, HasUnread, IsLowest, LowestUnit, NextUnit}
 use Rattle.esr_progress.specs.Choice.{is_before, lower_of}
 
@@ -59,7 +58,7 @@ module _ (P Q : ℕ → Type 0) where
   second_lowest a (Some y) lowest least first = (inr least.0, λ p lt h. elim h [ inl one ↦ no_first a (Some y) lowest least first y least.1 p lt one | inr two ↦ least.1 p lt two ])
 
   -- the lower number is the lowest of both
-  lowest_of : (a b : Option ℕ) → IsLowest P a → IsLowest Q b → IsLowest (λ n. P n ⊎ Q n) (lower_of a b)
+  pub lowest_of : (a b : Option ℕ) → IsLowest P a → IsLowest Q b → IsLowest (λ n. P n ⊎ Q n) (lower_of a b)
   lowest_of a b lowest least = go (is_before a b) refl
     where
       go : (c : Bool) → is_before a b ≡ c → IsLowest (λ n. P n ⊎ Q n) (cond c a b)
@@ -101,13 +100,12 @@ leaves w o r = elim r.stopped [
 ]
 
 -- what is ready is of a restore, of a delete or of a snapshot
-parts : (w : World) → NoCleanup w → (o : ℕ) → HasReady w o → HasUnread w o ⊎ (HasDeleteReady w o ⊎ HasSnapReady w o)
-parts w clean o (inl h) = inr (inr (inl h))
-parts w clean o (inr (inl h)) = inr (inr (inr (inl h)))
-parts w clean o (inr (inr (inl h))) = inr (leaves w o h)
-parts w clean o (inr (inr (inr (inl (x, inl r))))) = inr (inl (inr (x, r)))
-parts w clean o (inr (inr (inr (inl (x, inr r))))) = absurd (true≢false (sym r.cleans ∙ clean o x r.there))
-parts w clean o (inr (inr (inr (inr h)))) = inl h
+parts : (w : World) (o : ℕ) → HasReady w o → HasUnread w o ⊎ (HasDeleteReady w o ⊎ HasSnapReady w o)
+parts w o (inl h) = inr (inr (inl h))
+parts w o (inr (inl h)) = inr (inr (inr (inl h)))
+parts w o (inr (inr (inl h))) = inr (leaves w o h)
+parts w o (inr (inr (inr (inl h)))) = inr (inl (inr h))
+parts w o (inr (inr (inr (inr h)))) = inl h
 
 any_of : (w : World) → AnyReady w → (o : ℕ) × HasReady w o
 any_of w (AShard o op s r) = (o, inl (op, s, r))
@@ -117,25 +115,21 @@ any_of w (ADelete d x r) = (d, inr (inr (inr (inl (x, inl r)))))
 any_of w (ACleanup d x r) = (d, inr (inr (inr (inl (x, inr r)))))
 any_of w (ARestore o r s h) = (o, inr (inr (inr (inr (r, s, h)))))
 
-whole : (w : World) → NoCleanup w → (o : Option (Plan × ReadyUnit)) → LowestUnit (λ n. HasUnread w n ⊎ (HasDeleteReady w n ⊎ HasSnapReady w n)) w o → NextUnit w o
-whole w clean None none = λ any. let (o, h) = any_of w any in none o (parts w clean o h)
-whole w clean (Some (new, u)) (g, plan) = (record { ticket = g.ticket; lowest = λ p lt h. g.lowest p lt (parts w clean p h); gives = g.gives; copy = g.copy }, plan)
+whole : (w : World) (o : Option (Plan × ReadyUnit)) → LowestUnit (λ n. HasUnread w n ⊎ (HasDeleteReady w n ⊎ HasSnapReady w n)) w o → NextUnit w o
+whole w None none = λ any. let (o, h) = any_of w any in none o (parts w o h)
+whole w (Some (new, u)) (g, plan) = (record { ticket = g.ticket; lowest = λ p lt h. g.lowest p lt (parts w p h); gives = g.gives; copy = g.copy }, plan)
 
--- no cleanup is open in a world of which the list tells
-pub cleans_none : (w : World) (p : Plan) → IsPlanOf w p → ((d : ℕ) (x : Deletion) → fin.get p.deletes d ≡ Some x → x.clean ≡ false) → NoCleanup w
-cleans_none w p is none d x e = none d x (ap (λ m. fin.get m d) is.deletes ∙ e)
-
-module _ (w : World) (clean : NoCleanup w) (restore delete op : Option ℕ) (unread : IsLowest (HasUnread w) restore) (deletes : IsLowest (HasDeleteReady w) delete) (ops : IsLowest (HasSnapReady w) op) where
+module _ (w : World) (restore delete op : Option ℕ) (unread : IsLowest (HasUnread w) restore) (deletes : IsLowest (HasDeleteReady w) delete) (ops : IsLowest (HasSnapReady w) op) where
   open_lowest : IsLowest (λ n. HasDeleteReady w n ⊎ HasSnapReady w n) (lower_of delete op)
   open_lowest = lowest_of (HasDeleteReady w) (HasSnapReady w) delete op deletes ops
 
   pub restore_is_next : is_before restore (lower_of delete op) ≡ true → (o : Option (Plan × ReadyUnit)) → LowestUnit (HasUnread w) w o → NextUnit w o
-  restore_is_next first o h = whole w clean o (first_unit (HasUnread w) (λ n. HasDeleteReady w n ⊎ HasSnapReady w n) w restore (lower_of delete op) unread open_lowest first o h)
+  restore_is_next first o h = whole w o (first_unit (HasUnread w) (λ n. HasDeleteReady w n ⊎ HasSnapReady w n) w restore (lower_of delete op) unread open_lowest first o h)
 
   pub delete_is_next : is_before restore (lower_of delete op) ≡ false → is_before delete op ≡ true → (o : Option (Plan × ReadyUnit)) → LowestUnit (HasDeleteReady w) w o → NextUnit w o
   delete_is_next later first o h =
-      whole w clean o (second_unit (HasUnread w) (λ n. HasDeleteReady w n ⊎ HasSnapReady w n) w restore (lower_of delete op) unread open_lowest later o (first_unit (HasDeleteReady w) (HasSnapReady w) w delete op deletes ops first o h))
+      whole w o (second_unit (HasUnread w) (λ n. HasDeleteReady w n ⊎ HasSnapReady w n) w restore (lower_of delete op) unread open_lowest later o (first_unit (HasDeleteReady w) (HasSnapReady w) w delete op deletes ops first o h))
 
   pub op_is_next : is_before restore (lower_of delete op) ≡ false → is_before delete op ≡ false → (o : Option (Plan × ReadyUnit)) → LowestUnit (HasSnapReady w) w o → NextUnit w o
   op_is_next later last o h =
-      whole w clean o (second_unit (HasUnread w) (λ n. HasDeleteReady w n ⊎ HasSnapReady w n) w restore (lower_of delete op) unread open_lowest later o (second_unit (HasDeleteReady w) (HasSnapReady w) w delete op deletes ops last o h))
+      whole w o (second_unit (HasUnread w) (λ n. HasDeleteReady w n ⊎ HasSnapReady w n) w restore (lower_of delete op) unread open_lowest later o (second_unit (HasDeleteReady w) (HasSnapReady w) w delete op deletes ops last o h))

@@ -1,26 +1,24 @@
 -- The unit that is given, in a world of which the list tells.
-use Rattle.std.proofs.Common.{◌≡◌, ◌≢◌, ◌⊎◌, ℕ, suc, zero, ◌+◌, ◌<◌, ◌≤◌, Bool, true, false, ◌&&◌, ◌||◌, List, [], ◌∷◌, Option, Some, None, cond, eqb, option_map, map, length, get_or, take, refl, sym, ap, ◌∙◌, subst, inl, inr, true≢false, arith, eq-eqb, nat_cmp}
-use Rattle.std.specs.Prelude.{not, is_some, nat_lt, slice_get, ◌==◌, IfSome}
-use Rattle.std.specs.List.{list_any, position}
+use Rattle.std.proofs.Common.{◌≡◌, ℕ, suc, zero, ◌<◌, Bool, true, false, ◌||◌, List, [], ◌∷◌, Option, Some, None, option_map, map, length, get_or, take, refl, sym, ap, ◌∙◌, subst, inl, inr, true≢false, arith, eq-eqb, nat_cmp}
+use Rattle.std.specs.Prelude.{not, nat_lt, slice_get, ◌==◌, IfSome}
+use Rattle.std.specs.List.{position}
 use Rattle.std.specs.FinMap as fin
 use Rattle.std.proofs.Math.ListN.{set}
 use Rattle.std.proofs.lemmas.Bool.{lt-ltb, ltb-true}
 use Rattle.std.proofs.lemmas.Option.{slice_get_within, slice_get-get_or, get_or_from_slice_get}
-use Rattle.esr_names.specs.declared.ids.Id.{Id}
 use Rattle.esr_names.specs.declared.blob.ShardId.{ShardId}
 use Rattle.esr_model.specs.Values.{Bytes, Has, RootData, ShardResult, Formats}
 use Rattle.esr_core.specs.Entry.{GivenShard, GivenClone}
 use Rattle.esr_model.specs.Image.{Generation}
-use Rattle.esr_core.specs.World.{World, Op, Deletion, ShardState, Pending, Out, Done, GivenUp, ShardWork, ReadState, Unread, BeingRead, Restored, NotRestored, RestoreShard, Restoring, Ticket, Work, Shard, Finalize, Deleting, Drop, AllDone, info_of}
-use Rattle.esr_core.specs.Ready.{Barrier, Goes, Stopped, Waits, Before, IsMaster, IsShard, SwapIsOut, UnitIsOut, ReadyShard, ReadyFinalize, ReadyDrop}
+use Rattle.esr_core.specs.World.{World, Op, Deletion, ShardState, Pending, Out, Done, GivenUp, ShardWork, ReadState, Unread, BeingRead, Restored, NotRestored, RestoreShard, Restoring, Ticket, Work, Shard, Finalize, Deleting, Drop, AllDone}
+use Rattle.esr_core.specs.Ready.{Barrier, Waits, Before, IsMaster, IsShard, SwapIsOut, UnitIsOut, ReadyShard, ReadyFinalize, ReadyDrop}
 use Rattle.esr_core.specs.Restores.{waits}
 use Rattle.esr_core.specs.Steps.{all_done, is_done, given, Largest, final_ticket, shard_ticket}
 use Rattle.esr_core.specs.Turns.{plain_ticket}
-use Rattle.esr_core.specs.Generations.{IsLive, DoneAt}
-use Rattle.esr_core.specs.Allowed.{StandsBefore, GivesShard}
+use Rattle.esr_core.specs.Generations.{IsLive}
+use Rattle.esr_core.specs.Allowed.{GivesShard}
 use Rattle.esr_core.specs.After.{shard_of, taken_by, taken_shard}
 use Rattle.esr_formats.specs.Ids.{number_of}
-use Rattle.esr_formats.specs.Infos.{info_of_code}
 use Rattle.esr_formats.specs.Roots.{root_of}
 use Rattle.esr_formats.specs.Clusters.{count_of}
 use Rattle.esr_results.specs.Results.{result_of}
@@ -28,19 +26,17 @@ use Rattle.esr_progress.specs.declared.ready.Kind.{Kind}
 use Rattle.esr_progress.specs.declared.ready.Kind.TheVariants as ready
 use Rattle.esr_progress.specs.declared.unit.Seat.{Seat as CodeSeat}
 use Rattle.esr_progress.specs.declared.unit.Slot.{Slot}
-use Rattle.esr_progress.specs.declared.unit.Slot.TheVariants as slots
 use Rattle.esr_progress.specs.declared.unit.SeatKind.{SeatKind}
 use Rattle.esr_progress.specs.declared.unit.SeatKind.TheVariants as kinds
 use Rattle.esr_progress.specs.declared.unit.Work.{Work as CodeWork}
 use Rattle.esr_progress.specs.declared.unit.Work.TheVariants as works
 use Rattle.esr_progress.specs.declared.unit.Copied.{Copied}
-use Rattle.esr_progress.specs.declared.unit.ReadyUnit.{ReadyUnit}
-use Rattle.esr_progress.specs.Plan.{Plan, Seat, UnitKind, OfShard, OfFinalize, OfDelete, OfDrop, kind_of, seat_of, seat_of_code, RestorePlan, read_state, read_work, restore_plan, IsPlanOf, IsGivenIn}
+use Rattle.esr_progress.specs.Plan.{Plan, Seat, OfShard, OfFinalize, OfDrop, kind_of, seat_of, seat_of_code, RestorePlan, read_state, read_work, restore_plan, IsPlanOf, IsGivenIn}
 use Rattle.esr_progress.specs.Seats.{seat_at, seat_in, told_in, holds, is_swap_out, is_unit_out, is_master, is_of_shard}
-use Rattle.esr_progress.specs.Ops.{has_stopped, is_free, IsDoneAt, Among, IsMost, IsShardWork, IsFinalWork}
-use Rattle.esr_progress.specs.Inside.{plan_with, seats_with, numbers_of, Rise, IsProgress}
-use Rattle.esr_progress.specs.Units.{given_by, given_of, IsCopyOf, ShardGiven, CloneGiven, GivesWork, LeavesSnap, HasSnapReady, GivesLowest, LowestUnit, IsLowest}
-use Rattle.esr_progress.specs.Choice.{barred, is_earliest, is_out_of, is_swapping, is_final, ready_of, NoneBefore, IsReadyAt, IsFirstReady, IsPossible, IsWorkFor, IsSeatOf, IsSeatFor, IsLiveIn, IsBaseFor, given_entry, AreShards}
+use Rattle.esr_progress.specs.Ops.{has_stopped, is_free, IsMost, IsShardWork, IsFinalWork}
+use Rattle.esr_progress.specs.Inside.{plan_with, numbers_of, Rise, IsProgress}
+use Rattle.esr_progress.specs.Units.{given_by, ShardGiven, CloneGiven, GivesWork, LeavesSnap, HasSnapReady, LowestUnit, IsLowest}
+use Rattle.esr_progress.specs.Choice.{barred, is_out_of, is_swapping, is_final, ready_of, NoneBefore, IsReadyAt, IsWorkFor, IsSeatOf, IsSeatFor, IsLiveIn, IsBaseFor, given_entry, AreShards}
 use Rattle.esr_progress.proofs.Lists.{Has-at, Has-map, Has-mapped, position-None, some_same, none_some}
 use Rattle.esr_progress.proofs.Entries.{FirstAt, first_at, from_set, get_from, find-member, eqb_is}
 use Rattle.esr_progress.proofs.Numbers.{found_member, entries_from, numbers-set}
@@ -48,7 +44,7 @@ use Rattle.esr_progress.proofs.SeatMaps.{get-seats}
 use Rattle.esr_progress.proofs.Plans.{ticket_of, seats_put, restore_of_plan}
 use Rattle.esr_progress.proofs.Results.{most_like}
 use Rattle.esr_progress.proofs.Takes.{set_same}
-use Rattle.esr_progress.proofs.Choices.{Has-taken, or_true, or_left, or_right, both_true, and_true, not_true, is_false, is_true, clash, any_true, any_here, place_of, place_below, first_place, place_within, number_below, place_lower, goes_by, goes_on, stopped_by, has_by, NoneWaits, free_says, says_free, Earlier, not_earliest, none_earlier, all_done_by, picked, shard_found, stands_taken, free_alike}
+use Rattle.esr_progress.proofs.Choices.{Has-taken, or_true, or_left, or_right, both_true, and_true, not_true, is_false, is_true, clash, any_true, any_here, place_of, place_below, first_place, place_within, number_below, place_lower, goes_by, goes_on, stopped_by, has_by, NoneWaits, free_says, says_free, not_earliest, none_earlier, all_done_by, picked, shard_found, stands_taken, free_alike}
 
 -- ---- kinds of work
 
@@ -107,7 +103,7 @@ waits_read (NotRestored why) e = true≢false (sym e)
 
 -- ---- seats by their tickets
 
-coded : (o : Option Slot) (s : Seat) → told_in seat_in o ≡ Some s → (c : Slot) × (o ≡ Some c) × (seat_in c ≡ Some s)
+pub coded : (o : Option Slot) (s : Seat) → told_in seat_in o ≡ Some s → (c : Slot) × (o ≡ Some c) × (seat_in c ≡ Some s)
 coded None s e = absurd (none_some s e)
 coded (Some c) s e = (c, refl, e)
 
@@ -123,7 +119,7 @@ if_some : {A : Type 0} (o : Option A) (P : A → Type 0) (x : A) → o ≡ Some 
 if_some {A} o P x e h = subst (λ (z : Option A). IfSome z P) e h
 
 -- the entry of a number that rises
-has_taken : {A : Type 0} (xs : List A) (i j : ℕ) (x : A) → j < i → slice_get xs j ≡ Some x → Has (take i xs) x
+pub has_taken : {A : Type 0} (xs : List A) (i j : ℕ) (x : A) → j < i → slice_get xs j ≡ Some x → Has (take i xs) x
 has_taken [] i j x lt e = absurd (none_some x e)
 has_taken (y ∷ xs) zero j x lt e = absurd (omega arith)
 has_taken (y ∷ xs) (suc i) zero x lt e = inl (some_same y x e)
@@ -378,7 +374,7 @@ module _ (ops : List (ℕ × Op)) (deletes : List (ℕ × Deletion)) (completed 
 
   -- the seat, and the list, of a unit of this op
   abbrev seat_for : SeatKind → ℕ → CodeSeat
-  seat_for kind o = record { kind = kind; op = o; term = term; raised = None; settled = false; out = true }
+  seat_for kind o = record { kind = kind; clean = false; op = o; term = term; raised = None; settled = false; out = true }
 
   abbrev seated : SeatKind → ℕ × Op → ℕ → ℕ → Plan
   seated kind e at ticket = record now { ops = fin.from_entries (set ops at (given_entry kind ticket e)); seats = fin.insert now.seats now.next_ticket (seat_of_code (seat_for kind e.0)); next_ticket = suc now.next_ticket }
@@ -396,7 +392,7 @@ module _ (ops : List (ℕ × Op)) (deletes : List (ℕ × Deletion)) (completed 
         let (stopped, out) = picked ops deletes completed seats restores term e (Some ready.Drop) chosen in (
           ready_drop at e there stopped out,
           λ f. ticketed (plain_ticket w e.0 Drop) (seat_of_code (seat_for kinds.Drop e.0)) _ w.ops (unchanged kinds.Drop refl)
-              (λ i. record { kind = OfDrop; op = e.0; term = is.term_is i; raised = None; settled = false; out = true }),
+              (λ i. record { kind = OfDrop; clean = false; op = e.0; term = is.term_is i; raised = None; settled = false; out = true }),
         )
 
     gives_final : (work : CodeWork) → ready_of ops deletes completed seats restores term e ≡ Some ready.Finalize → IsFinalWork e.1 work → IsGivenBy e at ticket work kinds.Finalize copy
@@ -406,7 +402,7 @@ module _ (ops : List (ℕ × Op)) (deletes : List (ℕ × Deletion)) (completed 
           λ f.
               subst (λ (o : Option Op). IsPlanOf (taken_by f w e.0 (given_by (works.Finalize info shards) copy) o) (seated kinds.Finalize e at ticket)) (sym (got at e there))
               (ticketed (final_ticket f w e.0 e.1 (map result_of shards)) (seat_of_code (seat_for kinds.Finalize e.0)) _ w.ops (unchanged kinds.Finalize refl)
-              (λ i. record { kind = OfFinalize; op = e.0; term = is.term_is i; raised = None; settled = false; out = true })),
+              (λ i. record { kind = OfFinalize; clean = false; op = e.0; term = is.term_is i; raised = None; settled = false; out = true })),
         )
     gives_final work chosen h = absurd h
 
@@ -505,7 +501,7 @@ module _ (ops : List (ℕ × Op)) (deletes : List (ℕ × Deletion)) (completed 
           ∙ (λ j. fin.insert (ops_is j) e.0 (record e.1 { shards = map (given (count j) (sym own_id j) (sym own_number j)) e.1.shards })) in
           subst (λ (o : Option ShardWork). IsPlanOf (taken_shard w e.0 e.1 base o) (seated (kinds.Shard own) e at ticket)) (sym (is_found index number id n))
           (ticketed (shard_ticket w e.0 e.1 s base) (seat_of_code (seat_for (kinds.Shard own) e.0)) _ _ put
-          (λ j. record { kind = OfShard (own_id j) (own_number j); op = e.0; term = is.term_is j; raised = None; settled = false; out = true }))
+          (λ j. record { kind = OfShard (own_id j) (own_number j); clean = false; op = e.0; term = is.term_is j; raised = None; settled = false; out = true }))
 
       takes_one : (index number : ℕ) (base : Option ℕ) (own : ShardId) → s.ref.id ≡ index → s.number ≡ number → s.ref.id ≡ own.index.number → s.number ≡ own.number
           → (f : Formats) → IsPlanOf (taken_by f w e.0 (GivenShard index number base) (fin.get w.ops e.0)) (seated (kinds.Shard own) e at ticket)

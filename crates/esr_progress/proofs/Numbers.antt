@@ -1,9 +1,7 @@
 -- Lists of entries whose numbers rise.
-use Rattle.std.proofs.Common.{◌≡◌, ◌≢◌, ◌⊎◌, ℕ, zero, suc, ◌+◌, ◌<◌, ◌≤◌, Bool, true, false, cond, eqb, ltb, ◌&&◌, List, [], ◌∷◌, ◌++◌, Option, Some, None, map, length, get_or, take, refl, sym, ap, ◌∙◌, subst, inl, inr, arith, slice_get, nat_cmp, T, Ordering, Less, Equal, Greater}
-use Rattle.std.specs.Prelude.{not}
+use Rattle.std.proofs.Common.{◌≡◌, ℕ, suc, ◌<◌, ◌≤◌, Bool, true, false, cond, eqb, ◌&&◌, List, [], ◌∷◌, ◌++◌, Option, Some, None, length, refl, sym, ap, ◌∙◌, subst, inl, inr, arith, nat_cmp, T, Less, Equal, Greater}
 use Rattle.std.specs.List.{filter}
 use Rattle.std.specs.Ordering.{is_lt}
-use Rattle.std.specs.FinMap.{FinMap}
 use Rattle.std.specs.FinMap as fin
 use Rattle.std.specs.FinMap.Entries.{below_all}
 use Rattle.std.proofs.lemmas.Bool.Decides.{Decides-ltb}
@@ -13,7 +11,7 @@ use Rattle.std.proofs.Math.Seq.{map-set_same}
 use Rattle.std.proofs.Math.ListN.{set}
 use Rattle.esr_model.specs.Values.{Has}
 use Rattle.esr_progress.specs.Inside.{numbers_of, Rise, AreNumbers}
-use Rattle.esr_progress.proofs.Lists.{Has-map, Has-mapped, Has-filter, Has-left, Has-right, Has-either, some_same, none_some}
+use Rattle.esr_progress.proofs.Lists.{Has-map, Has-mapped, Has-filter, Has-either}
 use Rattle.esr_progress.proofs.Entries.{FirstAt, find-here, find-past, find-member, get_from, same_maps}
 
 -- ---- the numbers after a change

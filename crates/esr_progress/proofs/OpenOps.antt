@@ -1,18 +1,18 @@
 -- What a change of an op's shards is, as the definitions see it.
-use Rattle.std.proofs.Common.{◌≡◌, ◌⊎◌, ℕ, Bool, true, false, cond, ◌&&◌, ◌||◌, ◌==◌, eqb, List, [], ◌∷◌, Option, Some, None, option_map, map, refl, sym, ap, ◌∙◌, subst, inl, inr, arith, ◌+◌, ◌<◌, length, take, get_or}
-use Rattle.std.specs.List.{list_any, list_all, AllByRecursion}
+use Rattle.std.proofs.Common.{◌≡◌, ℕ, Bool, true, false, cond, ◌&&◌, ◌||◌, ◌==◌, eqb, List, [], ◌∷◌, Option, Some, None, option_map, map, refl, sym, ap, ◌∙◌, subst, inl, inr, arith, ◌+◌, ◌<◌, length, take, get_or}
+use Rattle.std.specs.List.{list_any, list_all}
 use Rattle.esr_names.specs.declared.ids.Id.{Id}
 use Rattle.esr_names.specs.declared.blob.ShardId.{ShardId}
 use Rattle.esr_names.specs.declared.index_ref.IndexRef.{IndexRef as CodeRef}
 use Rattle.esr_record.specs.declared.op.Making.{Making}
-use Rattle.esr_model.specs.Values.{Bytes, Has, ShardResult}
-use Rattle.esr_core.specs.World.{ShardState, Pending, Out, Done, GivenUp, ShardWork, marked, marked_by}
+use Rattle.esr_model.specs.Values.{Bytes, ShardResult}
+use Rattle.esr_core.specs.World.{Out, Done, GivenUp, ShardWork, marked, marked_by}
 use Rattle.esr_core.specs.Steps.{given, all_done}
 use Rattle.esr_core.specs.Turns.{fails, fails_by}
 use Rattle.esr_progress.specs.declared.shard.ShardState.{ShardState as CodeState}
 use Rattle.esr_progress.specs.declared.shard.ShardState.TheVariants as states
 use Rattle.esr_progress.specs.declared.shard.OpenShard.{OpenShard}
-use Rattle.esr_progress.specs.Shards.{work_of_shard, state_of, given_open, marked_open, marked_state, failed_open, failed_state, is_done, is_done_with, is_open_waiting, waits, waits_on, generation_by, generation_open, AreAlike}
+use Rattle.esr_progress.specs.Shards.{work_of_shard, state_of, given_open, marked_open, marked_state, failed_open, failed_state, is_done, is_done_with, is_open_waiting, waits_on, generation_by, generation_open}
 use Rattle.esr_progress.specs.Ops.{IsOpenOp, Within, IsDoneAt, IsMost, Among, later_of}
 use Rattle.esr_formats.specs.Ids.{number_of}
 use Rattle.esr_results.specs.Results.{result_of}

@@ -1,11 +1,11 @@
 -- What a change of a restore's shards is, as the definitions see it.
 use Rattle.std.proofs.Common.{◌≡◌, ℕ, Bool, true, false, cond, ◌||◌, ◌&&◌, eqb, List, [], ◌∷◌, map, refl, sym, ap, ◌∙◌, subst, ◌<◌}
 use Rattle.std.specs.Prelude.{◌==◌}
-use Rattle.std.specs.List.{list_any, AllByRecursion}
+use Rattle.std.specs.List.{list_any}
 use Rattle.esr_names.specs.declared.blob.ShardId.{ShardId}
 use Rattle.esr_names.specs.declared.index_ref.IndexRef.{IndexRef as CodeRef}
-use Rattle.esr_model.specs.Values.{Bytes, Has}
-use Rattle.esr_core.specs.World.{ShardState, Out, ShardWork, marked, marked_by}
+use Rattle.esr_model.specs.Values.{Bytes}
+use Rattle.esr_core.specs.World.{Out, ShardWork, marked, marked_by}
 use Rattle.esr_core.specs.Steps.{given}
 use Rattle.esr_progress.specs.declared.shard.ShardState.{ShardState as CodeState}
 use Rattle.esr_progress.specs.declared.shard.ShardState.TheVariants as states

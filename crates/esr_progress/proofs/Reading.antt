@@ -4,14 +4,14 @@ use Rattle.std.specs.Prelude.{◌&&◌, ◌==◌}
 use Rattle.std.specs.List.{list_any}
 use Rattle.std.specs.FinMap as fin
 use Rattle.esr_model.specs.Values.{Bytes}
-use Rattle.esr_core.specs.World.{World, ShardState, Pending, Out, GivenUp, ShardWork, ReadState, Unread, BeingRead, Restored, NotRestored, RestoreShard, Restoring, Reader, marked, marked_by}
-use Rattle.esr_core.specs.Restores.{waits, any_waits, put_restore, handed, ended, ended_by, shard_ended}
+use Rattle.esr_core.specs.World.{World, Out, GivenUp, ShardWork, ReadState, Unread, BeingRead, Restored, NotRestored, RestoreShard, Restoring, Reader, marked, marked_by}
+use Rattle.esr_core.specs.Restores.{waits, any_waits, handed, ended, ended_by}
 use Rattle.esr_core.specs.Steps.{given}
 use Rattle.esr_core.specs.After.{shard_over, read_over}
-use Rattle.esr_progress.specs.Plan.{Plan, ReaderSeat, RestorePlan, read_state, read_work, restore_plan, reader_seat, IsPlanOf}
+use Rattle.esr_progress.specs.Plan.{Plan, read_state, read_work, restore_plan, reader_seat, IsPlanOf}
 use Rattle.esr_progress.specs.Shards as shards
 use Rattle.esr_progress.specs.Restores.{is_waiting}
-use Rattle.esr_progress.specs.Changes.{reader_ended, restore_over, put_plan, read_by, read_in}
+use Rattle.esr_progress.specs.Changes.{reader_ended, restore_over, read_by, read_in}
 use Rattle.esr_progress.proofs.Plans.{readers_put, restores_put, restores_put_count, restores_left, restores_left_count}
 
 module _ (place : Bytes) where

@@ -9,7 +9,7 @@ use Rattle.esr_core.specs.After.{with_given, change, raised, settled_by, settled
 use Rattle.esr_core.specs.After as after
 use Rattle.esr_progress.specs.Plan.{Plan, Seat, seat_of, kind_of, IsPlanOf}
 use Rattle.esr_progress.specs.Seats.{is_of_shard}
-use Rattle.esr_progress.specs.Changes.{with_seat, op_marked, op_failed, seat_ended, seat_settled, seat_raised, seat_changed, op_left, is_stale_seat, done_by, done_in, failed_by, failed_in, delete_failing, deletion_failed_by, deletion_failed_in}
+use Rattle.esr_progress.specs.Changes.{with_seat, op_marked, op_failed, seat_ended, seat_settled, seat_raised, seat_changed, op_left, delete_left, is_stale_seat, done_by, done_in, failed_by, failed_in, delete_failing, deletion_failed_by, deletion_failed_in}
 use Rattle.esr_progress.proofs.Plans.{seats_put}
 
 module _ (w : World) (p : Plan) (is : IsPlanOf w p) (k : ℕ) where
@@ -53,6 +53,22 @@ module _ (w : World) (p : Plan) (is : IsPlanOf w p) (k : ℕ) where
       (subst (λ (o : Option ℕ). IsPlanOf (settled_by f w k t (Some s) o) (op_left seat_settled p k (Some (seat_of t)))) (sym raises) (record {
         ops = λ j. fin.remove (is.ops j) t.op;
         deletes = λ j. fin.remove (is.deletes j) t.op;
+        completed = is.completed;
+        seats = seats_put w p is k (record t { settled = true }) (seat_settled (seat_of t)) refl;
+        next_op = is.next_op;
+        next_ticket = is.next_ticket;
+        restores = is.restores;
+        restore_count = is.restore_count;
+        readers = is.readers;
+      })))
+
+  delete_settled_there : (f : Formats) (t : Ticket) (s : Swap) (n : ℕ) → fin.get w.tickets k ≡ Some t → swap f t ≡ Some s → t.raised ≡ Some n → IsPlanOf (delete_settled f w k (Some t)) (delete_left p k (fin.get p.seats k))
+  delete_settled_there f t s n there swaps raises =
+      subst (λ o. IsPlanOf (delete_settled f w k (Some t)) (delete_left p k o)) (sym (is.seats k ∙ ap (option_map seat_of) there))
+      (subst (λ (o : Option Swap). IsPlanOf (delete_settled_by f w k t o t.raised) (delete_left p k (Some (seat_of t)))) (sym swaps)
+      (subst (λ (o : Option ℕ). IsPlanOf (delete_settled_by f w k t (Some s) o) (delete_left p k (Some (seat_of t)))) (sym raises) (record {
+        ops = λ j. fin.remove (is.ops j) t.op;
+        deletes = λ j. cond t.clean (is.deletes j) (fin.remove (is.deletes j) t.op);
         completed = is.completed;
         seats = seats_put w p is k (record t { settled = true }) (seat_settled (seat_of t)) refl;
         next_op = is.next_op;
@@ -163,13 +179,6 @@ module _ (w : World) (p : Plan) (is : IsPlanOf w p) (k : ℕ) where
           let same : is_stale w t t.work ≡ is_stale_seat term (seat_of t) = stale_by t t.work ∙ ap (λ n. not (is_of_shard (kind_of t.work)) && not (t.term == n)) e in
           subst (λ b. IsPlanOf (delete_failed w k (Some t)) (cond b (with_seat p k (seat_ended (seat_of t))) (deletion_failed_by p k (seat_of t) (fin.get p.deletes t.op)))) same (either t (is_stale w t t.work))
 
--- a delete's settle leaves of the plan what a finalization's does
-delete_settled_by_is : (f : Formats) (w : World) (k : ℕ) (t : Ticket) (s : Option Swap) (n : Option ℕ) (p : Plan) → IsPlanOf (settled_by f w k t s n) p → IsPlanOf (delete_settled_by f w k t s n) p
-delete_settled_by_is f w k t (Some s) (Some n) p is =
-    record { ops = is.ops; deletes = is.deletes; completed = is.completed; seats = is.seats; next_op = is.next_op; next_ticket = is.next_ticket; restores = is.restores; restore_count = is.restore_count; readers = is.readers }
-delete_settled_by_is f w k t (Some s) None p is = is
-delete_settled_by_is f w k t None n p is = is
-
 -- ---- what the code makes of a copy
 
 module _ (p q new : Plan) (k : ℕ) (copied : q ≡ p) where
@@ -195,6 +204,7 @@ module _ (p q new : Plan) (k : ℕ) (copied : q ≡ p) where
   pub delete_failed_is : (term : ℕ) → new ≡ deletion_failed_in term q k (fin.get q.seats k) → (w : World) → IsPlanOf w p → w.term ≡ term → IsPlanOf (delete_failed w k (fin.get w.tickets k)) new
   delete_failed_is term e w is in_term = subst (IsPlanOf (delete_failed w k (fin.get w.tickets k))) (sym (e ∙ ap (λ (z : Plan). deletion_failed_in term z k (fin.get z.seats k)) copied)) (delete_failed_there w p is k term in_term)
 
-  pub delete_settled_is : new ≡ op_left seat_settled q k (fin.get q.seats k)
+  pub delete_settled_is : new ≡ delete_left q k (fin.get q.seats k)
       → (f : Formats) (w : World) (t : Ticket) (s : Swap) (n : ℕ) → IsPlanOf w p → fin.get w.tickets k ≡ Some t → swap f t ≡ Some s → t.raised ≡ Some n → IsPlanOf (delete_settled f w k (Some t)) new
-  delete_settled_is e f w t s n is there swaps raises = delete_settled_by_is f w k t (swap f t) t.raised new (settled_is e f w t s n is there swaps raises)
+  delete_settled_is e f w t s n is there swaps raises =
+      subst (IsPlanOf (delete_settled f w k (Some t))) (sym (e ∙ ap (λ (z : Plan). delete_left z k (fin.get z.seats k)) copied)) (delete_settled_there w p is k f t s n there swaps raises)

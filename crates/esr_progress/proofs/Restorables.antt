@@ -1,5 +1,5 @@
 -- What accepting a restore answers.
-use Rattle.std.proofs.Common.{◌≡◌, ◌≢◌, ℕ, zero, suc, ◌+◌, ◌<◌, ◌≤◌, ◌^◌, ◌||◌, Bool, true, false, cond, eqb, List, [], ◌∷◌, ◌++◌, Option, Some, None, option_map, map, length, drop, get_or, refl, sym, ap, ◌∙◌, subst, inl, inr, add-one, true≢false, arith, nat_cmp, slice_get}
+use Rattle.std.proofs.Common.{◌≡◌, ℕ, zero, suc, ◌+◌, ◌<◌, ◌≤◌, ◌^◌, ◌||◌, Bool, true, false, cond, eqb, List, [], ◌∷◌, ◌++◌, Some, None, map, length, refl, sym, ap, ◌∙◌, subst, inl, inr, add-one, true≢false, arith, nat_cmp, slice_get}
 use Rattle.std.specs.Prelude.{not, nat_lt}
 use Rattle.std.proofs.lemmas.Bool.{cases_lt}
 use Rattle.std.proofs.lemmas.Bool.Decides.{Decides-ltb}
@@ -14,22 +14,21 @@ use Rattle.esr_model.specs.Values.{Bytes, Has, IndexRef, RootSnap, RootData}
 use Rattle.esr_model.specs.Shelf.{names_uuid}
 use Rattle.esr_model.specs.Places.{numbered, places}
 use Rattle.esr_model.specs.Uploads.{same_bytes}
-use Rattle.esr_core.specs.World.{World, Op, Deletion, Pending, Restoring}
-use Rattle.esr_core.specs.Restores.{any_waits, unread, restore_of, restore_opened}
+use Rattle.esr_core.specs.World.{World, Op, Deletion, Pending}
+use Rattle.esr_core.specs.Restores.{unread, restore_of, restore_opened}
 use Rattle.esr_core.specs.Allowed.{IsListed, IsSpared, IsBeingDeleted}
 use Rattle.esr_formats.specs.Ids.{number_of}
-use Rattle.esr_progress.proofs.Searches.{left_from}
 use Rattle.esr_formats.specs.Refs.{ref_of_code, AreApart}
 use Rattle.esr_progress.specs.declared.unit.Slot.{Slot}
 use Rattle.esr_progress.specs.declared.shard.ShardState.TheVariants as states
 use Rattle.esr_progress.specs.declared.shard.OpenShard.{OpenShard}
-use Rattle.esr_progress.specs.Plan.{Plan, RestorePlan, read_work, restore_plan, IsPlanOf}
+use Rattle.esr_progress.specs.Plan.{Plan, RestorePlan, read_work, IsPlanOf}
 use Rattle.esr_progress.specs.Shards.{name_or_none, count_or_none}
 use Rattle.esr_progress.specs.Restores.{work_of_read, restore_with, LiesIn, IsOpenRestore, is_waiting}
 use Rattle.esr_progress.specs.Inside.{numbers_of, Rise, AreNumbers, IsProgress, plan_with, seats_with, readers_with}
 use Rattle.esr_progress.specs.Asking.{snap_uuid, deleting, shards_from, shards_of, restore_begun}
 use Rattle.esr_progress.specs.Changes.{put_plan}
-use Rattle.esr_progress.proofs.Lists.{Has-map, none_some, some_same, all_member}
+use Rattle.esr_progress.proofs.Lists.{Has-map, some_same, all_member}
 use Rattle.esr_progress.proofs.Entries.{get_from, get_left, find-member, from_push, same_maps, eqb_is}
 use Rattle.esr_progress.proofs.Numbers.{found_member, found_below, len_from, numbers-push, AreNumbers-next}
 use Rattle.esr_progress.proofs.Finds.{found, missed, same_true, same_false}

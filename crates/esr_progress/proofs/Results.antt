@@ -1,5 +1,5 @@
 -- The results of an op's shards, and the largest generation at which one is done.
-use Rattle.std.proofs.Common.{◌≡◌, ◌⊎◌, ℕ, suc, ◌+◌, ◌-◌, ◌^◌, ◌<◌, ◌≤◌, Bool, true, false, ◌&&◌, List, [], ◌∷◌, ◌++◌, Option, Some, None, option_map, map, length, get_or, take, min, refl, sym, ap, ◌∙◌, subst, inl, inr, arith, true≢false}
+use Rattle.std.proofs.Common.{◌≡◌, ◌⊎◌, ℕ, ◌+◌, ◌-◌, ◌^◌, ◌<◌, ◌≤◌, Bool, true, ◌&&◌, List, [], ◌∷◌, ◌++◌, Option, Some, None, map, length, get_or, take, min, refl, sym, ap, ◌∙◌, subst, inl, inr, arith, true≢false}
 use Rattle.std.specs.Prelude.{sum_by, max}
 use Rattle.std.specs.List.{filter_map, cons_option, fold}
 use Rattle.std.proofs.lemmas.Bool.{cases_lt}
@@ -8,8 +8,8 @@ use Rattle.esr_names.specs.declared.ids.Id.{Id}
 use Rattle.esr_names.specs.declared.index_ref.IndexRef.{IndexRef as CodeRef}
 use Rattle.esr_record.specs.declared.op.Making.{Making}
 use Rattle.esr_meta.specs.Info.{Info}
-use Rattle.esr_model.specs.Values.{Bytes, Has, ShardResult}
-use Rattle.esr_core.specs.World.{ShardWork, AllDone, info_of, info_with}
+use Rattle.esr_model.specs.Values.{Bytes, ShardResult}
+use Rattle.esr_core.specs.World.{AllDone, info_of}
 use Rattle.esr_core.specs.Steps.{all_done, is_done}
 use Rattle.esr_formats.specs.Infos.{info_of_code}
 use Rattle.esr_formats.specs.Refs.{ref_of_code}

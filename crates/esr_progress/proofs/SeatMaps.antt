@@ -1,5 +1,5 @@
 -- The maps of what is kept under numbers, by its list: tickets are numbered from 1 on.
-use Rattle.std.proofs.Common.{◌≡◌, ◌≢◌, ◌⊎◌, ℕ, zero, suc, ◌+◌, ◌-◌, ◌<◌, ◌≤◌, Bool, true, false, cond, eqb, List, [], ◌∷◌, ◌++◌, Option, Some, None, length, refl, sym, ap, ◌∙◌, inl, inr, arith, slice_get, nat_cmp}
+use Rattle.std.proofs.Common.{◌≡◌, ◌≢◌, ℕ, zero, suc, ◌+◌, ◌-◌, ◌<◌, ◌≤◌, Bool, true, false, cond, eqb, List, [], ◌∷◌, ◌++◌, Option, Some, None, length, refl, sym, ap, ◌∙◌, inl, inr, arith, slice_get, nat_cmp}
 use Rattle.std.specs.FinMap as fin
 use Rattle.std.proofs.lemmas.Bool.Decides.{eqb_tells}
 use Rattle.std.proofs.lemmas.Option.{slice_get_within}
@@ -8,7 +8,7 @@ use Rattle.esr_progress.specs.declared.unit.Seat.{Seat as CodeSeat}
 use Rattle.esr_progress.specs.declared.unit.ReaderSeat.{ReaderSeat as CodeReader}
 use Rattle.esr_progress.specs.declared.unit.Slot.{Slot}
 use Rattle.esr_progress.specs.declared.unit.Slot.TheVariants as slots
-use Rattle.esr_progress.specs.Plan.{Seat, seat_of_code, ReaderSeat, reader_of_code}
+use Rattle.esr_progress.specs.Plan.{seat_of_code, reader_of_code}
 use Rattle.esr_progress.specs.Seats.{seat_at, seat_in, reader_in, told_in}
 use Rattle.esr_progress.specs.Inside.{slot_entry, slot_entries, seats_with, readers_with}
 use Rattle.esr_progress.proofs.Lists.{none_some, slice_get-set, slice_get-push, eqb_sucs}

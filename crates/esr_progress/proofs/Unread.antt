@@ -1,35 +1,32 @@
 -- The unit of a restore's shard, in a world of which the list tells.
-use Rattle.std.proofs.Common.{◌≡◌, ◌≢◌, ◌⊎◌, ℕ, suc, zero, ◌+◌, ◌<◌, ◌≤◌, Bool, true, false, ◌&&◌, List, [], ◌∷◌, Option, Some, None, cond, option_map, map, length, get_or, take, refl, sym, ap, ◌∙◌, subst, inl, inr, true≢false, arith, eq-eqb, nat_cmp}
+use Rattle.std.proofs.Common.{◌≡◌, ℕ, suc, zero, ◌+◌, ◌<◌, true, false, ◌&&◌, List, [], ◌∷◌, Option, Some, None, cond, option_map, map, length, get_or, take, refl, sym, ap, ◌∙◌, subst, inl, inr, true≢false, arith, eq-eqb, nat_cmp}
 use Rattle.std.specs.Prelude.{slice_get, ◌==◌, IfSome}
 use Rattle.std.specs.List.{position}
 use Rattle.std.specs.FinMap as fin
 use Rattle.std.proofs.Math.ListN.{set}
 use Rattle.std.proofs.lemmas.Bool.{cases_lt}
 use Rattle.std.proofs.lemmas.Option.{slice_get_read, slice_get_within, slice_get-map}
-use Rattle.esr_names.specs.declared.ids.Id.{Id}
 use Rattle.esr_names.specs.declared.blob.ShardId.{ShardId}
-use Rattle.esr_model.specs.Values.{Bytes, Has, RootData, Formats}
+use Rattle.esr_model.specs.Values.{Has, RootData, Formats}
 use Rattle.esr_core.specs.Entry.{GivenRestore}
-use Rattle.esr_core.specs.World.{World, Op, Deletion, ShardState, ShardWork, ReadState, Unread, BeingRead, Restored, NotRestored, RestoreShard, Restoring}
+use Rattle.esr_core.specs.World.{World, Op, Deletion, ShardWork, ReadState, Unread, BeingRead, Restored, NotRestored, RestoreShard, Restoring}
 use Rattle.esr_core.specs.Ready.{ReadyRestore}
 use Rattle.esr_core.specs.Restores.{restore_shard, handed, reader_of, shard_handed}
 use Rattle.esr_core.specs.Steps.{given}
-use Rattle.esr_core.specs.Allowed.{StandsBefore, GivesRestore}
+use Rattle.esr_core.specs.Allowed.{GivesRestore}
 use Rattle.esr_core.specs.After.{taken_by, taken_restore, taken_restore_shard}
 use Rattle.esr_formats.specs.Roots.{root_of}
 use Rattle.esr_formats.specs.Clusters.{count_of}
 use Rattle.esr_progress.specs.declared.unit.Slot.{Slot}
-use Rattle.esr_progress.specs.declared.unit.ReaderSeat.{ReaderSeat as CodeReader}
 use Rattle.esr_progress.specs.declared.unit.Work.{Work as CodeWork}
 use Rattle.esr_progress.specs.declared.unit.Work.TheVariants as works
 use Rattle.esr_progress.specs.declared.unit.Copied.{Copied}
-use Rattle.esr_progress.specs.declared.unit.ReadyUnit.{ReadyUnit}
-use Rattle.esr_progress.specs.Plan.{Plan, ReaderSeat, RestorePlan, read_state, read_work, restore_plan, reader_seat, reader_of_code, IsPlanOf, IsGivenIn}
+use Rattle.esr_progress.specs.Plan.{Plan, RestorePlan, read_state, read_work, restore_plan, reader_of_code, IsPlanOf}
 use Rattle.esr_progress.specs.Shards.{is_pending}
 use Rattle.esr_progress.specs.Restores.{is_unread, IsRestoreWork}
 use Rattle.esr_progress.specs.Inside.{plan_with, numbers_of, Rise, IsProgress}
-use Rattle.esr_progress.specs.Units.{given_by, given_of, IsCopyOf, RestoreGiven, GivesWork, HasUnread, IsLowest, GivesLowest, LowestUnit}
-use Rattle.esr_progress.specs.Choice.{NoneUnread, IsUnreadAt, IsFirstUnread, given_restore, AreShards}
+use Rattle.esr_progress.specs.Units.{given_by, GivesWork, HasUnread, IsLowest, LowestUnit}
+use Rattle.esr_progress.specs.Choice.{NoneUnread, IsUnreadAt, given_restore, AreShards}
 use Rattle.esr_progress.proofs.Lists.{Has-at, Has-map, position-None, position-map, some_same, none_some}
 use Rattle.esr_progress.proofs.Entries.{from_set, get_from, find-member, eqb_is}
 use Rattle.esr_progress.proofs.Numbers.{found_member, entries_from, numbers-set}

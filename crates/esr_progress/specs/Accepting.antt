@@ -1,14 +1,15 @@
 -- What accepting a command answers.
 use Rattle.std.specs.Prelude.{◌≡◌, ℕ, Bool, List, [], suc, ◌+◌, ◌<◌, ◌≤◌, true, Option, Some, None, Result, Ok, Err}
 use Rattle.std.specs.FinMap as fin
-use Rattle.esr_model.specs.Values.{Bytes, RootData}
+use Rattle.esr_model.specs.Values.{Bytes}
 use Rattle.esr_model.specs.Kept.{first_id}
 use Rattle.esr_core.specs.World.{World, Deletion}
-use Rattle.esr_core.specs.Entry.{AskedIndex, Asked, Snapshot, Clone, DeleteSnapshots, Restore, Cleanup}
-use Rattle.esr_core.specs.After.{asked, asked_op, new_names}
+use Rattle.esr_core.specs.Entry.{Asked, Snapshot, Clone, DeleteSnapshots, Restore, Cleanup}
+use Rattle.esr_core.specs.Ready.{IsOpen}
+use Rattle.esr_core.specs.After.{asked, asked_op, new_names, cleanup_opened}
 use Rattle.esr_core.specs.Generations.{OpTexts}
 use Rattle.esr_formats.specs.Formats.{formats}
-use Rattle.esr_core.specs.Allowed.{NoCleanup, IsNameOf, IsUnused, open_count, IsListed, IsSpared, IsBeingDeleted, IsFirstMissing, MayName, MayCopy, MayClone, AreNamed, IsFirstUnused, Copies, ReadsOne, IsLowest, MayDelete, IsNewDelete, AcceptsDelete}
+use Rattle.esr_core.specs.Allowed.{NoCleanup, IsNameOf, IsUnused, open_count, IsListed, IsSpared, IsBeingDeleted, IsFirstMissing, MayName, MayCopy, MayClone, AreNamed, IsFirstUnused, Copies, ReadsOne, IsLowest, MayDelete, IsNewDelete, AcceptsDelete, NoneOpen, HasTicket, AcceptsCleanup}
 use Rattle.esr_core.specs.Deletes.{named_uuids, delete_number, asked_delete}
 use Rattle.esr_names.specs.declared.ids.Id.{Id}
 use Rattle.esr_progress.specs.declared.refusal.Refusal.{Refusal}
@@ -52,6 +53,8 @@ IsRefused w name command (refusals.NoIndex place) = ⊥
 IsRefused w name command (refusals.BeingDeleted op) = ⊥
 IsRefused w name command (refusals.CloneRunning op) = ⊥
 IsRefused w name command (refusals.RestoreRunning op) = ⊥
+IsRefused w name command (refusals.BusyOp op) = ⊥
+IsRefused w name command (refusals.BusyTicket ticket) = ⊥
 IsRefused w name command (refusals.IdsSpent next) = (next.number ≡ w.next_id) × MayAccept w name × (first_id (suc w.term) ≤ w.next_id + drawn_by w command)
 
 abbrev pub name_asked : Asked → Bytes
@@ -75,6 +78,8 @@ IsRestoreRefused w name (refusals.NameInUse uuid) = ⊥
 IsRestoreRefused w name (refusals.IdsSpent next) = ⊥
 IsRestoreRefused w name (refusals.CloneRunning op) = ⊥
 IsRestoreRefused w name (refusals.RestoreRunning op) = ⊥
+IsRestoreRefused w name (refusals.BusyOp op) = ⊥
+IsRestoreRefused w name (refusals.BusyTicket ticket) = ⊥
 
 -- a snapshot of this name is listed that no open delete names, and a restore more may be open
 abbrev pub Restorable : World → Bytes → Result Id Refusal → Type 0
@@ -95,6 +100,8 @@ IsCloneRefused w source name names (refusals.IdsSpent next) = (next.number ≡ w
 IsCloneRefused w source name names refusals.Memory = ⊥
 IsCloneRefused w source name names (refusals.CloneRunning op) = ⊥
 IsCloneRefused w source name names (refusals.RestoreRunning op) = ⊥
+IsCloneRefused w source name names (refusals.BusyOp op) = ⊥
+IsCloneRefused w source name names (refusals.BusyTicket ticket) = ⊥
 
 -- it may be cloned so, an op more may be open, and an id is left for it
 abbrev pub Clonable : World → Bytes → Bytes → List Bytes → Result Id Refusal → Type 0
@@ -117,6 +124,8 @@ IsDeleteRefused w names (refusals.CleanupRunning op) = (x : Deletion) × (fin.ge
 IsDeleteRefused w names (refusals.NoSnapshot place) = NoCleanup w × IsFirstUnused w names place
 IsDeleteRefused w names (refusals.CloneRunning op) = NoCleanup w × AreNamed w names × IsLowest (Copies w (named_uuids w names)) op
 IsDeleteRefused w names (refusals.RestoreRunning op) = NoCleanup w × AreNamed w names × ((o : ℕ) → Copies w (named_uuids w names) o → ⊥) × IsLowest (ReadsOne w (named_uuids w names)) op
+IsDeleteRefused w names (refusals.BusyOp op) = ⊥
+IsDeleteRefused w names (refusals.BusyTicket ticket) = ⊥
 IsDeleteRefused w names (refusals.TooMany limit) = (limit ≡ 1000) × MayDelete w names × IsNewDelete w names × (1000 ≤ open_count w)
 IsDeleteRefused w names (refusals.NameInUse uuid) = ⊥
 IsDeleteRefused w names (refusals.NoIndex place) = ⊥
@@ -132,3 +141,30 @@ IsRuledOn w names (Some refusal) = IsDeleteRefused w names refusal
 abbrev pub AcceptingDelete : World → List Bytes → Result (Plan × ℕ) Refusal → Type 0
 AcceptingDelete w names (Ok (new, op)) = AcceptsDelete w names × (op ≡ delete_number w names) × IsPlanOf (asked_delete w names) new
 AcceptingDelete w names (Err refusal) = IsDeleteRefused w names refusal
+
+-- ---- a cleanup
+
+-- the first rule that refuses a cleanup
+abbrev pub IsCleanupRefused : World → Refusal → Type 0
+IsCleanupRefused w refusals.Memory = Unit {0}
+IsCleanupRefused w (refusals.CleanupRunning op) = (x : Deletion) × (fin.get w.deletes op ≡ Some x) × (x.clean ≡ true)
+IsCleanupRefused w (refusals.BusyOp op) = NoCleanup w × IsLowest (IsOpen w) op
+IsCleanupRefused w (refusals.BusyTicket ticket) = NoneOpen w × IsLowest (HasTicket w) ticket
+IsCleanupRefused w (refusals.NameInUse uuid) = ⊥
+IsCleanupRefused w (refusals.TooMany limit) = ⊥
+IsCleanupRefused w (refusals.IdsSpent next) = ⊥
+IsCleanupRefused w (refusals.NoSnapshot place) = ⊥
+IsCleanupRefused w (refusals.NoIndex place) = ⊥
+IsCleanupRefused w (refusals.BeingDeleted op) = ⊥
+IsCleanupRefused w (refusals.CloneRunning op) = ⊥
+IsCleanupRefused w (refusals.RestoreRunning op) = ⊥
+
+-- by the first rule that refuses it
+abbrev pub IsCleanupRuledOn : World → Option Refusal → Type 0
+IsCleanupRuledOn w None = AcceptsCleanup w
+IsCleanupRuledOn w (Some refusal) = IsCleanupRefused w refusal
+
+-- by the list of ops that is answered, and the op that the cleanup is
+abbrev pub AcceptingCleanup : World → Result (Plan × ℕ) Refusal → Type 0
+AcceptingCleanup w (Ok (new, op)) = AcceptsCleanup w × (op ≡ w.next_op) × IsPlanOf (cleanup_opened w) new
+AcceptingCleanup w (Err refusal) = IsCleanupRefused w refusal

@@ -1,5 +1,5 @@
 -- A command, as the definitions see it.
-use Rattle.std.specs.Prelude.{◌≤◌, ℕ, None, map}
+use Rattle.std.specs.Prelude.{◌≤◌, None, map}
 use Rattle.std.specs.List.{AllByRecursion}
 use Rattle.esr_progress.specs.declared.command.AskedIndex.{AskedIndex as CodeAsked}
 use Rattle.esr_progress.specs.declared.command.Command.{Command}
@@ -22,8 +22,8 @@ asked_of commands.Cleanup = Cleanup
 abbrev pub HasShards : AskedIndex → Type 0
 HasShards a = (1 ≤ a.shards) × (a.shards ≤ 1024)
 
--- It asks for a snapshot; the names of its indices are distinct, and each has 1 to 1,024 shards. A clone, a restore and a delete
--- are asked for by steps of their own, and a cleanup by none so far.
+-- It asks for a snapshot; the names of its indices are distinct, and each has 1 to 1,024 shards. A clone, a restore, a delete and a
+-- cleanup are asked for by steps of their own.
 abbrev pub IsAskable : Asked → Type 0
 IsAskable (Snapshot name indices moment) = AreDistinct indices × AllByRecursion HasShards indices
 IsAskable command = ⊥

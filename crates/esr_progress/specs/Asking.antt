@@ -55,6 +55,13 @@ first_refusal None (Some uuid) full = Some (refusals.NameInUse (id_of uuid))
 first_refusal None None true = Some (refusals.TooMany 1000)
 first_refusal None None false = None
 
+-- the first rule that refuses a cleanup: a cleanup is open, an op is open, a ticket is out
+abbrev pub cleanup_refusal : Option ℕ → Option ℕ → Option ℕ → Option Refusal
+cleanup_refusal (Some op) lowest ticket = Some (refusals.CleanupRunning op)
+cleanup_refusal None (Some op) ticket = Some (refusals.BusyOp op)
+cleanup_refusal None None (Some ticket) = Some (refusals.BusyTicket ticket)
+cleanup_refusal None None None = None
+
 -- ---- look-ups of a clone
 
 -- the index has this name and the snapshot

@@ -14,6 +14,10 @@ use Rattle.esr_progress.specs.Seats.{is_of_shard}
 abbrev pub with_seat : Plan → ℕ → Seat → Plan
 with_seat p k s = record p { seats = fin.insert p.seats k s }
 
+-- the snapshot has left
+abbrev pub without_snap : Plan → ℕ → Plan
+without_snap p o = record p { ops = fin.remove p.ops o }
+
 -- the op, or the delete, has left
 abbrev pub without_op : Plan → ℕ → Plan
 without_op p o = record p { ops = fin.remove p.ops o; deletes = fin.remove p.deletes o }
@@ -106,6 +110,14 @@ failed_in term p k None = p
 failed_in term p k (Some s) = if is_stale_seat term s then with_seat p k (seat_ended s) else failed_by p k s (fin.get p.ops s.op)
 
 -- ---- deletes
+
+-- the swap of a ticket has settled: a cleanup stays
+abbrev pub without_settled : Plan → Seat → Plan
+without_settled p s = record p { ops = fin.remove p.ops s.op; deletes = if s.clean then p.deletes else fin.remove p.deletes s.op }
+
+abbrev pub delete_left : Plan → ℕ → Option Seat → Plan
+delete_left p k None = p
+delete_left p k (Some s) = with_seat (without_settled p s) k (seat_settled s)
 
 -- the delete given anew, where there is one
 abbrev pub delete_changed : (Deletion → Deletion) → Plan → ℕ → Option Deletion → Plan

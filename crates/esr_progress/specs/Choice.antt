@@ -1,5 +1,5 @@
 -- Which unit of an op is ready, and what is given with it.
-use Rattle.std.specs.Prelude.{◌≡◌, ◌⊎◌, ◌<◌, ℕ, Bool, true, false, not, ◌&&◌, ◌==◌, if◌then◌else◌, List, Option, Some, None, IfSome, map, length, take, position, option_map, slice_get, slice_set, slice_index_or, nat_lt}
+use Rattle.std.specs.Prelude.{◌≡◌, ◌⊎◌, ◌<◌, ℕ, Bool, true, false, not, is_some, ◌&&◌, ◌||◌, ◌==◌, if◌then◌else◌, List, [], ◌∷◌, Option, Some, None, IfSome, map, length, take, position, option_map, slice_get, nat_lt}
 use Rattle.std.specs.List.{list_any}
 use Rattle.esr_names.specs.declared.ids.Id.{Id}
 use Rattle.esr_names.specs.declared.blob.ShardId.{ShardId}
@@ -17,7 +17,7 @@ use Rattle.esr_progress.specs.declared.unit.SeatKind.{SeatKind}
 use Rattle.esr_progress.specs.declared.unit.SeatKind.TheVariants as kinds
 use Rattle.esr_progress.specs.declared.unit.Work.{Work}
 use Rattle.esr_progress.specs.declared.unit.Work.TheVariants as works
-use Rattle.esr_progress.specs.Seats.{seat_in, holds, is_swap_out, is_unit_out}
+use Rattle.esr_progress.specs.Seats.{seat_in, holds, is_out, is_swap_out, is_unit_out}
 use Rattle.esr_progress.specs.Ops.{has_stopped, is_free, IsDoneAt, Among, IsMost, IsShardWork, IsFinalWork}
 
 -- ---- which
@@ -76,11 +76,30 @@ abbrev pub IsFirstReady : List (ℕ × Op) → List (ℕ × Deletion) → List �
 IsFirstReady ops deletes completed seats restores term None = NoneBefore ops deletes completed seats restores term (length ops)
 IsFirstReady ops deletes completed seats restores term (Some (at, kind)) = IsReadyAt ops deletes completed seats restores term at kind
 
--- a unit of the delete is ready: it failed and none of its units is out, or nothing stands before it and no swap is out
+-- the first of the list
+abbrev pub first_number : {A : Type 0} → List (ℕ × A) → Option ℕ
+first_number [] = None
+first_number (e ∷ es) = Some e.0
+
+-- where the lowest ticket that is out stands; they are numbered from 1 on
+abbrev pub place_out : List Slot → Option ℕ
+place_out seats = position (λ s. holds is_out (seat_in s)) seats
+
+-- another delete is open
+abbrev pub has_other : List (ℕ × Deletion) → ℕ → Bool
+has_other deletes number = list_any (λ (d : ℕ × Deletion). not (d.0 == number)) deletes
+
+-- something else is open, or a ticket is out
+abbrev pub cleanup_waits : List (ℕ × Op) → List (ℕ × Deletion) → List Slot → ℕ → Bool
+cleanup_waits ops deletes seats number = (is_some (first_number ops) || has_other deletes number) || is_some (place_out seats)
+
+-- A unit of the delete is ready: it failed and none of its units is out, or nothing stands before it and no swap is out, or it is a
+-- cleanup and alone.
 abbrev pub delete_ready : List (ℕ × Op) → List (ℕ × Deletion) → List Slot → ℕ → ℕ × Deletion → Bool
 delete_ready ops deletes seats term d =
     if d.1.failed then not (is_out_of seats term d.0)
-    else ((not (barred deletes d.0) && not (list_any (λ (e : ℕ × Op). nat_lt e.0 d.0) ops)) && not (is_swapping seats term))
+    else (if d.1.clean then not (cleanup_waits ops deletes seats d.0)
+    else ((not (barred deletes d.0) && not (list_any (λ (e : ℕ × Op). nat_lt e.0 d.0) ops)) && not (is_swapping seats term)))
 
 -- ---- what is given
 

@@ -79,8 +79,9 @@ kind_code = code_by ((ℕ × ℕ) ⊎ (Bool ⊎ Bool)) (coded⊎ (coded× coded_
 
 abbrev pub seat_code : Coded Seat
 seat_code =
-    code_by (UnitKind × (ℕ × (ℕ × (Option ℕ × (Bool × Bool))))) (coded× kind_code (coded× coded_ℕ (coded× coded_ℕ (coded× (coded_option coded_ℕ) (coded× coded_bool coded_bool)))))
-    (λ s. (s.kind, (s.op, (s.term, (s.raised, (s.settled, s.out)))))) (λ p. record { kind = p.0; op = p.1.0; term = p.1.1.0; raised = p.1.1.1.0; settled = p.1.1.1.1.0; out = p.1.1.1.1.1 }) (λ _. refl)
+    code_by (UnitKind × (ℕ × (ℕ × (Option ℕ × (Bool × (Bool × Bool)))))) (coded× kind_code (coded× coded_ℕ (coded× coded_ℕ (coded× (coded_option coded_ℕ) (coded× coded_bool (coded× coded_bool coded_bool))))))
+    (λ s. (s.kind, (s.op, (s.term, (s.raised, (s.settled, (s.out, s.clean)))))))
+    (λ p. record { kind = p.0; op = p.1.0; term = p.1.1.0; raised = p.1.1.1.0; settled = p.1.1.1.1.0; out = p.1.1.1.1.1.0; clean = p.1.1.1.1.1.1 }) (λ _. refl)
 
 abbrev pub reader_code : Coded ReaderSeat
 reader_code = code_by (ℕ × (ℕ × (ℕ × Bool))) (coded× coded_ℕ (coded× coded_ℕ (coded× coded_ℕ coded_bool))) (λ q. (q.op, (q.index, (q.number, q.out)))) (λ p. record { op = p.0; index = p.1.0; number = p.1.1.0; out = p.1.1.1 }) (λ _. refl)

@@ -1,5 +1,5 @@
 -- An open delete, as the definitions see it.
-use Rattle.std.specs.Prelude.{◌≡◌, ℕ, suc, Bool, true, false, ◌&&◌, nat_lt, if◌then◌else◌, List, [], ◌∷◌, ◌++◌, length, map, filter}
+use Rattle.std.specs.Prelude.{◌≡◌, ℕ, suc, Bool, true, false, not, ◌&&◌, nat_lt, if◌then◌else◌, List, [], ◌∷◌, ◌++◌, length, map, filter}
 use Rattle.esr_names.specs.declared.ids.Id.{Id}
 use Rattle.esr_model.specs.Values.{RecordWork, DeletingOf}
 use Rattle.esr_core.specs.World.{Deletion, deletion_work, numbered_deletes}
@@ -25,17 +25,26 @@ lies_between after before n = nat_lt after n && nat_lt n before
 abbrev pub between : ℕ → ℕ → List (ℕ × Deletion) → List (ℕ × Deletion)
 between after before deletes = filter (λ (e : ℕ × Deletion). lies_between after before e.0) deletes
 
--- the unit of a delete: that it leaves where it failed, else that its snapshots are deleted
-abbrev pub IsWorkBy : Bool → List ℕ → Work → Type 0
-IsWorkBy true uuids work = work ≡ works.Drop
-IsWorkBy false uuids (works.Delete ids) = map number_of ids ≡ uuids
-IsWorkBy false uuids work = ⊥
+-- the unit of a delete: that it leaves where it failed, else that its snapshots are deleted, or a cleanup
+abbrev pub IsWorkBy : Bool → Bool → List ℕ → Work → Type 0
+IsWorkBy true clean uuids work = work ≡ works.Drop
+IsWorkBy false true uuids work = work ≡ works.Cleanup
+IsWorkBy false false uuids (works.Delete ids) = map number_of ids ≡ uuids
+IsWorkBy false false uuids work = ⊥
 
 abbrev pub IsDeleteWork : Deletion → Work → Type 0
-IsDeleteWork x work = IsWorkBy x.failed x.uuids work
+IsDeleteWork x work = IsWorkBy x.failed x.clean x.uuids work
 
 abbrev pub delete_kind : Deletion → SeatKind
 delete_kind x = if x.failed then kinds.Drop else kinds.Delete
+
+-- its unit is a cleanup
+abbrev pub gives_cleanup : Deletion → Bool
+gives_cleanup x = not x.failed && x.clean
+
+-- a cleanup as it is opened
+abbrev pub cleanup_begun : Deletion
+cleanup_begun = record { uuids = []; clean = true; failed = false }
 
 -- ---- the deletes that opening keeps
 

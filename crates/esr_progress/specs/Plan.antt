@@ -1,11 +1,10 @@
 -- The list of open ops and their tickets: that part of a world which tells of no blob and no id.
-use Rattle.std.specs.Prelude.{◌≡◌, ℕ, Bool, List, [], Option, Some, None, option_map, map, refl}
+use Rattle.std.specs.Prelude.{◌≡◌, ℕ, Bool, List, [], Option, option_map, map}
 use Rattle.std.specs.Ordering.{nat_cmp}
 use Rattle.std.specs.FinMap.{FinMap}
 use Rattle.std.specs.FinMap as fin
-use Rattle.esr_model.specs.Values.{Bytes, RootData, SnapInfo, ShardResult}
-use Rattle.esr_model.specs.Shelf.{Shelved}
-use Rattle.esr_core.specs.World.{World, Op, Deletion, ShardState, Pending, Out, GivenUp, ShardWork, ReadState, Unread, BeingRead, Restored, NotRestored, RestoreShard, Restoring, Reader, Work, Shard, Finalize, Deleting, Drop, Swap, Ticket}
+use Rattle.esr_model.specs.Values.{Bytes, RootData}
+use Rattle.esr_core.specs.World.{World, Op, Deletion, ShardState, Pending, Out, GivenUp, ShardWork, ReadState, Unread, BeingRead, Restored, NotRestored, RestoreShard, Restoring, Reader, Work, Shard, Finalize, Deleting, Drop, Ticket}
 use Rattle.esr_progress.specs.declared.unit.SeatKind.{SeatKind}
 use Rattle.esr_progress.specs.declared.unit.SeatKind.TheVariants as kinds
 use Rattle.esr_progress.specs.declared.unit.Seat.{Seat as CodeSeat}
@@ -18,9 +17,10 @@ pub data UnitKind : Type 0 where
   OfDelete : UnitKind
   OfDrop : UnitKind
 
--- what the list of ops keeps of a ticket
+-- what the list of ops keeps of a ticket; a cleanup's is that of a delete, in its mode
 pub record Seat : Type 0 where
   pub kind : UnitKind
+  pub clean : Bool
   pub op : ℕ
   pub term : ℕ
   pub raised : Option ℕ
@@ -35,7 +35,7 @@ kind_of_code kinds.Delete = OfDelete
 kind_of_code kinds.Drop = OfDrop
 
 abbrev pub seat_of_code : CodeSeat → Seat
-seat_of_code s = record { kind = kind_of_code s.kind; op = s.op; term = s.term; raised = s.raised; settled = s.settled; out = s.out }
+seat_of_code s = record { kind = kind_of_code s.kind; clean = s.clean; op = s.op; term = s.term; raised = s.raised; settled = s.settled; out = s.out }
 
 -- what it keeps of a restore's ticket
 pub record ReaderSeat : Type 0 where
@@ -76,7 +76,7 @@ kind_of (Deleting uuids swap) = OfDelete
 kind_of Drop = OfDrop
 
 abbrev pub seat_of : Ticket → Seat
-seat_of t = record { kind = kind_of t.work; op = t.op; term = t.term; raised = t.raised; settled = t.settled; out = t.out }
+seat_of t = record { kind = kind_of t.work; clean = t.clean; op = t.op; term = t.term; raised = t.raised; settled = t.settled; out = t.out }
 
 abbrev pub read_state : ReadState → ShardState
 read_state Unread = Pending

@@ -1,14 +1,10 @@
 -- An open restore, as the definitions see it.
-use Rattle.std.specs.Prelude.{◌≡◌, ◌<◌, ℕ, Bool, List, map, length, slice_get}
-use Rattle.std.specs.List.{AllByRecursion, list_any}
-use Rattle.std.specs.Ordering.{nat_cmp}
-use Rattle.std.specs.FinMap.{FinMap}
-use Rattle.std.specs.FinMap as fin
-use Rattle.std.specs.Prelude.{if◌then◌else◌}
+use Rattle.std.specs.Prelude.{◌≡◌, ◌<◌, Bool, List, map, length, slice_get}
+use Rattle.std.specs.List.{AllByRecursion}
 use Rattle.esr_names.specs.declared.ids.Id.{Id}
 use Rattle.esr_names.specs.declared.index_ref.IndexRef.{IndexRef as CodeRef}
 use Rattle.esr_model.specs.Values.{Bytes}
-use Rattle.esr_core.specs.World.{ShardWork, GivenUp, marked}
+use Rattle.esr_core.specs.World.{ShardWork}
 use Rattle.esr_progress.specs.declared.shard.OpenShard.{OpenShard}
 use Rattle.esr_progress.specs.declared.unit.Work.{Work}
 use Rattle.esr_progress.specs.declared.unit.Work.TheVariants as works

@@ -1,7 +1,5 @@
 -- Tests on what is kept of tickets.
 use Rattle.std.specs.Prelude.{ℕ, zero, suc, Bool, true, false, not, ◌&&◌, ◌||◌, ◌==◌, List, Option, Some, None, slice_get}
-use Rattle.esr_progress.specs.declared.unit.SeatKind.{SeatKind}
-use Rattle.esr_progress.specs.declared.unit.SeatKind.TheVariants as kinds
 use Rattle.esr_progress.specs.declared.unit.Slot.{Slot}
 use Rattle.esr_progress.specs.declared.unit.Slot.TheVariants as slots
 use Rattle.esr_progress.specs.Plan.{UnitKind, OfShard, OfFinalize, OfDelete, OfDrop, Seat, seat_of_code, ReaderSeat, reader_of_code}
@@ -47,6 +45,10 @@ is_drop (OfShard index number) = false
 is_drop OfFinalize = false
 is_drop OfDelete = false
 is_drop OfDrop = true
+
+-- the ticket is out
+abbrev pub is_out : Seat → Bool
+is_out s = s.out
 
 -- the ticket is out, and is no drop
 abbrev pub can_abort : Seat → Bool

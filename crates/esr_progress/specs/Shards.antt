@@ -4,7 +4,7 @@ use Rattle.std.specs.List.{list_any}
 use Rattle.esr_names.specs.declared.ids.Id.{Id}
 use Rattle.esr_names.specs.declared.blob.ShardId.{ShardId}
 use Rattle.esr_names.specs.declared.index_ref.IndexRef.{IndexRef as CodeRef}
-use Rattle.esr_model.specs.Values.{Bytes, Has, IndexRef}
+use Rattle.esr_model.specs.Values.{Bytes, Has}
 use Rattle.esr_core.specs.World.{ShardState, Pending, Out, Done, GivenUp, ShardWork, Op}
 pub use Rattle.esr_core.specs.Steps.{is_done}
 use Rattle.esr_progress.specs.declared.shard.ShardState.{ShardState as CodeState}

@@ -3,7 +3,7 @@ use Rattle.std.specs.Prelude.{◌≡◌, ◌⊎◌, ℕ, ◌<◌, true, map, Lis
 use Rattle.std.specs.FinMap as fin
 use Rattle.esr_model.specs.Values.{Bytes, ShardResult, Formats}
 use Rattle.esr_core.specs.World.{World, Op, Deletion, ShardWork, RestoreShard, Restoring, info_of}
-use Rattle.esr_core.specs.Ready.{Stopped, UnitIsOut, ReadyShard, ReadyFinalize, ReadyDrop, ReadyDelete, ReadyRestore, AnyReady}
+use Rattle.esr_core.specs.Ready.{Stopped, UnitIsOut, ReadyShard, ReadyFinalize, ReadyDrop, ReadyDelete, ReadyCleanup, ReadyRestore, AnyReady}
 use Rattle.esr_core.specs.After.{taken_by}
 use Rattle.esr_progress.specs.Plan.{Plan, IsPlanOf}
 use Rattle.esr_core.specs.Entry.{Given, GivenShard, GivenFinalize, GivenDrop, GivenRestore, GivenClone, GivenDelete, GivenCleanup}
@@ -66,8 +66,7 @@ GivesWork w o (works.Finalize info shards) copy = (op : Op) × ReadyFinalize w o
 GivesWork w o works.Drop copy = ReadyDrop w o
 GivesWork w o (works.RestoreShard uuid shard index place) copy = RestoreGiven w o shard.index.number shard.number uuid.number index place
 GivesWork w o (works.Delete uuids) copy = (x : Deletion) × ReadyDelete w o x × (map number_of uuids ≡ x.uuids)
--- a cleanup is not given so far
-GivesWork w o works.Cleanup copy = ⊥
+GivesWork w o works.Cleanup copy = (x : Deletion) × ReadyCleanup w o x
 
 -- the ready unit of the lowest op is given
 pub record GivesUnit (w : World) (u : ReadyUnit) : Type 0 where
@@ -96,9 +95,9 @@ pub record LeavesDelete (w : World) (o : ℕ) : Type 0 where
 abbrev pub HasSnapReady : World → ℕ → Type 0
 HasSnapReady w o = ((op : Op) × (s : ShardWork) × ReadyShard w o op s) ⊎ (((op : Op) × (results : List ShardResult) × ReadyFinalize w o op results) ⊎ LeavesSnap w o)
 
--- some unit of the delete of this number is ready
+-- some unit of the delete or cleanup of this number is ready
 abbrev pub HasDeleteReady : World → ℕ → Type 0
-HasDeleteReady w o = LeavesDelete w o ⊎ ((x : Deletion) × ReadyDelete w o x)
+HasDeleteReady w o = LeavesDelete w o ⊎ ((x : Deletion) × (ReadyDelete w o x ⊎ ReadyCleanup w o x))
 
 -- some shard of this restore is unread
 abbrev pub HasUnread : World → ℕ → Type 0

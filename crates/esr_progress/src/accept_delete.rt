@@ -163,7 +163,7 @@ impl Progress {
     }
 
     /// A copy with these ops and deletes.
-    fn with_lists(
+    pub(crate) fn with_lists(
         &self,
         alloc: Global,
         ops: Vec<OpenOp>,

@@ -5,7 +5,7 @@ ghost use Rattle.esr_core.specs.Steps.{all_done};
 ghost use Rattle.esr_model.specs.Values.{ShardResult as Outcome};
 ghost use Rattle.esr_results.specs.Results.{result_of};
 ghost use Rattle.esr_progress.specs.Plan.{seat_of_code, reader_of_code};
-ghost use Rattle.esr_progress.specs.Changes.{with_seat, without_op, with_completed, op_changed, op_marked, op_failed, seat_ended, seat_changed, seat_settled, seat_raised, op_left, done_in, failed_by, failed_in, delete_changed, delete_failing, deletion_failed_by, deletion_failed_in, is_stale_seat, reader_ended, with_reader, restore_changed, restore_over, restore_kept, read_by, read_in};
+ghost use Rattle.esr_progress.specs.Changes.{with_seat, without_snap, without_op, without_settled, delete_left, with_completed, op_changed, op_marked, op_failed, seat_ended, seat_changed, seat_settled, seat_raised, op_left, done_in, failed_by, failed_in, delete_changed, delete_failing, deletion_failed_by, deletion_failed_in, is_stale_seat, reader_ended, with_reader, restore_changed, restore_over, restore_kept, read_by, read_in};
 
 use crate::progress::{delete_place, place, restore_place};
 use crate::shard::ShardState;
@@ -178,6 +178,41 @@ impl Progress {
         };
         let raised = Some(generation);
         self.put_seat(ticket, Seat { raised, ..seat });
+    }
+
+    /// A snapshot leaves.
+    fn remove_snap(&mut self, number: u64)
+        ensures { self.new ≡ without_snap self.old number }
+    {
+        self.ops.retain(|op| op.number() != number);
+    }
+
+    /// The op of a delete's ticket leaves, a cleanup stays.
+    fn leave_settled(&mut self, seat: Seat)
+        ensures { self.new ≡ without_settled self.old (seat_of_code seat) }
+    {
+        if seat.clean {
+            self.remove_snap(seat.op);
+            return;
+        }
+        self.remove_op(seat.op);
+    }
+
+    /// The swap of a delete's ticket has settled, and its op leaves, unless it is a cleanup.
+    pub(crate) fn settle_delete(&mut self, ticket: u64)
+        ensures { self.new ≡ delete_left self.old ticket (fin.get self.old.seats ticket) }
+    {
+        let Some(seat) = self.seat(ticket) else {
+            return;
+        };
+        self.leave_settled(seat);
+        self.put_seat(
+            ticket,
+            Seat {
+                settled: true,
+                ..seat
+            },
+        );
     }
 
     /// The swap of a ticket has settled, and its op leaves.

@@ -15,7 +15,7 @@ pub struct AskedIndex {
 /// The indices of a snapshot, in the order of the command.
 pub type AskedIndices = Seq<AskedIndex>;
 
-/// A command. Cleanups are not accepted so far.
+/// A command.
 #[derive(Drop)]
 pub enum Command {
     /// Makes a snapshot of these indices.
@@ -39,6 +39,7 @@ pub enum Command {
         name: SnapName,
         place: Text,
     },
+    /// Removes what the root doesn't reach.
     Cleanup,
 }
 

@@ -8,7 +8,7 @@ ghost use Rattle.esr_core.specs.World.{deletion_work};
 ghost use Rattle.esr_core.specs.Deletes.{with_uuid, is_listed_uuid, name_the_same};
 ghost use Rattle.esr_formats.specs.Clusters.{op_of};
 ghost use Rattle.esr_record.specs.Op.{AreUuids, IsWork, last_op};
-ghost use Rattle.esr_progress.specs.Deletes.{deletion_entry, lies_between, between, IsDeleteWork, delete_kind, kept_delete};
+ghost use Rattle.esr_progress.specs.Deletes.{deletion_entry, lies_between, between, IsDeleteWork, delete_kind, gives_cleanup, cleanup_begun, kept_delete};
 ghost use Rattle.esr_progress.specs.AskedDeletes.{with_uuids, grown};
 ghost use Rattle.esr_progress.specs.Inside.{numbers_of, Rise};
 
@@ -51,6 +51,18 @@ impl OpenDelete {
             number,
             uuids,
             clean: false,
+            failed: false,
+        }
+    }
+
+    /// A cleanup that hasn't failed.
+    pub(crate) fn cleanup(alloc: Global, number: u64) -> OpenDelete
+        ensures { result ≡ (number, cleanup_begun) }
+    {
+        OpenDelete {
+            number,
+            uuids: Ids::new(alloc),
+            clean: true,
             failed: false,
         }
     }
@@ -134,12 +146,15 @@ impl OpenDelete {
         self.failed
     }
 
-    /// Its unit: that it leaves where it failed, else that its snapshots are deleted.
+    /// Its unit: that it leaves where it failed, else that its snapshots are deleted, or a cleanup.
     pub(crate) fn work(&self, alloc: Global) -> Result<Work, AllocError>
         ensures { IfOk result (IsDeleteWork self.now.1) }
     {
         if self.failed {
             return Ok(Work::Drop);
+        }
+        if self.clean {
+            return Ok(Work::Cleanup);
         }
         Ok(Work::Delete {
             uuids: Ids::from_slice(alloc, self.uuids.as_slice())?,
@@ -154,6 +169,13 @@ impl OpenDelete {
             return SeatKind::Drop;
         }
         SeatKind::Delete
+    }
+
+    /// Whether this unit is a cleanup.
+    pub(crate) fn gives_cleanup(&self) -> bool
+        ensures { result ≡ gives_cleanup self.now.1 }
+    {
+        !self.failed && self.clean
     }
 
     /// It fails.

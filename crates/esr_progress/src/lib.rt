@@ -2,8 +2,10 @@
 #![tactic(auto)]
 
 mod accept;
+mod accept_cleanup;
 mod accept_delete;
 mod changes;
+mod cleanup;
 mod cloning;
 mod command;
 mod delete;

@@ -1,14 +1,14 @@
-//! Which unit of a delete is ready.
-ghost use Rattle.std.specs.Prelude.{◌≡◌, ◌<◌, ◌^◌, ℕ, false, Some, nat_lt, position, IfOk};
-ghost use Rattle.std.specs.FinMap as fin;
+//! Which unit of a delete or cleanup is ready.
+ghost use Rattle.std.specs.Prelude.{◌≡◌, ◌<◌, ◌^◌, nat_lt, position, IfOk};
 ghost use Rattle.std.specs.List.{list_any};
-ghost use Rattle.esr_core.specs.World.{World, Deletion};
+ghost use Rattle.esr_core.specs.World.{World};
 ghost use Rattle.esr_formats.specs.Roots.{root_of};
 ghost use Rattle.esr_formats.specs.Clusters.{count_of};
 ghost use Rattle.esr_progress.specs.Plan.{IsGivenIn, IsPlanOf};
 ghost use Rattle.esr_progress.specs.Units.{HasDeleteReady, IsLowest, LowestUnit};
 ghost use Rattle.esr_progress.specs.Choice.{barred, delete_ready};
 
+use crate::cleanup::cleanup_waits;
 use crate::ready::copy_ops;
 use crate::seats::{swap_is_out, unit_is_out};
 use crate::unit::Slot;
@@ -19,7 +19,6 @@ use std::alloc::{AllocError, Global};
 impl Progress {
     /// The number of the lowest delete of which a unit is ready.
     pub(crate) fn ready_delete(&self, term: u64) -> Option<u64>
-        requires no_cleanup { (d : ℕ) (x : Deletion) → fin.get self.now.deletes d ≡ Some x → x.clean ≡ false }
         ensures { (w : World) → IsPlanOf w self.now → w.term ≡ term → IsLowest (HasDeleteReady w) result }
     {
         let Some(at) = find_delete(&self.ops, &self.deletes, &self.seats, term) else {
@@ -36,7 +35,6 @@ impl Progress {
         safe: i64,
         term: u64,
     ) -> Result<Option<(Progress, ReadyUnit)>, AllocError>
-        requires no_cleanup { (d : ℕ) (x : Deletion) → fin.get self.now.deletes d ≡ Some x → x.clean ≡ false }
         requires room { self.now.next_ticket < 2 ^ 62 }
         ensures { IfOk result (λ o. (w : World) → IsGivenIn self.now (root_of root.now) (count_of safe) term w → LowestUnit (HasDeleteReady w) w o) }
     {
@@ -57,7 +55,14 @@ impl Progress {
         };
         let ops = copy_ops(alloc, &self.ops)?;
         Ok(Some((
-            self.with_seat(alloc, ops, delete.kind(), unit.op, term)?,
+            self.with_seat(
+                alloc,
+                ops,
+                delete.kind(),
+                unit.op,
+                term,
+                delete.gives_cleanup(),
+            )?,
             unit,
         )))
     }
@@ -84,6 +89,9 @@ fn delete_ready(
 {
     if delete.has_failed() {
         return !unit_is_out(seats, term, delete.number());
+    }
+    if delete.cleans() {
+        return !cleanup_waits(ops, deletes, seats, delete.number());
     }
     !barred(deletes, delete.number()) && !precede(ops, delete.number()) && !swap_is_out(seats, term)
 }

@@ -3,7 +3,7 @@ ghost use Rattle.std.specs.Prelude.{◌≡◌, ◌==◌, ◌<◌, ◌^◌, ℕ, 
 ghost use Rattle.std.specs.FinMap as fin;
 ghost use Rattle.std.specs.List.{list_any};
 ghost use Rattle.esr_model.specs.Image.{index_at, at_shard_of};
-ghost use Rattle.esr_core.specs.World.{World, Deletion};
+ghost use Rattle.esr_core.specs.World.{World};
 ghost use Rattle.esr_formats.specs.Ids.{number_of};
 ghost use Rattle.esr_formats.specs.Roots.{root_of};
 ghost use Rattle.esr_formats.specs.Clusters.{count_of};
@@ -42,8 +42,7 @@ impl Progress {
         safe: i64,
         term: u64,
     ) -> Result<Option<(Progress, ReadyUnit)>, AllocError>
-        requires no_cleanup { (d : ℕ) (x : Deletion) → fin.get self.now.deletes d ≡ Some x → x.clean ≡ false }
-        requires room { self.now.next_ticket < 2 ^ 62 }
+        requires { self.now.next_ticket < 2 ^ 62 }
         ensures { IfOk result (λ o. (w : World) → IsGivenIn self.now (root_of root.now) (count_of safe) term w → NextUnit w o) }
     {
         let op = self.ready_op(term);
@@ -178,7 +177,10 @@ impl Progress {
             },
         };
         let ops = given_ops(alloc, &self.ops, at, seat, ticket)?;
-        Ok(Some((self.with_seat(alloc, ops, seat, unit.op, term)?, unit)))
+        Ok(Some((
+            self.with_seat(alloc, ops, seat, unit.op, term, false)?,
+            unit,
+        )))
     }
 
     /// A copy with these ops, in which one ticket more is out.
@@ -189,13 +191,15 @@ impl Progress {
         kind: SeatKind,
         op: u64,
         term: u64,
+        clean: bool,
     ) -> Result<Progress, AllocError>
         requires { numbers_of ops.items ≡ numbers_of (fin.entries self.now.ops) }
-        ensures { IfOk result (λ p. p ≡ record self.now { ops = fin.from_entries ops.items; seats = fin.insert self.now.seats self.now.next_ticket (seat_of_code (record { kind = kind; op = op; term = term; raised = None; settled = false; out = true })); next_ticket = suc self.now.next_ticket }) }
+        ensures { IfOk result (λ p. p ≡ record self.now { ops = fin.from_entries ops.items; seats = fin.insert self.now.seats self.now.next_ticket (seat_of_code (record { kind = kind; clean = clean; op = op; term = term; raised = None; settled = false; out = true })); next_ticket = suc self.now.next_ticket }) }
     {
         let mut seats = Vec::from_slice(alloc, self.seats.as_slice())?;
         seats.push(Slot::Ticket(Seat {
             kind,
+            clean,
             op,
             term,
             raised: None,
@@ -225,7 +229,7 @@ fn comes_first(number: Option<u64>, other: Option<u64>) -> bool
 }
 
 /// The lower of two numbers, or the one that is there.
-fn lower(number: Option<u64>, other: Option<u64>) -> Option<u64>
+pub(crate) fn lower(number: Option<u64>, other: Option<u64>) -> Option<u64>
     ensures { result ≡ lower_of number other }
 {
     if comes_first(number, other) {

@@ -24,6 +24,10 @@ pub enum Refusal {
     CloneRunning { op: u64 },
     /// This open restore reads one of the snapshots.
     RestoreRunning { op: u64 },
+    /// This op is open, no lower one, and a cleanup waits for none.
+    BusyOp { op: u64 },
+    /// This ticket is out, no lower one, and a cleanup waits for none.
+    BusyTicket { ticket: u64 },
 }
 
 impl From<AllocError> for Refusal {

@@ -63,7 +63,7 @@ impl Progress {
         self.ops[at].aborter()
     }
 
-    /// The ops as the cluster record tells them: snapshots and deletes, by number.
+    /// The ops as the cluster record tells them: snapshots, deletes and a cleanup, by number.
     pub fn record_ops(&self, alloc: Global) -> Result<RecordOps, AllocError>
         ensures { IfOk result (λ ops. map op_of ops ≡ record_ops self.now.ops self.now.deletes) }
     {
@@ -101,8 +101,8 @@ impl Progress {
         Ok(copy)
     }
 
-    /// The list after a delete's unit failed in this term: the ticket has ended, and the delete has failed, but for a unit of a
-    /// stale master.
+    /// The list after the unit of a delete or cleanup failed in this term: the ticket has ended, and the delete has failed, but for a
+    /// unit of a stale master.
     pub fn delete_failed(
         &self,
         alloc: Global,
@@ -149,13 +149,13 @@ impl Progress {
         Ok(copy)
     }
 
-    /// The list after the swap of a delete has settled: the delete has left, its ticket stays out.
+    /// The list after the swap of a delete or cleanup has settled: the delete has left, its ticket stays out. A cleanup stays.
     pub fn delete_settled(&self, alloc: Global, ticket: u64) -> Result<Progress, AllocError>
         ensures { IfOk result (λ p. (f : Formats) (w : World) (t : Ticket) (s : Swap) (n : ℕ) → IsPlanOf w self.now → fin.get w.tickets ticket ≡ Some t → swap f t ≡ Some s → t.raised ≡ Some n
             → IsPlanOf (delete_settled f w ticket (Some t)) p) }
     {
         let mut copy = self.copy(alloc)?;
-        copy.settle(ticket);
+        copy.settle_delete(ticket);
         Ok(copy)
     }
 
@@ -168,7 +168,7 @@ impl Progress {
         Ok(copy)
     }
 
-    /// The list after an op that failed was dropped: it has left, and the ticket has ended.
+    /// The list after an op that failed was dropped, or a cleanup is over: it has left, and the ticket has ended.
     pub fn dropped(&self, alloc: Global, ticket: u64) -> Result<Progress, AllocError>
         ensures { IfOk result (λ p. (w : World) → IsPlanOf w self.now → IsPlanOf (dropped_of w ticket (fin.get w.tickets ticket)) p) }
     {

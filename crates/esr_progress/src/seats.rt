@@ -2,7 +2,7 @@
 ghost use Rattle.std.specs.Prelude.{◌≡◌, option_map};
 ghost use Rattle.std.specs.List.{list_any};
 ghost use Rattle.esr_progress.specs.Plan.{seat_of_code, reader_of_code};
-ghost use Rattle.esr_progress.specs.Seats.{can_abort, seat_at, seat_in, reader_in, holds, is_swap_out, is_unit_out, has_op, swaps_op};
+ghost use Rattle.esr_progress.specs.Seats.{can_abort, seat_at, seat_in, reader_in, holds, is_out, is_swap_out, is_unit_out, has_op, swaps_op};
 
 use crate::unit::Slot;
 use crate::{ReaderSeat, Seat};
@@ -48,6 +48,16 @@ impl Slot {
         match self {
             Slot::Ticket(_) => None,
             Slot::Reader(reader) => Some(reader),
+        }
+    }
+
+    /// Whether it is a ticket that is out.
+    pub(crate) fn is_out(&self) -> bool
+        ensures { result ≡ holds is_out (seat_in self.now) }
+    {
+        match self {
+            Slot::Ticket(seat) => seat.out,
+            Slot::Reader(_) => false,
         }
     }
 

@@ -44,7 +44,7 @@ pub enum Work {
     Delete {
         uuids: Ids,
     },
-    /// Removes what the root doesn't reach. Not given so far.
+    /// Removes what the root doesn't reach.
     Cleanup,
 }
 
@@ -75,11 +75,12 @@ pub enum SeatKind {
     Drop,
 }
 
-/// What is kept of a ticket: its unit, its op, the term in which it was given, the generation that it raised, whether it
-/// has settled, and whether it is out.
+/// What is kept of a ticket: its unit, whether it is a cleanup, its op, the term in which it was given, the generation that it
+/// raised, whether it has settled, and whether it is out. A cleanup has the kind of a delete.
 #[derive(Clone, Copy, PartialEq, Eq)]
 pub struct Seat {
     pub kind: SeatKind,
+    pub clean: bool,
     pub op: u64,
     pub term: u64,
     pub raised: Option<u64>,

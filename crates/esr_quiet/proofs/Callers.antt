@@ -29,7 +29,7 @@ module _ (f : Formats) (w : World) (who : ℕ) (step : Step) where
   kept new (NewTicket take t is ops same) = refl
   kept new (NewReader take o r s there) = refl
   kept new (OwnTicket t v there unit settled next_id pending id_above above) = refl
-  kept new (Settlement is t s n names there swapped raised) = refl
+  kept new (Settlement is t s n names deletes there swapped raised left) = refl
   kept new (UnitEnd t op v completed there op_there same) = refl
   kept new (DeletionFailure t x there found) = refl
   kept new (OpDrop is t there) = refl

@@ -1,4 +1,4 @@
--- A delete that is asked for, and each step of its ticket, keeps what is to be written free, where no call of the container fails.
+-- A delete or a cleanup that is asked for, and each step of its ticket, keeps what is to be written free, where no call of the container fails.
 use Rattle.std.proofs.Common.{◌≡◌, ◌≢◌, ◌⊎◌, ℕ, suc, ◌+◌, ◌<◌, ◌≤◌, List, [], ◌∷◌, ◌++◌, Bool, true, false, Option, Some, None, refl, sym, ap, ◌∙◌, subst, inl, inr, arith}
 use Rattle.std.specs.Prelude.{if◌then◌else◌, filter}
 use Rattle.std.specs.Ordering.{nat_cmp}
@@ -19,9 +19,9 @@ use Rattle.esr_core.specs.Pruning.{bare_shard, pruned_shards, IsPlanned, delete_
 use Rattle.esr_core.specs.Deletes.{named_uuids, waiting_delete, running_delete, aborted_ops, with_named, delete_merged, delete_by}
 use Rattle.esr_core.specs.Ids.{Law}
 use Rattle.esr_core.specs.Turns.{Aborts}
-use Rattle.esr_core.specs.Entry.{DeleteSnapshots, Prune, RemoveDoomed, AskStep, PruneStep, DepotFault, Reply, WasRemoved, Refused}
-use Rattle.esr_core.specs.After.{with_given, change, told_blob, is_stale, delete_settled, delete_failed_by, delete_failed, blobs_in}
-use Rattle.esr_core.specs.Allowed.{Told, SameBlobs, MayPlan, SettlesDeletion, RemovesDoomed, DeleteAllows, GoingInto, NotNamed, CloneStands, RestoreStands, FullOfOps, DeleteFault, PruneAllows, FetchingShard, ShardMissing, FetchShardFails, Planning, PlanSpent, SettlingDelete, SettleDeleteStale, SettleDeleteFails, RemovingDoomed, RemoveDoomedFails, EndingDelete, FailingDelete}
+use Rattle.esr_core.specs.Entry.{DeleteSnapshots, Cleanup, Prune, RemoveDoomed, AskStep, PruneStep, DepotFault, Reply, WasRemoved, Refused}
+use Rattle.esr_core.specs.After.{with_given, change, told_blob, is_stale, deletes_left, delete_settled, delete_failed_by, delete_failed, blobs_in}
+use Rattle.esr_core.specs.Allowed.{Told, SameBlobs, MayPlan, SettlesDeletion, RemovesDoomed, DeleteAllows, GoingInto, NotNamed, CloneStands, RestoreStands, FullOfOps, DeleteFault, CleanupAllows, OpeningCleanup, OpStands, TicketStands, CleanupFault, PruneAllows, FetchingShard, ShardMissing, FetchShardFails, Planning, PlanSpent, SettlingDelete, SettleDeleteStale, SettleDeleteFails, RemovingDoomed, RemoveDoomedFails, EndingDelete, FailingDelete}
 use Rattle.esr_core.proofs.AskedDeletes.{aborts}
 use Rattle.esr_core.proofs.DeletedRoots.{uuid_was}
 use Rattle.esr_core.proofs.Deleting.{bool_told}
@@ -35,6 +35,7 @@ use Rattle.esr_core.proofs.PrunedShards.{of_indices}
 use Rattle.esr_core.proofs.Queues.{left_in}
 use Rattle.esr_core.proofs.Reading.{none_some, some_same, Has-mapped}
 use Rattle.esr_core.proofs.Results.{choose_true, choose_false}
+use Rattle.esr_quiet.proofs.Alone.{IsAlone}
 use Rattle.esr_quiet.proofs.FreeFrame.{IsFree, own_all, Tests, Follows, Waited, IsNewShard, ListsDone, IsNewPlan, framed, heard_after}
 use Rattle.esr_quiet.proofs.FreeNames.{one_place}
 use Rattle.esr_quiet.proofs.FreeParts.{Were, Back, at_same, told_same, was_shards, own_were, tests_was, tests_none, follows_same, came_all, came_put, own_put, own_drawn, waited_left, live_left}
@@ -147,6 +148,19 @@ module _ (f : Formats) (w : World) (shelf : List Shelved) (law : Law f w shelf) 
   asks_delete names reply image calm (FullOfOps may new full) same = anew (blobs_in image w.blobs) (at_same f w image same)
   asks_delete names reply image calm (DeleteFault acc) same = absurd (calm refl)
 
+  -- ---- a cleanup that is asked for
+
+  opens_cleanup : (blobs : Blobs) → Back f blobs w.blobs → IsFree f (record w { deletes = fin.insert w.deletes w.next_op (record { uuids = []; clean = true; failed = false }); next_op = suc w.next_op; blobs = blobs; caller = no_caller })
+  opens_cleanup blobs back =
+      framed f w (record w { deletes = fin.insert w.deletes w.next_op (record { uuids = []; clean = true; failed = false }); next_op = suc w.next_op; blobs = blobs; caller = no_caller }) l (came_all f w) (own_all f w l) (waited f w shelf law l) (λ i n g h. inl h) back.were
+      (tests_none f blobs no_caller refl refl)
+
+  pub asks_cleanup : (reply : Reply) (image : Option Image) → reply ≢ Refused DepotFault → CleanupAllows w reply → SameBlobs w image → IsFree f (heard_after f w (moment 0 (AskStep Cleanup) reply image))
+  asks_cleanup reply image calm (OpeningCleanup acc) same = opens_cleanup (blobs_in image w.blobs) (at_same f w image same)
+  asks_cleanup reply image calm (OpStands o clear lowest) same = anew (blobs_in image w.blobs) (at_same f w image same)
+  asks_cleanup reply image calm (TicketStands k none lowest) same = anew (blobs_in image w.blobs) (at_same f w image same)
+  asks_cleanup reply image calm (CleanupFault acc) same = absurd (calm refl)
+
   -- ---- its ticket has a plan
 
   module _ (k : ℕ) (shards : List PrunedShard) (image : Option Image) (p : MayPlan f w k shards image) where
@@ -154,9 +168,9 @@ module _ (f : Formats) (w : World) (shelf : List Shelved) (law : Law f w shelf) 
     next = planned f shards w.next_id p.t
 
     abbrev its : Swap
-    its = delete_swap f p.t.root p.t.read p.uuids shards w.next_id
+    its = delete_swap f p.t.clean p.t.root p.t.read p.uuids shards w.next_id
 
-    work_is : (planned f shards w.next_id p.t).work ≡ Deleting p.uuids (Some (delete_swap f p.t.root p.t.read p.uuids shards w.next_id))
+    work_is : (planned f shards w.next_id p.t).work ≡ Deleting p.uuids (Some (delete_swap f p.t.clean p.t.root p.t.read p.uuids shards w.next_id))
     work_is = ap (planned_work f p.t shards w.next_id) p.deleting.work
 
     no_shard : (i n : ℕ) → (planned f shards w.next_id p.t).work ≡ Shard i n → ⊥
@@ -198,8 +212,8 @@ module _ (f : Formats) (w : World) (shelf : List Shelved) (law : Law f w shelf) 
     abbrev left : List ℕ
     left = left_uuids s.uuids (uuids_of s.t.root)
 
-    plan : IsPlanned f s.t.root s.t.read s.t.first s.uuids s.s
-    plan = (law.pruned.unsettled k s.t s.uuids (Some s.s) s.may.out.there s.may.out.out s.may.unsettled present s.deleting.work).follows s.s refl s.commands
+    plan : IsPlanned f s.t.clean s.t.root s.t.read s.t.first s.uuids s.s
+    plan = (law.pruned.unsettled k s.t s.uuids (Some s.s) s.may.out.there s.may.out.out s.may.unsettled present s.deleting.work).follows s.s refl
 
     root_is : s.t.root ≡ w.root
     root_is = (law.lawful.queue.deleting k s.t s.may.out.there s.may.out.out s.may.unsettled present s.uuids (Some s.s) s.deleting.work).root_is
@@ -209,17 +223,17 @@ module _ (f : Formats) (w : World) (shelf : List Shelved) (law : Law f w shelf) 
         (((law.lawful.sound.rooted.tickets k s.t s.may.out.there).swaps s.s (record { is = s.may.is; out = s.may.out.out; unsettled = s.may.unsettled }) (inl present)).noted name bytes own (s.may.ready name bytes own)).0
 
     -- what was read of a shard that it prunes
-    was_read : (p : PrunedShard) → Has (pruned_shards f s.t.root s.uuids s.t.read) p → (was : ShardFiles) × (files_read f s.t.read p ≡ Some was)
+    was_read : (p : PrunedShard) → Has (pruned_shards f s.t.clean s.t.root s.uuids s.t.read) p → (was : ShardFiles) × (files_read f s.t.read p ≡ Some was)
     was_read p m =
-        let h = (of_indices f s.t.read s.uuids (uuids_of s.t.root) s.t.root.indices p m).is in
+        let h = (of_indices f s.t.read s.t.clean s.uuids (uuids_of s.t.root) s.t.root.indices p m).is in
         (h.was, ap (files_by f) (bytes_same s.t.read p (bare_shard _ _ p.base) h.index_is h.number_is refl) ∙ h.reads)
 
     -- a new index lists listed snapshots alone
     lists_listed : (i n g : ℕ) → IsNewIndex f w.ops s.s.own i n g → (held : ShardFiles) → Reads (At f w.blobs) (ShardIndex i n g) f.shard_index held → (list : SnapList) → Has held.snapshots list → (snap : RootSnap) × Has w.root.snapshots snap × (snap.uuid ≡ list.uuid)
     lists_listed i n g x held reads list m =
         let text : Bytes = f.shard_index.text x.index_of in
-        let own : Has (pruned_blobs f s.t.read (left_uuids s.uuids (uuids_of s.t.root)) s.t.first (pruned_shards f s.t.root s.uuids s.t.read)) (ShardIndex i n g, text) = subst (λ (y : Swap). Has y.own (ShardIndex i n g, text)) plan.swap_is x.there in
-        let (p, there, is) = own_text f s.t.read (left_uuids s.uuids (uuids_of s.t.root)) (pruned_shards f s.t.root s.uuids s.t.read) s.t.first (ShardIndex i n g) text own in
+        let own : Has (pruned_blobs f s.t.read (left_uuids s.uuids (uuids_of s.t.root)) s.t.first (pruned_shards f s.t.clean s.t.root s.uuids s.t.read)) (ShardIndex i n g, text) = subst (λ (y : Swap). Has y.own (ShardIndex i n g, text)) plan.swap_is x.there in
+        let (p, there, is) = own_text f s.t.read (left_uuids s.uuids (uuids_of s.t.root)) (pruned_shards f s.t.clean s.t.root s.uuids s.t.read) s.t.first (ShardIndex i n g) text own in
         let (was, read) = was_read p there in
         let bytes : reads.bytes ≡ f.shard_index.text (surviving left was) = some_same reads.bytes text (sym reads.there.0 ∙ (written (ShardIndex i n g) text x.there).0) ∙ is ∙ ap (left_text f left) read in
         let same : held ≡ surviving left was = some_same held (surviving left was) (sym reads.reads ∙ ap f.shard_index.read bytes ∙ plan.writable p was there read) in
@@ -227,7 +241,7 @@ module _ (f : Formats) (w : World) (shelf : List Shelved) (law : Law f w shelf) 
         Has-mapped (λ (y : RootSnap). y.uuid) w.root.snapshots list.uuid (subst (λ (y : RootData). Has (uuids_of y) list.uuid) root_is listed)
 
     abbrev new : World
-    new = record (settled w k s.t s.n s.s.root) { deletes = fin.remove w.deletes s.t.op; doomed = dooms f s.t ++ w.doomed }
+    new = record (settled w k s.t s.n s.s.root) { deletes = deletes_left w s.t; doomed = dooms f s.t ++ w.doomed }
 
     -- so none that is still to be made
     live : (i n g : ℕ) → IsLive s.s.root (fin.remove w.ops s.t.op) i n g → IsLive w.root w.ops i n g ⊎ ListsDone f w new i n g
@@ -242,7 +256,7 @@ module _ (f : Formats) (w : World) (shelf : List Shelved) (law : Law f w shelf) 
     settles : (blobs : Blobs) → Back f blobs w.blobs → IsFree f (record (delete_settled f w k (fin.get w.tickets k)) { blobs = blobs })
     settles blobs back =
         subst (λ (x : World). IsFree f (record x { blobs = blobs })) (sym (delete_settled_plain f w k s.n s.t s.s s.may))
-        (framed f w (record (settled w k s.t s.n s.s.root) { deletes = fin.remove w.deletes s.t.op; doomed = dooms f s.t ++ w.doomed; blobs = blobs }) l
+        (framed f w (record (settled w k s.t s.n s.s.root) { deletes = deletes_left w s.t; doomed = dooms f s.t ++ w.doomed; blobs = blobs }) l
         (came_put f w k s.t (record s.t { settled = true }) s.may.out.there (follows_same f w s.t (record s.t { settled = true }) refl refl (λ e. e) (λ name h. h) refl refl refl refl))
         (own_put w.tickets (own_all f w l) k s.t (record s.t { settled = true }) s.may.out.there refl refl refl)
         (λ p q z h z_there waits. inl (waited_left w s.t.op p q z h z_there waits))
@@ -250,19 +264,24 @@ module _ (f : Formats) (w : World) (shelf : List Shelved) (law : Law f w shelf) 
 
   -- ---- it removes, and ends
 
-  removes : (k : ℕ) (names : List BlobName) (x : Image) → RemovesDoomed f w k names (Some x) → Removes f w.blobs x.blobs names → IsFree f (record w { blobs = x.blobs })
-  removes k names x r away =
+  removes : IsAlone w → (k : ℕ) (names : List BlobName) (x : Image) → RemovesDoomed f w k names (Some x) → Removes f w.blobs x.blobs names → IsFree f (record w { blobs = x.blobs })
+  removes alone k names x r away =
       framed f w (record w { blobs = x.blobs }) l (came_all f w) (own_all f w l) (waited f w shelf law l) (λ i n g h. inl h) were tests
     where
       were : Were f x.blobs w.blobs
       were name b h = (away.left (f.names.text name) b h.0, h.1)
 
-      unnamed : (id : ℕ) (name : BlobName) → IsTestOf id name → Has names name → ⊥
-      unnamed id name test m =
-          doomed_no_test f r.t.safe r.t.root r.s.root r.uuids r.t.read id name (doomed_is f r.t.safe r.t.root r.s.root r.uuids r.t.read name (subst (λ (ns : List BlobName). Has ns name) (dooms_is f r.t r.uuids r.s r.deleting.work) (r.doomed name m))) test
+      -- a cleanup's would, but it isn't worked while a verification is open
+      unnamed : (id : ℕ) (name : BlobName) → IsTestOf id name → w.caller.drawn ≡ Some id → Has names name → ⊥
+      unnamed id name test drawn m = elim (bool_told r.t.clean) [
+        | inl clean ↦ alone id k r.t drawn r.deleting.out.there clean r.deleting.out.out
+        | inr deletes ↦
+            doomed_no_test f r.t.safe r.t.root r.s.root r.uuids r.t.read id name
+            (doomed_is f r.t.safe r.t.root r.s.root r.uuids r.t.read name (subst (λ (ns : List BlobName). Has ns name) (dooms_is f r.t r.uuids r.s r.deleting.work deletes) (r.doomed name m))) test
+      ]
 
       tests : Tests f x.blobs w.caller
-      tests = (own_were f w l x.blobs were, λ name b h unremoved. let t = l.wrote_tests name b h in away.stays name b (l.free.wrote name b h unremoved) (unnamed t.0 name t.1), l.wrote_tests)
+      tests = (own_were f w l x.blobs were, λ name b h unremoved. let t = l.wrote_tests name b h in away.stays name b (l.free.wrote name b h unremoved) (unnamed t.0 name t.1 t.2), l.wrote_tests)
 
   fails_by : (k : ℕ) (t : Ticket) → fin.get w.tickets k ≡ Some t → (x : Option Deletion) (blobs : Blobs) → Back f blobs w.blobs → IsFree f (record (delete_failed_by w k t x) { blobs = blobs })
   fails_by k t there None blobs back = kept f w shelf law l blobs back
@@ -279,26 +298,26 @@ module _ (f : Formats) (w : World) (shelf : List Shelved) (law : Law f w shelf) 
 
   -- ---- each answer, where the image is told
 
-  removes_told : (k : ℕ) (names : List BlobName) (image : Option Image) (i : Image) → image ≡ Some i → RemovesDoomed f w k names image → Told image (λ blobs. Removes f w.blobs blobs names × ((name : BlobName) → Has names name → fin.get blobs (f.names.text name) ≡ None))
+  removes_told : IsAlone w → (k : ℕ) (names : List BlobName) (image : Option Image) (i : Image) → image ≡ Some i → RemovesDoomed f w k names image → Told image (λ blobs. Removes f w.blobs blobs names × ((name : BlobName) → Has names name → fin.get blobs (f.names.text name) ≡ None))
       → IsFree f (heard_after f w (moment k (PruneStep (RemoveDoomed names)) WasRemoved image))
-  removes_told k names None i told r away = absurd (none_some i told)
-  removes_told k names (Some x) i told r away = removes k names x r away.0
+  removes_told alone k names None i told r away = absurd (none_some i told)
+  removes_told alone k names (Some x) i told r away = removes alone k names x r away.0
 
   still : (image : Option Image) → SameBlobs w image → IsFree f (record w { blobs = blobs_in image w.blobs })
   still image same = kept f w shelf law l (blobs_in image w.blobs) (at_same f w image same)
 
-  pub prunes : (k : ℕ) (prune : Prune) (reply : Reply) (image : Option Image) → reply ≢ Refused DepotFault → (i : Image) → image ≡ Some i → PruneAllows f w k prune reply image → IsFree f (heard_after f w (moment k (PruneStep prune) reply image))
-  prunes k prune reply image calm i told (FetchingShard j name im g found) =
+  pub prunes : IsAlone w → (k : ℕ) (prune : Prune) (reply : Reply) (image : Option Image) → reply ≢ Refused DepotFault → (i : Image) → image ≡ Some i → PruneAllows f w k prune reply image → IsFree f (heard_after f w (moment k (PruneStep prune) reply image))
+  prunes alone k prune reply image calm i told (FetchingShard j name im g found) =
       fetches f w shelf law l j g.t g.deleting.out.there name (told_blob f im name) (blobs_in im w.blobs)
       (at_same f w im (told_same w im (λ blobs. (bytes : Bytes) × (fin.get w.blobs (f.names.text name) ≡ Some bytes) × (blobs ≡ w.blobs)) (λ blobs h. h.2) found))
-  prunes k prune reply image calm i told (ShardMissing j name im g found) = still im (told_same w im (λ blobs. (fin.get w.blobs (f.names.text name) ≡ None) × (blobs ≡ w.blobs)) (λ blobs h. h.1) found)
-  prunes k prune reply image calm i told (FetchShardFails j name im g same) = absurd (calm refl)
-  prunes k prune reply image calm i told (Planning j shards im p fits back same) = plans j shards im p (blobs_in im w.blobs) (at_same f w im same)
-  prunes k prune reply image calm i told (PlanSpent j shards im p spent same) = still im same
-  prunes k prune reply image calm i told (SettlingDelete j im s present same) = settles j s present (blobs_in im w.blobs) (at_same f w im same)
-  prunes k prune reply image calm i told (SettleDeleteStale j im s apart same) = still im same
-  prunes k prune reply image calm i told (SettleDeleteFails j im s present same) = absurd (calm refl)
-  prunes k prune reply image calm i told (RemovingDoomed j names im r away) = removes_told j names im i told r away
-  prunes k prune reply image calm i told (RemoveDoomedFails j names im r away) = absurd (calm refl)
-  prunes k prune reply image calm i told (EndingDelete j im e same) = changed f w shelf law l j e.t e.deleting.out.there (λ (t : Ticket). record t { out = false }) (ended f w shelf law l e.t) refl refl refl (blobs_in im w.blobs) (at_same f w im same)
-  prunes k prune reply image calm i told (FailingDelete j why im c same) = fails j c.t c.deleting.out.there (blobs_in im w.blobs) (at_same f w im same)
+  prunes alone k prune reply image calm i told (ShardMissing j name im g found) = still im (told_same w im (λ blobs. (fin.get w.blobs (f.names.text name) ≡ None) × (blobs ≡ w.blobs)) (λ blobs h. h.1) found)
+  prunes alone k prune reply image calm i told (FetchShardFails j name im g same) = absurd (calm refl)
+  prunes alone k prune reply image calm i told (Planning j shards im p fits back same) = plans j shards im p (blobs_in im w.blobs) (at_same f w im same)
+  prunes alone k prune reply image calm i told (PlanSpent j shards im p spent same) = still im same
+  prunes alone k prune reply image calm i told (SettlingDelete j im s present same) = settles j s present (blobs_in im w.blobs) (at_same f w im same)
+  prunes alone k prune reply image calm i told (SettleDeleteStale j im s apart same) = still im same
+  prunes alone k prune reply image calm i told (SettleDeleteFails j im s present same) = absurd (calm refl)
+  prunes alone k prune reply image calm i told (RemovingDoomed j names im r away) = removes_told alone j names im i told r away
+  prunes alone k prune reply image calm i told (RemoveDoomedFails j names im r away) = absurd (calm refl)
+  prunes alone k prune reply image calm i told (EndingDelete j im e same) = changed f w shelf law l j e.t e.deleting.out.there (λ (t : Ticket). record t { out = false }) (ended f w shelf law l e.t) refl refl refl (blobs_in im w.blobs) (at_same f w im same)
+  prunes alone k prune reply image calm i told (FailingDelete j why im c same) = fails j c.t c.deleting.out.there (blobs_in im w.blobs) (at_same f w im same)

@@ -29,9 +29,9 @@ OwnIds tickets = (j k id : ℕ) (t u : Ticket) → fin.get tickets j ≡ Some t 
 abbrev pub IsStanding : Formats → Blobs → Caller → Type 0
 IsStanding f blobs caller = (name : BlobName) (bytes : Bytes) → Has caller.wrote (name, bytes) → (Has caller.removed name → ⊥) → At f blobs name bytes
 
--- what it wrote is test blobs
+-- what it wrote is test blobs, under the id that it drew
 abbrev pub WroteTests : Caller → Type 0
-WroteTests caller = (name : BlobName) (bytes : Bytes) → Has caller.wrote (name, bytes) → (id : ℕ) × IsTestOf id name
+WroteTests caller = (name : BlobName) (bytes : Bytes) → Has caller.wrote (name, bytes) → (id : ℕ) × IsTestOf id name × (caller.drawn ≡ Some id)
 
 abbrev pub Tests : Formats → Blobs → Caller → Type 0
 Tests f blobs caller = AreOwnTests f blobs caller × IsStanding f blobs caller × WroteTests caller

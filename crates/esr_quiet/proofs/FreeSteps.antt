@@ -6,6 +6,7 @@ use Rattle.esr_model.specs.Names.{BlobName, Latest, ShardSnap}
 use Rattle.esr_model.specs.Values.{Bytes, Has, ShardResult, ReadsBack, Formats}
 use Rattle.esr_model.specs.Shelf.{Shelved}
 use Rattle.esr_model.specs.Places.{places}
+use Rattle.esr_model.specs.Cleanup.{IsPageOf}
 use Rattle.esr_model.specs.Image.{Image, Blobs, At, Present}
 use Rattle.esr_core.specs.World.{World, Op, ShardWork, ShardState, Pending, Shard, Deleting, Drop, Ticket, Swap, ReadState, Restored, NotRestored, Restoring, Reader, Caller, no_caller, HeldIn}
 use Rattle.esr_core.specs.Restores as restoring
@@ -13,13 +14,13 @@ use Rattle.esr_core.specs.Restores.{IsTestOf, put_restore, read_more, restore_of
 use Rattle.esr_core.specs.Generations.{IsLive}
 use Rattle.esr_core.specs.Ready.{Waits}
 use Rattle.esr_core.specs.Steps.{Largest, Removes, with_ticket, settled, given, completing, shard_ticket, final_ticket}
-use Rattle.esr_core.specs.Turns.{plain_ticket, fails}
+use Rattle.esr_core.specs.Turns.{plain_ticket, cleaning_ticket, fails}
 use Rattle.esr_core.specs.Past.{with_entry}
 use Rattle.esr_core.specs.Ids.{Law}
 use Rattle.esr_core.specs.Entry.{AskedIndex, CloneOf, Snapshot, Clone, Restore, Given, GivenShard, GivenFinalize, GivenDrop, GivenRestore, GivenClone, GivenDelete, GivenCleanup, Why, Read, ReadBlob, RestoredShard, CommitTest, RemoveTests, ReadFails, Step, AskStep, CommitStep, LatestStep, ReadStep, DepotFault, Reply, WasDone, WasReplaced, WasFetched, WasAbsent, WasRemoved, HasEnded, Refused, Moment}
 use Rattle.esr_core.specs.After.{new_names, asked, asked_op, cloned_op, taken_by, taken_shard, taken_restore, taken_restore_shard, read_told, shard_over, read_over, caller_told, caller_wrote, with_given, committing, told_blob, done_of, done_by, failed_of, failed_by, is_stale, settled_of, dropped_of, blobs_in, after}
 use Rattle.esr_core.specs.Allowed as allowed
-use Rattle.esr_core.specs.Allowed.{latest_text, Told, SameBlobs, Adds, Gives, Commits, Settles, Fails, Dones, Drops, IsOwnTest, RestoreAllows, OpeningRestore, NotListed, NamedByDelete, FullOfRestores, ReadAllows, ReadFound, ReadMissing, ReadFault, RestoringShard, ReaderFailing, CheckingAll, CheckFailing, VerifyAllows, DrawingTest, TestSpent, BeginningTest, BeginTestFails, CommittingTest, TestTaken, CommitTestFails, RemovingTests, RemoveTestsFails, VerifyingAll, VerifyFailing, CloneAllows, OpeningClone, CloneUsed, SourceNotListed, SourceDeleted, IndexMissing, FullOfClones, CloneSpent, CloneFault, Allows, Allowed}
+use Rattle.esr_core.specs.Allowed.{latest_text, Told, SameBlobs, Adds, Gives, Commits, Settles, Fails, Dones, Drops, MayDrawTest, IsOwnTest, RestoreAllows, OpeningRestore, NotListed, NamedByDelete, FullOfRestores, ReadAllows, ReadFound, ReadMissing, ReadFault, RestoringShard, ReaderFailing, CheckingAll, CheckFailing, VerifyAllows, DrawingTest, TestSpent, BeginningTest, BeginTestFails, CommittingTest, TestTaken, CommitTestFails, RemovingTests, RemoveTestsFails, VerifyingAll, VerifyFailing, CloneAllows, OpeningClone, CloneUsed, SourceNotListed, SourceDeleted, IndexMissing, FullOfClones, CloneSpent, CloneFault, Allows, Allowed}
 use Rattle.esr_core.proofs.Accepting.{in_all}
 use Rattle.esr_core.proofs.AskedClones.{copied_pending}
 use Rattle.std.specs.Cmp.Lexicographic.{nat_list_cmp_total}
@@ -39,8 +40,9 @@ use Rattle.esr_quiet.proofs.FreeNames.{one_place, snap_alone, test_id_below}
 use Rattle.esr_quiet.proofs.FreeParts.{Were, Back, at_same, told_same, own_were, tests_was, tests_none, follows_same, came_all, came_put, came_new, own_put, own_new, WaitedBy, waited_as, waited_map, waited_left, live_left}
 use Rattle.esr_quiet.proofs.FreeBlobs.{used_below, free_committed}
 use Rattle.esr_quiet.proofs.FreeEnds.{has_indexed, free_done, live_settled}
-use Rattle.esr_quiet.proofs.FreeTickets.{waited, kept, beside, called, elected, changed, ended, noted, finds, fetches, tries, ends, draws, raises}
-use Rattle.esr_quiet.proofs.FreeDeletes.{asks_delete, prunes}
+use Rattle.esr_quiet.proofs.FreeTickets.{waited, kept, beside, called, elected, changed, ended, noted, finds, fetches, lists, tries, ends, draws, raises}
+use Rattle.esr_quiet.proofs.FreeDeletes.{asks_delete, asks_cleanup, prunes}
+use Rattle.esr_quiet.proofs.Alone.{IsAlone}
 
 -- the blobs after `index.latest` is replaced
 latest_back : (f : Formats) (blobs now : Blobs) (bytes : Bytes) → now ≡ fin.insert blobs (f.names.text Latest) bytes → ReadsBack f.names Latest → Back f now blobs
@@ -172,7 +174,7 @@ module _ (f : Formats) (w : World) (shelf : List Shelved) (law : Law f w shelf) 
       subst (λ x. IsFree f (record (taken_by f w o (GivenClone index number source base) x) { blobs = blobs })) (sym g.ready.op_there)
       (subst (λ x. IsFree f (record (taken_shard w o g.op base x) { blobs = blobs })) (sym g.found) (gives_shard o g.op g.s base g.ready.op_there g.ready.s_there g.ready.pending g.largest blobs back))
   gives o (GivenDelete uuids) g blobs back = gives_plain (plain_ticket w o (Deleting uuids None)) (plain_new f w (plain_ticket w o (Deleting uuids None)) (λ i n e. cc) refl (unplanned uuids)) refl blobs back
-  gives o GivenCleanup g blobs back = absurd g
+  gives o GivenCleanup g blobs back = gives_plain (cleaning_ticket w o) (plain_new f w (cleaning_ticket w o) (λ i n e. cc) refl (unplanned [])) refl blobs back
   gives o GivenDrop g blobs back = dropping (fin.get w.ops o)
     where
       dropping : (found : Option Op) → IsFree f (record (taken_by f w o GivenDrop found) { blobs = blobs })
@@ -207,8 +209,8 @@ module _ (f : Formats) (w : World) (shelf : List Shelved) (law : Law f w shelf) 
       (λ i n g h. inl (live_settled f w shelf law k s i n g h))
       back.were (tests_was f w l blobs back))
 
-  drops_step : (k : ℕ) (d : Drops w k) (blobs : Blobs) → Back f blobs w.blobs → IsFree f (record (dropped_of w k (fin.get w.tickets k)) { blobs = blobs })
-  drops_step k d blobs back =
+  drops_step : (k : ℕ) (image : Option Image) (d : Drops f w k image) (blobs : Blobs) → Back f blobs w.blobs → IsFree f (record (dropped_of w k (fin.get w.tickets k)) { blobs = blobs })
+  drops_step k image d blobs back =
       subst (λ x. IsFree f (record (dropped_of w k x) { blobs = blobs })) (sym d.may.out.there)
       (framed f w (record w { ops = fin.remove w.ops d.may.t.op; deletes = fin.remove w.deletes d.may.t.op; tickets = fin.insert w.tickets k (record d.may.t { out = false }); blobs = blobs }) l
       (came_put f w k d.may.t (record d.may.t { out = false }) d.may.out.there (ended f w shelf law l d.may.t)) (own_put w.tickets (own_all f w l) k d.may.t (record d.may.t { out = false }) d.may.out.there refl refl refl)
@@ -235,9 +237,9 @@ module _ (f : Formats) (w : World) (shelf : List Shelved) (law : Law f w shelf) 
   -- ---- a verification
 
   -- no blob has the id that it draws
-  draws_test : (blobs : Blobs) → Back f blobs w.blobs → IsFree f (record w { next_id = suc w.next_id; blobs = blobs; caller = record w.caller { drawn = Some w.next_id } })
-  draws_test blobs back =
-      framed f w (record w { next_id = suc w.next_id; blobs = blobs; caller = record w.caller { drawn = Some w.next_id } }) l (came_all f w) (own_all f w l) (waited f w shelf law l) (λ i n g h. inl h) back.were (new, (tests_was f w l blobs back).1, l.wrote_tests)
+  draws_test : MayDrawTest w → (blobs : Blobs) → Back f blobs w.blobs → IsFree f (record w { next_id = suc w.next_id; blobs = blobs; caller = record w.caller { drawn = Some w.next_id } })
+  draws_test idle blobs back =
+      framed f w (record w { next_id = suc w.next_id; blobs = blobs; caller = record w.caller { drawn = Some w.next_id } }) l (came_all f w) (own_all f w l) (waited f w shelf law l) (λ i n g h. inl h) back.were (new, (tests_was f w l blobs back).1, λ name b h. let t = l.wrote_tests name b h in absurd (none_some t.0 (sym idle.undrawn ∙ t.2)))
     where
       new : AreOwnTests f blobs (record w.caller { drawn = Some w.next_id })
       new id name drawn test p =
@@ -255,7 +257,7 @@ module _ (f : Formats) (w : World) (shelf : List Shelved) (law : Law f w shelf) 
           | inl e ↦ subst (λ (x : BlobName × Bytes). At f blobs x.0 x.1) e (now name bytes (at_new f w.blobs name bytes own.stored adds.0 []))
           | inr old ↦ now m b (at_kept f w.blobs name bytes own.stored adds.0 [] m b (l.free.wrote m b old left))
         ],
-        λ m b h. elim h [ inl e ↦ (own.id, subst (λ (x : BlobName × Bytes). IsTestOf own.id x.0) e own.test) | inr old ↦ l.wrote_tests m b old ],
+        λ m b h. elim h [ inl e ↦ (own.id, subst (λ (x : BlobName × Bytes). IsTestOf own.id x.0) e own.test, own.drawn) | inr old ↦ l.wrote_tests m b old ],
       )
     where
       was : (m : BlobName) (b : Bytes) → At f blobs m b → (m ≡ name) ⊎ At f w.blobs m b
@@ -266,7 +268,7 @@ module _ (f : Formats) (w : World) (shelf : List Shelved) (law : Law f w shelf) 
 
 -- ---- each answer, where the image is told
 
-module _ (f : Formats) (size : ℕ) (w : World) (shelf : List Shelved) (law : Law f w shelf) (l : IsFree f w) where
+module _ (f : Formats) (size : ℕ) (w : World) (shelf : List Shelved) (law : Law f w shelf) (l : IsFree f w) (alone : IsAlone w) where
   commits : (k : ℕ) (name : BlobName) (image : Option Image) (c : Commits f size w k name) → Told image (Adds f w name c.bytes) → (i : Image) → image ≡ Some i → IsFree f (heard_after f w (moment k (CommitStep name) WasDone image))
   commits k name None c adds i told = absurd (none_some i told)
   commits k name (Some x) c adds i told =
@@ -364,7 +366,7 @@ module _ (f : Formats) (size : ℕ) (w : World) (shelf : List Shelved) (law : La
       )
 
   verifies : (read : Read) (reply : Reply) (image : Option Image) → reply ≢ Refused DepotFault → (i : Image) → image ≡ Some i → VerifyAllows f w read reply image → IsFree f (heard_after f w (moment 0 (ReadStep read) reply image))
-  verifies read reply image calm i told (DrawingTest im idle fits same) = draws_test f w shelf law l (blobs_in im w.blobs) (at_same f w im same)
+  verifies read reply image calm i told (DrawingTest im idle fits same) = draws_test f w shelf law l idle (blobs_in im w.blobs) (at_same f w im same)
   verifies read reply image calm i told (TestSpent im idle spent same) = goes im same (record w.caller { spent = true }) (tests_was f w l (blobs_in im w.blobs) (at_same f w im same))
   verifies read reply image calm i told (BeginningTest name im own same) = still im same
   verifies read reply image calm i told (BeginTestFails name im own same) = absurd (calm refl)
@@ -391,22 +393,24 @@ module _ (f : Formats) (size : ℕ) (w : World) (shelf : List Shelved) (law : La
       fetches f w shelf law l k g.t g.out.there name (told_blob f im name) (blobs_in im w.blobs)
       (at_same f w im (told_same w im (λ blobs. (bytes : Bytes) × (fin.get w.blobs (f.names.text name) ≡ Some bytes) × (blobs ≡ w.blobs)) (λ blobs h. h.2) found))
   free_by who step reply image calm i told (allowed.Missing k name im g found) = still im (told_same w im (λ blobs. (fin.get w.blobs (f.names.text name) ≡ None) × (blobs ≡ w.blobs)) (λ blobs h. h.1) found)
-  free_by who step reply image calm i told (allowed.Listing k im t out same) = still im same
+  free_by who step reply image calm i told (allowed.Listing k from page im g shape here) =
+      lists f w shelf law l k g.t g.out.there page (blobs_in im w.blobs) (at_same f w im (told_same w im (λ blobs. IsPageOf w.blobs from page × (blobs ≡ w.blobs)) (λ blobs h. h.1) here))
   free_by who step reply image calm i told (allowed.Raising k n im r same) = raises f w shelf law l k n r (blobs_in im w.blobs) (at_same f w im same)
   free_by who step reply image calm i told (allowed.Settling k im s same) = settles_step f w shelf law l k s (blobs_in im w.blobs) (at_same f w im same)
   free_by who step reply image calm i told (allowed.Doing k r im d same) = does k r im d same i told
   free_by who step reply image calm i told (allowed.Failing k why im c same) = fails_step f w shelf law l k c (blobs_in im w.blobs) (at_same f w im same)
   free_by who step reply image calm i told (allowed.Finishing k im c same) =
       changed f w shelf law l k c.t c.out.there (λ (t : Ticket). record t { out = false }) (ended f w shelf law l c.t) refl refl refl (blobs_in im w.blobs) (at_same f w im same)
-  free_by who step reply image calm i told (allowed.Dropping k im c same) = drops_step f w shelf law l k c (blobs_in im w.blobs) (at_same f w im same)
+  free_by who step reply image calm i told (allowed.Dropping k im c same) = drops_step f w shelf law l k im c (blobs_in im w.blobs) (at_same f w im same)
   free_by who step reply image calm i told (allowed.Electing im room same) = elected f w shelf law l (blobs_in im w.blobs) (at_same f w im same)
   free_by who step reply image calm i told (allowed.Looking im same) = anew im same (record no_caller { looked = true }) refl refl
   free_by who step reply image calm i told (allowed.AskingRestore name place rep im h same) = asks_restore name place rep im h same
   free_by who step reply image calm i told (allowed.AskingClone source name names time taken rep im h same) = asks_clone source name names time taken rep im calm h same
   free_by who step reply image calm i told (allowed.AskingDelete names rep im h same) = asks_delete f w shelf law l names rep im calm h same
+  free_by who step reply image calm i told (allowed.AskingCleanup rep im h same) = asks_cleanup f w shelf law l rep im calm h same
   free_by who step reply image calm i told (allowed.Reading k read rep im h same) = reads k read rep im calm h same
   free_by who step reply image calm i told (allowed.Verifying read rep im h) = verifies read rep im calm i told h
-  free_by who step reply image calm i told (allowed.Pruning k prune rep im h) = prunes f w shelf law l k prune rep im calm i told h
+  free_by who step reply image calm i told (allowed.Pruning k prune rep im h) = prunes f w shelf law l alone k prune rep im calm i told h
   free_by who step reply image calm i told (allowed.Cleaning c d x im recorded there clean same) = anew im same no_caller refl refl
   free_by who step reply image calm i told (allowed.Used name indices time uuid im clear is same) = anew im same no_caller refl refl
   free_by who step reply image calm i told (allowed.Full name indices time im clear unused full same) = anew im same no_caller refl refl
@@ -423,15 +427,15 @@ module _ (f : Formats) (size : ℕ) (w : World) (shelf : List Shelved) (law : La
   free_by who step reply image calm i told (allowed.CommitFails k name im c leaves) = absurd (calm refl)
   free_by who step reply image calm i told (allowed.ReplaceFails k im c named puts) = absurd (calm refl)
   free_by who step reply image calm i told (allowed.FetchFails k name im g same) = absurd (calm refl)
-  free_by who step reply image calm i told (allowed.ListFails k im t out same) = absurd (calm refl)
+  free_by who step reply image calm i told (allowed.ListFails k from im g same) = absurd (calm refl)
   free_by who step reply image calm i told (allowed.AskFails name indices time im acc same) = absurd (calm refl)
   free_by who step reply image calm i told (allowed.RaiseFails k im r same) = absurd (calm refl)
   free_by who step reply image calm i told (allowed.SettleFails k im s same) = absurd (calm refl)
   free_by who step reply image calm i told (allowed.DropFails k im c same) = absurd (calm refl)
   free_by who step reply image calm i told (allowed.ElectFails im room same) = absurd (calm refl)
 
-pub step_free : (f : Formats) (size : ℕ) (w : World) (shelf : List Shelved) → Law f w shelf → IsFree f w → (m : Moment) → m.entry.reply ≢ Refused DepotFault → (i : Image) → m.image ≡ Some i → Allowed f size w m → IsFree f (after f w m)
-step_free f size w shelf law l m calm i told a = elim a.answered [
-  | inl alive ↦ with_entries f (heard_after f w m) (after f w m).entries (free_by f size w shelf law l m.entry.who m.entry.step m.entry.reply m.image calm i told alive.1)
+pub step_free : (f : Formats) (size : ℕ) (w : World) (shelf : List Shelved) → Law f w shelf → IsFree f w → IsAlone w → (m : Moment) → m.entry.reply ≢ Refused DepotFault → (i : Image) → m.image ≡ Some i → Allowed f size w m → IsFree f (after f w m)
+step_free f size w shelf law l alone m calm i told a = elim a.answered [
+  | inl alive ↦ with_entries f (heard_after f w m) (after f w m).entries (free_by f size w shelf law l alone m.entry.who m.entry.step m.entry.reply m.image calm i told alive.1)
   | inr dead ↦ subst (IsFree f) (sym (blocked_stays f w m dead)) (with_entries f w (with_entry w.entries m.entry) l)
 ]

@@ -7,10 +7,11 @@ use Rattle.esr_model.specs.Names.{BlobName}
 use Rattle.esr_model.specs.Values.{Bytes, Has, Formats}
 use Rattle.esr_model.specs.Shelf.{Shelved}
 use Rattle.esr_model.specs.Kept.{first_id}
+use Rattle.esr_model.specs.Cleanup.{BlobSize}
 use Rattle.esr_model.specs.Image.{Blobs}
 use Rattle.esr_core.specs.World.{World, Op, ShardWork, Ticket, Restoring, Reader, Caller}
 use Rattle.esr_core.specs.Ready.{Waits, IsShard}
-use Rattle.esr_core.specs.Steps.{with_ticket}
+use Rattle.esr_core.specs.Steps.{with_ticket, listing}
 use Rattle.esr_core.specs.Ids.{Law}
 use Rattle.esr_core.specs.After.{with_given, change, committing, fetching, tried}
 use Rattle.esr_core.specs.Allowed.{Raises}
@@ -65,6 +66,9 @@ module _ (f : Formats) (w : World) (shelf : List Shelved) (law : Law f w shelf) 
   pub fetches : (k : ℕ) (t : Ticket) → fin.get w.tickets k ≡ Some t → (name : BlobName) (o : Option Bytes) (blobs : Blobs) → Back f blobs w.blobs → IsFree f (record (change w k (fetching name o)) { blobs = blobs })
   fetches k t there name None blobs back = changed k t there (fetching name None) (follows_same f w t t refl refl (λ e. e) (λ m h. h) refl refl refl refl) refl refl refl blobs back
   fetches k t there name (Some bytes) blobs back = changed k t there (fetching name (Some bytes)) (follows_same f w t (fetching name (Some bytes) t) refl refl (λ e. e) (λ m h. h) refl refl refl refl) refl refl refl blobs back
+
+  pub lists : (k : ℕ) (t : Ticket) → fin.get w.tickets k ≡ Some t → (page : List BlobSize) (blobs : Blobs) → Back f blobs w.blobs → IsFree f (record (change w k (λ (x : Ticket). listing x page)) { blobs = blobs })
+  lists k t there page blobs back = changed k t there (λ (x : Ticket). listing x page) (follows_same f w t (listing t page) refl refl (λ e. e) (λ m h. h) refl refl refl refl) refl refl refl blobs back
 
   pub tries : (k : ℕ) (t : Ticket) → fin.get w.tickets k ≡ Some t → (blobs : Blobs) → Back f blobs w.blobs → IsFree f (record (tried w k) { blobs = blobs })
   tries k t there blobs back =

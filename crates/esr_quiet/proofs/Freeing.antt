@@ -13,6 +13,7 @@ use Rattle.esr_core.proofs.Opening.{nothing}
 use Rattle.esr_quiet.specs.Free.{Free}
 use Rattle.esr_quiet.specs.Smooth.{AreCalm}
 use Rattle.esr_quiet.proofs.Core.{CoreLaws}
+use Rattle.esr_quiet.proofs.Alone.{IsAlone}
 use Rattle.esr_quiet.proofs.FreeFrame.{IsFree}
 use Rattle.esr_quiet.proofs.FreeParts.{tests_none}
 use Rattle.esr_quiet.proofs.FreeSteps.{step_free}
@@ -77,19 +78,23 @@ opened_free f image w (OpenedRecord cluster text root there reads is) =
       wrote_tests = (tests_none f w.blobs w.caller refl refl).2;
     }
 
+-- in each world of the history a verification is alone
+abbrev pub AreAlone : Formats → World → List Moment → Type 0
+AreAlone f w log = (front back : List Moment) → log ≡ front ++ back → IsAlone (world_from f w front)
+
 module _ (laws : CoreLaws) (f : Formats) (part_size : ℕ) (image : Image) (shelf : List Shelved) (w : World) (known : AllKnown f) (kept : Kept f image shelf) (opens : Opened f image w) where
   -- after the front of a history, over the rest of it
-  free_from : (rest log : List Moment) → IsFree f (world_from f w log) → IsLegal f part_size w (log ++ rest) → AreTold (log ++ rest) → AreHonest f w (log ++ rest) → AreCalm (log ++ rest) → IsFree f (world_from f w (log ++ rest))
-  free_from [] log l legal told honest calm = subst (λ xs. IsFree f (world_from f w xs)) (sym (no_more log)) l
-  free_from (m ∷ rest) log l legal told honest calm =
+  free_from : (rest log : List Moment) → IsFree f (world_from f w log) → IsLegal f part_size w (log ++ rest) → AreTold (log ++ rest) → AreHonest f w (log ++ rest) → AreCalm (log ++ rest) → AreAlone f w (log ++ rest) → IsFree f (world_from f w (log ++ rest))
+  free_from [] log l legal told honest calm alone = subst (λ xs. IsFree f (world_from f w xs)) (sym (no_more log)) l
+  free_from (m ∷ rest) log l legal told honest calm alone =
       let law = laws.lawful f part_size image shelf w log (all_handed_out f w log known) kept opens (legal_front f part_size w log (m ∷ rest) legal) (told_front log (m ∷ rest) told) (honest_front f w log (m ∷ rest) honest) in
       let (i, is) = told_next log rest m told in
-      let next = step_free f part_size (world_from f w log) _ law l m (calm m (has_next log rest m)) i is (legal_next f part_size w log rest m legal) in
+      let next = step_free f part_size (world_from f w log) _ law l (alone log (m ∷ rest) refl) m (calm m (has_next log rest m)) i is (legal_next f part_size w log rest m legal) in
       let same : log ++ m ∷ rest ≡ (log ++ m ∷ []) ++ rest = sym (one_more log rest m) in
       subst (λ xs. IsFree f (world_from f w xs)) (sym same)
-      (free_from rest (log ++ m ∷ []) (subst (IsFree f) (sym (world_next f w log m)) next) (subst (IsLegal f part_size w) same legal) (subst AreTold same told) (subst (AreHonest f w) same honest) (subst AreCalm same calm))
+      (free_from rest (log ++ m ∷ []) (subst (IsFree f) (sym (world_next f w log m)) next) (subst (IsLegal f part_size w) same legal) (subst AreTold same told) (subst (AreHonest f w) same honest) (subst AreCalm same calm) (subst (AreAlone f w) same alone))
 
 pub histories_free : CoreLaws → (f : Formats) (part_size : ℕ) (image : Image) (shelf : List Shelved) (w : World) (log : List Moment) → AllKnown f → Kept f image shelf → Opened f image w → IsLegal f part_size w log → AreTold log → AreHonest f w log
-    → AreCalm log → Free f (world_from f w log)
-histories_free laws f part_size image shelf w log known kept opens legal told honest calm =
-    (free_from laws f part_size image shelf w known kept opens log [] (opened_free f image w opens) legal told honest calm).free
+    → AreCalm log → AreAlone f w log → Free f (world_from f w log)
+histories_free laws f part_size image shelf w log known kept opens legal told honest calm alone =
+    (free_from laws f part_size image shelf w known kept opens log [] (opened_free f image w opens) legal told honest calm alone).free

@@ -27,6 +27,7 @@ pub mod Rooted
 pub mod Agreed
 pub mod Checks
 pub mod Core
+pub mod Alone
 pub mod FreeFrame
 pub mod FreeNames
 pub mod FreeParts

@@ -5,7 +5,7 @@ use Rattle.esr_model.specs.Values.{Formats}
 use Rattle.esr_model.specs.Image.{Image}
 use Rattle.esr_core.specs.World.{World, Op, ShardWork, Ticket, RestoreShard, Restoring}
 use Rattle.esr_core.specs.Restores.{restore_shard}
-use Rattle.esr_core.specs.Entry.{Given, GivenShard, GivenFinalize, GivenDrop, GivenRestore, GivenClone, GivenDelete, Step, TakeStep, DepotFault, Reply, Gave, Refused, Moment}
+use Rattle.esr_core.specs.Entry.{Given, GivenShard, GivenFinalize, GivenDrop, GivenRestore, GivenClone, GivenDelete, GivenCleanup, Step, TakeStep, DepotFault, Reply, Gave, Refused, Moment}
 use Rattle.esr_core.specs.After.{taken_shard, taken_restore_shard, taken_restore, taken_by, shard_of, answered, after}
 use Rattle.esr_core.specs.Allowed.{Allowed}
 use Rattle.esr_core.specs.Changes.{StepChange, NoChange, NewOp, NewDeletion, MergedDeletion, NewRestore, NewTicket, NewReader, OwnTicket, Settlement, UnitEnd, DeletionFailure, OpDrop, Election, ReaderFetch, ReaderEnd, PlainDraw, TestBlob, SwapFault}
@@ -48,7 +48,7 @@ others_taken f w o (GivenFinalize info results) None q apart = refl
 others_taken f w o GivenDrop op q apart = get_other w.tickets w.next_ticket _ q apart
 others_taken f w o (GivenRestore index number uuid) op q apart = others_restore w o index number (fin.get w.restores o) q
 others_taken f w o (GivenDelete uuids) op q apart = get_other w.tickets w.next_ticket _ q apart
-others_taken f w o unit op q apart = refl
+others_taken f w o GivenCleanup op q apart = get_other w.tickets w.next_ticket _ q apart
 
 -- that gives none
 take_leaves : (f : Formats) (w : World) (k : ℕ) (reply : Reply) (image : Option Image) (q : ℕ) → GivesNone reply → held (answered f w k TakeStep reply image) q ≡ held w q
@@ -73,7 +73,7 @@ module _ (f : Formats) (w : World) (k : ℕ) (step : Step) (no_take : IsTake ste
   kept new (NewTicket take t is ops same) = absurd (no_take (subst IsTake (sym take) tt))
   kept new (NewReader take o r s there) = refl
   kept new (OwnTicket t v there unit settled next_id pending id_above above) = get_other w.tickets k v q apart
-  kept new (Settlement is t s n names there swapped raised) = get_other w.tickets k _ q apart
+  kept new (Settlement is t s n names deletes there swapped raised left) = get_other w.tickets k _ q apart
   kept new (UnitEnd t op v completed there op_there same) = get_other w.tickets k _ q apart
   kept new (DeletionFailure t x there found) = get_other w.tickets k _ q apart
   kept new (OpDrop is t there) = get_other w.tickets k _ q apart

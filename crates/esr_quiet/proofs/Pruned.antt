@@ -1,4 +1,4 @@
--- Nothing of a lawful world is at fault in the indices of shards that a delete reads.
+-- Nothing of a lawful world is at fault in the indices of shards that a delete or cleanup reads.
 use Rattle.std.proofs.Common.{◌≡◌, ℕ, true, false, List, Option, Some, None, sym, ap, ◌∙◌, subst, inl}
 use Rattle.std.specs.FinMap as fin
 use Rattle.esr_model.specs.Names.{ShardIndex}
@@ -13,7 +13,7 @@ use Rattle.esr_core.proofs.Finalizing.{root_one_each}
 use Rattle.esr_quiet.proofs.Maps.{some_same, some_none}
 
 module _ (f : Formats) (w : World) (shelf : List Shelved) (l : Law f w shelf) (k : ℕ) (t : Ticket) (uuids : List ℕ) (plan : Option Swap) (there : fin.get w.tickets k ≡ Some t) (out : t.out ≡ true) (unsettled : t.settled ≡ false) (present : t.term ≡ w.term)
-    (work : t.work ≡ Deleting uuids plan) (index number base : ℕ) (to_read : IsToRead t.root uuids index number base) where
+    (work : t.work ≡ Deleting uuids plan) (index number base : ℕ) (to_read : IsToRead t.clean t.root uuids index number base) where
   -- it copied the safe root
   root_is : t.root ≡ w.root
   root_is = (l.lawful.queue.deleting k t there out unsettled present uuids plan work).root_is

@@ -1,6 +1,6 @@
--- What no step breaks where no call fails and nobody is elected: no record swap has failed, no cleanup is open, each ticket is
--- of the present term, and the shards of open ops and of tickets are steady, those of clones aside.
-use Rattle.std.proofs.Common.{◌≡◌, ◌≢◌, ◌⊎◌, ℕ, zero, suc, ◌+◌, ◌<◌, Bool, true, false, List, [], ◌∷◌, ◌++◌, Option, Some, None, map, refl, sym, ap, ◌∙◌, subst, inl, inr, arith, nat_cmp}
+-- What no step breaks where no call fails and nobody is elected: no record swap has failed, a cleanup is open only where one was asked,
+-- each ticket is of the present term, and the shards of open ops and of tickets are steady, those of clones aside.
+use Rattle.std.proofs.Common.{◌≡◌, ◌≢◌, ◌⊎◌, ℕ, zero, suc, ◌+◌, ◌<◌, Bool, true, false, true≢false, List, [], ◌∷◌, ◌++◌, Option, Some, None, map, refl, sym, ap, ◌∙◌, subst, inl, inr, arith, nat_cmp}
 use Rattle.std.specs.Prelude.{if◌then◌else◌, ◌==◌, ◌&&◌}
 use Rattle.std.specs.FinMap.{FinMap}
 use Rattle.std.specs.FinMap as fin
@@ -11,12 +11,12 @@ use Rattle.esr_model.specs.Delete.{PrunedShard}
 use Rattle.esr_model.specs.Image.{Image}
 use Rattle.esr_core.specs.World.{World, Op, Deletion, ShardWork, ShardState, Pending, Out, Done, GivenUp, Work, Shard, Finalize, Deleting, Drop, Swap, Ticket, ReadState, Restored, NotRestored, RestoreShard, Restoring, Reader, swap, marked, marked_by, kept_deletes, numbered_deletes, Opened, OpenedEmpty, OpenedRecord}
 use Rattle.esr_core.specs.Restores.{restore_shard}
-use Rattle.esr_core.specs.Steps.{noting, given, shard_ticket, final_ticket}
+use Rattle.esr_core.specs.Steps.{noting, listing, given, shard_ticket, final_ticket}
 use Rattle.esr_core.specs.Deletes.{named_uuids, waiting_delete, running_delete, aborted_ops, with_named, delete_merged, delete_by}
 use Rattle.esr_core.specs.Pruning.{planned_work, planned}
-use Rattle.esr_core.specs.Turns.{Aborts, plain_ticket, fails, fails_by}
-use Rattle.esr_core.specs.Entry.{AskedIndex, Snapshot, Clone, CloneOf, DeleteSnapshots, Restore, Given, GivenShard, GivenClone, GivenFinalize, GivenDrop, GivenRestore, Read, ReadBlob, RestoredShard, CheckedAll, DrawTest, CommitTest, ReadFails, Step, AskStep, TakeStep, DrawStep, CommitStep, LatestStep, FetchStep, RaiseStep, SettleStep, DoneStep, FailedStep, FinishStep, DroppedStep, ElectStep, ReadStep, DepotFault, Reply, Gave, DrawnFrom, WasDone, WasThere, WasFetched, Refused, AcceptedRestore, Moment, GivenDelete, Prune, FetchShard, PlanShards, SettlePruned, RemoveDoomed, EndDelete, DeleteFails, PruneStep}
-use Rattle.esr_core.specs.After.{asked, asked_op, cloned_op, known_id, ref_by, next_by, refs_from, pending_shards, all_pending, taken_shard, taken_restore_shard, taken_restore, taken_by, read_told, shard_over, read_over, read_step, read_by, shard_of, with_given, committing, told_blob, fetching, settled_by, settled_of, done_by, done_of, is_stale, failed_by, failed_of, dropped_of, delete_settled_by, delete_settled, delete_failed_by, delete_failed, prune_step, done_step, answered, after}
+use Rattle.esr_core.specs.Turns.{Aborts, plain_ticket, cleaning_ticket, fails, fails_by}
+use Rattle.esr_core.specs.Entry.{AskedIndex, Snapshot, Clone, CloneOf, DeleteSnapshots, Restore, Cleanup, Given, GivenShard, GivenClone, GivenFinalize, GivenDrop, GivenRestore, Read, ReadBlob, RestoredShard, CheckedAll, DrawTest, CommitTest, ReadFails, Step, AskStep, TakeStep, DrawStep, CommitStep, LatestStep, FetchStep, ListStep, RaiseStep, SettleStep, DoneStep, FailedStep, FinishStep, DroppedStep, ElectStep, ReadStep, DepotFault, Reply, Gave, DrawnFrom, WasDone, WasThere, WasFetched, WasListed, Refused, AcceptedRestore, Moment, GivenDelete, GivenCleanup, Prune, FetchShard, PlanShards, SettlePruned, RemoveDoomed, EndDelete, DeleteFails, PruneStep}
+use Rattle.esr_core.specs.After.{asked, asked_op, cloned_op, known_id, ref_by, next_by, refs_from, pending_shards, all_pending, taken_shard, taken_restore_shard, taken_restore, taken_by, read_told, shard_over, read_over, read_step, read_by, shard_of, with_given, committing, told_blob, fetching, settled_by, settled_of, done_by, done_of, is_stale, failed_by, failed_of, dropped_of, cleanup_opened, delete_settled_by, delete_settled, delete_failed_by, delete_failed, prune_step, done_step, answered, after}
 use Rattle.esr_core.specs.History.{world_from, IsLegal}
 use Rattle.esr_core.specs.Allowed.{Allowed}
 use Rattle.esr_core.proofs.AskedDeletes.{aborts}
@@ -61,28 +61,39 @@ AreFine s now tickets = (k : ℕ) (t : Ticket) → fin.get tickets k ≡ Some t 
 abbrev pub AreSteadyOps : Start → Ops → Type 0
 AreSteadyOps s ops = (o : ℕ) (op : Op) (z : ShardWork) → fin.get ops o ≡ Some op → Has op.shards z → IsOfSteady s op.source z
 
--- no open delete is a cleanup
-abbrev pub AreUnclean : Deletes → Type 0
-AreUnclean deletes = (d : ℕ) (x : Deletion) → fin.get deletes d ≡ Some x → x.clean ≡ false
+-- where one of the deletes is a cleanup this holds
+abbrev pub AreCleanups : Type 0 → Deletes → Type 0
+AreCleanups asks deletes = (d : ℕ) (x : Deletion) → fin.get deletes d ≡ Some x → x.clean ≡ true → asks
 
-pub record IsQuiet (s : Start) (w : World) : Type 0 where
+-- a cleanup was asked where one is open
+pub record IsQuiet (s : Start) (asks : Type 0) (w : World) : Type 0 where
   pub present : w.deposed ≡ false
-  pub no_cleanup : AreUnclean w.deletes
+  pub cleanups : AreCleanups asks w.deletes
   pub ops : AreSteadyOps s w.ops
   pub tickets : AreFine s w.term w.tickets
 
 -- ---- deletes
 
-left_unclean : (deletes : Deletes) (d : ℕ) → AreUnclean deletes → AreUnclean (fin.remove deletes d)
-left_unclean deletes d h e x there = h e x (get_left deletes d e x there).1
+module _ (asks : Type 0) where
+  left_cleanups : (deletes : Deletes) (d : ℕ) → AreCleanups asks deletes → AreCleanups asks (fin.remove deletes d)
+  left_cleanups deletes d h e x there = h e x (get_left deletes d e x there).1
 
-put_unclean : (deletes : Deletes) (d : ℕ) (x : Deletion) → x.clean ≡ false → AreUnclean deletes → AreUnclean (fin.insert deletes d x)
-put_unclean deletes d x mine h e y there = elim (get_was deletes d x e y there) [ inl is ↦ ap (λ (z : Deletion). z.clean) (sym is.1) ∙ mine | inr is ↦ h e y is.1 ]
+  -- some leave, or all stay
+  settled_cleanups : (deletes : Deletes) (d : ℕ) (stays : Bool) → AreCleanups asks deletes → AreCleanups asks (if stays then deletes else fin.remove deletes d)
+  settled_cleanups deletes d true h = h
+  settled_cleanups deletes d false h = left_cleanups deletes d h
 
--- those that opening keeps
-numbered_unclean : (number : ℕ) (kept : List (List ℕ)) → AreUnclean (numbered_deletes number kept)
-numbered_unclean number [] d x there = absurd (nothing fin.empty d x refl there)
-numbered_unclean number (uuids ∷ kept) d x there = put_unclean (numbered_deletes (suc number) kept) number (record { uuids = uuids; clean = false; failed = false }) refl (numbered_unclean (suc number) kept) d x there
+  put_cleanups : (deletes : Deletes) (d : ℕ) (x : Deletion) → (x.clean ≡ true → asks) → AreCleanups asks deletes → AreCleanups asks (fin.insert deletes d x)
+  put_cleanups deletes d x mine h e y there = elim (get_was deletes d x e y there) [ inl is ↦ λ clean. mine (ap (λ (z : Deletion). z.clean) is.1 ∙ clean) | inr is ↦ h e y is.1 ]
+
+  -- a delete is none
+  none_clean : false ≡ true → asks
+  none_clean e = absurd (true≢false (sym e))
+
+  -- those that opening keeps
+  numbered_cleanups : (number : ℕ) (kept : List (List ℕ)) → AreCleanups asks (numbered_deletes number kept)
+  numbered_cleanups number [] d x there = absurd (nothing fin.empty d x refl there)
+  numbered_cleanups number (uuids ∷ kept) d x there = put_cleanups (numbered_deletes (suc number) kept) number (record { uuids = uuids; clean = false; failed = false }) none_clean (numbered_cleanups (suc number) kept) d x there
 
 -- ---- shards
 
@@ -184,36 +195,36 @@ asked_steady s w next (a ∷ indices) steady z h =
 
 -- ---- each step
 
-module _ (s : Start) where
-  quiet_change : (w : World) → IsQuiet s w → (k : ℕ) (g : Ticket → Ticket) → ((t : Ticket) → IsFine s w.term t → IsFine s w.term (g t)) → (o : Option Ticket) → fin.get w.tickets k ≡ o → IsQuiet s (with_given w k g o)
+module _ (s : Start) (asks : Type 0) where
+  quiet_change : (w : World) → IsQuiet s asks w → (k : ℕ) (g : Ticket → Ticket) → ((t : Ticket) → IsFine s w.term t → IsFine s w.term (g t)) → (o : Option Ticket) → fin.get w.tickets k ≡ o → IsQuiet s asks (with_given w k g o)
   quiet_change w q k g like None there = q
-  quiet_change w q k g like (Some t) there = record { present = q.present; no_cleanup = q.no_cleanup; ops = q.ops; tickets = put_fine s w.term w.tickets k (g t) (like t (q.tickets k t there)) q.tickets }
+  quiet_change w q k g like (Some t) there = record { present = q.present; cleanups = q.cleanups; ops = q.ops; tickets = put_fine s w.term w.tickets k (g t) (like t (q.tickets k t there)) q.tickets }
 
-  quiet_asked : (w : World) → IsQuiet s w → (name : Bytes) (indices : List AskedIndex) (moment : ℕ) → IsSteady s indices → IsQuiet s (asked w (Snapshot name indices moment))
+  quiet_asked : (w : World) → IsQuiet s asks w → (name : Bytes) (indices : List AskedIndex) (moment : ℕ) → IsSteady s indices → IsQuiet s asks (asked w (Snapshot name indices moment))
   quiet_asked w q name indices moment steady =
       record {
         present = q.present;
-        no_cleanup = q.no_cleanup;
+        cleanups = q.cleanups;
         ops = put_steady s w.ops w.next_op (asked_op w name indices moment) (asked_steady s w (suc w.next_id) indices steady) q.ops;
         tickets = q.tickets;
       }
 
-  quiet_cloned : (w : World) → IsQuiet s w → (source name : Bytes) (names : List Bytes) (moment : ℕ) (taken : Option CloneOf) → IsQuiet s (asked w (Clone source name names moment taken))
+  quiet_cloned : (w : World) → IsQuiet s asks w → (source name : Bytes) (names : List Bytes) (moment : ℕ) (taken : Option CloneOf) → IsQuiet s asks (asked w (Clone source name names moment taken))
   quiet_cloned w q source name names moment None = q
   quiet_cloned w q source name names moment (Some taken) =
       record {
         present = q.present;
-        no_cleanup = q.no_cleanup;
+        cleanups = q.cleanups;
         ops = put_steady s w.ops w.next_op (cloned_op w name moment taken) (λ z h. tt) q.ops;
         tickets = q.tickets;
       }
 
   -- restores, their tickets and numbers aside
-  quiet_same : (w v : World) → IsQuiet s w → v.deposed ≡ w.deposed → v.deletes ≡ w.deletes → v.ops ≡ w.ops → v.term ≡ w.term → v.tickets ≡ w.tickets → IsQuiet s v
+  quiet_same : (w v : World) → IsQuiet s asks w → v.deposed ≡ w.deposed → v.deletes ≡ w.deletes → v.ops ≡ w.ops → v.term ≡ w.term → v.tickets ≡ w.tickets → IsQuiet s asks v
   quiet_same w v q deposed deletes ops term tickets =
       record {
         present = deposed ∙ q.present;
-        no_cleanup = subst AreUnclean (sym deletes) q.no_cleanup;
+        cleanups = subst (AreCleanups asks) (sym deletes) q.cleanups;
         ops = subst (AreSteadyOps s) (sym ops) q.ops;
         tickets = subst (λ (x : Tickets). AreFine s v.term x) (sym tickets) (subst (λ (now : ℕ). AreFine s now w.tickets) (sym term) q.tickets);
       }
@@ -238,13 +249,13 @@ module _ (s : Start) where
   one_number : (i n index number : ℕ) → Shard i n ≡ Shard index number → n ≡ number
   one_number i n index number e = cc
 
-  quiet_shard : (w : World) → IsQuiet s w → (o : ℕ) (op : Op) (base : Option ℕ) → fin.get w.ops o ≡ Some op → (found : Option ShardWork) → ((z : ShardWork) → found ≡ Some z → Has op.shards z) → IsQuiet s (taken_shard w o op base found)
+  quiet_shard : (w : World) → IsQuiet s asks w → (o : ℕ) (op : Op) (base : Option ℕ) → fin.get w.ops o ≡ Some op → (found : Option ShardWork) → ((z : ShardWork) → found ≡ Some z → Has op.shards z) → IsQuiet s asks (taken_shard w o op base found)
   quiet_shard w q o op base there None has = q
   quiet_shard w q o op base there (Some z) has =
       let steady : (x : ShardWork) → Has op.shards x → IsOfSteady s op.source x = λ x h. q.ops o op x there h in
       record {
         present = q.present;
-        no_cleanup = q.no_cleanup;
+        cleanups = q.cleanups;
         ops = put_steady s w.ops o (record op { shards = map (given w.next_ticket z.ref.id z.number) op.shards }) (mapped_steady s op.source op.shards (given w.next_ticket z.ref.id z.number) (same_given w.next_ticket z.ref.id z.number) steady) q.ops;
         tickets = put_fine s w.term w.tickets w.next_ticket (shard_ticket w o op z base) (record {
           present = refl;
@@ -252,15 +263,15 @@ module _ (s : Start) where
         }) q.tickets;
       }
 
-  quiet_restore_shard : (w : World) → IsQuiet s w → (o : ℕ) (r : Restoring) (found : Option RestoreShard) → IsQuiet s (taken_restore_shard w o r found)
+  quiet_restore_shard : (w : World) → IsQuiet s asks w → (o : ℕ) (r : Restoring) (found : Option RestoreShard) → IsQuiet s asks (taken_restore_shard w o r found)
   quiet_restore_shard w q o r None = q
   quiet_restore_shard w q o r (Some z) = quiet_same w _ q refl refl refl refl refl
 
-  quiet_restore : (w : World) → IsQuiet s w → (o index number : ℕ) (found : Option Restoring) → IsQuiet s (taken_restore w o index number found)
+  quiet_restore : (w : World) → IsQuiet s asks w → (o index number : ℕ) (found : Option Restoring) → IsQuiet s asks (taken_restore w o index number found)
   quiet_restore w q o index number None = q
   quiet_restore w q o index number (Some r) = quiet_restore_shard w q o r (restore_shard r.shards index number)
 
-  quiet_taken : (f : Formats) (w : World) → IsQuiet s w → (o : ℕ) (unit : Given) (op : Option Op) → fin.get w.ops o ≡ op → IsQuiet s (taken_by f w o unit op)
+  quiet_taken : (f : Formats) (w : World) → IsQuiet s asks w → (o : ℕ) (unit : Given) (op : Option Op) → fin.get w.ops o ≡ op → IsQuiet s asks (taken_by f w o unit op)
   quiet_taken f w q o (GivenShard index number base) (Some op) there = quiet_shard w q o op base there (shard_of op.shards index number) (λ z e. found_in op.shards index number z e)
   quiet_taken f w q o (GivenShard index number base) None there = q
   quiet_taken f w q o (GivenClone index number source base) (Some op) there = quiet_shard w q o op base there (shard_of op.shards index number) (λ z e. found_in op.shards index number z e)
@@ -268,76 +279,77 @@ module _ (s : Start) where
   quiet_taken f w q o (GivenFinalize info results) (Some op) there =
       record {
         present = q.present;
-        no_cleanup = q.no_cleanup;
+        cleanups = q.cleanups;
         ops = q.ops;
         tickets = put_fine s w.term w.tickets w.next_ticket (final_ticket f w o op results) (record { present = refl; steady = λ i n e. absurd (final_shard _ _ _ i n e) }) q.tickets;
       }
   quiet_taken f w q o (GivenFinalize info results) None there = q
   quiet_taken f w q o GivenDrop op there =
-      record { present = q.present; no_cleanup = q.no_cleanup; ops = q.ops; tickets = put_fine s w.term w.tickets w.next_ticket _ (record { present = refl; steady = λ i n e. absurd (drop_shard i n e) }) q.tickets }
+      record { present = q.present; cleanups = q.cleanups; ops = q.ops; tickets = put_fine s w.term w.tickets w.next_ticket _ (record { present = refl; steady = λ i n e. absurd (drop_shard i n e) }) q.tickets }
   quiet_taken f w q o (GivenRestore index number uuid) op there = quiet_restore w q o index number (fin.get w.restores o)
   quiet_taken f w q o (GivenDelete uuids) op there =
-      record { present = q.present; no_cleanup = q.no_cleanup; ops = q.ops; tickets = put_fine s w.term w.tickets w.next_ticket (plain_ticket w o (Deleting uuids None)) (record { present = refl; steady = λ i n e. absurd (delete_shard uuids None i n e) }) q.tickets }
-  quiet_taken f w q o unit op there = q
+      record { present = q.present; cleanups = q.cleanups; ops = q.ops; tickets = put_fine s w.term w.tickets w.next_ticket (plain_ticket w o (Deleting uuids None)) (record { present = refl; steady = λ i n e. absurd (delete_shard uuids None i n e) }) q.tickets }
+  quiet_taken f w q o GivenCleanup op there =
+      record { present = q.present; cleanups = q.cleanups; ops = q.ops; tickets = put_fine s w.term w.tickets w.next_ticket (cleaning_ticket w o) (record { present = refl; steady = λ i n e. absurd (delete_shard [] None i n e) }) q.tickets }
 
-  quiet_drawn : (w : World) → IsQuiet s w → (k n : ℕ) (o : Option Ticket) → fin.get w.tickets k ≡ o → IsQuiet s (record (with_given w k (λ t. record t { first = w.next_id; drawn = n }) o) { next_id = w.next_id + n })
-  quiet_drawn w q k n o there = let x = quiet_change w q k (λ t. record t { first = w.next_id; drawn = n }) (λ t h. h) o there in record { present = x.present; no_cleanup = x.no_cleanup; ops = x.ops; tickets = x.tickets }
+  quiet_drawn : (w : World) → IsQuiet s asks w → (k n : ℕ) (o : Option Ticket) → fin.get w.tickets k ≡ o → IsQuiet s asks (record (with_given w k (λ t. record t { first = w.next_id; drawn = n }) o) { next_id = w.next_id + n })
+  quiet_drawn w q k n o there = let x = quiet_change w q k (λ t. record t { first = w.next_id; drawn = n }) (λ t h. h) o there in record { present = x.present; cleanups = x.cleanups; ops = x.ops; tickets = x.tickets }
 
-  quiet_raised : (w : World) → IsQuiet s w → (k : ℕ) (o : Option Ticket) → fin.get w.tickets k ≡ o → IsQuiet s (record (with_given w k (λ t. record t { raised = Some w.pending }) o) { pending = suc w.pending })
-  quiet_raised w q k o there = let x = quiet_change w q k (λ t. record t { raised = Some w.pending }) (λ t h. h) o there in record { present = x.present; no_cleanup = x.no_cleanup; ops = x.ops; tickets = x.tickets }
+  quiet_raised : (w : World) → IsQuiet s asks w → (k : ℕ) (o : Option Ticket) → fin.get w.tickets k ≡ o → IsQuiet s asks (record (with_given w k (λ t. record t { raised = Some w.pending }) o) { pending = suc w.pending })
+  quiet_raised w q k o there = let x = quiet_change w q k (λ t. record t { raised = Some w.pending }) (λ t h. h) o there in record { present = x.present; cleanups = x.cleanups; ops = x.ops; tickets = x.tickets }
 
   removed_steady : (ops : Ops) (o : ℕ) → AreSteadyOps s ops → AreSteadyOps s (fin.remove ops o)
   removed_steady ops o steady p op z there h = steady p op z (get_left ops o p op there).1 h
 
-  quiet_settled_by : (f : Formats) (w : World) → IsQuiet s w → (k : ℕ) (t : Ticket) → fin.get w.tickets k ≡ Some t → (change : Option Swap) (n : Option ℕ) → IsQuiet s (settled_by f w k t change n)
+  quiet_settled_by : (f : Formats) (w : World) → IsQuiet s asks w → (k : ℕ) (t : Ticket) → fin.get w.tickets k ≡ Some t → (change : Option Swap) (n : Option ℕ) → IsQuiet s asks (settled_by f w k t change n)
   quiet_settled_by f w q k t there (Some change) (Some n) =
-      record { present = q.present; no_cleanup = left_unclean w.deletes t.op q.no_cleanup; ops = removed_steady w.ops t.op q.ops; tickets = put_fine s w.term w.tickets k (record t { settled = true }) (q.tickets k t there) q.tickets }
+      record { present = q.present; cleanups = left_cleanups asks w.deletes t.op q.cleanups; ops = removed_steady w.ops t.op q.ops; tickets = put_fine s w.term w.tickets k (record t { settled = true }) (q.tickets k t there) q.tickets }
   quiet_settled_by f w q k t there (Some change) None = q
   quiet_settled_by f w q k t there None n = q
 
-  quiet_settled : (f : Formats) (w : World) → IsQuiet s w → (k : ℕ) (o : Option Ticket) → fin.get w.tickets k ≡ o → IsQuiet s (settled_of f w k o)
+  quiet_settled : (f : Formats) (w : World) → IsQuiet s asks w → (k : ℕ) (o : Option Ticket) → fin.get w.tickets k ≡ o → IsQuiet s asks (settled_of f w k o)
   quiet_settled f w q k None there = q
   quiet_settled f w q k (Some t) there = quiet_settled_by f w q k t there (swap f t) t.raised
 
-  quiet_done_by : (w : World) → IsQuiet s w → (k : ℕ) (r : ShardResult) (t : Ticket) → fin.get w.tickets k ≡ Some t → (op : Option Op) → fin.get w.ops t.op ≡ op → IsQuiet s (done_by w k r t op)
+  quiet_done_by : (w : World) → IsQuiet s asks w → (k : ℕ) (r : ShardResult) (t : Ticket) → fin.get w.tickets k ≡ Some t → (op : Option Op) → fin.get w.ops t.op ≡ op → IsQuiet s asks (done_by w k r t op)
   quiet_done_by w q k r t there None op_there = q
   quiet_done_by w q k r t there (Some op) op_there =
       record {
         present = q.present;
-        no_cleanup = q.no_cleanup;
+        cleanups = q.cleanups;
         ops = put_steady s w.ops t.op (record op { shards = map (marked k (Done r)) op.shards }) (mapped_steady s op.source op.shards (marked k (Done r)) (same_marked k (Done r)) (λ z h. q.ops t.op op z op_there h)) q.ops;
         tickets = put_fine s w.term w.tickets k (record t { out = false }) (q.tickets k t there) q.tickets;
       }
 
-  quiet_done : (w : World) → IsQuiet s w → (k : ℕ) (r : ShardResult) (o : Option Ticket) → fin.get w.tickets k ≡ o → IsQuiet s (done_of w k r o)
+  quiet_done : (w : World) → IsQuiet s asks w → (k : ℕ) (r : ShardResult) (o : Option Ticket) → fin.get w.tickets k ≡ o → IsQuiet s asks (done_of w k r o)
   quiet_done w q k r None there = q
   quiet_done w q k r (Some t) there = quiet_done_by w q k r t there (fin.get w.ops t.op) refl
 
-  quiet_failed_by : (w : World) → IsQuiet s w → (k : ℕ) (t : Ticket) → fin.get w.tickets k ≡ Some t → (op : Option Op) → fin.get w.ops t.op ≡ op → IsQuiet s (failed_by w k t op)
+  quiet_failed_by : (w : World) → IsQuiet s asks w → (k : ℕ) (t : Ticket) → fin.get w.tickets k ≡ Some t → (op : Option Op) → fin.get w.ops t.op ≡ op → IsQuiet s asks (failed_by w k t op)
   quiet_failed_by w q k t there None op_there = q
   quiet_failed_by w q k t there (Some op) op_there =
       record {
         present = q.present;
-        no_cleanup = q.no_cleanup;
+        cleanups = q.cleanups;
         ops = put_steady s w.ops t.op (record op { shards = map (fails k) op.shards; failed = true }) (mapped_steady s op.source op.shards (fails k) (same_fails k) (λ z h. q.ops t.op op z op_there h)) q.ops;
         tickets = put_fine s w.term w.tickets k (record t { out = false }) (q.tickets k t there) q.tickets;
       }
 
-  quiet_either : (a b : World) (first : Bool) → IsQuiet s a → IsQuiet s b → IsQuiet s (if first then a else b)
+  quiet_either : (a b : World) (first : Bool) → IsQuiet s asks a → IsQuiet s asks b → IsQuiet s asks (if first then a else b)
   quiet_either a b true of_a of_b = of_a
   quiet_either a b false of_a of_b = of_b
 
-  quiet_failed : (w : World) → IsQuiet s w → (k : ℕ) (o : Option Ticket) → fin.get w.tickets k ≡ o → IsQuiet s (failed_of w k o)
+  quiet_failed : (w : World) → IsQuiet s asks w → (k : ℕ) (o : Option Ticket) → fin.get w.tickets k ≡ o → IsQuiet s asks (failed_of w k o)
   quiet_failed w q k None there = q
   quiet_failed w q k (Some t) there =
       quiet_either _ (failed_by w k t (fin.get w.ops t.op)) (is_stale w t t.work)
-      (record { present = q.present; no_cleanup = q.no_cleanup; ops = q.ops; tickets = put_fine s w.term w.tickets k (record t { out = false }) (q.tickets k t there) q.tickets })
+      (record { present = q.present; cleanups = q.cleanups; ops = q.ops; tickets = put_fine s w.term w.tickets k (record t { out = false }) (q.tickets k t there) q.tickets })
       (quiet_failed_by w q k t there (fin.get w.ops t.op) refl)
 
-  quiet_dropped : (w : World) → IsQuiet s w → (k : ℕ) (o : Option Ticket) → fin.get w.tickets k ≡ o → IsQuiet s (dropped_of w k o)
+  quiet_dropped : (w : World) → IsQuiet s asks w → (k : ℕ) (o : Option Ticket) → fin.get w.tickets k ≡ o → IsQuiet s asks (dropped_of w k o)
   quiet_dropped w q k None there = q
   quiet_dropped w q k (Some t) there =
-      record { present = q.present; no_cleanup = left_unclean w.deletes t.op q.no_cleanup; ops = removed_steady w.ops t.op q.ops; tickets = put_fine s w.term w.tickets k (record t { out = false }) (q.tickets k t there) q.tickets }
+      record { present = q.present; cleanups = left_cleanups asks w.deletes t.op q.cleanups; ops = removed_steady w.ops t.op q.ops; tickets = put_fine s w.term w.tickets k (record t { out = false }) (q.tickets k t there) q.tickets }
 
   fine_committing : (now : ℕ) (name : BlobName) (o : Option Bytes) (t : Ticket) → IsFine s now t → IsFine s now (committing name o t)
   fine_committing now name None t h = h
@@ -348,20 +360,20 @@ module _ (s : Start) where
   fine_fetching now name (Some bytes) t h = h
 
   -- steps that read leave ops and tickets
-  quiet_told : (w : World) → IsQuiet s w → (k : ℕ) (name : BlobName) (bytes : Option Bytes) (reader : Option Reader) → IsQuiet s (read_told w k name bytes reader)
+  quiet_told : (w : World) → IsQuiet s asks w → (k : ℕ) (name : BlobName) (bytes : Option Bytes) (reader : Option Reader) → IsQuiet s asks (read_told w k name bytes reader)
   quiet_told w q k name bytes None = q
   quiet_told w q k name None (Some reader) = q
   quiet_told w q k name (Some b) (Some reader) = quiet_same w _ q refl refl refl refl refl
 
-  quiet_over_shard : (w : World) → IsQuiet s w → (k : ℕ) (state : ReadState) (reader : Reader) (r : Option Restoring) → IsQuiet s (shard_over w k state reader r)
+  quiet_over_shard : (w : World) → IsQuiet s asks w → (k : ℕ) (state : ReadState) (reader : Reader) (r : Option Restoring) → IsQuiet s asks (shard_over w k state reader r)
   quiet_over_shard w q k state reader None = q
   quiet_over_shard w q k state reader (Some r) = quiet_same w _ q refl refl refl refl refl
 
-  quiet_over : (w : World) → IsQuiet s w → (k : ℕ) (state : ReadState) (reader : Option Reader) → IsQuiet s (read_over w k state reader)
+  quiet_over : (w : World) → IsQuiet s asks w → (k : ℕ) (state : ReadState) (reader : Option Reader) → IsQuiet s asks (read_over w k state reader)
   quiet_over w q k state None = q
   quiet_over w q k state (Some reader) = quiet_over_shard w q k state reader (fin.get w.restores reader.op)
 
-  quiet_read : (f : Formats) (w : World) → IsQuiet s w → (k : ℕ) (read : Read) (reply : Reply) (image : Option Image) → IsQuiet s (read_step f w k read reply image)
+  quiet_read : (f : Formats) (w : World) → IsQuiet s asks w → (k : ℕ) (read : Read) (reply : Reply) (image : Option Image) → IsQuiet s asks (read_step f w k read reply image)
   quiet_read f w q k (ReadBlob name) WasFetched image = quiet_told w q k name (told_blob f image name) (fin.get w.readers k)
   quiet_read f w q k (ReadBlob name) reply image = q
   quiet_read f w q k (RestoredShard files bytes) reply image = quiet_over w q k (Restored files bytes) (fin.get w.readers k)
@@ -369,7 +381,7 @@ module _ (s : Start) where
   quiet_read f w q k (ReadFails why) reply image = quiet_over w q k (NotRestored why) (fin.get w.readers k)
   quiet_read f w q k read reply image = q
 
-  quiet_read_by : (f : Formats) (w : World) → IsQuiet s w → (k : ℕ) (read : Read) (reply : Reply) (image : Option Image) → IsQuiet s (read_by f w k read reply image)
+  quiet_read_by : (f : Formats) (w : World) → IsQuiet s asks w → (k : ℕ) (read : Read) (reply : Reply) (image : Option Image) → IsQuiet s asks (read_by f w k read reply image)
   quiet_read_by f w q zero DrawTest (DrawnFrom first) image = quiet_same w _ q refl refl refl refl refl
   quiet_read_by f w q zero (CommitTest name) WasDone image = quiet_same w _ q refl refl refl refl refl
   quiet_read_by f w q zero read reply image = q
@@ -377,11 +389,11 @@ module _ (s : Start) where
 
   -- ---- deletes
 
-  quiet_aborted : (w : World) → IsQuiet s w → (ops : Ops) (by : ℕ) → Aborts w.ops ops by → (deletes : Deletes) → AreUnclean deletes → (next_op : ℕ) → IsQuiet s (record w { ops = ops; deletes = deletes; next_op = next_op })
-  quiet_aborted w q ops by a deletes unclean next_op =
+  quiet_aborted : (w : World) → IsQuiet s asks w → (ops : Ops) (by : ℕ) → Aborts w.ops ops by → (deletes : Deletes) → AreCleanups asks deletes → (next_op : ℕ) → IsQuiet s asks (record w { ops = ops; deletes = deletes; next_op = next_op })
+  quiet_aborted w q ops by a deletes cleanups next_op =
       record {
         present = q.present;
-        no_cleanup = unclean;
+        cleanups = cleanups;
         ops = λ o op z there h.
             let (old, was, how) = a.was o op there in
             let same = was_shards op old by how in
@@ -389,17 +401,21 @@ module _ (s : Start) where
         tickets = q.tickets;
       }
 
-  quiet_merged : (w : World) → IsQuiet s w → (names : List Bytes) (d : ℕ) (found : Option Deletion) → fin.get w.deletes d ≡ found → IsQuiet s (delete_merged w names d found)
+  quiet_merged : (w : World) → IsQuiet s asks w → (names : List Bytes) (d : ℕ) (found : Option Deletion) → fin.get w.deletes d ≡ found → IsQuiet s asks (delete_merged w names d found)
   quiet_merged w q names d None there = q
   quiet_merged w q names d (Some x) there =
-      quiet_aborted w q (aborted_ops w (named_uuids w names) d) d (aborts w (named_uuids w names) d) (fin.insert w.deletes d (record x { uuids = with_named w x.uuids names })) (put_unclean w.deletes d (record x { uuids = with_named w x.uuids names }) (q.no_cleanup d x there) q.no_cleanup) w.next_op
+      quiet_aborted w q (aborted_ops w (named_uuids w names) d) d (aborts w (named_uuids w names) d) (fin.insert w.deletes d (record x { uuids = with_named w x.uuids names })) (put_cleanups asks w.deletes d (record x { uuids = with_named w x.uuids names }) (q.cleanups d x there) q.cleanups) w.next_op
 
-  quiet_delete : (w : World) → IsQuiet s w → (names : List Bytes) (waiting running : Option ℕ) → IsQuiet s (delete_by w names waiting running)
+  quiet_delete : (w : World) → IsQuiet s asks w → (names : List Bytes) (waiting running : Option ℕ) → IsQuiet s asks (delete_by w names waiting running)
   quiet_delete w q names (Some d) running = quiet_merged w q names d (fin.get w.deletes d) refl
   quiet_delete w q names None (Some d) = q
   quiet_delete w q names None None =
       let x : Deletion = record { uuids = named_uuids w names; clean = false; failed = false } in
-      quiet_aborted w q (aborted_ops w (named_uuids w names) w.next_op) w.next_op (aborts w (named_uuids w names) w.next_op) (fin.insert w.deletes w.next_op x) (put_unclean w.deletes w.next_op x refl q.no_cleanup) (suc w.next_op)
+      quiet_aborted w q (aborted_ops w (named_uuids w names) w.next_op) w.next_op (aborts w (named_uuids w names) w.next_op) (fin.insert w.deletes w.next_op x) (put_cleanups asks w.deletes w.next_op x (none_clean asks) q.cleanups) (suc w.next_op)
+
+  quiet_opened_cleanup : (w : World) → IsQuiet s asks w → asks → IsQuiet s asks (cleanup_opened w)
+  quiet_opened_cleanup w q asked =
+      record { present = q.present; cleanups = put_cleanups asks w.deletes w.next_op (record { uuids = []; clean = true; failed = false }) (λ clean. asked) q.cleanups; ops = q.ops; tickets = q.tickets }
 
   -- a plan is of no shard
   planned_shard : (f : Formats) (t : Ticket) (shards : List PrunedShard) (first : ℕ) (work : Work) (index number : ℕ) → planned_work f t shards first work ≡ Shard index number → work ≡ Shard index number
@@ -411,34 +427,34 @@ module _ (s : Start) where
   fine_planned : (now : ℕ) (f : Formats) (shards : List PrunedShard) (first : ℕ) (t : Ticket) → IsFine s now t → IsFine s now (planned f shards first t)
   fine_planned now f shards first t h = record { present = h.present; steady = λ index number e. h.steady index number (planned_shard f t shards first t.work index number e) }
 
-  quiet_deleted_by : (f : Formats) (w : World) → IsQuiet s w → (k : ℕ) (t : Ticket) → fin.get w.tickets k ≡ Some t → (change : Option Swap) (n : Option ℕ) → IsQuiet s (delete_settled_by f w k t change n)
+  quiet_deleted_by : (f : Formats) (w : World) → IsQuiet s asks w → (k : ℕ) (t : Ticket) → fin.get w.tickets k ≡ Some t → (change : Option Swap) (n : Option ℕ) → IsQuiet s asks (delete_settled_by f w k t change n)
   quiet_deleted_by f w q k t there (Some change) (Some n) =
-      record { present = q.present; no_cleanup = left_unclean w.deletes t.op q.no_cleanup; ops = removed_steady w.ops t.op q.ops; tickets = put_fine s w.term w.tickets k (record t { settled = true }) (q.tickets k t there) q.tickets }
+      record { present = q.present; cleanups = settled_cleanups asks w.deletes t.op t.clean q.cleanups; ops = removed_steady w.ops t.op q.ops; tickets = put_fine s w.term w.tickets k (record t { settled = true }) (q.tickets k t there) q.tickets }
   quiet_deleted_by f w q k t there (Some change) None = q
   quiet_deleted_by f w q k t there None n = q
 
-  quiet_deleted : (f : Formats) (w : World) → IsQuiet s w → (k : ℕ) (o : Option Ticket) → fin.get w.tickets k ≡ o → IsQuiet s (delete_settled f w k o)
+  quiet_deleted : (f : Formats) (w : World) → IsQuiet s asks w → (k : ℕ) (o : Option Ticket) → fin.get w.tickets k ≡ o → IsQuiet s asks (delete_settled f w k o)
   quiet_deleted f w q k None there = q
   quiet_deleted f w q k (Some t) there = quiet_deleted_by f w q k t there (swap f t) t.raised
 
-  quiet_undeleted_by : (w : World) → IsQuiet s w → (k : ℕ) (t : Ticket) → fin.get w.tickets k ≡ Some t → (x : Option Deletion) → fin.get w.deletes t.op ≡ x → IsQuiet s (delete_failed_by w k t x)
+  quiet_undeleted_by : (w : World) → IsQuiet s asks w → (k : ℕ) (t : Ticket) → fin.get w.tickets k ≡ Some t → (x : Option Deletion) → fin.get w.deletes t.op ≡ x → IsQuiet s asks (delete_failed_by w k t x)
   quiet_undeleted_by w q k t there None x_there = q
   quiet_undeleted_by w q k t there (Some x) x_there =
-      record { present = q.present; no_cleanup = put_unclean w.deletes t.op (record x { failed = true }) (q.no_cleanup t.op x x_there) q.no_cleanup; ops = q.ops; tickets = put_fine s w.term w.tickets k (record t { out = false }) (q.tickets k t there) q.tickets }
+      record { present = q.present; cleanups = put_cleanups asks w.deletes t.op (record x { failed = true }) (q.cleanups t.op x x_there) q.cleanups; ops = q.ops; tickets = put_fine s w.term w.tickets k (record t { out = false }) (q.tickets k t there) q.tickets }
 
-  quiet_undeleted : (w : World) → IsQuiet s w → (k : ℕ) (o : Option Ticket) → fin.get w.tickets k ≡ o → IsQuiet s (delete_failed w k o)
+  quiet_undeleted : (w : World) → IsQuiet s asks w → (k : ℕ) (o : Option Ticket) → fin.get w.tickets k ≡ o → IsQuiet s asks (delete_failed w k o)
   quiet_undeleted w q k None there = q
   quiet_undeleted w q k (Some t) there =
       quiet_either _ (delete_failed_by w k t (fin.get w.deletes t.op)) (is_stale w t t.work)
-      (record { present = q.present; no_cleanup = q.no_cleanup; ops = q.ops; tickets = put_fine s w.term w.tickets k (record t { out = false }) (q.tickets k t there) q.tickets })
+      (record { present = q.present; cleanups = q.cleanups; ops = q.ops; tickets = put_fine s w.term w.tickets k (record t { out = false }) (q.tickets k t there) q.tickets })
       (quiet_undeleted_by w q k t there (fin.get w.deletes t.op) refl)
 
-  quiet_pruned : (f : Formats) (w : World) → IsQuiet s w → (k : ℕ) (prune : Prune) (reply : Reply) (image : Option Image) → IsQuiet s (prune_step f w k prune reply image)
+  quiet_pruned : (f : Formats) (w : World) → IsQuiet s asks w → (k : ℕ) (prune : Prune) (reply : Reply) (image : Option Image) → IsQuiet s asks (prune_step f w k prune reply image)
   quiet_pruned f w q k (FetchShard name) WasFetched image = quiet_change w q k (fetching name (told_blob f image name)) (fine_fetching w.term name (told_blob f image name)) (fin.get w.tickets k) refl
   quiet_pruned f w q k (FetchShard name) reply image = q
   quiet_pruned f w q k (PlanShards shards) reply image =
       let x = quiet_change w q k (planned f shards w.next_id) (fine_planned w.term f shards w.next_id) (fin.get w.tickets k) refl in
-      record { present = x.present; no_cleanup = x.no_cleanup; ops = x.ops; tickets = x.tickets }
+      record { present = x.present; cleanups = x.cleanups; ops = x.ops; tickets = x.tickets }
   quiet_pruned f w q k SettlePruned reply image = quiet_deleted f w q k (fin.get w.tickets k) refl
   quiet_pruned f w q k (RemoveDoomed names) reply image = quiet_same w _ q refl refl refl refl refl
   quiet_pruned f w q k EndDelete reply image = quiet_change w q k (λ t. record t { out = false }) (λ t x. x) (fin.get w.tickets k) refl
@@ -449,19 +465,22 @@ module _ (s : Start) where
   -- what is asked is steady, and nobody is elected
   record Suits (step : Step) : Type 0 where
     steady : (name : Bytes) (indices : List AskedIndex) (moment : ℕ) → step ≡ AskStep (Snapshot name indices moment) → IsSteady s indices
+    cleans : step ≡ AskStep Cleanup → asks
     unelected : step ≢ ElectStep
 
-  quiet_step : (f : Formats) (w : World) → IsQuiet s w → (k : ℕ) (step : Step) (reply : Reply) (image : Option Image) → Suits step → IsQuiet s (done_step f w k step reply image)
+  quiet_step : (f : Formats) (w : World) → IsQuiet s asks w → (k : ℕ) (step : Step) (reply : Reply) (image : Option Image) → Suits step → IsQuiet s asks (done_step f w k step reply image)
   quiet_step f w q k (AskStep (Snapshot name indices moment)) reply image h = quiet_asked w q name indices moment (h.steady name indices moment refl)
   quiet_step f w q k (AskStep (Clone source name names moment taken)) reply image h = quiet_cloned w q source name names moment taken
   quiet_step f w q k (AskStep (DeleteSnapshots names)) reply image h = quiet_delete w q names (waiting_delete w) (running_delete w (named_uuids w names))
   quiet_step f w q k (AskStep (Restore name place)) (AcceptedRestore o uuid indices) image h = quiet_same w _ q refl refl refl refl refl
+  quiet_step f w q k (AskStep Cleanup) reply image h = quiet_opened_cleanup w q (h.cleans refl)
   quiet_step f w q k TakeStep (Gave ticket op unit) image h = quiet_taken f w q op unit (fin.get w.ops op) refl
   quiet_step f w q k (DrawStep n) reply image h = quiet_drawn w q k n (fin.get w.tickets k) refl
   quiet_step f w q k (CommitStep name) WasDone image h = quiet_change w q k (committing name (told_blob f image name)) (fine_committing w.term name (told_blob f image name)) (fin.get w.tickets k) refl
   quiet_step f w q k (CommitStep name) WasThere image h = quiet_change w q k (λ t. noting t name) (λ t x. x) (fin.get w.tickets k) refl
   quiet_step f w q k LatestStep reply image h = quiet_change w q k (λ t. record t { tried_latest = true }) (λ t x. x) (fin.get w.tickets k) refl
   quiet_step f w q k (FetchStep name) WasFetched image h = quiet_change w q k (fetching name (told_blob f image name)) (fine_fetching w.term name (told_blob f image name)) (fin.get w.tickets k) refl
+  quiet_step f w q k (ListStep from) (WasListed page) image h = quiet_change w q k (λ t. listing t page) (λ t x. x) (fin.get w.tickets k) refl
   quiet_step f w q k RaiseStep reply image h = quiet_raised w q k (fin.get w.tickets k) refl
   quiet_step f w q k SettleStep reply image h = quiet_settled f w q k (fin.get w.tickets k) refl
   quiet_step f w q k (DoneStep result) reply image h = quiet_done w q k result (fin.get w.tickets k) refl
@@ -473,31 +492,36 @@ module _ (s : Start) where
   quiet_step f w q k (PruneStep prune) reply image h = quiet_pruned f w q k prune reply image
   quiet_step f w q k step reply image h = q
 
-  quiet_answered : (f : Formats) (w : World) → IsQuiet s w → (k : ℕ) (step : Step) (reply : Reply) (image : Option Image) → Suits step → reply ≢ Refused DepotFault → IsQuiet s (answered f w k step reply image)
+  quiet_answered : (f : Formats) (w : World) → IsQuiet s asks w → (k : ℕ) (step : Step) (reply : Reply) (image : Option Image) → Suits step → reply ≢ Refused DepotFault → IsQuiet s asks (answered f w k step reply image)
   quiet_answered f w q k step (Refused DepotFault) image h calm = absurd (calm refl)
   quiet_answered f w q k step (Refused refusal) image h calm = q
   quiet_answered f w q k step reply image h calm = quiet_step f w q k step reply image h
 
-  quiet_after : (f : Formats) (w : World) → IsQuiet s w → (m : Moment) → Suits m.entry.step → m.entry.reply ≢ Refused DepotFault → IsQuiet s (after f w m)
-  quiet_after f w q m h calm = let x = quiet_answered f w q m.entry.who m.entry.step m.entry.reply m.image h calm in record { present = x.present; no_cleanup = x.no_cleanup; ops = x.ops; tickets = x.tickets }
+  quiet_after : (f : Formats) (w : World) → IsQuiet s asks w → (m : Moment) → Suits m.entry.step → m.entry.reply ≢ Refused DepotFault → IsQuiet s asks (after f w m)
+  quiet_after f w q m h calm = let x = quiet_answered f w q m.entry.who m.entry.step m.entry.reply m.image h calm in record { present = x.present; cleanups = x.cleanups; ops = x.ops; tickets = x.tickets }
 
   -- what who 0 asks is steady, and it elects nobody
-  quiet_one : (f : Formats) (size : ℕ) (w : World) → IsQuiet s w → (m : Moment) → Allowed f size w m
-      → ((name : Bytes) (indices : List AskedIndex) (moment : ℕ) → m.entry.who ≡ 0 → m.entry.step ≡ AskStep (Snapshot name indices moment) → IsSteady s indices) → (m.entry.who ≡ 0 → m.entry.step ≢ ElectStep) → m.entry.reply ≢ Refused DepotFault → IsQuiet s (after f w m)
-  quiet_one f size w q m a steady unelected calm = elim (maker f size w m a) [
-    | inl made ↦ quiet_after f w q m
-        (record { steady = λ name indices moment e. steady name indices moment (made_zero w m.entry.who m.entry.step made (subst AsksOrElects (sym e) tt)) e; unelected = λ e. unelected (made_zero w m.entry.who m.entry.step made (subst AsksOrElects (sym e) tt)) e }) calm
-    | inr blocked ↦ subst (IsQuiet s) (sym (blocked_stays f w m blocked)) (record { present = q.present; no_cleanup = q.no_cleanup; ops = q.ops; tickets = q.tickets })
+  quiet_one : (f : Formats) (size : ℕ) (w : World) → IsQuiet s asks w → (m : Moment) → Allowed f size w m
+      → ((name : Bytes) (indices : List AskedIndex) (moment : ℕ) → m.entry.who ≡ 0 → m.entry.step ≡ AskStep (Snapshot name indices moment) → IsSteady s indices) → (m.entry.who ≡ 0 → m.entry.step ≡ AskStep Cleanup → asks)
+      → (m.entry.who ≡ 0 → m.entry.step ≢ ElectStep) → m.entry.reply ≢ Refused DepotFault → IsQuiet s asks (after f w m)
+  quiet_one f size w q m a steady cleans unelected calm = elim (maker f size w m a) [
+    | inl made ↦ quiet_after f w q m (record {
+      steady = λ name indices moment e. steady name indices moment (made_zero w m.entry.who m.entry.step made (subst AsksOrElects (sym e) tt)) e;
+      cleans = λ e. cleans (made_zero w m.entry.who m.entry.step made (subst AsksOrElects (sym e) tt)) e;
+      unelected = λ e. unelected (made_zero w m.entry.who m.entry.step made (subst AsksOrElects (sym e) tt)) e;
+    }) calm
+    | inr blocked ↦ subst (IsQuiet s asks) (sym (blocked_stays f w m blocked)) (record { present = q.present; cleanups = q.cleanups; ops = q.ops; tickets = q.tickets })
   ]
 
   -- ---- histories
 
-  pub quiet_history : (f : Formats) (size : ℕ) (log : List Moment) (w : World) → IsQuiet s w → IsLegal f size w log → AreSteady s log → AreCalm log → AreUnelected log → IsQuiet s (world_from f w log)
-  quiet_history f size [] w q legal steady calm unelected = q
-  quiet_history f size (m ∷ log) w q legal steady calm unelected =
+  pub quiet_history : (f : Formats) (size : ℕ) (log : List Moment) (w : World) → IsQuiet s asks w → IsLegal f size w log → AreSteady s log → ((m : Moment) → Has log m → m.entry.who ≡ 0 → m.entry.step ≡ AskStep Cleanup → asks) → AreCalm log → AreUnelected log
+      → IsQuiet s asks (world_from f w log)
+  quiet_history f size [] w q legal steady cleans calm unelected = q
+  quiet_history f size (m ∷ log) w q legal steady cleans calm unelected =
       quiet_history f size log (after f w m)
-      (quiet_one f size w q m legal.0 (λ name indices moment who e. steady m name indices moment (inl refl) who e) (unelected m (inl refl)) (calm m (inl refl))) legal.1
-      (λ n name indices moment h. steady n name indices moment (inr h)) (λ n h. calm n (inr h)) (λ n h. unelected n (inr h))
+      (quiet_one f size w q m legal.0 (λ name indices moment who e. steady m name indices moment (inl refl) who e) (cleans m (inl refl)) (unelected m (inl refl)) (calm m (inl refl))) legal.1
+      (λ n name indices moment h. steady n name indices moment (inr h)) (λ n h. cleans n (inr h)) (λ n h. calm n (inr h)) (λ n h. unelected n (inr h))
 
   none_open : AreSteadyOps s fin.empty
   none_open o op z there h = absurd (nothing fin.empty o op refl there)
@@ -505,6 +529,6 @@ module _ (s : Start) where
   none_given : (now : ℕ) → AreFine s now fin.empty
   none_given now k t there = absurd (nothing fin.empty k t refl there)
 
-  pub quiet_opened : (f : Formats) (image : Image) (w : World) → Opened f image w → IsQuiet s w
-  quiet_opened f image w (OpenedEmpty none) = record { present = refl; no_cleanup = numbered_unclean 1 []; ops = none_open; tickets = none_given _ }
-  quiet_opened f image w (OpenedRecord cluster text root there reads is) = record { present = refl; no_cleanup = numbered_unclean 1 (kept_deletes cluster.ops); ops = none_open; tickets = none_given _ }
+  pub quiet_opened : (f : Formats) (image : Image) (w : World) → Opened f image w → IsQuiet s asks w
+  quiet_opened f image w (OpenedEmpty none) = record { present = refl; cleanups = numbered_cleanups asks 1 []; ops = none_open; tickets = none_given _ }
+  quiet_opened f image w (OpenedRecord cluster text root there reads is) = record { present = refl; cleanups = numbered_cleanups asks 1 (kept_deletes cluster.ops); ops = none_open; tickets = none_given _ }

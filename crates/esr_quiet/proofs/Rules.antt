@@ -1,18 +1,18 @@
 -- Only a rule of accepting refuses a step where each world of the history is free.
-use Rattle.std.proofs.Common.{◌≡◌, ◌≢◌, ℕ, false, true≢false, List, ◌∷◌, Option, Some, None, refl, sym, ap, ◌∙◌, subst, inl, inr}
+use Rattle.std.proofs.Common.{◌≡◌, ◌≢◌, ℕ, true, false, true≢false, List, ◌∷◌, Option, Some, None, refl, sym, ap, ◌∙◌, subst, inl, inr}
 use Rattle.std.specs.FinMap as fin
 use Rattle.esr_model.specs.Names.{BlobName}
 use Rattle.esr_model.specs.Values.{Bytes, Has, Formats}
 use Rattle.esr_model.specs.Image.{Image, Present}
 use Rattle.esr_core.specs.World.{World, Ticket}
 use Rattle.esr_core.specs.Steps.{IsOut}
-use Rattle.esr_core.specs.Entry.{Asked, Snapshot, Clone, CloneOf, DeleteSnapshots, Restore, Read, CommitTest, Prune, Step, AskStep, CommitStep, ReadStep, PruneStep, NameTaken, AbortedBy, Refusal, Reply, Refused, DepotFault, Moment}
+use Rattle.esr_core.specs.Entry.{Asked, Snapshot, Clone, CloneOf, DeleteSnapshots, Restore, Cleanup, is_recorded, Read, CommitTest, Prune, Step, AskStep, CommitStep, ReadStep, PruneStep, CleanupRunning, NameTaken, AbortedBy, Refusal, Reply, Refused, DepotFault, Moment}
 use Rattle.esr_core.specs.Allowed as allowed
-use Rattle.esr_core.specs.Allowed.{Blocks, ByFailedSwap, ByDelete, Told, IsMetadata, CloneAllows, OpeningClone, CloneUsed, SourceNotListed, SourceDeleted, IndexMissing, FullOfClones, CloneSpent, CloneFault, DeleteAllows, GoingInto, NotNamed, CloneStands, RestoreStands, FullOfOps, DeleteFault, RestoreAllows, OpeningRestore, NotListed, NamedByDelete, FullOfRestores, ReadAllows, ReadFound, ReadMissing, ReadFault, RestoringShard, ReaderFailing, CheckingAll, CheckFailing, VerifyAllows, DrawingTest, TestSpent, BeginningTest, BeginTestFails, CommittingTest, TestTaken, CommitTestFails, RemovingTests, RemoveTestsFails, VerifyingAll, VerifyFailing, PruneAllows, FetchingShard, ShardMissing, FetchShardFails, Planning, PlanSpent, SettlingDelete, SettleDeleteStale, SettleDeleteFails, RemovingDoomed, RemoveDoomedFails, EndingDelete, FailingDelete, Allows}
+use Rattle.esr_core.specs.Allowed.{Blocks, ByFailedSwap, ByDelete, Told, IsMetadata, CloneAllows, OpeningClone, CloneUsed, SourceNotListed, SourceDeleted, IndexMissing, FullOfClones, CloneSpent, CloneFault, DeleteAllows, GoingInto, NotNamed, CloneStands, RestoreStands, FullOfOps, DeleteFault, CleanupAllows, OpeningCleanup, OpStands, TicketStands, CleanupFault, RestoreAllows, OpeningRestore, NotListed, NamedByDelete, FullOfRestores, ReadAllows, ReadFound, ReadMissing, ReadFault, RestoringShard, ReaderFailing, CheckingAll, CheckFailing, VerifyAllows, DrawingTest, TestSpent, BeginningTest, BeginTestFails, CommittingTest, TestTaken, CommitTestFails, RemovingTests, RemoveTestsFails, VerifyingAll, VerifyFailing, PruneAllows, FetchingShard, ShardMissing, FetchShardFails, Planning, PlanSpent, SettlingDelete, SettleDeleteStale, SettleDeleteFails, RemovingDoomed, RemoveDoomedFails, EndingDelete, FailingDelete, Allows}
 use Rattle.esr_desk.specs.Start.{Start, formats_of, world_of, or_no_ticket}
 use Rattle.esr_quiet.specs.Free.{Free}
 use Rattle.esr_quiet.specs.Smooth.{IsSpent, IsSmooth}
-use Rattle.esr_quiet.specs.Refusals.{IsByRule, AreByRule}
+use Rattle.esr_quiet.specs.Refusals.{IsByRule, HasAskedCleanup, IsOfCleanup, AreByRule}
 use Rattle.esr_quiet.specs.Prefixes.{Prefixes}
 use Rattle.esr_quiet.proofs.Prefixes.{told_at, place_of}
 use Rattle.esr_quiet.proofs.Quiet.{IsQuiet}
@@ -22,9 +22,9 @@ use Rattle.esr_quiet.proofs.Unaborted.{none_blocked}
 
 -- ---- each refusal
 
-abbrev IsRuled : Step → Reply → Type 0
-IsRuled step (Refused refusal) = (of : (command : Asked) × (step ≡ AskStep command)) × IsByRule of.0 refusal
-IsRuled step reply = Unit {0}
+abbrev IsRuled : List Moment → Step → Reply → Type 0
+IsRuled log step (Refused refusal) = (of : (command : Asked) × (step ≡ AskStep command)) × IsByRule of.0 refusal × IsOfCleanup log refusal
+IsRuled log step reply = Unit {0}
 
 -- a name is committed that its ticket has not noted
 abbrev IsNew : World → ℕ → Step → Type 0
@@ -34,39 +34,53 @@ IsNew w who step = (name : BlobName) (t : Ticket) → step ≡ CommitStep name �
 abbrev IsNewTest : World → Step → Type 0
 IsNewTest w step = (name : BlobName) → step ≡ ReadStep (CommitTest name) → Has w.caller.committed name → ⊥
 
-module _ (s : Start) (f : Formats) (size : ℕ) (w : World) (q : IsQuiet s w) (free : Free f w) where
+module _ (s : Start) (log : List Moment) (f : Formats) (size : ℕ) (w : World) (q : IsQuiet s (HasAskedCleanup log) w) (free : Free f w) where
   found : (name : BlobName) (image : Option Image) (i : Image) → image ≡ Some i → Told image (λ blobs. Present f w.blobs name × (blobs ≡ w.blobs)) → Present f w.blobs name
   found name image i is told = (subst (λ (im : Option Image). Told im (λ blobs. Present f w.blobs name × (blobs ≡ w.blobs))) is told).0
 
   present : (k : ℕ) (t : Ticket) → IsOut w k t → t.term ≢ w.term → ⊥
   present k t out apart = apart (q.tickets k t out.there).present
 
-  asks_restore : (name place : Bytes) (reply : Reply) (image : Option Image) → RestoreAllows f w name reply image → IsRuled (AskStep (Restore name place)) reply
+  asks_restore : (name place : Bytes) (reply : Reply) (image : Option Image) → RestoreAllows f w name reply image → IsRuled log (AskStep (Restore name place)) reply
   asks_restore name place reply image (OpeningRestore o uuid indices im acc) = tt
-  asks_restore name place reply image (NotListed im none) = ((Restore name place, refl), tt)
-  asks_restore name place reply image (NamedByDelete uuid d im listed named) = ((Restore name place, refl), tt)
-  asks_restore name place reply image (FullOfRestores uuid im listed spared full) = ((Restore name place, refl), tt)
+  asks_restore name place reply image (NotListed im none) = ((Restore name place, refl), tt, tt)
+  asks_restore name place reply image (NamedByDelete uuid d im listed named) = ((Restore name place, refl), tt, tt)
+  asks_restore name place reply image (FullOfRestores uuid im listed spared full) = ((Restore name place, refl), tt, tt)
 
   asks_clone : (source name : Bytes) (names : List Bytes) (moment : ℕ) (taken : Option CloneOf) (reply : Reply) (image : Option Image) → (reply ≢ Refused DepotFault) → (IsSpent reply → ⊥) → CloneAllows f w source name names moment taken reply image
-      → IsRuled (AskStep (Clone source name names moment taken)) reply
+      → IsRuled log (AskStep (Clone source name names moment taken)) reply
   asks_clone source name names moment taken reply image calm unspent (OpeningClone t o im acc) = tt
-  asks_clone source name names moment taken reply image calm unspent (CloneUsed uuid im clear is) = ((Clone source name names moment None, refl), tt)
-  asks_clone source name names moment taken reply image calm unspent (SourceNotListed im may none) = ((Clone source name names moment None, refl), tt)
-  asks_clone source name names moment taken reply image calm unspent (SourceDeleted uuid d im may listed named) = ((Clone source name names moment None, refl), tt)
-  asks_clone source name names moment taken reply image calm unspent (IndexMissing uuid place im may first) = ((Clone source name names moment None, refl), tt)
-  asks_clone source name names moment taken reply image calm unspent (FullOfClones uuid im may full) = ((Clone source name names moment None, refl), tt)
+  asks_clone source name names moment taken reply image calm unspent (CloneUsed uuid im clear is) = ((Clone source name names moment None, refl), tt, tt)
+  asks_clone source name names moment taken reply image calm unspent (SourceNotListed im may none) = ((Clone source name names moment None, refl), tt, tt)
+  asks_clone source name names moment taken reply image calm unspent (SourceDeleted uuid d im may listed named) = ((Clone source name names moment None, refl), tt, tt)
+  asks_clone source name names moment taken reply image calm unspent (IndexMissing uuid place im may first) = ((Clone source name names moment None, refl), tt, tt)
+  asks_clone source name names moment taken reply image calm unspent (FullOfClones uuid im may full) = ((Clone source name names moment None, refl), tt, tt)
   asks_clone source name names moment taken reply image calm unspent (CloneSpent uuid im may room spent) = absurd (unspent tt)
   asks_clone source name names moment taken reply image calm unspent (CloneFault t im acc) = absurd (calm refl)
 
-  asks_delete : (names : List Bytes) (reply : Reply) → (reply ≢ Refused DepotFault) → DeleteAllows w names reply → IsRuled (AskStep (DeleteSnapshots names)) reply
+  asks_delete : (names : List Bytes) (reply : Reply) → (reply ≢ Refused DepotFault) → DeleteAllows w names reply → IsRuled log (AskStep (DeleteSnapshots names)) reply
   asks_delete names reply calm (GoingInto acc) = tt
-  asks_delete names reply calm (NotNamed place clear first) = ((DeleteSnapshots names, refl), tt)
-  asks_delete names reply calm (CloneStands o clear named lowest) = ((DeleteSnapshots names, refl), tt)
-  asks_delete names reply calm (RestoreStands o clear named no_clone lowest) = ((DeleteSnapshots names, refl), tt)
-  asks_delete names reply calm (FullOfOps may new full) = ((DeleteSnapshots names, refl), tt)
+  asks_delete names reply calm (NotNamed place clear first) = ((DeleteSnapshots names, refl), tt, tt)
+  asks_delete names reply calm (CloneStands o clear named lowest) = ((DeleteSnapshots names, refl), tt, tt)
+  asks_delete names reply calm (RestoreStands o clear named no_clone lowest) = ((DeleteSnapshots names, refl), tt, tt)
+  asks_delete names reply calm (FullOfOps may new full) = ((DeleteSnapshots names, refl), tt, tt)
   asks_delete names reply calm (DeleteFault acc) = absurd (calm refl)
 
-  reads : (k : ℕ) (read : Read) (reply : Reply) (image : Option Image) → (reply ≢ Refused DepotFault) → ReadAllows f w k read reply image → IsRuled (ReadStep read) reply
+  asks_cleanup : (reply : Reply) → (reply ≢ Refused DepotFault) → CleanupAllows w reply → IsRuled log (AskStep Cleanup) reply
+  asks_cleanup reply calm (OpeningCleanup acc) = tt
+  asks_cleanup reply calm (OpStands o clear lowest) = ((Cleanup, refl), tt, tt)
+  asks_cleanup reply calm (TicketStands k none lowest) = ((Cleanup, refl), tt, tt)
+  asks_cleanup reply calm (CleanupFault acc) = absurd (calm refl)
+
+  -- a cleanup that runs was asked, and refuses each command that is recorded
+  cleans : (command : Asked) (d : ℕ) → is_recorded command ≡ true → HasAskedCleanup log → IsRuled log (AskStep command) (Refused (CleanupRunning d))
+  cleans (Snapshot name indices moment) d recorded asked = ((Snapshot name indices moment, refl), tt, asked)
+  cleans (Clone source name names moment taken) d recorded asked = ((Clone source name names moment taken, refl), tt, asked)
+  cleans (DeleteSnapshots names) d recorded asked = ((DeleteSnapshots names, refl), tt, asked)
+  cleans (Restore name place) d recorded asked = absurd (true≢false (sym recorded))
+  cleans Cleanup d recorded asked = ((Cleanup, refl), tt, asked)
+
+  reads : (k : ℕ) (read : Read) (reply : Reply) (image : Option Image) → (reply ≢ Refused DepotFault) → ReadAllows f w k read reply image → IsRuled log (ReadStep read) reply
   reads k read reply image calm (ReadFound j name im stored by there) = tt
   reads k read reply image calm (ReadMissing j name im stored by none) = tt
   reads k read reply image calm (ReadFault j name im stored by) = absurd (calm refl)
@@ -75,7 +89,7 @@ module _ (s : Start) (f : Formats) (size : ℕ) (w : World) (q : IsQuiet s w) (f
   reads k read reply image calm (CheckingAll snapshots blobs im checks) = tt
   reads k read reply image calm (CheckFailing why im looked) = tt
 
-  prunes : (k : ℕ) (prune : Prune) (reply : Reply) (image : Option Image) → (reply ≢ Refused DepotFault) → (IsSpent reply → ⊥) → PruneAllows f w k prune reply image → IsRuled (PruneStep prune) reply
+  prunes : (k : ℕ) (prune : Prune) (reply : Reply) (image : Option Image) → (reply ≢ Refused DepotFault) → (IsSpent reply → ⊥) → PruneAllows f w k prune reply image → IsRuled log (PruneStep prune) reply
   prunes k prune reply image calm unspent (FetchingShard j name im g found) = tt
   prunes k prune reply image calm unspent (ShardMissing j name im g found) = tt
   prunes k prune reply image calm unspent (FetchShardFails j name im g same) = absurd (calm refl)
@@ -90,7 +104,7 @@ module _ (s : Start) (f : Formats) (size : ℕ) (w : World) (q : IsQuiet s w) (f
   prunes k prune reply image calm unspent (FailingDelete j why im x same) = tt
 
   -- a test blob that is there is one that who 0 committed
-  verifies : (read : Read) (reply : Reply) (image : Option Image) (i : Image) → image ≡ Some i → (reply ≢ Refused DepotFault) → (IsSpent reply → ⊥) → IsNewTest w (ReadStep read) → VerifyAllows f w read reply image → IsRuled (ReadStep read) reply
+  verifies : (read : Read) (reply : Reply) (image : Option Image) (i : Image) → image ≡ Some i → (reply ≢ Refused DepotFault) → (IsSpent reply → ⊥) → IsNewTest w (ReadStep read) → VerifyAllows f w read reply image → IsRuled log (ReadStep read) reply
   verifies read reply image i told calm unspent new (DrawingTest im idle fits same) = tt
   verifies read reply image i told calm unspent new (TestSpent im idle spent same) = absurd (unspent tt)
   verifies read reply image i told calm unspent new (BeginningTest name im own same) = tt
@@ -103,16 +117,17 @@ module _ (s : Start) (f : Formats) (size : ℕ) (w : World) (q : IsQuiet s w) (f
   verifies read reply image i told calm unspent new (VerifyingAll im done same) = tt
   verifies read reply image i told calm unspent new (VerifyFailing why im begun same) = tt
 
-  ruled : (who : ℕ) (step : Step) (reply : Reply) (image : Option Image) (i : Image) → image ≡ Some i → (reply ≢ Refused DepotFault) → (IsSpent reply → ⊥) → IsNew w who step → IsNewTest w step → Allows f size w who step reply image → IsRuled step reply
+  ruled : (who : ℕ) (step : Step) (reply : Reply) (image : Option Image) (i : Image) → image ≡ Some i → (reply ≢ Refused DepotFault) → (IsSpent reply → ⊥) → IsNew w who step → IsNewTest w step → Allows f size w who step reply image → IsRuled log step reply
   ruled who step reply image i told calm unspent new new_test (allowed.AskingRestore name place rep im h same) = asks_restore name place rep im h
   ruled who step reply image i told calm unspent new new_test (allowed.AskingClone source name names moment taken rep im h same) = asks_clone source name names moment taken rep im calm unspent h
   ruled who step reply image i told calm unspent new new_test (allowed.AskingDelete names rep im h same) = asks_delete names rep calm h
+  ruled who step reply image i told calm unspent new new_test (allowed.AskingCleanup rep im h same) = asks_cleanup rep calm h
   ruled who step reply image i told calm unspent new new_test (allowed.Reading k read rep im h same) = reads k read rep im calm h
   ruled who step reply image i told calm unspent new new_test (allowed.Verifying read rep im h) = verifies read rep im i told calm unspent new_test h
   ruled who step reply image i told calm unspent new new_test (allowed.Pruning k prune rep im h) = prunes k prune rep im calm unspent h
-  ruled who step reply image i told calm unspent new new_test (allowed.Cleaning command d x im recorded there clean same) = absurd (true≢false (sym clean ∙ q.no_cleanup d x there))
-  ruled who step reply image i told calm unspent new new_test (allowed.Used name indices moment uuid im clear is same) = ((Snapshot name indices moment, refl), tt)
-  ruled who step reply image i told calm unspent new new_test (allowed.Full name indices moment im clear unused full same) = ((Snapshot name indices moment, refl), tt)
+  ruled who step reply image i told calm unspent new new_test (allowed.Cleaning command d x im recorded there clean same) = cleans command d recorded (q.cleanups d x there clean)
+  ruled who step reply image i told calm unspent new new_test (allowed.Used name indices moment uuid im clear is same) = ((Snapshot name indices moment, refl), tt, tt)
+  ruled who step reply image i told calm unspent new new_test (allowed.Full name indices moment im clear unused full same) = ((Snapshot name indices moment, refl), tt, tt)
   ruled who step reply image i told calm unspent new new_test (allowed.AskSpent name indices moment im clear unused room spent same) = absurd (unspent tt)
   ruled who step reply image i told calm unspent new new_test (allowed.DrawSpent k n im may spent same) = absurd (unspent tt)
   ruled who step reply image i told calm unspent new new_test (allowed.RaiseStale k im may apart same) = absurd (present k may.t may.out apart)
@@ -126,7 +141,7 @@ module _ (s : Start) (f : Formats) (size : ℕ) (w : World) (q : IsQuiet s w) (f
   ruled who step reply image i told calm unspent new new_test (allowed.CommitFails k name im c leaves) = absurd (calm refl)
   ruled who step reply image i told calm unspent new new_test (allowed.ReplaceFails k im c named puts) = absurd (calm refl)
   ruled who step reply image i told calm unspent new new_test (allowed.FetchFails k name im g same) = absurd (calm refl)
-  ruled who step reply image i told calm unspent new new_test (allowed.ListFails k im t out same) = absurd (calm refl)
+  ruled who step reply image i told calm unspent new new_test (allowed.ListFails k from im g same) = absurd (calm refl)
   ruled who step reply image i told calm unspent new new_test (allowed.AskFails name indices moment im acc same) = absurd (calm refl)
   ruled who step reply image i told calm unspent new new_test (allowed.RaiseFails k im r same) = absurd (calm refl)
   ruled who step reply image i told calm unspent new new_test (allowed.SettleFails k im x same) = absurd (calm refl)
@@ -141,15 +156,15 @@ by_rule s log smooth prefixes m refusal has reply =
     let f : Formats = formats_of s in
     let p = place_of log m has in
     let w : World = world_of s p.front in
-    let q : IsQuiet s w = quiet_at s log smooth p.front (m ∷ p.back) p.is in
+    let q : IsQuiet s (HasAskedCleanup log) w = quiet_at s log smooth p.front (m ∷ p.back) p.is in
     let told = told_at log m smooth.told has in
     let new : IsNew w m.entry.who m.entry.step = λ name t step there aside noted.
     smooth.once p.front p.back m name p.is step aside (subst (λ (x : Ticket). Has x.noted name) (sym (ap or_no_ticket there)) noted) in
     let new_test : IsNewTest w m.entry.step = λ name step committed. (smooth.tested p.front p.back m name p.is step).once committed in
     elim (legal_at s log smooth p.front p.back m p.is).answered [
       | inl alive ↦
-          subst (IsRuled m.entry.step) reply
-          (ruled s f s.part_size w q (prefixes.free p.front (m ∷ p.back) p.is) m.entry.who m.entry.step m.entry.reply m.image told.0 told.1 (smooth.calm m has) (smooth.unspent m has) new new_test alive.1)
+          subst (IsRuled log m.entry.step) reply
+          (ruled s log f s.part_size w q (prefixes.free p.front (m ∷ p.back) p.is) m.entry.who m.entry.step m.entry.reply m.image told.0 told.1 (smooth.calm m has) (smooth.unspent m has) new new_test alive.1)
       | inr dead ↦ absurd (none_blocked s log smooth prefixes p.front (m ∷ p.back) p.is m.entry.who m.entry.step dead.refusal dead.blocks)
     ]
 
@@ -159,7 +174,7 @@ no_rule (Snapshot of indices time) name h = h
 no_rule (Restore of place) name h = h
 no_rule (Clone source of names time taken) name h = h
 no_rule (DeleteSnapshots names) name h = h
-no_rule command name h = h
+no_rule Cleanup name h = h
 
 -- and no delete aborts a step
 pub no_abort_rule : (command : Asked) (op : ℕ) → IsByRule command (AbortedBy op) → ⊥
@@ -167,7 +182,7 @@ no_abort_rule (Snapshot of indices time) op h = h
 no_abort_rule (Restore of place) op h = h
 no_abort_rule (Clone source of names time taken) op h = h
 no_abort_rule (DeleteSnapshots names) op h = h
-no_abort_rule command op h = h
+no_abort_rule Cleanup op h = h
 
 -- what a rule refuses nothing blocks
 pub rule_unblocked : (w : World) (who : ℕ) (step : Step) (refusal : Refusal) (command : Asked) → w.deposed ≡ false → IsByRule command refusal → Blocks w who step refusal → ⊥

@@ -8,18 +8,19 @@ use Rattle.esr_model.specs.Shelf.{Shelved}
 use Rattle.esr_model.specs.Kept.{IdsBelow}
 use Rattle.esr_model.specs.Image.{Image, Blobs, At, Present}
 use Rattle.esr_model.specs.Delete.{PrunedShard, left_uuids, uuids_of}
+use Rattle.esr_model.specs.Cleanup.{BlobSize, IsPageOf}
 use Rattle.esr_core.specs.World.{World, Op, Deletion, ShardWork, Pending, Done, GivenUp, Shard, Deleting, Drop, Ticket, Swap, ReadState, Restored, NotRestored, Restoring, Reader, marked}
 use Rattle.esr_core.specs.Ready.{IsShard}
 use Rattle.esr_core.specs.Restores.{IsTestOf}
-use Rattle.esr_core.specs.Steps.{Removes, with_ticket, noting, given, shard_ticket, final_ticket}
-use Rattle.esr_core.specs.Turns.{Aborts, plain_ticket, fails}
+use Rattle.esr_core.specs.Steps.{Removes, with_ticket, noting, listing, given, shard_ticket, final_ticket}
+use Rattle.esr_core.specs.Turns.{Aborts, plain_ticket, cleaning_ticket, fails}
 use Rattle.esr_core.specs.Pruning.{delete_swap, planned_work, planned}
 use Rattle.esr_core.specs.Deletes.{named_uuids, waiting_delete, running_delete, aborted_ops, delete_merged, delete_by}
 use Rattle.esr_core.specs.Ids.{Law}
-use Rattle.esr_core.specs.Entry.{CloneOf, Clone, DeleteSnapshots, Restore, Given, GivenShard, GivenFinalize, GivenDrop, GivenRestore, GivenClone, GivenDelete, GivenCleanup, Why, Read, ReadBlob, RestoredShard, ReadFails, Prune, Step, AskStep, CommitStep, LatestStep, ReadStep, PruneStep, DepotFault, Reply, WasDone, WasFetched, WasAbsent, WasReplaced, HasEnded, Refused, Moment}
+use Rattle.esr_core.specs.Entry.{CloneOf, Clone, DeleteSnapshots, Restore, Cleanup, Given, GivenShard, GivenFinalize, GivenDrop, GivenRestore, GivenClone, GivenDelete, GivenCleanup, Why, Read, ReadBlob, RestoredShard, ReadFails, Prune, Step, AskStep, CommitStep, LatestStep, ReadStep, PruneStep, DepotFault, Reply, WasDone, WasFetched, WasAbsent, WasReplaced, HasEnded, Refused, Moment}
 use Rattle.esr_core.specs.After.{asked_op, cloned_op, taken_by, taken_shard, taken_restore, taken_restore_shard, with_given, change, committing, fetching, told_blob, settled_of, delete_settled, delete_failed_by, delete_failed, done_of, done_by, is_stale, failed_by, failed_of, dropped_of, read_told, shard_over, read_over, is_latest, test_left, blobs_in, after}
 use Rattle.esr_core.specs.Allowed as allowed
-use Rattle.esr_core.specs.Allowed.{latest_text, Told, SameBlobs, Adds, Gives, Commits, Raises, Settles, IsOwnTest, MayPlan, SettlesDeletion, RestoreAllows, OpeningRestore, NotListed, NamedByDelete, FullOfRestores, CloneAllows, OpeningClone, CloneUsed, SourceNotListed, SourceDeleted, IndexMissing, FullOfClones, CloneSpent, CloneFault, DeleteAllows, GoingInto, NotNamed, CloneStands, RestoreStands, FullOfOps, DeleteFault, ReadAllows, ReadFound, ReadMissing, ReadFault, RestoringShard, ReaderFailing, CheckingAll, CheckFailing, VerifyAllows, DrawingTest, TestSpent, BeginningTest, BeginTestFails, CommittingTest, TestTaken, CommitTestFails, RemovingTests, RemoveTestsFails, VerifyingAll, VerifyFailing, PruneAllows, FetchingShard, ShardMissing, FetchShardFails, Planning, PlanSpent, SettlingDelete, SettleDeleteStale, SettleDeleteFails, RemovingDoomed, RemoveDoomedFails, EndingDelete, FailingDelete, Allows, Allowed}
+use Rattle.esr_core.specs.Allowed.{latest_text, Told, SameBlobs, Adds, Gives, Commits, Raises, Settles, IsOwnTest, MayPlan, SettlesDeletion, RestoreAllows, OpeningRestore, NotListed, NamedByDelete, FullOfRestores, CloneAllows, OpeningClone, CloneUsed, SourceNotListed, SourceDeleted, IndexMissing, FullOfClones, CloneSpent, CloneFault, DeleteAllows, GoingInto, NotNamed, CloneStands, RestoreStands, FullOfOps, DeleteFault, CleanupAllows, OpeningCleanup, OpStands, TicketStands, CleanupFault, ReadAllows, ReadFound, ReadMissing, ReadFault, RestoringShard, ReaderFailing, CheckingAll, CheckFailing, VerifyAllows, DrawingTest, TestSpent, BeginningTest, BeginTestFails, CommittingTest, TestTaken, CommitTestFails, RemovingTests, RemoveTestsFails, VerifyingAll, VerifyFailing, PruneAllows, FetchingShard, ShardMissing, FetchShardFails, Planning, PlanSpent, SettlingDelete, SettleDeleteStale, SettleDeleteFails, RemovingDoomed, RemoveDoomedFails, EndingDelete, FailingDelete, Allows, Allowed}
 use Rattle.esr_core.proofs.Adds.{at_was}
 use Rattle.esr_core.proofs.AskedDeletes.{aborts}
 use Rattle.esr_core.proofs.Evolving.{out_pending, pending_done, failed_is}
@@ -110,6 +111,10 @@ module _ (f : Formats) (tried : ℕ → BlobName → Type 0) (w : World) (shelf 
 
   finds : (k : ℕ) (t : Ticket) → fin.get w.tickets k ≡ Some t → (name : BlobName) (blobs : Blobs) → Were f w blobs → IsSpare f tried blobs (change w k (λ (x : Ticket). noting x name)).ops (change w k (λ (x : Ticket). noting x name)).tickets
   finds k t there name blobs were = changed k t there (λ (x : Ticket). noting x name) (goes_same f w t (noting t name) refl (λ e. e) refl refl refl refl) refl refl refl blobs were
+
+  -- it has listed a page more
+  lists : (k : ℕ) (t : Ticket) → fin.get w.tickets k ≡ Some t → (page : List BlobSize) (blobs : Blobs) → Were f w blobs → IsSpare f tried blobs (change w k (λ (x : Ticket). listing x page)).ops (change w k (λ (x : Ticket). listing x page)).tickets
+  lists k t there page blobs were = changed k t there (λ (x : Ticket). listing x page) (goes_same f w t (listing t page) refl (λ e. e) refl refl refl refl) refl refl refl blobs were
 
   -- a begin, of `index.latest` or not
   begins : (k : ℕ) (t : Ticket) → fin.get w.tickets k ≡ Some t → (blobs : Blobs) → Were f w blobs → (b : Bool)
@@ -213,7 +218,7 @@ module _ (f : Formats) (tried : ℕ → BlobName → Type 0) (w : World) (shelf 
       subst (λ x. IsSpare f tried blobs (taken_restore w o index number x).ops (taken_restore w o index number x).tickets) (sym g.ready.there)
       (subst (λ x. IsSpare f tried blobs (taken_restore_shard w o g.r x).ops (taken_restore_shard w o g.r x).tickets) (sym g.found) (kept blobs were))
   gives o (GivenDelete uuids) g blobs were = gives_plain (plain_ticket w o (Deleting uuids None)) (plain_fresh f w (plain_ticket w o (Deleting uuids None)) (λ i n e. cc) refl (unplanned uuids)) refl blobs were
-  gives o GivenCleanup g blobs were = absurd g
+  gives o GivenCleanup g blobs were = gives_plain (cleaning_ticket w o) (plain_fresh f w (cleaning_ticket w o) (λ i n e. cc) refl (unplanned [])) refl blobs were
   gives o GivenDrop g blobs were = dropping (fin.get w.ops o)
     where
       dropping : (found : Option Op) → IsSpare f tried blobs (taken_by f w o GivenDrop found).ops (taken_by f w o GivenDrop found).tickets
@@ -289,9 +294,9 @@ module _ (f : Formats) (tried : ℕ → BlobName → Type 0) (w : World) (shelf 
     next = planned f shards w.next_id p.t
 
     abbrev its : Swap
-    its = delete_swap f p.t.root p.t.read p.uuids shards w.next_id
+    its = delete_swap f p.t.clean p.t.root p.t.read p.uuids shards w.next_id
 
-    work_is : (planned f shards w.next_id p.t).work ≡ Deleting p.uuids (Some (delete_swap f p.t.root p.t.read p.uuids shards w.next_id))
+    work_is : (planned f shards w.next_id p.t).work ≡ Deleting p.uuids (Some (delete_swap f p.t.clean p.t.root p.t.read p.uuids shards w.next_id))
     work_is = ap (planned_work f p.t shards w.next_id) p.deleting.work
 
     no_shard : (i n : ℕ) → (planned f shards w.next_id p.t).work ≡ Shard i n → ⊥
@@ -427,6 +432,12 @@ module _ (f : Formats) (size : ℕ) (tried : ℕ → BlobName → Type 0) (w : W
   asks_delete names reply image (FullOfOps may new full) same = inr (still f tried w shelf law l image same)
   asks_delete names reply image (DeleteFault acc) same = inl refl
 
+  asks_cleanup : (reply : Reply) (image : Option Image) → CleanupAllows w reply → SameBlobs w image → Next 0 (AskStep Cleanup) reply image
+  asks_cleanup reply image (OpeningCleanup acc) same = inr (still f tried w shelf law l image same)
+  asks_cleanup reply image (OpStands o clear lowest) same = inr (still f tried w shelf law l image same)
+  asks_cleanup reply image (TicketStands k none lowest) same = inr (still f tried w shelf law l image same)
+  asks_cleanup reply image (CleanupFault acc) same = inl refl
+
   read_found : (k : ℕ) (name : BlobName) (image : Option Image) → SameBlobs w image → Next k (ReadStep (ReadBlob name)) WasFetched image
   read_found zero name image same = inr (still f tried w shelf law l image same)
   read_found (suc k) name image same = inr (tells f tried w shelf law l (suc k) name (told_blob f image name) (fin.get w.readers (suc k)) (blobs_in image w.blobs) (same_were f tried w shelf law l image same))
@@ -506,7 +517,8 @@ module _ (f : Formats) (size : ℕ) (tried : ℕ → BlobName → Type 0) (w : W
   spare_by who step reply image mine i told (allowed.Fetching k name im g found) =
       inr (fetches f tried w shelf law l k g.t g.out.there name (told_blob f im name) (blobs_in im w.blobs) (told_were f tried w shelf law l im (λ blobs. (bytes : Bytes) × (fin.get w.blobs (f.names.text name) ≡ Some bytes) × (blobs ≡ w.blobs)) (λ blobs h. h.2) found))
   spare_by who step reply image mine i told (allowed.Missing k name im g found) = inr (kept f tried w shelf law l (blobs_in im w.blobs) (told_were f tried w shelf law l im (λ blobs. (fin.get w.blobs (f.names.text name) ≡ None) × (blobs ≡ w.blobs)) (λ blobs h. h.1) found))
-  spare_by who step reply image mine i told (allowed.Listing k im t out same) = inr (still f tried w shelf law l im same)
+  spare_by who step reply image mine i told (allowed.Listing k from page im g shape here) =
+      inr (lists f tried w shelf law l k g.t g.out.there page (blobs_in im w.blobs) (told_were f tried w shelf law l im (λ blobs. IsPageOf w.blobs from page × (blobs ≡ w.blobs)) (λ blobs h. h.1) here))
   spare_by who step reply image mine i told (allowed.Raising k n im r same) = inr (raises f tried w shelf law l k n r (blobs_in im w.blobs) (same_were f tried w shelf law l im same))
   spare_by who step reply image mine i told (allowed.Settling k im s same) = inr (settles f tried w shelf law l k s (blobs_in im w.blobs) (same_were f tried w shelf law l im same))
   spare_by who step reply image mine i told (allowed.Doing k r im d same) = inr (does f tried w shelf law l k r d.t d.out.there d.op d.op_there (blobs_in im w.blobs) (same_were f tried w shelf law l im same))
@@ -518,6 +530,7 @@ module _ (f : Formats) (size : ℕ) (tried : ℕ → BlobName → Type 0) (w : W
   spare_by who step reply image mine i told (allowed.AskingRestore name place rep im h same) = asks_restore name place rep im h same
   spare_by who step reply image mine i told (allowed.AskingClone source name names time taken rep im h same) = asks_clone source name names time taken rep im h same
   spare_by who step reply image mine i told (allowed.AskingDelete names rep im h same) = asks_delete names rep im h same
+  spare_by who step reply image mine i told (allowed.AskingCleanup rep im h same) = asks_cleanup rep im h same
   spare_by who step reply image mine i told (allowed.Reading k read rep im h same) = reads k read rep im h same
   spare_by who step reply image mine i told (allowed.Verifying read rep im h) = verifies read rep im i told h
   spare_by who step reply image mine i told (allowed.Pruning k prune rep im h) = prunes k prune rep im i told h
@@ -537,7 +550,7 @@ module _ (f : Formats) (size : ℕ) (tried : ℕ → BlobName → Type 0) (w : W
   spare_by who step reply image mine i told (allowed.CommitFails k name im c left) = leaves k name im c left i told (mine name refl tt)
   spare_by who step reply image mine i told (allowed.ReplaceFails k im c named puts) = unreplaced k im c.t c.out.there c.n named puts i told
   spare_by who step reply image mine i told (allowed.FetchFails k name im g same) = inr (still f tried w shelf law l im same)
-  spare_by who step reply image mine i told (allowed.ListFails k im t out same) = inr (still f tried w shelf law l im same)
+  spare_by who step reply image mine i told (allowed.ListFails k from im g same) = inr (still f tried w shelf law l im same)
   spare_by who step reply image mine i told (allowed.AskFails name indices time im acc same) = inl refl
   spare_by who step reply image mine i told (allowed.RaiseFails k im r same) = inl refl
   spare_by who step reply image mine i told (allowed.SettleFails k im s same) = inl refl

@@ -6,7 +6,7 @@ use Rattle.esr_model.specs.Values.{Formats}
 use Rattle.esr_model.specs.Image.{Image}
 use Rattle.esr_core.specs.World.{World, Op, Deletion, ShardWork, Deleting, Drop, Swap, Ticket, RestoreShard, Restoring, Opened, OpenedEmpty, OpenedRecord}
 use Rattle.esr_core.specs.Steps.{given, shard_ticket, final_ticket}
-use Rattle.esr_core.specs.Turns.{plain_ticket}
+use Rattle.esr_core.specs.Turns.{plain_ticket, cleaning_ticket}
 use Rattle.esr_core.specs.Entry.{Asked, Given, GivenShard, GivenFinalize, GivenDrop, GivenRestore, GivenClone, GivenDelete, GivenCleanup, Step, AskStep, TakeStep, Refusal, DepotFault, Reply, Gave, Refused, Moment}
 use Rattle.esr_core.specs.After.{taken_by, taken_shard, taken_restore, taken_restore_shard, answered, after}
 use Rattle.esr_core.specs.Allowed.{Gives, GivesShard, Blocks, ByFailedSwap, ByDelete, Allowed}
@@ -115,7 +115,7 @@ module _ (f : Formats) (w : World) (h : AreUnabortedIn w) where
   kept who step new (NewTicket take t is ops same) none no_take = absurd (no_take (subst IsTake (sym take) tt))
   kept who step new (NewReader take o r s there) none no_take = h
   kept who step new (OwnTicket t v there unit settled next_id pending id_above above) none no_take = goes_on w.ops w.ops (ops_same w.ops) w.tickets h who t v there unit
-  kept who step new (Settlement is t s n names there swapped raised) none no_take = goes_on w.ops (fin.remove w.ops t.op) (ops_less w.ops t.op) w.tickets h who t (record t { settled = true }) there (settled_unit t)
+  kept who step new (Settlement is t s n names deletes there swapped raised left) none no_take = goes_on w.ops (fin.remove w.ops t.op) (ops_less w.ops t.op) w.tickets h who t (record t { settled = true }) there (settled_unit t)
   kept who step new (UnitEnd t op v completed there op_there same) none no_take = ends w.ops (fin.insert w.ops t.op v) (ops_put w.ops t.op op v op_there same.aborted) w.tickets h who t
   kept who step new (DeletionFailure t x there found) none no_take = ends w.ops w.ops (ops_same w.ops) w.tickets h who t
   kept who step new (OpDrop is t there) none no_take = ends w.ops (fin.remove w.ops t.op) (ops_less w.ops t.op) w.tickets h who t
@@ -151,7 +151,7 @@ module _ (f : Formats) (w : World) (h : AreUnabortedIn w) where
         (subst (λ (y : Option RestoreShard). AreUnabortedIn (taken_restore_shard w o g.r y)) (sym g.found) h)
     gives o (GivenDelete uuids) g =
         comes w.ops w.ops (ops_same w.ops) w.tickets h w.next_ticket (plain_ticket w o (Deleting uuids None)) (λ op work there. absurd (apart o op g.0 there g.1.there))
-    gives o GivenCleanup g = absurd g
+    gives o GivenCleanup g = comes w.ops w.ops (ops_same w.ops) w.tickets h w.next_ticket (cleaning_ticket w o) (λ op work there. absurd (apart o op g.0 there g.1.there))
 
     take : (who : ℕ) (reply : Reply) (image : Option Image) → ((k o : ℕ) (unit : Given) → reply ≡ Gave k o unit → Gives f w o unit) → AreUnabortedIn (answered f w who TakeStep reply image)
     take who (Gave k o unit) image given = gives o unit (given k o unit refl)

@@ -1,4 +1,4 @@
--- No delete fails for damage where each world of the history is lawful and no master was elected; nor at all where no call fails.
+-- No delete or cleanup fails for damage where each world of the history is lawful and no master was elected; nor at all where no call fails.
 use Rattle.std.proofs.Common.{◌≡◌, ℕ, false, List, [], ◌∷◌, ◌++◌, append-nil, append_assoc, Option, Some, None, refl, sym, ap, ◌∙◌, subst, inl, inr}
 use Rattle.std.specs.Prelude.{length}
 use Rattle.std.specs.FinMap as fin
@@ -15,8 +15,7 @@ use Rattle.esr_desk.specs.declared.fault.Fault.{Fault}
 use Rattle.esr_desk.specs.declared.fault.By.{By}
 use Rattle.esr_desk.specs.Start.{Start, formats_of, world_of, or_no_ticket, ticket_of}
 use Rattle.esr_desk.specs.Evidence.{Evidence, HadFetch, WasUnreadable}
-use Rattle.esr_desk.specs.Unit.Shown.{HadFault}
-use Rattle.esr_desk.specs.Delete.Shown.{IsOfDelete, IsDeleteShown}
+use Rattle.esr_desk.specs.Delete.Shown.{HadDeleteFault, IsOfDelete, IsDeleteShown}
 use Rattle.esr_quiet.specs.Caused.{AreCaused}
 use Rattle.esr_quiet.specs.Smooth.{IsSmooth, NoneUndeleted}
 use Rattle.esr_quiet.specs.Prefixes.{Prefixes}
@@ -99,7 +98,7 @@ module _ (s : Start) (log : List Moment) (lawful : IsLawful s log) (alive : IsAl
         let t : Ticket = ticket_of s front who in
         let there : Has t.read (ShardIndex of.index of.number of.base, bytes) = subst (λ (n : BlobName). Has t.read (n, bytes)) of.name_is (read.read lawful.over.tells) in
         let at : fin.get (world_of s front).tickets who ≡ Some t = c.deleting.out.there ∙ ap (λ (x : Ticket). Some x) same in
-        does_read (formats_of s) (world_of s front) law.0 law.1 who t of.uuids of.plan at (ap (λ (x : Ticket). x.out) (sym same) ∙ c.deleting.out.out) (ap (λ (x : Ticket). x.settled) (sym same) ∙ c.unsettled)
+        does_read (formats_of s) (world_of s front) law.0 law.1 who t of.uuids of.plan at (ap (λ (x : Ticket). x.out) (sym same) ∙ c.deleting.out.out) of.unsettled
         (present front back is who t at) of.work of.index of.number of.base of.to_read bytes there
         (unreadable_reads_not s.known s.told (ShardIndex of.index of.number of.base) bytes reason (subst (λ (n : BlobName). unreadable n bytes ≡ Some reason) of.name_is refuses))
 
@@ -139,7 +138,7 @@ module _ (s : Start) (log : List Moment) (smooth : IsSmooth s log) (prefixes : P
 
     -- no cause is shown
     shows : {S F H T : Type 0} (e : Evidence S F H T) (why : Why) (b : By S F H T) → IsDeleteShown e s front who why b → ⊥
-    shows e OfDepot b h = no_depot_fault e s smooth.quiet (HadFault s front who) b h
+    shows e OfDepot b h = no_depot_fault e s smooth.quiet (HadDeleteFault s front who) b h
     shows e (OfAbsence name) b h = whole e (OfAbsence name) b tt h
     shows e (OfUnreadable name reason) b h = whole e (OfUnreadable name reason) b tt h
     shows e (OfTaken name) b h = untaken s log smooth prefixes front back is who name (step_shown b _ h)

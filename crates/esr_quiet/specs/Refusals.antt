@@ -1,10 +1,11 @@
 -- The refusals that may come where nothing fails.
 use Rattle.std.specs.Prelude.{◌≡◌, List}
 use Rattle.esr_model.specs.Values.{Has}
-use Rattle.esr_core.specs.Entry.{Asked, Snapshot, Clone, DeleteSnapshots, Restore, AskStep, Refusal, NameInUse, TooMany, NoSnapshot, NoIndex, BeingDeleted, CloneRunning, RestoreRunning, Refused, Moment}
+use Rattle.esr_core.specs.Entry.{Asked, Snapshot, Clone, DeleteSnapshots, Restore, Cleanup, AskStep, Refusal, CleanupRunning, NameInUse, TooMany, NoSnapshot, NoIndex, BeingDeleted, CloneRunning, RestoreRunning, BusyOp, BusyTicket, Refused, Moment}
 
 -- a rule of accepting refused a snapshot
 abbrev pub RefusesSnapshot : Refusal → Type 0
+RefusesSnapshot (CleanupRunning op) = Unit {0}
 RefusesSnapshot (NameInUse uuid) = Unit {0}
 RefusesSnapshot (TooMany limit) = Unit {0}
 RefusesSnapshot refusal = ⊥
@@ -18,6 +19,7 @@ RefusesRestore refusal = ⊥
 
 -- or a clone
 abbrev pub RefusesClone : Refusal → Type 0
+RefusesClone (CleanupRunning op) = Unit {0}
 RefusesClone (NameInUse uuid) = Unit {0}
 RefusesClone (NoSnapshot place) = Unit {0}
 RefusesClone (BeingDeleted op) = Unit {0}
@@ -27,24 +29,41 @@ RefusesClone refusal = ⊥
 
 -- or a delete
 abbrev pub RefusesDelete : Refusal → Type 0
+RefusesDelete (CleanupRunning op) = Unit {0}
 RefusesDelete (NoSnapshot place) = Unit {0}
 RefusesDelete (CloneRunning op) = Unit {0}
 RefusesDelete (RestoreRunning op) = Unit {0}
 RefusesDelete (TooMany limit) = Unit {0}
 RefusesDelete refusal = ⊥
 
--- A rule of accepting refused the command. Cleanups are so far refused while a cleanup is open, and none is open here.
+-- or a cleanup
+abbrev pub RefusesCleanup : Refusal → Type 0
+RefusesCleanup (CleanupRunning op) = Unit {0}
+RefusesCleanup (BusyOp op) = Unit {0}
+RefusesCleanup (BusyTicket ticket) = Unit {0}
+RefusesCleanup refusal = ⊥
+
+-- a rule of accepting refused the command
 abbrev pub IsByRule : Asked → Refusal → Type 0
 IsByRule (Snapshot name indices moment) refusal = RefusesSnapshot refusal
 IsByRule (Restore name place) refusal = RefusesRestore refusal
 IsByRule (Clone source name names moment taken) refusal = RefusesClone refusal
 IsByRule (DeleteSnapshots names) refusal = RefusesDelete refusal
-IsByRule command refusal = ⊥
+IsByRule Cleanup refusal = RefusesCleanup refusal
 
 -- a command was asked for
 abbrev pub IsOfCommand : Moment → Type 0
 IsOfCommand m = (command : Asked) × (m.entry.step ≡ AskStep command)
 
+-- who 0 asked a cleanup
+abbrev pub HasAskedCleanup : List Moment → Type 0
+HasAskedCleanup log = (m : Moment) × Has log m × (m.entry.who ≡ 0) × (m.entry.step ≡ AskStep Cleanup)
+
+-- a cleanup runs only where one was asked
+abbrev pub IsOfCleanup : List Moment → Refusal → Type 0
+IsOfCleanup log (CleanupRunning op) = HasAskedCleanup log
+IsOfCleanup log refusal = Unit {0}
+
 -- each refusal is that of a command, by a rule
 abbrev pub AreByRule : List Moment → Type 0
-AreByRule log = (m : Moment) (refusal : Refusal) → Has log m → m.entry.reply ≡ Refused refusal → (of : IsOfCommand m) × IsByRule of.0 refusal
+AreByRule log = (m : Moment) (refusal : Refusal) → Has log m → m.entry.reply ≡ Refused refusal → (of : IsOfCommand m) × IsByRule of.0 refusal × IsOfCleanup log refusal

@@ -1,15 +1,16 @@
 -- A history over quiet objects that tell, in which no number was spent.
-use Rattle.std.specs.Prelude.{◌≡◌, ◌≢◌, ◌≤◌, ℕ, true, List, ◌∷◌, ◌++◌}
+use Rattle.std.specs.Prelude.{◌≡◌, ◌≢◌, ◌≤◌, ℕ, true, false, List, ◌∷◌, ◌++◌, None}
 use Rattle.esr_model.specs.Values.{Bytes, Has}
 use Rattle.esr_model.specs.Shelf.{Shelved}
 use Rattle.esr_model.specs.Image.{Image}
 use Rattle.esr_model.specs.Kept.{Kept}
 use Rattle.esr_core.specs.World.{Opened}
-use Rattle.esr_core.specs.Entry.{Asked, Restore, AskStep, FailedStep, Why, ElectStep, ReadStep, PruneStep, DeleteFails, CheckedAll, DrawTest, ReadFails, Reply, HasEnded, Refused, DepotFault, IdsSpent, GenerationsSpent, TermsSpent, Moment}
+use Rattle.esr_core.specs.Entry.{Asked, Restore, GivenCleanup, AskStep, FailedStep, Why, ElectStep, ReadStep, PruneStep, DeleteFails, CheckedAll, DrawTest, ReadFails, Reply, Gave, HasEnded, Refused, DepotFault, IdsSpent, GenerationsSpent, TermsSpent, Moment}
 use Rattle.esr_core.specs.History.{AllKnown, AreTold, AreHonest}
-use Rattle.esr_desk.specs.Start.{Start, formats_of, Legal}
+use Rattle.esr_desk.specs.Start.{Start, formats_of, Legal, ticket_of}
 use Rattle.esr_desk.specs.Once.{AreOnce}
 use Rattle.esr_desk.specs.Grew.{NoneOut}
+use Rattle.esr_desk.specs.Own.{caller_of}
 use Rattle.esr_desk.specs.Verify.Tested.{AreTested}
 use Rattle.esr_quiet.specs.Asked.{AreSteady}
 
@@ -35,6 +36,16 @@ AreUnelected log = (m : Moment) → Has log m → m.entry.who ≡ 0 → m.entry.
 abbrev pub AreApart : Start → List Moment → Type 0
 AreApart s log = (front back : List Moment) (m : Moment) (command : Asked) → log ≡ front ++ m ∷ back → m.entry.who ≡ 0 → m.entry.step ≡ AskStep command → NoneOut s front
 
+-- no ticket of a cleanup is out
+abbrev pub NoneCleaning : Start → List Moment → Type 0
+NoneCleaning s log = (k : ℕ) → (ticket_of s log k).clean ≡ true → (ticket_of s log k).out ≡ false
+
+-- No cleanup is worked beside a verification, whose test blobs it would take away: none is given while one is open, nor does one begin
+-- while a cleanup's ticket is out.
+pub record AreTestsApart (s : Start) (log : List Moment) : Type 0 where
+  pub given : (front back : List Moment) (m : Moment) (ticket op : ℕ) → log ≡ front ++ m ∷ back → m.entry.reply ≡ Gave ticket op GivenCleanup → (caller_of s front).drawn ≡ None
+  pub drawn : (front back : List Moment) (m : Moment) → log ≡ front ++ m ∷ back → m.entry.who ≡ 0 → m.entry.step ≡ ReadStep DrawTest → NoneCleaning s front
+
 -- The container told its image, which was kept, at the start and at each moment, and no call of it failed; the sources tell
 -- all files, no shard that was asked for fails, and nobody asks while a ticket is out, so that no delete aborts its op.
 pub record IsSmooth (s : Start) (log : List Moment) : Type 0 where
@@ -55,12 +66,13 @@ pub record IsSmooth (s : Start) (log : List Moment) : Type 0 where
   pub unspent : AreUnspent log
   pub unelected : AreUnelected log
   pub apart : AreApart s log
+  pub tests_apart : AreTestsApart s log
 
 -- no unit failed
 abbrev pub NoneFailed : List Moment → Type 0
 NoneFailed log = (m : Moment) (why : Why) → Has log m → m.entry.step ≡ FailedStep why → m.entry.reply ≢ HasEnded
 
--- no delete failed
+-- no delete failed, nor a cleanup
 abbrev pub NoneUndeleted : List Moment → Type 0
 NoneUndeleted log = (m : Moment) (why : Why) → Has log m → m.entry.step ≡ PruneStep (DeleteFails why) → m.entry.reply ≢ HasEnded
 

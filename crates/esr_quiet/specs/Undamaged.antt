@@ -21,7 +21,7 @@ NoUnitFindsDamage log = (m : Moment) (why : Why) → Has log m → m.entry.step 
 abbrev pub NoRestoreFindsDamage : List Moment → Type 0
 NoRestoreFindsDamage log = (m : Moment) (why : Why) → Has log m → 1 ≤ m.entry.who → m.entry.step ≡ ReadStep (ReadFails why) → m.entry.reply ≡ HasEnded → IsDamage why → ⊥
 
--- nor a delete, before a master was elected: one of an older term may read what a later one has removed
+-- nor a delete or cleanup, before a master was elected: one of an older term may read what a later one has removed
 abbrev pub NoDeleteFindsDamage : List Moment → Type 0
 NoDeleteFindsDamage log = (front back : List Moment) (m : Moment) (why : Why) → log ≡ front ++ m ∷ back → AreUnelected front → m.entry.step ≡ PruneStep (DeleteFails why) → m.entry.reply ≡ HasEnded → IsDamage why → ⊥
 

@@ -42,7 +42,7 @@ pub fn no_unasked_restore_fails()
     each_world_is_free();
 }
 
-/// No delete fails: each index that it reads is there, and reads.
+/// No delete or cleanup fails: each index that it reads is there, and reads.
 pub fn no_delete_fails<S, F, H, T>()
     ensures { (e : Evidence S F H T) (s : Start) (log : List Moment) (faults : List (Fault S F H T)) → IsSmooth s log → AreCaused hands.Delete e s log faults → NoneUndeleted log }
 {
@@ -111,4 +111,5 @@ pub(crate) fn each_world_is_free()
     esr_core::each_history_is_lawful();
     esr_core::each_history_is_tracked();
     esr_core::each_history_is_ranked();
+    esr_core::each_step_is_one_change();
 }

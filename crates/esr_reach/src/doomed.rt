@@ -13,7 +13,7 @@ use std::alloc::{AllocError, Global};
 use std::collections::BTreeSet;
 
 /// The names, each once.
-fn set_of(alloc: Global, names: &[BlobName]) -> Result<BTreeSet<BlobName>, AllocError>
+pub fn set_of(alloc: Global, names: &[BlobName]) -> Result<BTreeSet<BlobName>, AllocError>
     ensures { IfOk result (λ set. (name : CodeName) → (contains ⟦<BlobName as Ord>⟧.cmp set name ≡ true) ↔ Has (map name_of names.now) (name_of name)) }
 {
     let mut set = BTreeSet::new(alloc);

@@ -1,5 +1,5 @@
 -- A command that is asked for.
-use Rattle.std.proofs.Common.{◌≡◌, ℕ, suc, ◌+◌, ◌^◌, ◌<◌, ◌≤◌, true, List, map, Some, None, refl, sym, ap, ◌∙◌, subst, arith}
+use Rattle.std.proofs.Common.{◌≡◌, ℕ, suc, ◌+◌, ◌^◌, ◌<◌, ◌≤◌, true, List, map, Some, None, IfSome, refl, sym, ap, ◌∙◌, subst, arith}
 use Rattle.std.specs.FinMap as fin
 use Rattle.esr_model.specs.Kept.{first_id}
 use Rattle.esr_core.specs.World.{World, Deletion, record_ops, ledger_of}
@@ -13,9 +13,13 @@ use Rattle.esr_formats.specs.Roots.{root_of}
 use Rattle.esr_formats.specs.Clusters.{op_of, cluster_of}
 use Rattle.esr_progress.specs.Asked.{IsAskable}
 use Rattle.esr_progress.specs.Plan.{Plan, IsPlanOf, IsAskedIn}
-use Rattle.esr_progress.specs.Accepting.{drawn_by, MayAccept, IsAccepted, name_asked}
+use Rattle.esr_progress.specs.Accepting.{drawn_by, MayAccept, IsAccepted, IsRefused, name_asked}
+use Rattle.esr_progress.specs.declared.refusal.Refusal.{Refusal as ListRefusal}
+use Rattle.esr_progress.specs.declared.refusal.Refusal.TheVariants as refusals
 use Rattle.esr_progress.specs.declared.command.Accepted.{Accepted as CodeAccepted}
+use Rattle.esr_desk.specs.Refusals.{refusal_of}
 use Rattle.esr_desk.specs.Start.{Start, world_of}
+use Rattle.esr_repo.specs.Asked.{entry_of}
 use Rattle.esr_repo.specs.May.{MaySwap, MayRefuse}
 use Rattle.esr_repo.proofs.Swapping.{infos_swapped, cluster_from}
 
@@ -26,23 +30,31 @@ recorded : (command : Asked) → IsAskable command → is_recorded command ≡ t
 recorded (Snapshot name indices moment) askable = refl
 recorded command askable = absurd askable
 
-pub cleanup_refused : (s : Start) (log : List Moment) (command : Asked) (d : ℕ) → IsAskable command → (x : Deletion) × (fin.get (world_of s log).deletes d ≡ Some x) × (x.clean ≡ true) → MayRefuse s log 0 (AskStep command) (CleanupRunning d)
+cleanup_refused : (s : Start) (log : List Moment) (command : Asked) (d : ℕ) → IsAskable command → (x : Deletion) × (fin.get (world_of s log).deletes d ≡ Some x) × (x.clean ≡ true) → MayRefuse s log 0 (AskStep command) (CleanupRunning d)
 cleanup_refused s log command d askable h = record { plain = refl; allows = λ image tells same. Cleaning command d h.0 image (recorded command askable) h.1 h.2 same }
 
-pub used_refused : (s : Start) (log : List Moment) (command : Asked) (uuid : ℕ) → IsAskable command → NoCleanup (world_of s log) × IsNameOf (world_of s log) (name_asked command) uuid → MayRefuse s log 0 (AskStep command) (NameInUse uuid)
+used_refused : (s : Start) (log : List Moment) (command : Asked) (uuid : ℕ) → IsAskable command → NoCleanup (world_of s log) × IsNameOf (world_of s log) (name_asked command) uuid → MayRefuse s log 0 (AskStep command) (NameInUse uuid)
 used_refused s log (Snapshot name indices moment) uuid askable h = record { plain = refl; allows = λ image tells same. Used name indices moment uuid image h.0 h.1 same }
 used_refused s log command uuid askable h = absurd askable
 
-pub full_refused : (s : Start) (log : List Moment) (command : Asked) (limit : ℕ) → IsAskable command → (limit ≡ 1000) × NoCleanup (world_of s log) × IsUnused (world_of s log) (name_asked command) × (1000 ≤ open_count (world_of s log)) → MayRefuse s log 0 (AskStep command) (TooMany limit)
+full_refused : (s : Start) (log : List Moment) (command : Asked) (limit : ℕ) → IsAskable command → (limit ≡ 1000) × NoCleanup (world_of s log) × IsUnused (world_of s log) (name_asked command) × (1000 ≤ open_count (world_of s log)) → MayRefuse s log 0 (AskStep command) (TooMany limit)
 full_refused s log (Snapshot name indices moment) limit askable h =
     subst (λ (n : ℕ). MayRefuse s log 0 (AskStep (Snapshot name indices moment)) (TooMany n)) (sym h.0) (record { plain = refl; allows = λ image tells same. Full name indices moment image h.1 h.2 h.3 same })
 full_refused s log command limit askable h = absurd askable
 
-pub spent_refused : (s : Start) (log : List Moment) (command : Asked) (next : ℕ) → IsAskable command → (next ≡ (world_of s log).next_id) × MayAccept (world_of s log) (name_asked command) × (first_id (suc (world_of s log).term) ≤ (world_of s log).next_id + drawn_by (world_of s log) command)
+spent_refused : (s : Start) (log : List Moment) (command : Asked) (next : ℕ) → IsAskable command → (next ≡ (world_of s log).next_id) × MayAccept (world_of s log) (name_asked command) × (first_id (suc (world_of s log).term) ≤ (world_of s log).next_id + drawn_by (world_of s log) command)
     → MayRefuse s log 0 (AskStep command) (IdsSpent next)
 spent_refused s log (Snapshot name indices moment) next askable h =
     subst (λ (n : ℕ). MayRefuse s log 0 (AskStep (Snapshot name indices moment)) (IdsSpent n)) (sym h.0) (record { plain = refl; allows = λ image tells same. AskSpent name indices moment image h.1.no_cleanup h.1.unused h.1.room h.2 same })
 spent_refused s log command next askable h = absurd askable
+
+pub refuses : (s : Start) (log : List Moment) (command : Asked) (refusal : ListRefusal) → IsAskable command → IsRefused (world_of s log) (name_asked command) command refusal → IfSome (entry_of refusal) (λ e. MayRefuse s log 0 (AskStep command) (refusal_of e))
+refuses s log command refusals.Memory askable h = tt
+refuses s log command (refusals.CleanupRunning op) askable h = cleanup_refused s log command op askable h
+refuses s log command (refusals.NameInUse uuid) askable h = used_refused s log command uuid.number askable h
+refuses s log command (refusals.TooMany limit) askable h = full_refused s log command limit askable h
+refuses s log command (refusals.IdsSpent next) askable h = spent_refused s log command next.number askable h
+refuses s log command other askable h = absurd h
 
 -- ---- what is kept
 

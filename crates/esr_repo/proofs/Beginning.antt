@@ -1,5 +1,5 @@
 -- A container that was opened is one with an empty history.
-use Rattle.std.proofs.Common.{◌≡◌, ℕ, ◌-◌, ◌^◌, ◌≤◌, List, [], Some, None, sym, ap, ◌∙◌, subst, arith, nat_cmp}
+use Rattle.std.proofs.Common.{◌≡◌, ℕ, ◌-◌, ◌^◌, ◌≤◌, List, [], Some, None, sym, ap, ◌∙◌, subst, inr, arith, nat_cmp}
 use Rattle.std.specs.FinMap.{FinMap}
 use Rattle.std.specs.FinMap as fin
 use Rattle.esr_model.specs.Values.{Has}
@@ -38,7 +38,6 @@ begun_repo l s clock past k b =
             record_back = b.order.record_back;
             tracked = b.order.tracked;
             ranked = b.order.ranked;
-            no_cleanups = b.order.no_cleanups;
             pruning = λ k t uuids plan there work. absurd (no_ticket s.world b.no_tickets k t there);
             gone = λ uuid a. absurd (no_ticket s.world b.no_tickets a.k a.t a.there);
             read_tracked = b.read_tracked;
@@ -46,11 +45,11 @@ begun_repo l s clock past k b =
             no_entries = b.no_entries;
             client = record { made = λ e has. absurd (subst (λ (made : List Entry). Has (entries_by made 0) e) b.no_entries has); committed = λ name has. absurd (subst (λ (c : Caller). Has c.committed name) b.uncalled has) };
             stale = λ k was. absurd (subst (λ (made : List Entry). Has (entries_by made k) was.entry) b.no_entries was.there);
-            of_ops = record { some = λ k t there. absurd (no_ticket s.world b.no_tickets k t there); apart = λ k t uuids plan op there work is. absurd (no_ticket s.world b.no_tickets k t there); over = λ k t op there settled is. absurd (no_ticket s.world b.no_tickets k t there) };
+            of_ops = record { some = λ k t there. absurd (no_ticket s.world b.no_tickets k t there); apart = λ k t uuids plan op there work is. absurd (no_ticket s.world b.no_tickets k t there); bare = λ k t there cleans. absurd (no_ticket s.world b.no_tickets k t there); over = λ k t op there settled is. absurd (no_ticket s.world b.no_tickets k t there) };
             few_ops = omega arith;
             few_tickets = omega arith;
           };
-      live = λ e. (b.live, b.kept, record { are = b.infos; listed = b.listed });
+      live = λ e. (b.live, b.kept, record { are = b.infos; listed = b.listed; found = λ i has. inr (λ k t uuids plan there settled work. absurd (no_ticket s.world b.no_tickets k t there)) });
       fallen = λ place e. absurd (never place e);
     }
   where

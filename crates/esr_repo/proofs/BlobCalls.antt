@@ -153,7 +153,7 @@ idles_given w k g (Some t) there same =
       next = refl;
     }
 
-idles_change : (w : World) (k : ℕ) (g : Ticket → Ticket) → ((t : Ticket) → seat_of (g t) ≡ seat_of t) → Idles w (change w k g)
+pub idles_change : (w : World) (k : ℕ) (g : Ticket → Ticket) → ((t : Ticket) → seat_of (g t) ≡ seat_of t) → Idles w (change w k g)
 idles_change w k g same = idles_given w k g (fin.get w.tickets k) refl same
 
 seat_committing : (name : BlobName) (o : Option Bytes) (t : Ticket) → seat_of (committing name o t) ≡ seat_of t
@@ -308,7 +308,7 @@ pub record TextStays (old new : Option Held) : Type 0 where
   pub untold : old ≡ None → new ≡ None
   pub told : (i : Held) → old ≡ Some i → (j : Held) × (new ≡ Some j) × (j.text ≡ i.text)
 
-text_same_image : (old new : Option Held) → new ≡ old → TextStays old new
+pub text_same_image : (old new : Option Held) → new ≡ old → TextStays old new
 text_same_image old new e = record { untold = λ n. e ∙ n; told = λ i is. (i, e ∙ is, refl) }
 
 -- a told image was told before
@@ -444,7 +444,7 @@ module _ {old : Look} {s : Start} {clock : ℕ} {es : List Entry} {k : Kept} {d 
     told_same same = told_of o (Same s seen) (λ i e. blobs_are i (sym same ∙ e))
 
   -- a call that changes nothing leaves the image of the world, also where it is cut off
-  same_cut : (m : Moment) (i : Held) → SameImage (now old) (Some i) → Leaves (formats_of s) s.part_size (world_of s seen) (m ∷ []) (image_of i)
+  pub same_cut : (m : Moment) (i : Held) → SameImage (now old) (Some i) → Leaves (formats_of s) s.part_size (world_of s seen) (m ∷ []) (image_of i)
   same_cut m i same = inl (steady.image i (sym same))
 
   module _ (new : Look) where
@@ -481,7 +481,7 @@ module _ {old : Look} {s : Start} {clock : ℕ} {es : List Entry} {k : Kept} {d 
               plan = plan_aside w (blobs_in (image_now new) (world_of s seen).blobs) w.deposed (after (formats_of s) (world_of s seen) here).caller (after (formats_of s) (world_of s seen) here).entries k.plan (idles.plan k.plan kept.1.plan);
               next = kept.1.next ∙ sym idles.next;
             },
-            infos_over s (world_of s seen) here k.infos steady.tracked steady.tests steady.gone c.allowed leaves kept.2,
+            infos_over s (world_of s seen) here k.infos steady.tracked steady.tests steady.pruning steady.of_ops steady.gone c.allowed leaves kept.2,
           ))
           (λ place n. absurd (some_none place (sym n ∙ kept.0))))
 

@@ -1,5 +1,5 @@
 -- A clone that is asked for.
-use Rattle.std.proofs.Common.{◌≡◌, ℕ, suc, ◌+◌, ◌<◌, ◌≤◌, true, List, [], ◌∷◌, map, Option, Some, None, Result, Ok, Err, IsErrAnd, refl, sym, ap, ◌∙◌, subst, inl, inr, arith}
+use Rattle.std.proofs.Common.{◌≡◌, ℕ, suc, ◌+◌, ◌<◌, ◌≤◌, true, List, [], ◌∷◌, map, Option, Some, None, Result, Ok, Err, IsErrAnd, IfSome, refl, sym, ap, ◌∙◌, subst, inl, inr, arith}
 use Rattle.std.specs.FinMap as fin
 use Rattle.esr_model.specs.Kept.{first_id}
 use Rattle.esr_model.specs.Values.{Bytes, Has, IndexRef}
@@ -15,50 +15,66 @@ use Rattle.esr_formats.specs.Refs.{AreApart}
 use Rattle.esr_formats.specs.Clusters.{op_of, cluster_of}
 use Rattle.esr_progress.specs.Infos.{HasIndices}
 use Rattle.esr_progress.specs.Plan.{Plan, IsPlanOf}
+use Rattle.esr_progress.specs.Accepting.{IsCloneRefused}
+use Rattle.esr_progress.specs.declared.refusal.Refusal.{Refusal as ListRefusal}
+use Rattle.esr_progress.specs.declared.refusal.Refusal.TheVariants as refusals
 use Rattle.esr_desk.specs.declared.refusal.StepRefusal.{StepRefusal}
 use Rattle.esr_desk.specs.declared.refusal.StepRefusal.TheVariants as steps
+use Rattle.esr_desk.specs.Refusals.{refusal_of}
 use Rattle.esr_desk.specs.Start.{Start, formats_of, world_of}
 use Rattle.esr_repo.specs.Next.{AddedOr, Did}
+use Rattle.esr_repo.specs.Asked.{entry_of}
 use Rattle.esr_repo.specs.May.{MaySwap, MayRefuse}
 use Rattle.esr_repo.proofs.Restores.{told_so}
 use Rattle.esr_repo.proofs.Swapping.{infos_swapped, cluster_from}
 
 -- ---- why it is refused
 
-pub cleanup_refused : (s : Start) (log : List Moment) (source name : Bytes) (names : List Bytes) (moment d : ℕ) → (x : Deletion) × (fin.get (world_of s log).deletes d ≡ Some x) × (x.clean ≡ true)
+cleanup_refused : (s : Start) (log : List Moment) (source name : Bytes) (names : List Bytes) (moment d : ℕ) → (x : Deletion) × (fin.get (world_of s log).deletes d ≡ Some x) × (x.clean ≡ true)
     → MayRefuse s log 0 (AskStep (Clone source name names moment None)) (CleanupRunning d)
 cleanup_refused s log source name names moment d h = record { plain = refl; allows = λ image tells same. Cleaning (Clone source name names moment None) d h.0 image refl h.1 h.2 same }
 
-pub used_refused : (s : Start) (log : List Moment) (source name : Bytes) (names : List Bytes) (moment uuid : ℕ) → NoCleanup (world_of s log) × IsNameOf (world_of s log) name uuid
+used_refused : (s : Start) (log : List Moment) (source name : Bytes) (names : List Bytes) (moment uuid : ℕ) → NoCleanup (world_of s log) × IsNameOf (world_of s log) name uuid
     → MayRefuse s log 0 (AskStep (Clone source name names moment None)) (NameInUse uuid)
 used_refused s log source name names moment uuid h = record { plain = refl; allows = λ image tells same. AskingClone source name names moment None _ image (CloneUsed uuid image h.0 h.1) same }
 
-pub unlisted_refused : (s : Start) (log : List Moment) (source name : Bytes) (names : List Bytes) (moment at : ℕ) → (at ≡ 0) × MayName (world_of s log) name × ((uuid : ℕ) → IsListed (world_of s log) source uuid → ⊥)
+unlisted_refused : (s : Start) (log : List Moment) (source name : Bytes) (names : List Bytes) (moment at : ℕ) → (at ≡ 0) × MayName (world_of s log) name × ((uuid : ℕ) → IsListed (world_of s log) source uuid → ⊥)
     → MayRefuse s log 0 (AskStep (Clone source name names moment None)) (NoSnapshot at)
 unlisted_refused s log source name names moment at h =
     subst (λ (n : ℕ). MayRefuse s log 0 (AskStep (Clone source name names moment None)) (NoSnapshot n)) (sym h.0)
     (record { plain = refl; allows = λ image tells same. AskingClone source name names moment None _ image (SourceNotListed image h.1 h.2) same })
 
-pub deleted_refused : (s : Start) (log : List Moment) (source name : Bytes) (names : List Bytes) (moment d : ℕ) → MayName (world_of s log) name × ((uuid : ℕ) × IsListed (world_of s log) source uuid × IsBeingDeleted (world_of s log) uuid d)
+deleted_refused : (s : Start) (log : List Moment) (source name : Bytes) (names : List Bytes) (moment d : ℕ) → MayName (world_of s log) name × ((uuid : ℕ) × IsListed (world_of s log) source uuid × IsBeingDeleted (world_of s log) uuid d)
     → MayRefuse s log 0 (AskStep (Clone source name names moment None)) (BeingDeleted d)
 deleted_refused s log source name names moment d h = record { plain = refl; allows = λ image tells same. AskingClone source name names moment None _ image (SourceDeleted h.1.0 d image h.0 h.1.1 h.1.2) same }
 
-pub index_refused : (s : Start) (log : List Moment) (source name : Bytes) (names : List Bytes) (moment at : ℕ) → (uuid : ℕ) × MayCopy (world_of s log) source name uuid × IsFirstMissing (world_of s log) uuid names at
+index_refused : (s : Start) (log : List Moment) (source name : Bytes) (names : List Bytes) (moment at : ℕ) → (uuid : ℕ) × MayCopy (world_of s log) source name uuid × IsFirstMissing (world_of s log) uuid names at
     → MayRefuse s log 0 (AskStep (Clone source name names moment None)) (NoIndex at)
 index_refused s log source name names moment at h = record { plain = refl; allows = λ image tells same. AskingClone source name names moment None _ image (IndexMissing h.0 at image h.1 h.2) same }
 
-pub full_refused : (s : Start) (log : List Moment) (source name : Bytes) (names : List Bytes) (moment limit : ℕ) → (limit ≡ 1000) × ((uuid : ℕ) × MayClone (world_of s log) source name names uuid × (1000 ≤ open_count (world_of s log)))
+full_refused : (s : Start) (log : List Moment) (source name : Bytes) (names : List Bytes) (moment limit : ℕ) → (limit ≡ 1000) × ((uuid : ℕ) × MayClone (world_of s log) source name names uuid × (1000 ≤ open_count (world_of s log)))
     → MayRefuse s log 0 (AskStep (Clone source name names moment None)) (TooMany limit)
 full_refused s log source name names moment limit h =
     subst (λ (n : ℕ). MayRefuse s log 0 (AskStep (Clone source name names moment None)) (TooMany n)) (sym h.0)
     (record { plain = refl; allows = λ image tells same. AskingClone source name names moment None _ image (FullOfClones h.1.0 image h.1.1 h.1.2) same })
 
-pub spent_refused : (s : Start) (log : List Moment) (source name : Bytes) (names : List Bytes) (moment next : ℕ)
+spent_refused : (s : Start) (log : List Moment) (source name : Bytes) (names : List Bytes) (moment next : ℕ)
     → (next ≡ (world_of s log).next_id) × ((uuid : ℕ) × MayClone (world_of s log) source name names uuid × (open_count (world_of s log) < 1000) × (first_id (suc (world_of s log).term) ≤ suc (world_of s log).next_id))
     → MayRefuse s log 0 (AskStep (Clone source name names moment None)) (IdsSpent next)
 spent_refused s log source name names moment next h =
     subst (λ (n : ℕ). MayRefuse s log 0 (AskStep (Clone source name names moment None)) (IdsSpent n)) (sym h.0)
     (record { plain = refl; allows = λ image tells same. AskingClone source name names moment None _ image (CloneSpent h.1.0 image h.1.1 h.1.2 h.1.3) same })
+
+pub refuses_clone : (s : Start) (log : List Moment) (source name : Bytes) (names : List Bytes) (moment : ℕ) (refusal : ListRefusal) → IsCloneRefused (world_of s log) source name names refusal
+    → IfSome (entry_of refusal) (λ e. MayRefuse s log 0 (AskStep (Clone source name names moment None)) (refusal_of e))
+refuses_clone s log source name names moment (refusals.CleanupRunning op) h = cleanup_refused s log source name names moment op h
+refuses_clone s log source name names moment (refusals.NameInUse uuid) h = used_refused s log source name names moment uuid.number h
+refuses_clone s log source name names moment (refusals.NoSnapshot place) h = unlisted_refused s log source name names moment place h
+refuses_clone s log source name names moment (refusals.BeingDeleted op) h = deleted_refused s log source name names moment op h
+refuses_clone s log source name names moment (refusals.NoIndex place) h = index_refused s log source name names moment place h
+refuses_clone s log source name names moment (refusals.TooMany limit) h = full_refused s log source name names moment limit h
+refuses_clone s log source name names moment (refusals.IdsSpent next) h = spent_refused s log source name names moment next.number h
+refuses_clone s log source name names moment other h = absurd h
 
 -- ---- what is kept
 

@@ -1,11 +1,11 @@
--- Where the tickets of deletes, the open ops and the open deletes come from, by a step.
+-- Where the tickets of deletes and cleanups, and the open ops, come from by a step.
 use Rattle.std.proofs.Common.{◌≡◌, ◌⊎◌, ℕ, ◌≤◌, false, List, Option, Some, None, refl, sym, ap, ◌∙◌, subst, inl, inr, arith, nat_cmp}
 use Rattle.std.specs.Cmp.{nat_cmp_total}
 use Rattle.std.specs.FinMap.{FinMap, nat_cmp-IsAntisymmetric}
 use Rattle.std.specs.FinMap as fin
 use Rattle.esr_model.specs.Values.{Has, Formats}
 use Rattle.esr_model.specs.Delete.{PrunedShard, left_uuids, uuids_of, deleted_root}
-use Rattle.esr_core.specs.World.{Op, Deletion, Work, Shard, Finalize, Deleting, Drop, Swap, Ticket}
+use Rattle.esr_core.specs.World.{Op, Work, Shard, Finalize, Deleting, Drop, Swap, Ticket}
 use Rattle.esr_core.specs.Pruning.{delete_swap, planned_work, planned}
 use Rattle.esr_core.specs.Turns.{Aborts}
 use Rattle.esr_core.proofs.Reading.{some_same}
@@ -47,7 +47,7 @@ come_settled tickets k t v there work root = come_put (Some k) tickets k v (λ u
 pub come_plain : (b : Option ℕ) (tickets : FinMap nat_cmp Ticket) (k : ℕ) (v : Ticket) → ((uuids : List ℕ) (plan : Option Swap) → v.work ≡ Deleting uuids plan → ⊥) → DeletesCome b tickets (fin.insert tickets k v)
 come_plain b tickets k v plain = come_put b tickets k v (λ uuids plan e. absurd (plain uuids plan e))
 
-uuids_same : (us uuids : List ℕ) (p plan : Option Swap) → Deleting us p ≡ Deleting uuids plan → us ≡ uuids
+pub uuids_same : (us uuids : List ℕ) (p plan : Option Swap) → Deleting us p ≡ Deleting uuids plan → us ≡ uuids
 uuids_same us uuids p plan e = cc
 
 plan_same : (us uuids : List ℕ) (p plan : Option Swap) → Deleting us p ≡ Deleting uuids plan → plan ≡ p
@@ -57,7 +57,7 @@ plan_same us uuids p plan e = cc
 pub come_given : (b : Option ℕ) (tickets : FinMap nat_cmp Ticket) (k : ℕ) (v : Ticket) (us : List ℕ) → v.work ≡ Deleting us None → v.settled ≡ false → DeletesCome b tickets (fin.insert tickets k v)
 come_given b tickets k v us work settled = come_put b tickets k v (λ uuids plan e. WasGiven (plan_same us uuids None plan (sym work ∙ e)) settled)
 
-planned_is : (f : Formats) (t : Ticket) (us uuids : List ℕ) (shards : List PrunedShard) (first : ℕ) (s : Swap) → us ≡ uuids → s ≡ delete_swap f t.root t.read us shards first → PlannedBy t.root uuids s
+planned_is : (f : Formats) (t : Ticket) (us uuids : List ℕ) (shards : List PrunedShard) (first : ℕ) (s : Swap) → us ≡ uuids → s ≡ delete_swap f t.clean t.root t.read us shards first → PlannedBy t.root uuids s
 planned_is f t us uuids shards first s same is =
     record {
       shards = shards;
@@ -74,9 +74,9 @@ come_planned f b tickets k t shards first there = come_put b tickets k (planned 
   where
     by_work : (work : Work) → t.work ≡ work → (uuids : List ℕ) (plan : Option Swap) → planned_work f t shards first work ≡ Deleting uuids plan → Came b tickets k (planned f shards first t) uuids plan
     by_work (Deleting us p) is uuids plan e =
-        let same : us ≡ uuids = uuids_same us uuids (Some (delete_swap f t.root t.read us shards first)) plan e in
-        let new : plan ≡ Some (delete_swap f t.root t.read us shards first) = plan_same us uuids (Some (delete_swap f t.root t.read us shards first)) plan e in
-        HasPlanned t p there (is ∙ ap (λ (x : List ℕ). Deleting x p) same) refl refl (λ s q. planned_is f t us uuids shards first s same (some_same s (delete_swap f t.root t.read us shards first) (sym q ∙ new)))
+        let same : us ≡ uuids = uuids_same us uuids (Some (delete_swap f t.clean t.root t.read us shards first)) plan e in
+        let new : plan ≡ Some (delete_swap f t.clean t.root t.read us shards first) = plan_same us uuids (Some (delete_swap f t.clean t.root t.read us shards first)) plan e in
+        HasPlanned t p there (is ∙ ap (λ (x : List ℕ). Deleting x p) same) refl refl (λ s q. planned_is f t us uuids shards first s same (some_same s (delete_swap f t.clean t.root t.read us shards first) (sym q ∙ new)))
     by_work (Shard index number) is uuids plan e = absurd (cc)
     by_work (Finalize info results made) is uuids plan e = absurd (cc)
     by_work Drop is uuids plan e = absurd (cc)
@@ -113,23 +113,3 @@ pub ops_aborted : (was now : FinMap nat_cmp Op) (by next : ℕ) → Aborts was n
 ops_aborted was now by next a o op there =
     let (old, is, same) = a.was o op there in
     inl (o, old, is, elim same [ inl e ↦ ap (λ (x : Op). x.uuid) (sym e) | inr e ↦ ap (λ (x : Op). x.uuid) (sym e) ])
-
--- ---- open deletes
-
-abbrev AreNoCleanups : FinMap nat_cmp Deletion → Type 0
-AreNoCleanups deletes = (d : ℕ) (x : Deletion) → fin.get deletes d ≡ Some x → x.clean ≡ false
-
-pub clean_less : (deletes : FinMap nat_cmp Deletion) (k : ℕ) → AreNoCleanups deletes → AreNoCleanups (fin.remove deletes k)
-clean_less deletes k none d x there = none d x (get_left nat_cmp_total nat_cmp-IsAntisymmetric deletes k d x there).1
-
-pub clean_put : (deletes : FinMap nat_cmp Deletion) (k : ℕ) (x v : Deletion) → fin.get deletes k ≡ Some x → v.clean ≡ x.clean → AreNoCleanups deletes → AreNoCleanups (fin.insert deletes k v)
-clean_put deletes k x v there same none d y is = elim (get_was nat_cmp_total nat_cmp-IsAntisymmetric deletes k v d y is) [
-  | inl s ↦ ap (λ (z : Deletion). z.clean) (sym s.1) ∙ same ∙ none k x there
-  | inr s ↦ none d y s.1
-]
-
-pub clean_new : (deletes : FinMap nat_cmp Deletion) (k : ℕ) (v : Deletion) → v.clean ≡ false → AreNoCleanups deletes → AreNoCleanups (fin.insert deletes k v)
-clean_new deletes k v plain none d y is = elim (get_was nat_cmp_total nat_cmp-IsAntisymmetric deletes k v d y is) [
-  | inl s ↦ ap (λ (z : Deletion). z.clean) (sym s.1) ∙ plain
-  | inr s ↦ none d y s.1
-]

@@ -1,4 +1,4 @@
--- What the steps of a delete's ticket make of it.
+-- What the steps of the ticket of a delete or cleanup make of it.
 use Rattle.std.proofs.Common.{◌≡◌, ◌⊎◌, ℕ, Bool, true, false, List, ◌++◌, map, Option, Some, None, Result, Ok, Err, IfOk, OnErr, refl, sym, ap, ◌∙◌, subst, inl, inr}
 use Rattle.std.specs.Prelude.{◌==◌, if◌then◌else◌}
 use Rattle.std.proofs.lemmas.Bool.{eqb-true}
@@ -12,7 +12,7 @@ use Rattle.esr_core.specs.Pruning.{dooms, planned}
 use Rattle.esr_core.specs.Steps.{with_ticket, settled}
 use Rattle.esr_core.specs.Tracked.{Tracked}
 use Rattle.esr_core.specs.Entry.{Why, Step, PruneStep, FetchShard, PlanShards, SettlePruned, RemoveDoomed, EndDelete, DeleteFails, DrawnFrom, WasFetched, WasAbsent, WasSettled, WasRemoved, HasEnded, Refused, DepotFault, Moment}
-use Rattle.esr_core.specs.After.{fetching, told_blob, fallen, has_text, is_stale, delete_settled_by, delete_settled, delete_failed_by, delete_failed}
+use Rattle.esr_core.specs.After.{fetching, told_blob, fallen, has_text, is_stale, deletes_left, delete_settled_by, delete_settled, delete_failed_by, delete_failed}
 use Rattle.esr_names.specs.declared.blob.BlobName.{BlobName as CodeName}
 use Rattle.esr_formats.specs.Names.{name_of}
 use Rattle.esr_desk.specs.Conditions.{CanSettle}
@@ -66,9 +66,9 @@ planned_ticket s old new k shards first first_is out a =
 abbrev pub settle : Ticket → Ticket
 settle t = record t { settled = true }
 
--- the world, blobs aside, after a delete's ticket settled on this plan
+-- the world, blobs aside, after the ticket settled on this plan
 abbrev pub delete_world : Formats → World → ℕ → Ticket → Swap → ℕ → World
-delete_world f w k t change n = record (settled w k t n change.root) { deletes = fin.remove w.deletes t.op; doomed = dooms f t ++ w.doomed }
+delete_world f w k t change n = record (settled w k t n change.root) { deletes = deletes_left w t; doomed = dooms f t ++ w.doomed }
 
 pub delete_is : (f : Formats) (w : World) (k : ℕ) (t : Ticket) (change : Swap) (n : ℕ) → fin.get w.tickets k ≡ Some t → swap f t ≡ Some change → t.raised ≡ Some n → delete_settled f w k (fin.get w.tickets k) ≡ delete_world f w k t change n
 delete_is f w k t change n there is raised = ap (delete_settled f w k) there ∙ ap (λ (x : Option Swap). delete_settled_by f w k t x t.raised) is ∙ ap (delete_settled_by f w k t (Some change)) raised
@@ -128,13 +128,19 @@ ended_ticket s old mid new k e out added =
 
 -- ---- it fails
 
--- of the present term it has its delete
+-- of the present term it has its op
 present_term : (w : World) (t : Ticket) (uuids : List ℕ) (plan : Option Swap) → t.work ≡ Deleting uuids plan → is_stale w t t.work ≡ false → t.term ≡ w.term
 present_term w t uuids plan work fresh = go (t.term == w.term) refl (sym (ap (is_stale w t) work) ∙ fresh)
   where
     go : (b : Bool) → (t.term == w.term) ≡ b → (if b then false else true) ≡ false → t.term ≡ w.term
     go true q f = eqb-true t.term w.term q
     go false q f = cc
+
+has_op : (w : World) (k : ℕ) (t : Ticket) → Tracked w → fin.get w.tickets k ≡ Some t → CanFailDelete t → t.term ≡ w.term → (x : Deletion) × (fin.get w.deletes t.op ≡ Some x)
+has_op w k t tracked there can present = elim can.may [
+  | inl unsettled ↦ let law = tracked.deleting k t can.uuids can.plan there can.out unsettled present can.work in (law.x, law.there)
+  | inr cleans ↦ let law = tracked.deletions.cleaning k t there can.out present cleans in (law.x, law.there)
+]
 
 failed_puts : (w : World) (k : ℕ) (t : Ticket) → Tracked w → fin.get w.tickets k ≡ Some t → CanFailDelete t → or_no_ticket (fin.get (delete_failed w k (Some t)).tickets k) ≡ ended t
 failed_puts w k t tracked there can = go (is_stale w t t.work) refl
@@ -145,8 +151,8 @@ failed_puts w k t tracked there can = go (is_stale w t t.work) refl
     go : (b : Bool) → is_stale w t t.work ≡ b → or_no_ticket (fin.get (if b then with_ticket w k (ended t) else delete_failed_by w k t (fin.get w.deletes t.op)).tickets k) ≡ ended t
     go true e = puts
     go false e =
-        let law = tracked.deleting k t can.uuids can.plan there can.out can.unsettled (present_term w t can.uuids can.plan can.work e) can.work in
-        ap (λ (o : Option Deletion). or_no_ticket (fin.get (delete_failed_by w k t o).tickets k)) law.there ∙ puts
+        let op = has_op w k t tracked there can (present_term w t can.uuids can.plan can.work e) in
+        ap (λ (o : Option Deletion). or_no_ticket (fin.get (delete_failed_by w k t o).tickets k)) op.1 ∙ puts
 
 pub failed_ticket : (s : Start) (old mid new : List Moment) (k : ℕ) (why : Why) → mid ≡ old → CanFailDelete (ticket_of s old k) → Tracked (world_of s mid) → Added s mid new k (PruneStep (DeleteFails why)) HasEnded → ticket_of s new k ≡ record (ticket_of s old k) { out = false }
 failed_ticket s old mid new k why e can before added =

@@ -1,4 +1,4 @@
--- The infos of the snapshots that a delete leaves are those of the root on which it settles.
+-- The infos of the snapshots that a delete or cleanup leaves are those of the root on which it settles.
 use Rattle.std.proofs.Common.{◌≡◌, ◌⊎◌, ℕ, Bool, true, false, List, [], ◌∷◌, map, Some, refl, sym, ap, ◌∙◌, subst, inl, inr}
 use Rattle.std.specs.Prelude.{filter, ◌||◌}
 use Rattle.std.specs.List.{list_any}
@@ -27,10 +27,10 @@ use Rattle.esr_formats.specs.Refs.{ref_of_code}
 use Rattle.esr_formats.specs.Roots.{root_of, root_snap_of}
 use Rattle.esr_desk.specs.Start.{Start, formats_of, world_of, ticket_of}
 use Rattle.esr_desk.specs.Delete.Conditions.{CanSettleDelete}
-use Rattle.esr_repo.specs.Repo.{PlannedBy, OwnIndices, HasInfos}
+use Rattle.esr_repo.specs.Repo.{PlannedBy, OwnIndices, FoundBy, HasInfos}
 use Rattle.esr_repo.specs.May.{swapped_world}
 use Rattle.esr_repo.specs.Grown.{out_is}
-use Rattle.esr_repo.proofs.InfosStay.{KeepsWork, told_stays}
+use Rattle.esr_repo.proofs.InfosStay.{KeepsWork, made_stays, told_stays}
 use Rattle.esr_repo.proofs.Repos.{infos_aside}
 use Rattle.esr_repo.proofs.DeleteTickets.{settle, delete_world, delete_is}
 
@@ -103,10 +103,11 @@ module _ (s : Start) (log : List Moment) (k : ℕ) (root : Root) (infos : List I
   plan : PlannedBy t.root can.uuids can.settle.change
   plan = pruning k t can.uuids can.settle.change out.there can.work
 
+  copied : t.root ≡ w.root
+  copied = (tracked.deleting k t can.uuids (Some can.settle.change) out.there out.out can.settle.put.unsettled present can.work).root_is
+
   new_root : root_of root ≡ deleted_root w.root can.uuids plan.shards plan.first
-  new_root =
-      let copied : t.root ≡ w.root = (tracked.deleting k t can.uuids (Some can.settle.change) out.there out.out can.settle.put.unsettled present can.work).root_is in
-      can.settle.root_is ∙ plan.root_is ∙ ap (λ (r : RootData). deleted_root r can.uuids plan.shards plan.first) copied
+  new_root = can.settle.root_is ∙ plan.root_is ∙ ap (λ (r : RootData). deleted_root r can.uuids plan.shards plan.first) copied
 
   snapshots_are : (root_of root).snapshots ≡ left_snaps can.uuids w.root.snapshots
   unfolding deleted_root
@@ -168,6 +169,16 @@ module _ (s : Start) (log : List Moment) (k : ℕ) (root : Root) (infos : List I
   has_deleting : NoDeleting new → ⊥
   has_deleting none = none k (settle t) can.uuids (Some can.settle.change) (get_same nat_cmp_total nat_cmp-IsAntisymmetric w.tickets k (settle t)) can.work
 
+  -- the ticket that settles found it too
+  found_now : (i : Info) → Has infos i → FoundBy w.tickets i.uuid.number → FoundBy new.tickets i.uuid.number
+  found_now i im found j u uuids plan there settled work = elim (split nat_cmp_total nat_cmp-IsAntisymmetric j k) [
+    | inl is ↦
+        let (snap, sm, same) = old.listed i im in
+        let one : u ≡ settle t = some_same u (settle t) (sym there ∙ ap (fin.get new.tickets) is ∙ get_same nat_cmp_total nat_cmp-IsAntisymmetric w.tickets k (settle t)) in
+        (snap, subst (λ (r : RootData). Has r.snapshots snap) (sym (ap (λ (x : Ticket). x.root) one ∙ copied)) sm, sym same)
+    | inr apart ↦ found j u uuids plan (sym (get_other nat_cmp_total nat_cmp-IsAntisymmetric w.tickets k (settle t) j apart.0) ∙ there) settled work
+  ]
+
   kept_ones : HasInfos s new (filter is_listed infos)
   kept_ones = record {
     are = record {
@@ -187,6 +198,7 @@ module _ (s : Start) (log : List Moment) (k : ℕ) (root : Root) (infos : List I
     listed = λ i m.
         let (snap, sm, same) = listed_one i (of_kept is_listed infos i m).1 in
         (snap, subst (λ (r : RootData). Has r.snapshots snap) can.settle.root_is sm, same);
+    found = λ i m. let im = (of_kept is_listed infos i m).0 in elim (old.found i im) [ inl made ↦ inl (made_stays (formats_of s) w new i.uuid.number (map ref_of_code i.indices) works_stay made) | inr found ↦ inr (found_now i im found) ];
   }
 
   -- the infos of the snapshots that the new root lists serve the world after the settle

@@ -7,7 +7,7 @@ use Rattle.esr_model.specs.Image.{Image}
 use Rattle.esr_core.specs.World.{World}
 use Rattle.esr_core.specs.Entry.{CloneOf, Read, Prune, Step, Reply, Refused, DeposedAt, DepotFault, Entry, Moment}
 use Rattle.esr_core.specs.After.{swaps_record}
-use Rattle.esr_core.specs.Allowed.{DeleteAllows, CloneAllows, RestoreAllows, VerifyAllows, ReadAllows, PruneAllows, Allows}
+use Rattle.esr_core.specs.Allowed.{DeleteAllows, CleanupAllows, CloneAllows, RestoreAllows, VerifyAllows, ReadAllows, PruneAllows, Allows}
 use Rattle.esr_core.specs.Allowed as allowed
 use Rattle.esr_depot.specs.declared.error.CallError.{CallError}
 use Rattle.esr_depot.specs.declared.error.CallError.TheVariants.{Failed}
@@ -98,6 +98,9 @@ told_none reply h = refl
 delete_never : (w : World) (names : List Bytes) (place : ℕ) → DeleteAllows w names (Refused (DeposedAt place)) → ⊥
 delete_never w names place h = elim h [ ]
 
+cleanup_never : (w : World) (place : ℕ) → CleanupAllows w (Refused (DeposedAt place)) → ⊥
+cleanup_never w place h = elim h [ ]
+
 clone_never : (f : Formats) (w : World) (source name : Bytes) (names : List Bytes) (moment : ℕ) (taken : Option CloneOf) (place : ℕ) (image : Option Image) → CloneAllows f w source name names moment taken (Refused (DeposedAt place)) image → ⊥
 clone_never f w source name names moment taken place image h = elim h [ ]
 
@@ -116,6 +119,7 @@ prune_never f w who prune place image h = elim h [ ]
 never_deposed : (f : Formats) (part_size : ℕ) (w : World) (who : ℕ) (step : Step) (place : ℕ) (image : Option Image) → Allows f part_size w who step (Refused (DeposedAt place)) image → ⊥
 never_deposed f part_size w who step place image (allowed.AskingClone source name names moment taken reply im h same) = clone_never f w source name names moment taken place im h
 never_deposed f part_size w who step place image (allowed.AskingDelete names reply im h same) = delete_never w names place h
+never_deposed f part_size w who step place image (allowed.AskingCleanup reply im h same) = cleanup_never w place h
 never_deposed f part_size w who step place image (allowed.AskingRestore name target reply im h same) = restore_never f w name place image h
 never_deposed f part_size w who step place image (allowed.Verifying read reply im h) = verify_never f w read place image h
 never_deposed f part_size w who step place image (allowed.Reading k read reply im h same) = read_never f w who read place image h

@@ -1,5 +1,5 @@
--- What each step leaves of the deletes and their tickets, of the uuids of open ops and of the numbers, and what a step without a record swap leaves.
-use Rattle.std.proofs.Common.{◌≡◌, ℕ, suc, ◌+◌, ◌<◌, ◌≤◌, Bool, true, false, zero, List, ◌∷◌, map, Option, Some, None, refl, arith}
+-- What each step leaves of the tickets of deletes and cleanups, of the uuids of open ops and of the numbers, and what a step without a record swap leaves.
+use Rattle.std.proofs.Common.{◌≡◌, ℕ, suc, ◌+◌, ◌<◌, ◌≤◌, Bool, true, false, zero, List, [], ◌∷◌, map, Option, Some, None, refl, arith}
 use Rattle.std.specs.Prelude.{if◌then◌else◌}
 use Rattle.std.specs.FinMap as fin
 use Rattle.esr_model.specs.Names.{BlobName}
@@ -11,16 +11,15 @@ use Rattle.esr_model.specs.Delete.{PrunedShard, kept_count}
 use Rattle.esr_core.specs.World.{World, Op, Deletion, ShardWork, Done, Finalize, Deleting, Shard, Drop, Swap, Ticket, ReadState, Restored, NotRestored, RestoreShard, Restoring, Reader, swap, marked, info_of, made_of, record_of}
 use Rattle.esr_core.specs.Restores.{restore_shard}
 use Rattle.esr_core.specs.Pruning.{planned}
-use Rattle.esr_core.specs.Deletes.{with_named, named_uuids, waiting_delete, running_delete, aborted_ops, delete_opened, delete_merged, delete_by, asked_delete}
+use Rattle.esr_core.specs.Deletes.{named_uuids, waiting_delete, running_delete, aborted_ops, delete_opened, delete_merged, delete_by, asked_delete}
 use Rattle.esr_core.specs.Ids.{InTerm}
-use Rattle.esr_core.specs.Steps.{with_ticket, noting, given, completing, shard_ticket, final_ticket}
-use Rattle.esr_core.specs.Turns.{plain_ticket, fails}
-use Rattle.esr_core.specs.Entry.{Asked, Snapshot, Clone, DeleteSnapshots, Restore, Cleanup, Given, GivenShard, GivenFinalize, GivenDrop, GivenRestore, GivenClone, GivenDelete, Read, ReadBlob, RestoredShard, CheckedAll, DrawTest, CommitTest, ReadFails, Prune, FetchShard, PlanShards, SettlePruned, RemoveDoomed, EndDelete, DeleteFails, Step, AskStep, TakeStep, DrawStep, BeginStep, CommitStep, LatestStep, FetchStep, RaiseStep, SettleStep, DoneStep, FailedStep, FinishStep, DroppedStep, ElectStep, ReadStep, PruneStep, DepotFault, Reply, AcceptedRestore, DrawnFrom, Gave, WasDone, WasThere, WasFetched, HasEnded, Refused, Moment}
+use Rattle.esr_core.specs.Steps.{with_ticket, noting, listing, given, completing, shard_ticket, final_ticket}
+use Rattle.esr_core.specs.Turns.{plain_ticket, cleaning_ticket, fails}
+use Rattle.esr_core.specs.Entry.{Asked, Snapshot, Clone, DeleteSnapshots, Restore, Cleanup, Given, GivenShard, GivenFinalize, GivenDrop, GivenRestore, GivenClone, GivenDelete, GivenCleanup, Read, ReadBlob, RestoredShard, CheckedAll, DrawTest, CommitTest, ReadFails, Prune, FetchShard, PlanShards, SettlePruned, RemoveDoomed, EndDelete, DeleteFails, Step, AskStep, TakeStep, DrawStep, BeginStep, CommitStep, LatestStep, FetchStep, ListStep, RaiseStep, SettleStep, DoneStep, FailedStep, FinishStep, DroppedStep, ElectStep, ReadStep, PruneStep, DepotFault, Reply, AcceptedRestore, DrawnFrom, Gave, WasDone, WasThere, WasFetched, WasListed, HasEnded, Refused, Moment}
 use Rattle.esr_core.specs.After.{asked_op, new_names, cloned_op, asked, taken_shard, taken_restore_shard, taken_restore, taken_by, shard_of, with_given, committing, told_blob, fetching, settled_by, settled_of, done_by, done_of, is_stale, failed_by, failed_of, dropped_of, delete_settled_by, delete_settled, delete_failed_by, delete_failed, prune_step, read_told, shard_over, read_over, read_step, read_by, done_step, swaps_record, has_text, fallen, is_latest, test_left, faulted, answered, stepped}
-use Rattle.esr_core.specs.Allowed.{NoCleanup}
 use Rattle.esr_core.proofs.AskedDeletes.{aborts}
 use Rattle.esr_repo.specs.Log.{asks_container, calls}
-use Rattle.esr_repo.proofs.Coming.{DeletesCome, come_same, come_again, come_settled, come_plain, come_given, come_planned, OpsCome, ops_same, ops_put, ops_new, ops_less, ops_aborted, clean_less, clean_put, clean_new}
+use Rattle.esr_repo.proofs.Coming.{DeletesCome, come_same, come_again, come_settled, come_plain, come_given, come_planned, OpsCome, ops_same, ops_put, ops_new, ops_less, ops_aborted}
 
 swaps : true ≡ false → ⊥
 swaps e = cc
@@ -44,7 +43,6 @@ settler step who = None
 
 -- what a step keeps, and where what it leaves comes from
 pub record Frame (settles : Option ℕ) (w new : World) : Type 0 where
-  pub deletes : NoCleanup w → NoCleanup new
   pub come : DeletesCome settles w.tickets new.tickets
   pub uuids : OpsCome w.ops new.ops w.next_id
   pub next : InTerm w → w.next_id ≤ new.next_id
@@ -54,11 +52,11 @@ pub record Frame (settles : Option ℕ) (w new : World) : Type 0 where
   pub caller : new.caller ≡ w.caller
 
 frame_same : (b : Option ℕ) (w : World) → Frame b w w
-frame_same b w = record { deletes = λ h. h; come = come_same b w.tickets; uuids = ops_same w.ops w.next_id; next = λ t. le_same w.next_id; ops = le_next w.next_op; tickets = le_next w.next_ticket; caller = refl }
+frame_same b w = record { come = come_same b w.tickets; uuids = ops_same w.ops w.next_id; next = λ t. le_same w.next_id; ops = le_next w.next_op; tickets = le_next w.next_ticket; caller = refl }
 
 -- a ticket is put
 frame_put : (b : Option ℕ) (w : World) (k : ℕ) (v : Ticket) → DeletesCome b w.tickets (fin.insert w.tickets k v) → Frame b w (with_ticket w k v)
-frame_put b w k v come = record { deletes = λ h. h; come = come; uuids = ops_same w.ops w.next_id; next = λ t. le_same w.next_id; ops = le_next w.next_op; tickets = le_next w.next_ticket; caller = refl }
+frame_put b w k v come = record { come = come; uuids = ops_same w.ops w.next_id; next = λ t. le_same w.next_id; ops = le_next w.next_op; tickets = le_next w.next_ticket; caller = refl }
 
 -- the work, the root and the settle of a ticket stay
 abbrev StaysSo : Ticket → Ticket → Type 0
@@ -74,11 +72,10 @@ frame_change w k g (Some t) there same = frame_again w k t (g t) there (same t)
 -- ---- ask
 
 -- a delete that waits names more
-frame_merged : (w : World) (names : List Bytes) (d : ℕ) (x : Option Deletion) → fin.get w.deletes d ≡ x → Frame None w (delete_merged w names d x)
-frame_merged w names d None is = frame_same None w
-frame_merged w names d (Some x) is =
+frame_merged : (w : World) (names : List Bytes) (d : ℕ) (x : Option Deletion) → Frame None w (delete_merged w names d x)
+frame_merged w names d None = frame_same None w
+frame_merged w names d (Some x) =
     record {
-      deletes = clean_put w.deletes d x (record x { uuids = with_named w x.uuids names }) is refl;
       come = come_same None w.tickets;
       uuids = ops_aborted w.ops (aborted_ops w (named_uuids w names) d) d w.next_id (aborts w (named_uuids w names) d);
       next = λ t. le_same w.next_id;
@@ -91,7 +88,6 @@ frame_merged w names d (Some x) is =
 frame_opened : (w : World) (uuids : List ℕ) → Frame None w (delete_opened w uuids)
 frame_opened w uuids =
     record {
-      deletes = clean_new w.deletes w.next_op (record { uuids = uuids; clean = false; failed = false }) refl;
       come = come_same None w.tickets;
       uuids = ops_aborted w.ops (aborted_ops w uuids w.next_op) w.next_op w.next_id (aborts w uuids w.next_op);
       next = λ t. le_same w.next_id;
@@ -104,14 +100,13 @@ frame_delete : (w : World) (names : List Bytes) → Frame None w (asked_delete w
 frame_delete w names = by (waiting_delete w) (running_delete w (named_uuids w names))
   where
     by : (waiting running : Option ℕ) → Frame None w (delete_by w names waiting running)
-    by (Some d) running = frame_merged w names d (fin.get w.deletes d) refl
+    by (Some d) running = frame_merged w names d (fin.get w.deletes d)
     by None (Some d) = frame_same None w
     by None None = frame_opened w (named_uuids w names)
 
 frame_asked : (w : World) (command : Asked) → Frame None w (asked w command)
 frame_asked w (Snapshot name indices moment) =
     record {
-      deletes = λ h. h;
       come = come_same None w.tickets;
       uuids = ops_new w.ops w.next_op (asked_op w name indices moment) w.next_id refl;
       next = λ t. le_more w.next_id (suc (new_names w indices));
@@ -122,7 +117,6 @@ frame_asked w (Snapshot name indices moment) =
 frame_asked w (Clone source name indices moment None) = frame_same None w
 frame_asked w (Clone source name indices moment (Some taken)) =
     record {
-      deletes = λ h. h;
       come = come_same None w.tickets;
       uuids = ops_new w.ops w.next_op (cloned_op w name moment taken) w.next_id refl;
       next = λ t. le_next w.next_id;
@@ -131,13 +125,14 @@ frame_asked w (Clone source name indices moment (Some taken)) =
       caller = refl;
     }
 frame_asked w (DeleteSnapshots names) = frame_delete w names
-frame_asked w command = frame_same None w
+frame_asked w Cleanup = record { come = come_same None w.tickets; uuids = ops_same w.ops w.next_id; next = λ t. le_same w.next_id; ops = le_same (suc w.next_op); tickets = le_next w.next_ticket; caller = refl }
+frame_asked w (Restore name place) = frame_same None w
 
 -- ---- take
 
 -- a ticket more
 frame_given : (w : World) (v : Ticket) → DeletesCome None w.tickets (fin.insert w.tickets w.next_ticket v) → Frame None w (record w { tickets = fin.insert w.tickets w.next_ticket v; next_ticket = suc w.next_ticket })
-frame_given w v come = record { deletes = λ h. h; come = come; uuids = ops_same w.ops w.next_id; next = λ t. le_same w.next_id; ops = le_next w.next_op; tickets = le_same (suc w.next_ticket); caller = refl }
+frame_given w v come = record { come = come; uuids = ops_same w.ops w.next_id; next = λ t. le_same w.next_id; ops = le_next w.next_op; tickets = le_same (suc w.next_ticket); caller = refl }
 
 shard_plain : (index number : ℕ) (uuids : List ℕ) (plan : Option Swap) → Shard index number ≡ Deleting uuids plan → ⊥
 shard_plain index number uuids plan e = cc
@@ -152,7 +147,6 @@ frame_shard : (w : World) (o : ℕ) (op : Op) (base : Option ℕ) (s : Option Sh
 frame_shard w o op base None there = frame_same None w
 frame_shard w o op base (Some s) there =
     record {
-      deletes = λ h. h;
       come = come_plain None w.tickets w.next_ticket (shard_ticket w o op s base) (shard_plain s.ref.id s.number);
       uuids = ops_put w.ops o op (record op { shards = map (given w.next_ticket s.ref.id s.number) op.shards }) w.next_id there refl;
       next = λ t. le_same w.next_id;
@@ -163,7 +157,7 @@ frame_shard w o op base (Some s) there =
 
 frame_restore_shard : (w : World) (o : ℕ) (r : Restoring) (s : Option RestoreShard) → Frame None w (taken_restore_shard w o r s)
 frame_restore_shard w o r None = frame_same None w
-frame_restore_shard w o r (Some s) = record { deletes = λ h. h; come = come_same None w.tickets; uuids = ops_same w.ops w.next_id; next = λ t. le_same w.next_id; ops = le_next w.next_op; tickets = le_same (suc w.next_ticket); caller = refl }
+frame_restore_shard w o r (Some s) = record { come = come_same None w.tickets; uuids = ops_same w.ops w.next_id; next = λ t. le_same w.next_id; ops = le_next w.next_op; tickets = le_same (suc w.next_ticket); caller = refl }
 
 frame_restore : (w : World) (o index number : ℕ) (r : Option Restoring) → Frame None w (taken_restore w o index number r)
 frame_restore w o index number None = frame_same None w
@@ -179,13 +173,13 @@ frame_taken f w o (GivenFinalize info results) None there = frame_same None w
 frame_taken f w o (GivenRestore index number uuid) op there = frame_restore w o index number (fin.get w.restores o)
 frame_taken f w o GivenDrop op there = frame_given w (plain_ticket w o Drop) (come_plain None w.tickets w.next_ticket (plain_ticket w o Drop) drop_plain)
 frame_taken f w o (GivenDelete uuids) op there = frame_given w (plain_ticket w o (Deleting uuids None)) (come_given None w.tickets w.next_ticket (plain_ticket w o (Deleting uuids None)) uuids refl refl)
-frame_taken f w o unit op there = frame_same None w
+frame_taken f w o GivenCleanup op there = frame_given w (cleaning_ticket w o) (come_given None w.tickets w.next_ticket (cleaning_ticket w o) [] refl refl)
 
 -- ---- steps of a ticket
 
 -- so many ids are drawn
 frame_drawn_by : (w new : World) (n : ℕ) → Frame None w new → Frame None w (record new { next_id = w.next_id + n })
-frame_drawn_by w new n h = record { deletes = h.deletes; come = h.come; uuids = h.uuids; next = λ t. le_more w.next_id n; ops = h.ops; tickets = h.tickets; caller = h.caller }
+frame_drawn_by w new n h = record { come = h.come; uuids = h.uuids; next = λ t. le_more w.next_id n; ops = h.ops; tickets = h.tickets; caller = h.caller }
 
 frame_drawn : (w : World) (k n : ℕ) (o : Option Ticket) → fin.get w.tickets k ≡ o → Frame None w (record (with_given w k (λ t. record t { first = w.next_id; drawn = n }) o) { next_id = w.next_id + n })
 frame_drawn w k n o there = frame_drawn_by w (with_given w k (λ t. record t { first = w.next_id; drawn = n }) o) n (frame_change w k (λ t. record t { first = w.next_id; drawn = n }) o there (λ t. (refl, refl, refl)))
@@ -193,12 +187,11 @@ frame_drawn w k n o there = frame_drawn_by w (with_given w k (λ t. record t { f
 frame_raised : (w : World) (k : ℕ) (o : Option Ticket) → fin.get w.tickets k ≡ o → Frame None w (record (with_given w k (λ t. record t { raised = Some w.pending }) o) { pending = suc w.pending })
 frame_raised w k o there =
     let h = frame_change w k (λ t. record t { raised = Some w.pending }) o there (λ t. (refl, refl, refl)) in
-    record { deletes = h.deletes; come = h.come; uuids = h.uuids; next = h.next; ops = h.ops; tickets = h.tickets; caller = h.caller }
+    record { come = h.come; uuids = h.uuids; next = h.next; ops = h.ops; tickets = h.tickets; caller = h.caller }
 
 frame_settled_by : (f : Formats) (w : World) (k : ℕ) (t : Ticket) → fin.get w.tickets k ≡ Some t → (s : Option Swap) (n : Option ℕ) → Frame (Some k) w (settled_by f w k t s n)
 frame_settled_by f w k t there (Some s) (Some n) =
     record {
-      deletes = clean_less w.deletes t.op;
       come = come_settled w.tickets k t (record t { settled = true }) there refl refl;
       uuids = ops_less w.ops t.op w.next_id;
       next = λ h. le_same w.next_id;
@@ -218,7 +211,6 @@ frame_op : (w : World) (k : ℕ) (t v : Ticket) (op new : Op) (completed : List 
     → Frame None w (record w { ops = fin.insert w.ops t.op new; tickets = fin.insert w.tickets k v; completed = completed })
 frame_op w k t v op new completed there same op_there uuid =
     record {
-      deletes = λ h. h;
       come = come_again None w.tickets k t v there same.0 same.1 same.2;
       uuids = ops_put w.ops t.op op new w.next_id op_there uuid;
       next = λ h. le_same w.next_id;
@@ -256,7 +248,6 @@ frame_dropped : (w : World) (k : ℕ) (o : Option Ticket) → fin.get w.tickets 
 frame_dropped w k None there = frame_same None w
 frame_dropped w k (Some t) there =
     record {
-      deletes = clean_less w.deletes t.op;
       come = come_again None w.tickets k t (record t { out = false }) there refl refl refl;
       uuids = ops_less w.ops t.op w.next_id;
       next = λ h. le_same w.next_id;
@@ -282,7 +273,6 @@ frame_planned f w k shards (Some t) there = frame_put None w k (planned f shards
 frame_pruned_by : (f : Formats) (w : World) (k : ℕ) (t : Ticket) → fin.get w.tickets k ≡ Some t → (s : Option Swap) (n : Option ℕ) → Frame (Some k) w (delete_settled_by f w k t s n)
 frame_pruned_by f w k t there (Some s) (Some n) =
     record {
-      deletes = clean_less w.deletes t.op;
       come = come_settled w.tickets k t (record t { settled = true }) there refl refl;
       uuids = ops_less w.ops t.op w.next_id;
       next = λ h. le_same w.next_id;
@@ -297,11 +287,10 @@ pub frame_pruned : (f : Formats) (w : World) (k : ℕ) (o : Option Ticket) → f
 frame_pruned f w k None there = frame_same (Some k) w
 frame_pruned f w k (Some t) there = frame_pruned_by f w k t there (swap f t) t.raised
 
-frame_unpruned_by : (w : World) (k : ℕ) (t : Ticket) → fin.get w.tickets k ≡ Some t → (x : Option Deletion) → fin.get w.deletes t.op ≡ x → Frame None w (delete_failed_by w k t x)
-frame_unpruned_by w k t there None is = frame_same None w
-frame_unpruned_by w k t there (Some x) is =
+frame_unpruned_by : (w : World) (k : ℕ) (t : Ticket) → fin.get w.tickets k ≡ Some t → (x : Option Deletion) → Frame None w (delete_failed_by w k t x)
+frame_unpruned_by w k t there None = frame_same None w
+frame_unpruned_by w k t there (Some x) =
     record {
-      deletes = clean_put w.deletes t.op x (record x { failed = true }) is refl;
       come = come_again None w.tickets k t (record t { out = false }) there refl refl refl;
       uuids = ops_same w.ops w.next_id;
       next = λ h. le_same w.next_id;
@@ -312,7 +301,7 @@ frame_unpruned_by w k t there (Some x) is =
 
 frame_unpruned : (w : World) (k : ℕ) (o : Option Ticket) → fin.get w.tickets k ≡ o → Frame None w (delete_failed w k o)
 frame_unpruned w k None there = frame_same None w
-frame_unpruned w k (Some t) there = frame_either None w (with_ticket w k (record t { out = false })) (delete_failed_by w k t (fin.get w.deletes t.op)) (is_stale w t t.work) (frame_ended w k t there) (frame_unpruned_by w k t there (fin.get w.deletes t.op) refl)
+frame_unpruned w k (Some t) there = frame_either None w (with_ticket w k (record t { out = false })) (delete_failed_by w k t (fin.get w.deletes t.op)) (is_stale w t t.work) (frame_ended w k t there) (frame_unpruned_by w k t there (fin.get w.deletes t.op))
 
 frame_prune : (f : Formats) (w : World) (k : ℕ) (prune : Prune) (reply : Reply) (image : Option Image) → Frame (settler (PruneStep prune) k) w (prune_step f w k prune reply image)
 frame_prune f w k (FetchShard name) WasFetched image = frame_change w k (fetching name (told_blob f image name)) (fin.get w.tickets k) refl (fetching_stays name (told_blob f image name))
@@ -329,11 +318,11 @@ frame_prune f w k (DeleteFails why) reply image = frame_unpruned w k (fin.get w.
 frame_told : (w : World) (k : ℕ) (name : BlobName) (bytes : Option Bytes) (q : Option Reader) → Frame None w (read_told w k name bytes q)
 frame_told w k name bytes None = frame_same None w
 frame_told w k name None (Some q) = frame_same None w
-frame_told w k name (Some bytes) (Some q) = record { deletes = λ h. h; come = come_same None w.tickets; uuids = ops_same w.ops w.next_id; next = λ t. le_same w.next_id; ops = le_next w.next_op; tickets = le_next w.next_ticket; caller = refl }
+frame_told w k name (Some bytes) (Some q) = record { come = come_same None w.tickets; uuids = ops_same w.ops w.next_id; next = λ t. le_same w.next_id; ops = le_next w.next_op; tickets = le_next w.next_ticket; caller = refl }
 
 frame_shard_over : (w : World) (k : ℕ) (state : ReadState) (q : Reader) (r : Option Restoring) → Frame None w (shard_over w k state q r)
 frame_shard_over w k state q None = frame_same None w
-frame_shard_over w k state q (Some r) = record { deletes = λ h. h; come = come_same None w.tickets; uuids = ops_same w.ops w.next_id; next = λ t. le_same w.next_id; ops = le_next w.next_op; tickets = le_next w.next_ticket; caller = refl }
+frame_shard_over w k state q (Some r) = record { come = come_same None w.tickets; uuids = ops_same w.ops w.next_id; next = λ t. le_same w.next_id; ops = le_next w.next_op; tickets = le_next w.next_ticket; caller = refl }
 
 frame_over : (w : World) (k : ℕ) (state : ReadState) (q : Option Reader) → Frame None w (read_over w k state q)
 frame_over w k state None = frame_same None w
@@ -349,11 +338,11 @@ frame_reading f w k read reply image = frame_same None w
 
 -- the names that may be removed
 frame_doomed : (w : World) (doomed : List BlobName) → Frame None w (record w { doomed = doomed })
-frame_doomed w doomed = record { deletes = λ h. h; come = come_same None w.tickets; uuids = ops_same w.ops w.next_id; next = λ t. le_same w.next_id; ops = le_next w.next_op; tickets = le_next w.next_ticket; caller = refl }
+frame_doomed w doomed = record { come = come_same None w.tickets; uuids = ops_same w.ops w.next_id; next = λ t. le_same w.next_id; ops = le_next w.next_op; tickets = le_next w.next_ticket; caller = refl }
 
 -- who 0 has no ticket
 frame_read : (f : Formats) (w : World) (k : ℕ) (read : Read) (reply : Reply) (image : Option Image) → Frame None w (read_by f w k read reply image)
-frame_read f w zero DrawTest (DrawnFrom first) image = record { deletes = λ h. h; come = come_same None w.tickets; uuids = ops_same w.ops w.next_id; next = λ t. le_next w.next_id; ops = le_next w.next_op; tickets = le_next w.next_ticket; caller = refl }
+frame_read f w zero DrawTest (DrawnFrom first) image = record { come = come_same None w.tickets; uuids = ops_same w.ops w.next_id; next = λ t. le_next w.next_id; ops = le_next w.next_op; tickets = le_next w.next_ticket; caller = refl }
 frame_read f w zero (CommitTest name) WasDone image = frame_doomed w (name ∷ w.doomed)
 frame_read f w zero read reply image = frame_same None w
 frame_read f w (suc k) read reply image = frame_reading f w (suc k) read reply image
@@ -368,13 +357,15 @@ frame_step f w k (AskStep (Snapshot name indices moment)) reply image = frame_as
 frame_step f w k (AskStep (Clone source name indices moment taken)) reply image = frame_asked w (Clone source name indices moment taken)
 frame_step f w k (AskStep (DeleteSnapshots names)) reply image = frame_asked w (DeleteSnapshots names)
 frame_step f w k (AskStep (Restore name place)) (AcceptedRestore o uuid indices) image =
-    record { deletes = λ h. h; come = come_same None w.tickets; uuids = ops_same w.ops w.next_id; next = λ t. le_same w.next_id; ops = le_same (suc w.next_op); tickets = le_next w.next_ticket; caller = refl }
+    record { come = come_same None w.tickets; uuids = ops_same w.ops w.next_id; next = λ t. le_same w.next_id; ops = le_same (suc w.next_op); tickets = le_next w.next_ticket; caller = refl }
+frame_step f w k (AskStep Cleanup) reply image = frame_asked w Cleanup
 frame_step f w k TakeStep (Gave ticket op unit) image = frame_taken f w op unit (fin.get w.ops op) refl
 frame_step f w k (DrawStep n) reply image = frame_drawn w k n (fin.get w.tickets k) refl
 frame_step f w k (CommitStep name) WasDone image = frame_change w k (committing name (told_blob f image name)) (fin.get w.tickets k) refl (committing_stays name (told_blob f image name))
 frame_step f w k (CommitStep name) WasThere image = frame_change w k (λ t. noting t name) (fin.get w.tickets k) refl (λ t. (refl, refl, refl))
 frame_step f w k LatestStep reply image = frame_change w k (λ t. record t { tried_latest = true }) (fin.get w.tickets k) refl (λ t. (refl, refl, refl))
 frame_step f w k (FetchStep name) WasFetched image = frame_change w k (fetching name (told_blob f image name)) (fin.get w.tickets k) refl (fetching_stays name (told_blob f image name))
+frame_step f w k (ListStep from) (WasListed page) image = frame_change w k (λ t. listing t page) (fin.get w.tickets k) refl (λ t. (refl, refl, refl))
 frame_step f w k RaiseStep reply image = frame_raised w k (fin.get w.tickets k) refl
 frame_step f w k SettleStep reply image = frame_settled f w k (fin.get w.tickets k) refl
 frame_step f w k (DoneStep result) reply image = frame_done w k result (fin.get w.tickets k) refl
@@ -383,7 +374,7 @@ frame_step f w k FinishStep reply image = frame_change w k (λ t. record t { out
 frame_step f w k DroppedStep reply image = frame_dropped w k (fin.get w.tickets k) refl
 frame_step f w k (ReadStep read) reply image = frame_read f w k read reply image
 frame_step f w k ElectStep reply image =
-    record { deletes = λ h. h; come = come_same None w.tickets; uuids = ops_same w.ops w.next_id; next = λ t. later_term w.next_id (first_id (suc w.term)) t.below; ops = le_next w.next_op; tickets = le_next w.next_ticket; caller = refl }
+    record { come = come_same None w.tickets; uuids = ops_same w.ops w.next_id; next = λ t. later_term w.next_id (first_id (suc w.term)) t.below; ops = le_next w.next_op; tickets = le_next w.next_ticket; caller = refl }
 frame_step f w k (PruneStep prune) reply image = frame_prune f w k prune reply image
 frame_step f w k step reply image = frame_same None w
 
@@ -393,7 +384,7 @@ frame_tried w k = frame_change w k (λ t. record t { tried_latest = true }) (fin
 frame_fallen : (s : Option ℕ) (f : Formats) (w up : World) (image : Option Image) → Frame s w up → Frame s w (fallen f w up image)
 frame_fallen s f w up image p =
     let q = frame_either s w up w (has_text image (f.cluster.text (record_of up))) p (frame_same s w) in
-    record { deletes = q.deletes; come = q.come; uuids = q.uuids; next = q.next; ops = q.ops; tickets = q.tickets; caller = q.caller }
+    record { come = q.come; uuids = q.uuids; next = q.next; ops = q.ops; tickets = q.tickets; caller = q.caller }
 
 frame_test : (w : World) (name : BlobName) (was now : Option Bytes) → Frame None w (test_left w name was now)
 frame_test w name None (Some bytes) = frame_doomed w (name ∷ w.doomed)
@@ -414,7 +405,7 @@ frame_fault f w k (BeginStep name) image = frame_either None w _ w (is_latest na
 frame_fault f w k (AskStep (Snapshot name indices moment)) image = frame_fallen None f w _ image (frame_step f w k (AskStep (Snapshot name indices moment)) HasEnded image)
 frame_fault f w k (AskStep (Clone source name indices moment taken)) image = frame_fallen None f w (asked w (Clone source name indices moment taken)) image (frame_asked w (Clone source name indices moment taken))
 frame_fault f w k (AskStep (DeleteSnapshots names)) image = frame_fallen None f w (asked_delete w names) image (frame_delete w names)
-frame_fault f w k (AskStep Cleanup) image = frame_fallen None f w w image (frame_same None w)
+frame_fault f w k (AskStep Cleanup) image = frame_fallen None f w (asked w Cleanup) image (frame_asked w Cleanup)
 frame_fault f w k RaiseStep image = frame_fallen None f w _ image (frame_step f w k RaiseStep HasEnded image)
 frame_fault f w k SettleStep image = frame_fallen (Some k) f w _ image (frame_step f w k SettleStep HasEnded image)
 frame_fault f w k DroppedStep image = frame_fallen None f w _ image (frame_step f w k DroppedStep HasEnded image)
@@ -431,7 +422,7 @@ frame_answered f w k step reply image = frame_step f w k step reply image
 pub frame_after : (f : Formats) (w : World) (m : Moment) → Frame (settler m.entry.step m.entry.who) w (stepped f w m)
 frame_after f w m =
     let q = frame_answered f w m.entry.who m.entry.step m.entry.reply m.image in
-    record { deletes = q.deletes; come = q.come; uuids = q.uuids; next = q.next; ops = q.ops; tickets = q.tickets; caller = q.caller }
+    record { come = q.come; uuids = q.uuids; next = q.next; ops = q.ops; tickets = q.tickets; caller = q.caller }
 
 -- what who 0 has done is told by the moment
 pub caller_stays : (f : Formats) (w : World) (k : ℕ) (step : Step) (reply : Reply) (image : Option Image) → (answered f w k step reply image).caller ≡ w.caller
@@ -473,7 +464,7 @@ rests_taken f w o (GivenFinalize info results) None = rests_same w
 rests_taken f w o GivenDrop op = record { root = refl; deposed = refl }
 rests_taken f w o (GivenRestore index number uuid) op = rests_restore w o index number (fin.get w.restores o)
 rests_taken f w o (GivenDelete uuids) op = record { root = refl; deposed = refl }
-rests_taken f w o unit op = rests_same w
+rests_taken f w o GivenCleanup op = record { root = refl; deposed = refl }
 
 rests_drawn : (w : World) (k n : ℕ) (g : Ticket → Ticket) (o : Option Ticket) → Rests w (record (with_given w k g o) { next_id = w.next_id + n })
 rests_drawn w k n g None = record { root = refl; deposed = refl }
@@ -553,6 +544,7 @@ rests_step : (f : Formats) (w : World) (k : ℕ) (step : Step) (reply : Reply) (
 rests_step f w k (AskStep (Snapshot name indices moment)) reply image e = absurd (swaps e)
 rests_step f w k (AskStep (Clone source name indices moment taken)) reply image e = absurd (swaps e)
 rests_step f w k (AskStep (DeleteSnapshots names)) reply image e = absurd (swaps e)
+rests_step f w k (AskStep Cleanup) reply image e = absurd (swaps e)
 rests_step f w k (AskStep (Restore name place)) (AcceptedRestore o uuid indices) image e = record { root = refl; deposed = refl }
 rests_step f w k (ReadStep read) reply image e = rests_read f w k read reply image
 rests_step f w k RaiseStep reply image e = absurd (swaps e)
@@ -565,6 +557,7 @@ rests_step f w k (CommitStep name) WasDone image e = rests_change w k (committin
 rests_step f w k (CommitStep name) WasThere image e = rests_change w k (λ t. noting t name) (fin.get w.tickets k)
 rests_step f w k LatestStep reply image e = rests_change w k (λ t. record t { tried_latest = true }) (fin.get w.tickets k)
 rests_step f w k (FetchStep name) WasFetched image e = rests_change w k (fetching name (told_blob f image name)) (fin.get w.tickets k)
+rests_step f w k (ListStep from) (WasListed page) image e = rests_change w k (λ t. listing t page) (fin.get w.tickets k)
 rests_step f w k (DoneStep result) reply image e = rests_done w k result (fin.get w.tickets k)
 rests_step f w k (FailedStep why) reply image e = rests_failed w k (fin.get w.tickets k)
 rests_step f w k FinishStep reply image e = rests_change w k (λ t. record t { out = false }) (fin.get w.tickets k)

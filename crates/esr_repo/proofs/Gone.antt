@@ -1,31 +1,39 @@
--- What a step leaves of the plans of deletes, and that what deletes took away stays gone.
-use Rattle.std.proofs.Common.{◌≡◌, ◌≢◌, ◌⊎◌, ℕ, ◌<◌, ◌≤◌, Bool, true, false, List, ◌∷◌, [], ◌++◌, Option, Some, None, refl, sym, ap, ◌∙◌, subst, inl, inr, arith}
+-- What a step leaves of the plans of deletes and cleanups and of what they found, and that what deletes took away stays gone.
+use Rattle.std.proofs.Common.{◌≡◌, ◌≢◌, ◌⊎◌, ℕ, ◌<◌, ◌≤◌, Bool, true, false, List, ◌∷◌, [], ◌++◌, map, Option, Some, None, refl, sym, ap, ◌∙◌, subst, inl, inr, arith}
 use Rattle.std.specs.Prelude.{if◌then◌else◌}
+use Rattle.std.specs.Ordering.{nat_cmp}
+use Rattle.std.specs.FinMap.{FinMap}
 use Rattle.std.specs.FinMap as fin
 use Rattle.esr_model.specs.Names.{BlobName, Snap, File, Part}
-use Rattle.esr_model.specs.Values.{Bytes, Has, RootSnap, RootData, SnapInfo, FileEntry, ShardResult, Formats}
+use Rattle.esr_model.specs.Values.{Bytes, Has, IndexRef, RootSnap, RootData, SnapInfo, FileEntry, ShardResult, Formats}
 use Rattle.esr_model.specs.Shelf.{Command, names_uuid}
 use Rattle.esr_model.specs.Image.{Image}
 use Rattle.esr_model.specs.Parts.{part_names}
 use Rattle.esr_model.specs.Finalize.{finalized_root}
-use Rattle.esr_model.specs.Delete.{PrunedShard, left_snaps, left_root, deleted_root, doomed_names}
-use Rattle.esr_core.specs.World.{World, Op, Work, Finalize, Deleting, Swap, Ticket, info_of, record_of}
-use Rattle.esr_core.specs.Pruning.{doomed_by, dooms}
-use Rattle.esr_core.specs.Entry.{Prune, Step, PruneStep, Reply, Moment}
+use Rattle.esr_model.specs.Delete.{PrunedShard, left_snaps, left_root, deleted_root, doomed_names, uuids_of}
+use Rattle.esr_model.specs.Cleanup.{cleaned_names}
+use Rattle.esr_core.specs.World.{World, Op, Finalize, Deleting, Swap, Ticket, info_of, record_of}
+use Rattle.esr_core.specs.Pruning.{doomed_as, doomed_by, dooms}
+use Rattle.esr_core.specs.Entry.{Prune, SettlePruned, Step, SettleStep, PruneStep, DepotFault, Reply, Refused, Moment}
 use Rattle.esr_core.specs.After.{settled_of, delete_settled_by, delete_settled, has_text, fallen, answered, after}
 use Rattle.esr_core.specs.Allowed.{Settles, SettlesDeletion, PruneAllows, SettlingDelete, SettleDeleteStale, SettleDeleteFails, Allows, Allowed}
 use Rattle.esr_core.specs.Allowed as allowed
 use Rattle.esr_core.specs.Tracked.{FinalTracked, DeleteTracked, Tracked}
-use Rattle.esr_core.proofs.Reading.{some_same, none_some, Has-append}
+use Rattle.esr_core.proofs.Cleaning.{cleaned_was}
+use Rattle.esr_core.proofs.DeletesHold.{has_names}
+use Rattle.esr_core.proofs.Reading.{some_same, none_some, Has-append, Has-map}
 use Rattle.esr_core.proofs.Results.{choose_true, choose_false}
 use Rattle.esr_core.proofs.Deleting.{bool_told, left_has}
 use Rattle.esr_core.proofs.DeletedRoots.{renewed_snapshots}
 use Rattle.esr_core.proofs.DoomedNames.{IsDoomed, TheRoot, ASnap, AMeta, AnIndexMeta, AnIndex, AList, APart, doomed_is}
 use Rattle.esr_core.proofs.Pieces.{in_parts}
-use Rattle.esr_repo.specs.Repo.{PlannedBy, OwnIndices, TookAway, IsPast, Gone}
-use Rattle.esr_repo.proofs.Coming.{Came, WasGiven, Stayed, HasPlanned, HasSettled, DeletesCome}
+use Rattle.esr_meta.specs.Info.{Info}
+use Rattle.esr_formats.specs.Refs.{ref_of_code}
+use Rattle.esr_repo.specs.Repo.{PlannedBy, OwnIndices, TookAway, IsPast, Gone, ListsUuid, FoundBy, MadeOrFound}
+use Rattle.esr_repo.specs.Tickets.{AreOfOps}
+use Rattle.esr_repo.proofs.Coming.{Came, WasGiven, Stayed, HasPlanned, HasSettled, DeletesCome, come_same, uuids_same}
 use Rattle.esr_repo.proofs.Frames.{Frame, frame_settled, frame_pruned, frame_answered}
-use Rattle.esr_repo.proofs.InfosStay.{finalized, settled_root, root_step}
+use Rattle.esr_repo.proofs.InfosStay.{IsPlain, WorksStay, HasSettled as HasFinalized, made_stays, finalized, new_made, settled_root, root_step, works_step}
 use Rattle.esr_repo.proofs.Blocked.{block_stays}
 
 -- ---- the plans
@@ -188,9 +196,6 @@ module _ (f : Formats) (w : World) (k : ℕ) (tracked : Tracked w) (gone : Gone 
     is_left : (snap : RootSnap) → Has pruned.root.snapshots snap → names_uuid s.uuids snap.uuid ≡ false
     is_left snap m = left_unnamed s.uuids w.root.snapshots snap (subst (λ (xs : List RootSnap). Has xs snap) left_is m)
 
-    uuids_same : (us uuids : List ℕ) (p plan : Option Swap) → Deleting us p ≡ Deleting uuids plan → us ≡ uuids
-    uuids_same us uuids p plan e = cc
-
     -- what it named
     gone_now : (uuid : ℕ) → Settled (Some k) w uuid → IsPast pruned.root pruned.ops pruned.next_id uuid
     gone_now uuid now =
@@ -243,7 +248,43 @@ module _ (f : Formats) (size : ℕ) (w : World) (tracked : Tracked w) (own : Own
         (subst Gone (sym (block_stays f w m.entry.who m.entry.step dead.refusal m.image dead.blocks)) gone)
   ]
 
--- ---- the infos among what a delete dooms
+-- ---- what deletes and cleanups found
+
+-- over a step that settles nothing they found what they had found
+pub plain_come : (f : Formats) (w : World) (k : ℕ) (step : Step) (reply : Reply) (image : Option Image) → IsPlain step reply → DeletesCome None w.tickets (answered f w k step reply image).tickets
+plain_come f w k SettleStep (Refused DepotFault) image plain = absurd plain
+plain_come f w k SettleStep (Refused refusal) image plain = come_same None w.tickets
+plain_come f w k SettleStep reply image plain = absurd plain
+plain_come f w k (PruneStep SettlePruned) (Refused DepotFault) image plain = absurd plain
+plain_come f w k (PruneStep SettlePruned) (Refused refusal) image plain = come_same None w.tickets
+plain_come f w k (PruneStep SettlePruned) reply image plain = absurd plain
+plain_come f w k step reply image plain = (frame_answered f w k step reply image).come
+
+found_by : (was now : FinMap nat_cmp Ticket) (uuid : ℕ) → DeletesCome None was now → FoundBy was uuid → FoundBy now uuid
+found_by was now uuid come found k v uuids plan there settled work = go (come k v uuids plan there work)
+  where
+    go : Came None was k v uuids plan → ListsUuid v.root uuid
+    go (WasGiven none unsettled) = absurd (not_both v.settled settled unsettled)
+    go (Stayed t is same root before) = subst (λ (r : RootData). ListsUuid r uuid) (sym root) (found k t uuids plan is (sym before ∙ settled) same)
+    go (HasPlanned t old is same root before made) = subst (λ (r : RootData). ListsUuid r uuid) (sym root) (found k t uuids old is (sym before ∙ settled) same)
+    go (HasSettled mine t is same root) = absurd (none_some k mine)
+
+pub found_stays : (f : Formats) (w v : World) (uuid : ℕ) (indices : List IndexRef) → WorksStay w v → DeletesCome None w.tickets v.tickets → MadeOrFound f w uuid indices → MadeOrFound f v uuid indices
+found_stays f w v uuid indices works come (inl made) = inl (made_stays f w v uuid indices works made)
+found_stays f w v uuid indices works come (inr found) = inr (found_by w.tickets v.tickets uuid come found)
+
+pub found_step : (f : Formats) (w : World) (m : Moment) (uuid : ℕ) (indices : List IndexRef) → Tracked w → IsPlain m.entry.step m.entry.reply → MadeOrFound f w uuid indices → MadeOrFound f (after f w m) uuid indices
+found_step f w m uuid indices tracked plain = found_stays f w (after f w m) uuid indices (works_step f w m tracked plain) (plain_come f w m.entry.who m.entry.step m.entry.reply m.image plain)
+
+-- over the settle of a finalization there is one more
+pub found_more : (f : Formats) (w v : World) (k : ℕ) (i : Info) → Tracked w → HasFinalized f w v k i → DeletesCome None w.tickets v.tickets → (infos : List Info) → ((j : Info) → Has infos j → MadeOrFound f w j.uuid.number (map ref_of_code j.indices))
+    → (j : Info) → Has (infos ++ i ∷ []) j → MadeOrFound f v j.uuid.number (map ref_of_code j.indices)
+found_more f w v k i tracked over come infos found j has = elim (Has-append infos i j has) [
+  | inl before ↦ found_stays f w v j.uuid.number (map ref_of_code j.indices) over.works come (found j before)
+  | inr same ↦ subst (λ (x : Info). MadeOrFound f v x.uuid.number (map ref_of_code x.indices)) same (inl (new_made f w v k i tracked over))
+]
+
+-- ---- the infos among what a delete or cleanup dooms
 
 snap_uuid : (u v : ℕ) → Snap u ≡ Snap v → u ≡ v
 snap_uuid u v e = cc
@@ -271,11 +312,31 @@ snap_doomed f safe old new uuids read uuid m = go (Snap uuid) (doomed_is f safe 
     go name (AList p was l is reads has listed left) e = absurd (cc)
     go name (APart p was file part is reads has fresh in_it) e = absurd (no_part p.index p.number file part in_it e)
 
-dooms_named : (f : Formats) (t : Ticket) (uuids : List ℕ) (s : Swap) (uuid : ℕ) → t.work ≡ Deleting uuids (Some s) → Has (dooms f t) (Snap uuid) → (snap : RootSnap) × Has t.root.snapshots snap × (names_uuid uuids snap.uuid ≡ true) × (snap.uuid ≡ uuid)
-dooms_named f t uuids s uuid work m = snap_doomed f t.safe t.root s.root uuids t.read uuid (subst (λ (x : Work). Has (doomed_by f t x) (Snap uuid)) work m)
+-- the root of a cleanup lists what its copy lists
+all_left : (snaps : List RootSnap) → left_snaps [] snaps ≡ snaps
+all_left [] = refl
+all_left (s ∷ snaps) = ap (λ (l : List RootSnap). s ∷ l) (all_left snaps)
 
--- so it is of none that is listed
-pub info_spared : (f : Formats) (w : World) (k : ℕ) (t : Ticket) (uuids : List ℕ) (s : Swap) (snap : RootSnap) → Gone w → fin.get w.tickets k ≡ Some t → t.settled ≡ true → t.work ≡ Deleting uuids (Some s) → Has w.root.snapshots snap → Has (dooms f t) (Snap snap.uuid) → ⊥
-info_spared f w k t uuids s snap gone there settled work listed m =
-    let (x, was, named, is) = dooms_named f t uuids s snap.uuid work m in
-    (gone snap.uuid (record { k = k; t = t; uuids = uuids; plan = Some s; there = there; settled = settled; work = work; snap = x; was = was; named = named; is = is })).unlisted snap listed refl
+-- it dooms the info of no such snapshot
+snap_cleaned : (f : Formats) (t : Ticket) (s : Swap) (snap : RootSnap) → PlannedBy t.root [] s → Has t.root.snapshots snap → Has (cleaned_names f t.raised s.root (s.own ++ t.read) t.listed) (Snap snap.uuid) → ⊥
+snap_cleaned f t s snap planned listed m =
+    let has : Has s.root.snapshots snap = subst (λ (l : List RootSnap). Has l snap) (sym (planned_snaps t.root [] s planned ∙ all_left t.root.snapshots)) listed in
+    not_both (names_uuid (uuids_of s.root) snap.uuid)
+    (has_names (uuids_of s.root) snap.uuid (Has-map (λ (z : RootSnap). z.uuid) s.root.snapshots snap has))
+    (cleaned_was f t.raised s.root (s.own ++ t.read) t.listed (Snap snap.uuid) m).1
+
+-- what it dooms is the info of none that is listed, and that each of them found
+pub info_spared : (f : Formats) (w : World) (k : ℕ) (t : Ticket) (uuids : List ℕ) (s : Swap) (snap : RootSnap) → OwnIndices w → AreOfOps w → Gone w → fin.get w.tickets k ≡ Some t → t.settled ≡ true → t.work ≡ Deleting uuids (Some s)
+    → Has w.root.snapshots snap → FoundBy w.tickets snap.uuid → Has (dooms f t) (Snap snap.uuid) → ⊥
+info_spared f w k t uuids s snap own of_ops gone there settled work listed found m = by t.clean refl
+  where
+    by : (b : Bool) → t.clean ≡ b → ⊥
+    by false deletes =
+        let (x, was, named, is) = snap_doomed f t.safe t.root s.root uuids t.read snap.uuid (subst (λ (l : List BlobName). Has l (Snap snap.uuid)) (ap (doomed_by f t) work ∙ ap (doomed_as f t uuids s) deletes) m) in
+        (gone snap.uuid (record { k = k; t = t; uuids = uuids; plan = Some s; there = there; settled = settled; work = work; snap = x; was = was; named = named; is = is })).unlisted snap listed refl
+    by true cleans =
+        let (x, had, is) = found k t uuids (Some s) there settled work in
+        let none : uuids ≡ [] = uuids_same uuids [] (Some s) (of_ops.bare k t there cleans).0 (sym work ∙ (of_ops.bare k t there cleans).1) in
+        let doomed = subst (λ (l : List BlobName). Has l (Snap snap.uuid)) (ap (doomed_by f t) work ∙ ap (doomed_as f t uuids s) cleans) m in
+        snap_cleaned f t s x (subst (λ (us : List ℕ). PlannedBy t.root us s) none (own k t uuids s there work)) had
+        (subst (λ (u : ℕ). Has (cleaned_names f t.raised s.root (s.own ++ t.read) t.listed) (Snap u)) (sym is) doomed)

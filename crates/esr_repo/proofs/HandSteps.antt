@@ -11,7 +11,6 @@ use Rattle.esr_core.specs.World.{World, Op, Deletion, ReadState, NotRestored, Re
 use Rattle.esr_core.specs.Entry.{Why, ReadBlob, ReadFails, FetchShard, DeleteFails, Step, FetchStep, FailedStep, ReadStep, PruneStep, WasFetched, WasAbsent, HasEnded, Refused, Moment}
 use Rattle.esr_core.specs.Steps.{with_ticket}
 use Rattle.esr_core.specs.After.{with_given, change, fetching, told_blob, is_stale, failed_by, failed_of, delete_failed_by, delete_failed, read_told, shard_over, read_over, faulted}
-use Rattle.esr_core.specs.Allowed.{NoCleanup}
 use Rattle.esr_core.specs.Tracked.{Tracked}
 use Rattle.esr_core.specs.ReadTracked.{ReadTracked}
 use Rattle.esr_progress.specs.Plan.{Plan}
@@ -26,6 +25,7 @@ use Rattle.esr_desk.specs.Once.{IsFresh}
 use Rattle.esr_desk.specs.Hands.{fetch_step, fail_step, own_fetched, own_failed, MayFail}
 use Rattle.esr_desk.specs.Hands.{MayFetch as MayFetchSo}
 use Rattle.esr_repo.specs.Client.{ReadsOwn}
+use Rattle.esr_repo.specs.Tickets.{AreOfOps}
 use Rattle.esr_repo.specs.Next.{Added, AddedOr, Did}
 use Rattle.esr_repo.specs.May.{MayNote, MayFetch}
 use Rattle.esr_repo.specs.Hands.{IsPlanAfter}
@@ -115,12 +115,12 @@ fetch_reads hands.Restore s log (suc k) name tracked may = λ is. absurd (never 
 fetch_reads hands.Check s log who name tracked may = λ is id test. absurd (may.1.untested id test)
 fetch_reads hands.Verify s log who name tracked may = λ is id test. may.1.drawn
 
-pub may_fetch_by : (hand : Hand) (s : Start) (old log : List Moment) (who : ℕ) (name : BlobName) → log ≡ old → NoCleanup (world_of s log) → AreTests (world_of s log).caller → MayFetchSo hand s old who name → MayFetch s log who (fetch_step hand name) name
-may_fetch_by hands.Unit s old log who name e clean tests may = may_fetch s old log who name e may
-may_fetch_by hands.Delete s old log who name e clean tests may = may_fetch_shard s old log who name e clean may
-may_fetch_by hands.Restore s old log who name e clean tests may = may_read s old log who name e may
-may_fetch_by hands.Check s old log who name e clean tests may = subst (λ (k : ℕ). MayFetch s log k (ReadStep (ReadBlob name)) name) (sym may.0.client) (may_fetch_reached s old log name e may.1)
-may_fetch_by hands.Verify s old log who name e clean tests may = subst (λ (k : ℕ). MayFetch s log k (ReadStep (ReadBlob name)) name) (sym may.0.client) (may_fetch_test s old log name e tests may.1)
+pub may_fetch_by : (hand : Hand) (s : Start) (old log : List Moment) (who : ℕ) (name : BlobName) → log ≡ old → Tracked (world_of s log) → AreOfOps (world_of s log) → AreTests (world_of s log).caller → MayFetchSo hand s old who name → MayFetch s log who (fetch_step hand name) name
+may_fetch_by hands.Unit s old log who name e tracked of_ops tests may = may_fetch s old log who name e may
+may_fetch_by hands.Delete s old log who name e tracked of_ops tests may = may_fetch_shard s old log who name e tracked of_ops may
+may_fetch_by hands.Restore s old log who name e tracked of_ops tests may = may_read s old log who name e may
+may_fetch_by hands.Check s old log who name e tracked of_ops tests may = subst (λ (k : ℕ). MayFetch s log k (ReadStep (ReadBlob name)) name) (sym may.0.client) (may_fetch_reached s old log name e may.1)
+may_fetch_by hands.Verify s old log who name e tracked of_ops tests may = subst (λ (k : ℕ). MayFetch s log k (ReadStep (ReadBlob name)) name) (sym may.0.client) (may_fetch_test s old log name e tests may.1)
 
 change_readers : (w : World) (k : ℕ) (g : Ticket → Ticket) → (change w k g).readers ≡ w.readers
 change_readers w k g = go (fin.get w.tickets k)
@@ -237,18 +237,18 @@ fail_free hands.Restore s log who why = free_fresh s log who (ReadStep (ReadFail
 fail_free hands.Check s log who why = free_fresh s log who (ReadStep (ReadFails why)) tt
 fail_free hands.Verify s log who why = free_fresh s log who (ReadStep (ReadFails why)) tt
 
-pub may_fail_by : (hand : Hand) (s : Start) (old log : List Moment) (who : ℕ) (why : Why) (p : Option Plan) (next : ℕ) → log ≡ old → Tracked (world_of s log) → ReadTracked (world_of s log) → NoCleanup (world_of s log) → MayFail hand s old who
+pub may_fail_by : (hand : Hand) (s : Start) (old log : List Moment) (who : ℕ) (why : Why) (p : Option Plan) (next : ℕ) → log ≡ old → Tracked (world_of s log) → ReadTracked (world_of s log) → AreOfOps (world_of s log) → MayFail hand s old who
     → IsPlanAfter hand (world_of s log) who p → next ≡ (world_of s log).next_id → MayNote s log who (fail_step hand why) HasEnded p next
-may_fail_by hands.Unit s old log who why (Some p) next e tracked reads clean may goes is = may_fail s old log who why p next e may tracked goes is
-may_fail_by hands.Unit s old log who why None next e tracked reads clean may goes is = absurd goes
-may_fail_by hands.Delete s old log who why (Some p) next e tracked reads clean may goes is = may_fail_delete s old log who why p next e clean may goes is
-may_fail_by hands.Delete s old log who why None next e tracked reads clean may goes is = absurd goes
-may_fail_by hands.Restore s old log who why (Some p) next e tracked reads clean may goes is = may_note_unrestored s old log who why p next e reads may goes is
-may_fail_by hands.Restore s old log who why None next e tracked reads clean may goes is = absurd goes
-may_fail_by hands.Check s old log who why (Some p) next e tracked reads clean may goes is = absurd goes
-may_fail_by hands.Check s old log who why None next e tracked reads clean may goes is = subst (λ (k : ℕ). MayNote s log k (ReadStep (ReadFails why)) HasEnded None next) (sym may.0.client) (may_note_unchecked s old log why next e may.1 is)
-may_fail_by hands.Verify s old log who why (Some p) next e tracked reads clean may goes is = absurd goes
-may_fail_by hands.Verify s old log who why None next e tracked reads clean may goes is = subst (λ (k : ℕ). MayNote s log k (ReadStep (ReadFails why)) HasEnded None next) (sym may.0.client) (may_note_unverified s old log why next e may.1 is)
+may_fail_by hands.Unit s old log who why (Some p) next e tracked reads of_ops may goes is = may_fail s old log who why p next e may tracked goes is
+may_fail_by hands.Unit s old log who why None next e tracked reads of_ops may goes is = absurd goes
+may_fail_by hands.Delete s old log who why (Some p) next e tracked reads of_ops may goes is = may_fail_delete s old log who why p next e tracked of_ops may goes is
+may_fail_by hands.Delete s old log who why None next e tracked reads of_ops may goes is = absurd goes
+may_fail_by hands.Restore s old log who why (Some p) next e tracked reads of_ops may goes is = may_note_unrestored s old log who why p next e reads may goes is
+may_fail_by hands.Restore s old log who why None next e tracked reads of_ops may goes is = absurd goes
+may_fail_by hands.Check s old log who why (Some p) next e tracked reads of_ops may goes is = absurd goes
+may_fail_by hands.Check s old log who why None next e tracked reads of_ops may goes is = subst (λ (k : ℕ). MayNote s log k (ReadStep (ReadFails why)) HasEnded None next) (sym may.0.client) (may_note_unchecked s old log why next e may.1 is)
+may_fail_by hands.Verify s old log who why (Some p) next e tracked reads of_ops may goes is = absurd goes
+may_fail_by hands.Verify s old log who why None next e tracked reads of_ops may goes is = subst (λ (k : ℕ). MayNote s log k (ReadStep (ReadFails why)) HasEnded None next) (sym may.0.client) (may_note_unverified s old log why next e may.1 is)
 
 either_readers : (w a b : World) (first : Bool) → a.readers ≡ w.readers → b.readers ≡ w.readers → (if first then a else b).readers ≡ w.readers
 either_readers w a b true p q = p

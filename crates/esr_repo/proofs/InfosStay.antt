@@ -1,13 +1,13 @@
 -- The infos of the listed snapshots stay right over each step that is no settle, and with one more over the settle of a finalization.
 --
 -- What is kept:
---   WorksStay w v         each ticket of w but a delete's is in v under its number, with the same work
+--   WorksStay w v         each ticket of w but one of a delete or cleanup is in v under its number, with the same work
 --   InfosThere f w v      each blob of w that is the info of a snapshot is in v with the same bytes
 --   IsPlain step reply    the step settles nothing. It computes to Unit at each step but a settle, whatever the reply, and at a settle with each refusal but DepotFault.
---   SparesInfos f w infos what a delete that has settled dooms is none of these infos' blobs
+--   SparesInfos f w infos what a delete or cleanup that has settled dooms is none of these infos' blobs, but of a snapshot that a finalization made
 --   AreListed root infos  each info is of a snapshot that the root lists. AreInfosOf doesn't say so, and a settle needs it: an info of no index under the uuid of an open op would pass before the settle, and not after it.
 -- Over any two worlds:
---   infos_stay : v.root ≡ w.root → WorksStay w v → (NoDeleting v → NoDeleting w) → (tells ≡ true → InfosKept f w v infos) → AreInfosOf f w tells infos → AreInfosOf f v tells infos
+--   infos_stay : v.root ≡ w.root → WorksStay w v → (NoDeleting v → NoDeleting w) → InfosKept f w v infos → AreInfosOf f w tells infos → AreInfosOf f v tells infos
 -- Over a step:
 --   infos_step : Tracked w → AreTests w.caller → SparesInfos f w infos → Allowed f size w m → IsPlain m.entry.step m.entry.reply → AreInfosOf f w tells infos → AreInfosOf f (after f w m) tells infos
 --   listed_step : Tracked w → IsPlain m.entry.step m.entry.reply → AreListed w.root infos → AreListed (after f w m).root infos
@@ -37,13 +37,13 @@ use Rattle.esr_model.specs.Finalize.{Finalizes, finalized_root, done_at}
 use Rattle.esr_model.specs.Delete.{PrunedShard}
 use Rattle.esr_model.specs.Image.{Blobs, Image, At, Generation, index_at, at_shard_of}
 use Rattle.esr_core.specs.World.{World, Op, Deletion, ShardWork, Work, Finalize, Deleting, Drop, Swap, swap_of, AllDone, info_of, metadata, Ticket, ReadState, Restored, NotRestored, RestoreShard, Restoring, Reader, record_of}
-use Rattle.esr_core.specs.Steps.{Removes, IsOut, noting, with_ticket, shard_ticket, final_ticket}
-use Rattle.esr_core.specs.Turns.{plain_ticket}
+use Rattle.esr_core.specs.Steps.{Removes, IsOut, noting, listing, with_ticket, shard_ticket, final_ticket}
+use Rattle.esr_core.specs.Turns.{plain_ticket, cleaning_ticket}
 use Rattle.esr_core.specs.Pruning.{delete_swap, planned_work, planned, dooms}
 use Rattle.esr_core.specs.Restores.{AreApart, restore_shard}
 use Rattle.esr_core.specs.Deletes.{asked_delete}
 use Rattle.esr_core.specs.Tracked.{Named, FinalTracked, Tracked}
-use Rattle.esr_core.specs.Entry.{CloneOf, Snapshot, Restore, Clone, DeleteSnapshots, Cleanup, Given, GivenShard, GivenFinalize, GivenDrop, GivenRestore, GivenClone, GivenDelete, Read, ReadBlob, RestoredShard, CheckedAll, DrawTest, CommitTest, ReadFails, Prune, FetchShard, PlanShards, SettlePruned, RemoveDoomed, EndDelete, DeleteFails, Step, AskStep, TakeStep, DrawStep, BeginStep, CommitStep, LatestStep, FetchStep, RaiseStep, SettleStep, DoneStep, FailedStep, FinishStep, DroppedStep, ElectStep, ReadStep, PruneStep, DepotFault, Reply, Gave, DrawnFrom, WasDone, WasThere, WasFetched, WasSettled, HasEnded, Refused, AcceptedRestore, Moment, Refusal}
+use Rattle.esr_core.specs.Entry.{CloneOf, Snapshot, Restore, Clone, DeleteSnapshots, Cleanup, Given, GivenShard, GivenFinalize, GivenDrop, GivenRestore, GivenClone, GivenDelete, GivenCleanup, Read, ReadBlob, RestoredShard, CheckedAll, DrawTest, CommitTest, ReadFails, Prune, FetchShard, PlanShards, SettlePruned, RemoveDoomed, EndDelete, DeleteFails, Step, AskStep, TakeStep, DrawStep, BeginStep, CommitStep, LatestStep, FetchStep, ListStep, RaiseStep, SettleStep, DoneStep, FailedStep, FinishStep, DroppedStep, ElectStep, ReadStep, PruneStep, DepotFault, Reply, Gave, DrawnFrom, WasDone, WasThere, WasFetched, WasListed, WasSettled, HasEnded, Refused, AcceptedRestore, Moment, Refusal}
 use Rattle.esr_core.specs.After.{asked, taken_shard, taken_by, taken_restore, taken_restore_shard, shard_of, with_given, committing, told_blob, fetching, settled_by, settled_of, done_by, done_of, is_stale, failed_by, failed_of, dropped_of, delete_failed_by, delete_failed, read_told, read_over, shard_over, read_step, read_by, prune_step, done_step, swaps_record, has_text, fallen, is_latest, tried, test_left, faulted, answered, blobs_in, after}
 use Rattle.esr_core.specs.Allowed as allowed
 use Rattle.esr_core.specs.Allowed.{FetchingShard, ShardMissing, FetchShardFails, Planning, PlanSpent, SettlingDelete, SettleDeleteStale, SettleDeleteFails, RemovingDoomed, RemoveDoomedFails, EndingDelete, FailingDelete, PruneAllows, NoDeleting, HaveGenerations, RemovesDoomed, MayRemoveTests, Told, SameBlobs, Adds, WasMade, IsInInfo, AreIndicesIn, Settles, VerifyAllows, Allows, Allowed}
@@ -99,23 +99,25 @@ made_stays f w v uuid indices works m =
 abbrev pub KeepsInfo : Formats → World → World → ℕ → Type 0
 KeepsInfo f w v uuid = (bytes : Bytes) → At f w.blobs (Snap uuid) bytes → At f v.blobs (Snap uuid) bytes
 
--- and so is that of each of these
+-- and so is that of each of these, unless a finalization made its snapshot
 abbrev pub InfosKept : Formats → World → World → List Info → Type 0
-InfosKept f w v infos = (i : Info) → Has infos i → KeepsInfo f w v i.uuid.number
+InfosKept f w v infos = (i : Info) → Has infos i → WasMade f w i.uuid.number (map ref_of_code i.indices) ⊎ KeepsInfo f w v i.uuid.number
 
 pub info_stays : (f : Formats) (w v : World) (uuid : ℕ) (indices : List IndexRef) → KeepsInfo f w v uuid → IsInInfo f w uuid indices → IsInInfo f v uuid indices
 info_stays f w v uuid indices blobs i = (i.0, record { bytes = i.1.bytes; there = blobs i.1.bytes i.1.there; reads = i.1.reads }, i.2)
 
-pub told_at : (f : Formats) (w v : World) (tells : Bool) (uuid : ℕ) (indices : List IndexRef) → WorksStay w v → (tells ≡ true → KeepsInfo f w v uuid)
+pub told_at : (f : Formats) (w v : World) (tells : Bool) (uuid : ℕ) (indices : List IndexRef) → WorksStay w v → WasMade f w uuid indices ⊎ KeepsInfo f w v uuid
     → WasMade f w uuid indices ⊎ (tells ≡ true → IsInInfo f w uuid indices) → WasMade f v uuid indices ⊎ (tells ≡ true → IsInInfo f v uuid indices)
 told_at f w v tells uuid indices works blobs (inl m) = inl (made_stays f w v uuid indices works m)
-told_at f w v tells uuid indices works blobs (inr i) = inr (λ t. info_stays f w v uuid indices (blobs t) (i t))
+told_at f w v tells uuid indices works (inl m) (inr i) = inl (made_stays f w v uuid indices works m)
+told_at f w v tells uuid indices works (inr keeps) (inr i) = inr (λ t. info_stays f w v uuid indices keeps (i t))
 
 pub told_stays : (f : Formats) (w v : World) (tells : Bool) (uuid : ℕ) (indices : List IndexRef) → WorksStay w v → (tells ≡ true → InfosThere f w v)
     → WasMade f w uuid indices ⊎ (tells ≡ true → IsInInfo f w uuid indices) → WasMade f v uuid indices ⊎ (tells ≡ true → IsInInfo f v uuid indices)
-told_stays f w v tells uuid indices works blobs h = told_at f w v tells uuid indices works (λ t. blobs t uuid) h
+told_stays f w v tells uuid indices works blobs (inl m) = inl (made_stays f w v uuid indices works m)
+told_stays f w v tells uuid indices works blobs (inr i) = inr (λ t. info_stays f w v uuid indices (blobs t uuid) (i t))
 
-pub indices_stay : (f : Formats) (w v : World) (tells : Bool) (uuid : ℕ) (indices : List IndexRef) → v.root ≡ w.root → WorksStay w v → (NoDeleting v → NoDeleting w) → (tells ≡ true → KeepsInfo f w v uuid)
+pub indices_stay : (f : Formats) (w v : World) (tells : Bool) (uuid : ℕ) (indices : List IndexRef) → v.root ≡ w.root → WorksStay w v → (NoDeleting v → NoDeleting w) → WasMade f w uuid indices ⊎ KeepsInfo f w v uuid
     → HasIndices f w tells uuid indices → HasIndices f v tells uuid indices
 indices_stay f w v tells uuid indices root works none blobs h =
     record {
@@ -124,12 +126,12 @@ indices_stay f w v tells uuid indices root works none blobs h =
       told = told_at f w v tells uuid indices works blobs h.told;
     }
 
-pub infos_stay : (f : Formats) (w v : World) (tells : Bool) (infos : List Info) → v.root ≡ w.root → WorksStay w v → (NoDeleting v → NoDeleting w) → (tells ≡ true → InfosKept f w v infos)
+pub infos_stay : (f : Formats) (w v : World) (tells : Bool) (infos : List Info) → v.root ≡ w.root → WorksStay w v → (NoDeleting v → NoDeleting w) → InfosKept f w v infos
     → AreInfosOf f w tells infos → AreInfosOf f v tells infos
 infos_stay f w v tells infos root works none blobs a =
     record {
       there = λ snap m. a.there snap (subst (λ (r : RootData). Has r.snapshots snap) root m);
-      each = λ i m. indices_stay f w v tells i.uuid.number (map ref_of_code i.indices) root works none (λ t. blobs t i m) (a.each i m);
+      each = λ i m. indices_stay f w v tells i.uuid.number (map ref_of_code i.indices) root works none (blobs i m) (a.each i m);
     }
 
 -- ---- what keeps the works of tickets
@@ -195,7 +197,7 @@ none_given w k g None is stays none = none
 none_given w k g (Some t) is stays none = none_put w.tickets k t (g t) is (stays t) none
 
 planned_stays : (f : Formats) (shards : List PrunedShard) (first : ℕ) (t : Ticket) (uuids : List ℕ) (plan : Option Swap) → t.work ≡ Deleting uuids plan → (p : Option Swap) × ((planned f shards first t).work ≡ Deleting uuids p)
-planned_stays f shards first t uuids plan work = (Some (delete_swap f t.root t.read uuids shards first), ap (planned_work f t shards first) work)
+planned_stays f shards first t uuids plan work = (Some (delete_swap f t.clean t.root t.read uuids shards first), ap (planned_work f t shards first) work)
 
 -- what is kept of a world: its root, and the works of its tickets
 pub record Keeps (w new : World) : Type 0 where
@@ -262,7 +264,7 @@ keeps_taken f w below o (GivenFinalize info results) None = keeps_same w
 keeps_taken f w below o GivenDrop op = record { root = refl; works = works_more w.tickets w.next_ticket (plain_ticket w o Drop) below; none = none_more w.tickets w.next_ticket (plain_ticket w o Drop) below }
 keeps_taken f w below o (GivenRestore index number uuid) op = keeps_restore w o index number (fin.get w.restores o)
 keeps_taken f w below o (GivenDelete uuids) op = record { root = refl; works = works_more w.tickets w.next_ticket (plain_ticket w o (Deleting uuids None)) below; none = none_more w.tickets w.next_ticket (plain_ticket w o (Deleting uuids None)) below }
-keeps_taken f w below o unit op = keeps_same w
+keeps_taken f w below o GivenCleanup op = record { root = refl; works = works_more w.tickets w.next_ticket (cleaning_ticket w o) below; none = none_more w.tickets w.next_ticket (cleaning_ticket w o) below }
 
 -- ---- ends
 
@@ -370,6 +372,7 @@ keeps_done_step f w below k (AskStep (Snapshot name indices moment)) reply image
 keeps_done_step f w below k (AskStep (Clone source name indices moment taken)) reply image no_settle = keeps_clone w source name indices moment taken
 keeps_done_step f w below k (AskStep (DeleteSnapshots names)) reply image no_settle = keeps_delete w names
 keeps_done_step f w below k (AskStep (Restore name place)) (AcceptedRestore o uuid indices) image no_settle = record { root = refl; works = works_same w.tickets; none = λ h. h }
+keeps_done_step f w below k (AskStep Cleanup) reply image no_settle = record { root = refl; works = works_same w.tickets; none = λ h. h }
 keeps_done_step f w below k TakeStep (Gave ticket op unit) image no_settle = keeps_taken f w below op unit (fin.get w.ops op)
 keeps_done_step f w below k (DrawStep n) reply image no_settle =
     let h = keeps_change w k (λ t. record t { first = w.next_id; drawn = n }) (λ t. refl) (fin.get w.tickets k) refl in record { root = h.root; works = h.works; none = h.none }
@@ -377,6 +380,7 @@ keeps_done_step f w below k (CommitStep name) WasDone image no_settle = keeps_ch
 keeps_done_step f w below k (CommitStep name) WasThere image no_settle = keeps_change w k (λ t. noting t name) (λ t. refl) (fin.get w.tickets k) refl
 keeps_done_step f w below k LatestStep reply image no_settle = keeps_change w k (λ t. record t { tried_latest = true }) (λ t. refl) (fin.get w.tickets k) refl
 keeps_done_step f w below k (FetchStep name) WasFetched image no_settle = keeps_change w k (fetching name (told_blob f image name)) (fetching_work name (told_blob f image name)) (fin.get w.tickets k) refl
+keeps_done_step f w below k (ListStep from) (WasListed page) image no_settle = keeps_change w k (λ t. listing t page) (λ t. refl) (fin.get w.tickets k) refl
 keeps_done_step f w below k RaiseStep reply image no_settle =
     let h = keeps_change w k (λ t. record t { raised = Some w.pending }) (λ t. refl) (fin.get w.tickets k) refl in record { root = h.root; works = h.works; none = h.none }
 keeps_done_step f w below k SettleStep reply image no_settle = absurd no_settle
@@ -405,7 +409,7 @@ keeps_fault f w below k (BeginStep name) image no_settle = keeps_either w (tried
 keeps_fault f w below k (AskStep (Snapshot name indices moment)) image no_settle = keeps_fallen f w _ image (keeps_done_step f w below k (AskStep (Snapshot name indices moment)) HasEnded image tt)
 keeps_fault f w below k (AskStep (Clone source name indices moment taken)) image no_settle = keeps_fallen f w (asked w (Clone source name indices moment taken)) image (keeps_clone w source name indices moment taken)
 keeps_fault f w below k (AskStep (DeleteSnapshots names)) image no_settle = keeps_fallen f w (asked_delete w names) image (keeps_delete w names)
-keeps_fault f w below k (AskStep Cleanup) image no_settle = keeps_fallen f w w image (keeps_same w)
+keeps_fault f w below k (AskStep Cleanup) image no_settle = keeps_fallen f w (asked w Cleanup) image (keeps_done_step f w below k (AskStep Cleanup) HasEnded image tt)
 keeps_fault f w below k RaiseStep image no_settle = keeps_fallen f w _ image (keeps_done_step f w below k RaiseStep HasEnded image tt)
 keeps_fault f w below k SettleStep image no_settle = absurd no_settle
 keeps_fault f w below k DroppedStep image no_settle = keeps_fallen f w _ image (keeps_done_step f w below k DroppedStep HasEnded image tt)
@@ -531,7 +535,7 @@ module _ (f : Formats) (size : ℕ) (w : World) where
   allowed_kept who step reply image tests (allowed.Replacing k im p named put) plain = told_kept im _ (λ now is. blobs_latest f w.blobs now _ named is) put
   allowed_kept who step reply image tests (allowed.Fetching k name im c there) plain = told_kept im _ (λ now is. blobs_same f w.blobs now is.2) there
   allowed_kept who step reply image tests (allowed.Missing k name im c none) plain = told_kept im _ (λ now is. blobs_same f w.blobs now is.1) none
-  allowed_kept who step reply image tests (allowed.Listing k im t out same) plain = same_kept im same
+  allowed_kept who step reply image tests (allowed.Listing k from page im lists shape told) plain = told_kept im _ (λ now is. blobs_same f w.blobs now is.1) told
   allowed_kept who step reply image tests (allowed.Raising k n im r same) plain = same_kept im same
   allowed_kept who step reply image tests (allowed.Settling k im s same) plain = same_kept im same
   allowed_kept who step reply image tests (allowed.Doing k r im d same) plain = same_kept im same
@@ -543,6 +547,7 @@ module _ (f : Formats) (size : ℕ) (w : World) where
   allowed_kept who step reply image tests (allowed.AskingRestore name place r im h same) plain = same_kept im same
   allowed_kept who step reply image tests (allowed.AskingClone source name names moment taken r im h same) plain = same_kept im same
   allowed_kept who step reply image tests (allowed.AskingDelete names r im h same) plain = same_kept im same
+  allowed_kept who step reply image tests (allowed.AskingCleanup r im h same) plain = same_kept im same
   allowed_kept who step reply image tests (allowed.Verifying read r im h) plain = verified_kept read r im tests h
   allowed_kept who step reply image tests (allowed.Reading k read r im h same) plain = same_kept im same
   allowed_kept who step reply image tests (allowed.Cleaning command d x im recorded there clean same) plain = same_kept im same
@@ -562,7 +567,7 @@ module _ (f : Formats) (size : ℕ) (w : World) where
   allowed_kept who step reply image tests (allowed.ReplaceFails k im p named left) plain =
       told_kept im _ (λ now is. elim is [ inl e ↦ blobs_same f w.blobs now e | inr put ↦ blobs_latest f w.blobs now _ named put ]) left
   allowed_kept who step reply image tests (allowed.FetchFails k name im c same) plain = same_kept im same
-  allowed_kept who step reply image tests (allowed.ListFails k im t out same) plain = same_kept im same
+  allowed_kept who step reply image tests (allowed.ListFails k from im lists same) plain = same_kept im same
   allowed_kept who step reply image tests (allowed.AskFails name indices moment im a same) plain = same_kept im same
   allowed_kept who step reply image tests (allowed.RaiseFails k im r same) plain = same_kept im same
   allowed_kept who step reply image tests (allowed.SettleFails k im s same) plain = same_kept im same
@@ -578,9 +583,10 @@ blobs_step f size w m tests a plain = elim a.answered [
 
 -- ---- what a delete doomed is removed
 
--- what a delete that has settled dooms is none of these infos' blobs
+-- what a delete or cleanup that has settled dooms is none of these infos' blobs, but of a snapshot that a finalization made
 abbrev pub SparesInfos : Formats → World → List Info → Type 0
-SparesInfos f w infos = (k : ℕ) (t : Ticket) (uuids : List ℕ) (s : Swap) (i : Info) → fin.get w.tickets k ≡ Some t → t.settled ≡ true → t.work ≡ Deleting uuids (Some s) → Has infos i → Has (dooms f t) (Snap i.uuid.number) → ⊥
+SparesInfos f w infos = (k : ℕ) (t : Ticket) (uuids : List ℕ) (s : Swap) (i : Info) → fin.get w.tickets k ≡ Some t → t.settled ≡ true → t.work ≡ Deleting uuids (Some s) → Has infos i
+    → WasMade f w i.uuid.number (map ref_of_code i.indices) ⊎ (Has (dooms f t) (Snap i.uuid.number) → ⊥)
 
 -- some doomed names were removed, and nothing else
 abbrev Removal : Formats → World → ℕ → List BlobName → Option Image → Type 0
@@ -598,26 +604,28 @@ removal_of : (f : Formats) (size : ℕ) (w : World) (who : ℕ) (names : List Bl
 removal_of f size w who names reply image (allowed.Pruning k prune r im p) = pruned_removal f w k names r im p
 
 removal_kept : (f : Formats) (w : World) (infos : List Info) → SparesInfos f w infos → (who : ℕ) (names : List BlobName) (image : Option Image) → Removal f w who names image
-    → (i : Info) → Has infos i → (bytes : Bytes) → At f w.blobs (Snap i.uuid.number) bytes → At f (blobs_in image w.blobs) (Snap i.uuid.number) bytes
-removal_kept f w infos spares who names None h i m bytes at = at
-removal_kept f w infos spares who names (Some image) h i m bytes at =
-    h.1.stays (Snap i.uuid.number) bytes at (λ named. spares who h.0.t h.0.uuids h.0.s i h.0.deleting.out.there h.0.settled h.0.deleting.work m (h.0.doomed (Snap i.uuid.number) named))
+    → (i : Info) → Has infos i → WasMade f w i.uuid.number (map ref_of_code i.indices) ⊎ ((bytes : Bytes) → At f w.blobs (Snap i.uuid.number) bytes → At f (blobs_in image w.blobs) (Snap i.uuid.number) bytes)
+removal_kept f w infos spares who names None h i m = inr (λ bytes at. at)
+removal_kept f w infos spares who names (Some image) h i m = elim (spares who h.0.t h.0.uuids h.0.s i h.0.deleting.out.there h.0.settled h.0.deleting.work m) [
+  | inl made ↦ inl made
+  | inr spared ↦ inr (λ bytes at. h.1.stays (Snap i.uuid.number) bytes at (λ named. spared (h.0.doomed (Snap i.uuid.number) named)))
+]
 
 -- ---- the infos over a step that is no settle
 
 kept_step : (f : Formats) (size : ℕ) (w : World) (m : Moment) (infos : List Info) → AreTests w.caller → SparesInfos f w infos → Allowed f size w m → IsPlain m.entry.step m.entry.reply → InfosKept f w (after f w m) infos
 kept_step f size w m infos tests spares a is_plain = elim (leaves_all m.entry.step m.entry.reply is_plain) [
-  | inl plain ↦ λ i has bytes at. blobs_step f size w m tests a plain i.uuid.number bytes at
+  | inl plain ↦ λ i has. inr (blobs_step f size w m tests a plain i.uuid.number)
   | inr removal ↦ elim a.answered [
     | inl alive ↦ removal_kept f w infos spares m.entry.who removal.0 m.image (removal_of f size w m.entry.who removal.0 m.entry.reply m.image (subst (λ (s : Step). Allows f size w m.entry.who s m.entry.reply m.image) removal.1 alive.1))
-    | inr dead ↦ λ i has bytes at. same_kept f size w m.image dead.same i.uuid.number bytes at
+    | inr dead ↦ λ i has. inr (same_kept f size w m.image dead.same i.uuid.number)
   ]
 ]
 
 pub infos_step : (f : Formats) (size : ℕ) (w : World) (m : Moment) (tells : Bool) (infos : List Info) → Tracked w → AreTests w.caller → SparesInfos f w infos → Allowed f size w m → IsPlain m.entry.step m.entry.reply
     → AreInfosOf f w tells infos → AreInfosOf f (after f w m) tells infos
 infos_step f size w m tells infos t tests spares a is_plain h =
-    infos_stay f w (after f w m) tells infos (root_step f w m t is_plain) (works_step f w m t is_plain) (none_step f w m t is_plain) (λ told. kept_step f size w m infos tests spares a is_plain) h
+    infos_stay f w (after f w m) tells infos (root_step f w m t is_plain) (works_step f w m t is_plain) (none_step f w m t is_plain) (kept_step f size w m infos tests spares a is_plain) h
 
 -- ---- the root with a snapshot more
 
@@ -750,7 +758,7 @@ module _ (f : Formats) (w v : World) (k : ℕ) (i : Info) (tr : Tracked w) (h : 
   new_generations : HaveGenerations v.root (map ref_of_code i.indices)
   new_generations = subst (λ (xs : List IndexRef). HaveGenerations v.root xs) (sym refs) (generations_made w.root v.root w.ops w.next_id h.t.op law.op h.results tr.named law.op_there law.done fins)
 
-  new_made : WasMade f v i.uuid.number (map ref_of_code i.indices)
+  pub new_made : WasMade f v i.uuid.number (map ref_of_code i.indices)
   new_made =
       let (u, there, same) = h.works k h.t h.out.there (final_other h.t.work h.info h.results h.made h.work) in
       record { number = k; t = u; there = there; info = h.info; results = h.results; made = h.made; work = same ∙ h.work; uuid_is = ap (λ (x : SnapInfo). x.uuid) (sym h.code); indices_is = ap (λ (x : SnapInfo). x.indices) (sym h.code); back = h.back }
@@ -800,6 +808,10 @@ settled_is f w k n t info results made work raised = λ j. settled_by f w k t (s
 pub settled_root : (f : Formats) (w : World) (k n : ℕ) (t : Ticket) (info : SnapInfo) (results : List ShardResult) (made : Command) → t.work ≡ Finalize info results made → t.raised ≡ Some n
     → (settled_of f w k (Some t)).root ≡ finalized_root t.root info results
 settled_root f w k n t info results made work raised = ap (λ (x : World). x.root) (settled_is f w k n t info results made work raised)
+
+pub settled_tickets : (f : Formats) (w : World) (k n : ℕ) (t : Ticket) (info : SnapInfo) (results : List ShardResult) (made : Command) → t.work ≡ Finalize info results made → t.raised ≡ Some n
+    → (settled_of f w k (Some t)).tickets ≡ fin.insert w.tickets k (record t { settled = true })
+settled_tickets f w k n t info results made work raised = ap (λ (x : World). x.tickets) (settled_is f w k n t info results made work raised)
 
 pub settled_works : (f : Formats) (w : World) (k n : ℕ) (t : Ticket) (info : SnapInfo) (results : List ShardResult) (made : Command) → fin.get w.tickets k ≡ Some t → t.work ≡ Finalize info results made → t.raised ≡ Some n
     → WorksStay w (settled_of f w k (Some t))

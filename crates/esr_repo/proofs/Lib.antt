@@ -13,6 +13,7 @@ pub mod Repos
 pub mod Plain
 pub mod BlobCalls
 pub mod Removals
+pub mod Listings
 pub mod Swaps
 pub mod Pasts
 pub mod Beginning
@@ -23,6 +24,7 @@ pub mod Written
 pub mod Swapping
 pub mod Accepts
 pub mod AskedDeletes
+pub mod AskedCleanups
 pub mod Clones
 pub mod Doing
 pub mod Taken

@@ -19,9 +19,10 @@ use Rattle.esr_desk.specs.Refusals.{refusal_of}
 use Rattle.esr_desk.specs.Once.{IsFresh}
 use Rattle.esr_desk.specs.Start.{Start, formats_of, world_of, or_no_ticket, ticket_of}
 use Rattle.esr_repo.specs.Log.{asks_container, calls, log_of}
-use Rattle.esr_repo.specs.Repo.{Kept, Gone, AreTests, HasInfos, IsSteady, IsRepo}
+use Rattle.esr_repo.specs.Repo.{Kept, OwnIndices, Gone, AreTests, HasInfos, IsSteady, IsRepo}
 use Rattle.esr_repo.specs.Blocks.{block_of}
 use Rattle.esr_desk.specs.Own.{caller_of}
+use Rattle.esr_repo.specs.Tickets.{AreOfOps}
 use Rattle.esr_repo.specs.Client.{ReadsOwn}
 use Rattle.esr_repo.specs.Next.{Added, IsLive, GoesOn}
 use Rattle.esr_repo.specs.May.{MayNote, MayRefuse}
@@ -63,11 +64,11 @@ noted_leaves s w who step (Refused refusal) image e = inl refl
 noted_leaves s w who step reply image e = inr (quiet_leaves step reply e)
 
 -- the infos stay over a step without a call
-infos_noted : (s : Start) (w : World) (m : Moment) (infos : List Info) → Tracked w → AreTests w.caller → Gone w → calls m.entry.step m.entry.reply ≡ false → SameBlobs w m.image → Allowed (formats_of s) s.part_size w m
+infos_noted : (s : Start) (w : World) (m : Moment) (infos : List Info) → Tracked w → AreTests w.caller → OwnIndices w → AreOfOps w → Gone w → calls m.entry.step m.entry.reply ≡ false → SameBlobs w m.image → Allowed (formats_of s) s.part_size w m
     → HasInfos s w infos → HasInfos s (after (formats_of s) w m) infos
-infos_noted s w m infos tracked tests gone plain same allowed h = elim (noted_leaves s w m.entry.who m.entry.step m.entry.reply m.image plain) [
+infos_noted s w m infos tracked tests own of_ops gone plain same allowed h = elim (noted_leaves s w m.entry.who m.entry.step m.entry.reply m.image plain) [
   | inl e ↦ infos_aside s w (after (formats_of s) w m) infos (ap (λ (x : World). x.root) e) (ap (λ (x : World). x.tickets) e) (blobs_same w m.image same) h
-  | inr leaves ↦ infos_over s w m infos tracked tests gone allowed leaves h
+  | inr leaves ↦ infos_over s w m infos tracked tests own of_ops gone allowed leaves h
 ]
 
 -- such a step is allowed where its answer is
@@ -158,7 +159,7 @@ module _ (laws : Laws) (l : Look) (s : Start) (clock : ℕ) (es mid es' : List E
             plan = plan_aside w (blobs_in (image_now l) (world_of s seen).blobs) w.deposed (after (formats_of s) (world_of s seen) entry_moment).caller (after (formats_of s) (world_of s seen) entry_moment).entries k.plan (subst (λ (x : World). IsPlanOf x k.plan) (sym same) now.1.plan);
             next = now.1.next ∙ ap (λ (x : World). x.next_id) (sym same);
           },
-          infos_noted s (world_of s seen) entry_moment k.infos here.tracked here.tests here.gone so_plain (image_same s seen l here) aborted_allowed now.2,
+          infos_noted s (world_of s seen) entry_moment k.infos here.tracked here.tests here.pruning here.of_ops here.gone so_plain (image_same s seen l here) aborted_allowed now.2,
         ))
         (λ place n. absurd (never place (sym n ∙ now.0)))
       where
@@ -209,7 +210,7 @@ module _ (laws : Laws) (l : Look) (s : Start) (clock : ℕ) (es mid es' : List E
             plan = plan_aside w (blobs_in (image_now l) (world_of s seen).blobs) w.deposed (after (formats_of s) (world_of s seen) entry_moment).caller (after (formats_of s) (world_of s seen) entry_moment).entries new (subst (IsPlanOf w) (sym new_is) (may.plan_is (image_now l) k.plan now.1.plan));
             next = may.next_is (image_now l);
           },
-          infos_noted s (world_of s seen) entry_moment k.infos here.tracked here.tests here.gone may.plain (image_same s seen l here) note_allowed now.2,
+          infos_noted s (world_of s seen) entry_moment k.infos here.tracked here.tests here.pruning here.of_ops here.gone may.plain (image_same s seen l here) note_allowed now.2,
         ))
         (λ place n. absurd (never place (sym n ∙ now.0)))
       where

@@ -2,7 +2,7 @@
 use Rattle.std.proofs.Common.{◌≡◌, ℕ, true, false, true≢false, List, map, Option, Some, None, refl, sym, ◌∙◌, subst}
 use Rattle.std.specs.Prelude.{is_some}
 use Rattle.esr_core.specs.World.{World}
-use Rattle.esr_core.specs.Ready.{AnyReady, AShard, AFinalize, ADrop, ADelete, ARestore}
+use Rattle.esr_core.specs.Ready.{AnyReady, AShard, AFinalize, ADrop, ADelete, ACleanup, ARestore}
 use Rattle.esr_core.specs.Entry.{Entry, Moment}
 use Rattle.esr_results.specs.Results.{result_of}
 use Rattle.esr_depot.specs.Look.{Look}
@@ -26,7 +26,7 @@ work_ready w o (works.Finalize info shards) copy h = AFinalize o h.0 (map result
 work_ready w o works.Drop copy h = ADrop o h
 work_ready w o (works.RestoreShard uuid shard index place) copy h = ARestore o h.gives.r h.gives.s h.gives.ready
 work_ready w o (works.Delete uuids) copy h = ADelete o h.0 h.1
-work_ready w o work copy h = absurd h
+work_ready w o works.Cleanup copy h = ACleanup o h.0 h.1
 
 pub next_ready : (w : World) (next : Option (Plan × ReadyUnit)) → NextUnit w next → is_some next ≡ true → AnyReady w
 next_ready w None h some = absurd (true≢false (sym some))

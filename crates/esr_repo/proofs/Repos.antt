@@ -1,5 +1,5 @@
 -- A container with its history, after one more entry.
-use Rattle.std.proofs.Common.{◌≡◌, ℕ, suc, ◌+◌, ◌≤◌, Bool, true, false, List, [], ◌∷◌, ◌++◌, length, Option, Some, None, refl, sym, ap, ◌∙◌, subst, arith, length-append}
+use Rattle.std.proofs.Common.{◌≡◌, ℕ, suc, ◌+◌, ◌≤◌, Bool, true, false, List, [], ◌∷◌, ◌++◌, length, map, Option, Some, None, refl, sym, ap, ◌∙◌, subst, inl, inr, arith, length-append}
 use Rattle.std.specs.Prelude.{option_map}
 use Rattle.std.specs.Ordering.{nat_cmp}
 use Rattle.std.specs.FinMap.{FinMap}
@@ -12,7 +12,7 @@ use Rattle.esr_core.specs.World as core
 use Rattle.esr_core.specs.Entry.{Entry, Moment}
 use Rattle.esr_core.specs.After.{blobs_in, after}
 use Rattle.esr_core.specs.Pruning.{dooms}
-use Rattle.esr_core.specs.Allowed.{NoCleanup, SameBlobs, Allowed}
+use Rattle.esr_core.specs.Allowed.{SameBlobs, Allowed}
 use Rattle.esr_core.specs.Tracked.{Tracked}
 use Rattle.esr_core.specs.Ranked.{Ranked}
 use Rattle.esr_core.specs.ReadTracked.{ReadTracked}
@@ -22,18 +22,20 @@ use Rattle.esr_depot.specs.Calls.{Stays}
 use Rattle.esr_meta.specs.Info.{Info}
 use Rattle.esr_formats.specs.Formats.{formats}
 use Rattle.esr_formats.specs.Clusters.{cluster_kind}
+use Rattle.esr_formats.specs.Refs.{ref_of_code}
 use Rattle.esr_formats.specs.Names.{name_kind}
 use Rattle.esr_progress.specs.Plan.{Plan, IsPlanOf}
 use Rattle.esr_desk.specs.Start.{Start, formats_of, world_of, Legal}
 use Rattle.esr_repo.specs.Log.{image_of, tick, ticks, log_of}
-use Rattle.esr_repo.specs.Repo.{Kept, IsKeptOf, TellsSo, OwnIndices, Gone, AreListed, AreTests, HasInfos, IsSteady, IsRepo}
+use Rattle.esr_repo.specs.Repo.{Kept, IsKeptOf, TellsSo, OwnIndices, Gone, AreListed, FoundBy, AreTests, HasInfos, IsSteady, IsRepo}
 use Rattle.esr_repo.specs.Next.{Added, IsLive}
 use Rattle.esr_desk.specs.Own.{caller_of}
 use Rattle.esr_repo.specs.May.{CanTell}
 use Rattle.esr_repo.specs.Laws.{Laws}
-use Rattle.esr_repo.proofs.InfosStay.{IsPlain as LeavesInfos, infos_stay, infos_step, root_step}
+use Rattle.esr_repo.proofs.InfosStay.{IsPlain as LeavesInfos, WorksStay, infos_stay, infos_step, root_step}
+use Rattle.esr_repo.proofs.Coming.{DeletesCome, come_same}
 use Rattle.esr_repo.proofs.Frames.{frame_after, settler}
-use Rattle.esr_repo.proofs.Gone.{own_step, gone_step, info_spared}
+use Rattle.esr_repo.proofs.Gone.{own_step, gone_step, found_stays, found_step, info_spared}
 use Rattle.esr_repo.specs.Client.{ReadsOwn, TellsClient}
 use Rattle.esr_repo.specs.Tickets.{AreStale, AreOfOps}
 use Rattle.esr_repo.proofs.Callers.{tests_step}
@@ -67,25 +69,32 @@ plan_aside w blobs deposed caller entries p h =
 
 -- the infos of a world are told by its root, its tickets and its blobs
 pub infos_aside : (s : Start) (w new : World) (infos : List Info) → new.root ≡ w.root → new.tickets ≡ w.tickets → new.blobs ≡ w.blobs → HasInfos s w infos → HasInfos s new infos
-infos_aside s w new infos root tickets blobs h = record {
-  are =
-      infos_stay (formats_of s) w new s.tells infos root
-      (λ k t there other. (t, ap (λ (m : FinMap nat_cmp Ticket). fin.get m k) tickets ∙ there, refl))
-      (λ none k t uuids plan there. none k t uuids plan (ap (λ (m : FinMap nat_cmp Ticket). fin.get m k) tickets ∙ there))
-      (λ told i has bytes at. subst (λ (b : Blobs). At (formats_of s) b (Snap i.uuid.number) bytes) (sym blobs) at) h.are;
-  listed = subst (λ (r : RootData). AreListed r infos) (sym root) h.listed;
-}
+infos_aside s w new infos root tickets blobs h =
+    let works : WorksStay w new = λ k t there other. (t, ap (λ (m : FinMap nat_cmp Ticket). fin.get m k) tickets ∙ there, refl) in
+    record {
+      are =
+          infos_stay (formats_of s) w new s.tells infos root works
+          (λ none k t uuids plan there. none k t uuids plan (ap (λ (m : FinMap nat_cmp Ticket). fin.get m k) tickets ∙ there))
+          (λ i has. inr (λ bytes at. subst (λ (b : Blobs). At (formats_of s) b (Snap i.uuid.number) bytes) (sym blobs) at)) h.are;
+      listed = subst (λ (r : RootData). AreListed r infos) (sym root) h.listed;
+      found = λ i has. found_stays (formats_of s) w new i.uuid.number (map ref_of_code i.indices) works (subst (DeletesCome None w.tickets) (sym tickets) (come_same None w.tickets)) (h.found i has);
+    }
 
 -- they stay over a step that settles nothing
-pub infos_over : (s : Start) (w : World) (m : Moment) (infos : List Info) → Tracked w → AreTests w.caller → Gone w → Allowed (formats_of s) s.part_size w m → LeavesInfos m.entry.step m.entry.reply → HasInfos s w infos → HasInfos s (after (formats_of s) w m) infos
-infos_over s w m infos tracked tests gone allowed leaves h = record {
+pub infos_over : (s : Start) (w : World) (m : Moment) (infos : List Info) → Tracked w → AreTests w.caller → OwnIndices w → AreOfOps w → Gone w → Allowed (formats_of s) s.part_size w m → LeavesInfos m.entry.step m.entry.reply
+    → HasInfos s w infos → HasInfos s (after (formats_of s) w m) infos
+infos_over s w m infos tracked tests own of_ops gone allowed leaves h = record {
   are =
       infos_step (formats_of s) s.part_size w m s.tells infos tracked tests
-      (λ k t uuids plan i there settled work has doomed.
-      let (snap, listed, is) = h.listed i has in
-      info_spared (formats_of s) w k t uuids plan snap gone there settled work listed (subst (λ (u : ℕ). Has (dooms (formats_of s) t) (Snap u)) is doomed))
+      (λ k t uuids plan i there settled work has. elim (h.found i has) [
+        | inl made ↦ inl made
+        | inr found ↦
+            let (snap, listed, is) = h.listed i has in
+            inr (λ doomed. info_spared (formats_of s) w k t uuids plan snap own of_ops gone there settled work listed (subst (FoundBy w.tickets) is found) (subst (λ (u : ℕ). Has (dooms (formats_of s) t) (Snap u)) is doomed))
+      ])
       allowed leaves h.are;
   listed = subst (λ (r : RootData). AreListed r infos) (sym (root_step (formats_of s) w m tracked leaves)) h.listed;
+  found = λ i has. found_step (formats_of s) w m i.uuid.number (map ref_of_code i.indices) tracked leaves (h.found i has);
 }
 
 -- an image with the blobs of the world leaves them
@@ -181,7 +190,6 @@ module _ (old new : Look) (s : Start) (clock : ℕ) (es es' : List Entry) (k k' 
           record_back = subst (λ (w : World). ReadsBack cluster_kind (record_of w)) (sym new_world) (subst (λ kind. ReadsBack kind (record_of w')) (cluster_is s) allowed.record_back);
           tracked = subst Tracked (sym new_world) (laws.tracked (formats_of s) s.part_size (world_of s seen) moment steady.tracked allowed);
           ranked = subst Ranked (sym new_world) (laws.ranked (formats_of s) s.part_size (world_of s seen) moment steady.tracked steady.ranked allowed);
-          no_cleanups = subst (λ (w : World). NoCleanup w) (sym new_world) (frame.deletes steady.no_cleanups);
           pruning = subst (λ (w : World). OwnIndices w) (sym new_world) (own_step (settler e.step e.who) (world_of s seen) w' frame.come steady.pruning);
           gone = subst (λ (w : World). Gone w) (sym new_world) (gone_step (formats_of s) s.part_size (world_of s seen) steady.tracked steady.pruning steady.gone moment allowed);
           read_tracked = subst ReadTracked (sym new_world) (laws.read_tracked (formats_of s) s.part_size (world_of s seen) moment steady.tracked steady.read_tracked allowed);
@@ -229,7 +237,6 @@ repo_stays old new s clock es k d r n =
             record_back = h.record_back;
             tracked = h.tracked;
             ranked = h.ranked;
-            no_cleanups = h.no_cleanups;
             pruning = h.pruning;
             gone = h.gone;
             read_tracked = h.read_tracked;

@@ -1,5 +1,5 @@
 -- A restore that is asked for.
-use Rattle.std.proofs.Common.{◌≡◌, ◌≢◌, ◌⊎◌, ℕ, ◌<◌, ◌≤◌, Bool, true, false, cond, List, [], ◌∷◌, ◌++◌, map, Option, Some, None, Result, Ok, Err, IfOk, refl, sym, ap, ◌∙◌, subst, inl, inr, eq-eqb, true≢false}
+use Rattle.std.proofs.Common.{◌≡◌, ◌≢◌, ◌⊎◌, ℕ, ◌<◌, ◌≤◌, Bool, true, false, cond, List, [], ◌∷◌, ◌++◌, map, Option, Some, None, Result, Ok, Err, IfOk, IfSome, refl, sym, ap, ◌∙◌, subst, inl, inr, eq-eqb, true≢false}
 use Rattle.std.specs.Prelude.{◌==◌}
 use Rattle.std.specs.List.{find, IsDistinct}
 use Rattle.std.proofs.lemmas.Bool.{eqb-true}
@@ -19,8 +19,13 @@ use Rattle.esr_results.proofs.Choices.{differ}
 use Rattle.esr_results.proofs.Refs.{one_name, one_id, names_distinct, ids_distinct, other_later}
 use Rattle.esr_progress.specs.Infos.{HasIndices}
 use Rattle.esr_progress.specs.Plan.{Plan, IsPlanOf}
+use Rattle.esr_progress.specs.Accepting.{IsRestoreRefused}
+use Rattle.esr_progress.specs.declared.refusal.Refusal.{Refusal as ListRefusal}
+use Rattle.esr_progress.specs.declared.refusal.Refusal.TheVariants as refusals
+use Rattle.esr_desk.specs.Refusals.{refusal_of}
 use Rattle.esr_desk.specs.Start.{Start, formats_of, world_of}
 use Rattle.esr_repo.specs.Repo.{HasInfos}
+use Rattle.esr_repo.specs.Asked.{entry_of}
 use Rattle.esr_repo.specs.May.{CanTell, MayNote, MayRefuse}
 use Rattle.esr_repo.proofs.Stepping.{told_if}
 
@@ -107,15 +112,21 @@ may_restore s log name place uuid indices p o next may has o_is plan_is next_is 
 
 -- ---- it is refused
 
-pub unlisted_refused : (s : Start) (log : List Moment) (name place : Bytes) (at : ℕ) → (at ≡ 0) × ((uuid : ℕ) → IsListed (world_of s log) name uuid → ⊥) → MayRefuse s log 0 (AskStep (Restore name place)) (NoSnapshot at)
+unlisted_refused : (s : Start) (log : List Moment) (name place : Bytes) (at : ℕ) → (at ≡ 0) × ((uuid : ℕ) → IsListed (world_of s log) name uuid → ⊥) → MayRefuse s log 0 (AskStep (Restore name place)) (NoSnapshot at)
 unlisted_refused s log name place at h =
     subst (λ (n : ℕ). MayRefuse s log 0 (AskStep (Restore name place)) (NoSnapshot n)) (sym h.0)
     (record { plain = refl; allows = λ image tells same. AskingRestore name place _ image (NotListed image h.1) same })
 
-pub deleted_refused : (s : Start) (log : List Moment) (name place : Bytes) (d : ℕ) → (uuid : ℕ) × IsListed (world_of s log) name uuid × IsBeingDeleted (world_of s log) uuid d → MayRefuse s log 0 (AskStep (Restore name place)) (BeingDeleted d)
+deleted_refused : (s : Start) (log : List Moment) (name place : Bytes) (d : ℕ) → (uuid : ℕ) × IsListed (world_of s log) name uuid × IsBeingDeleted (world_of s log) uuid d → MayRefuse s log 0 (AskStep (Restore name place)) (BeingDeleted d)
 deleted_refused s log name place d h = record { plain = refl; allows = λ image tells same. AskingRestore name place _ image (NamedByDelete h.0 d image h.1 h.2) same }
 
-pub full_refused : (s : Start) (log : List Moment) (name place : Bytes) (limit : ℕ) → (limit ≡ 1000) × ((uuid : ℕ) × IsListed (world_of s log) name uuid × IsSpared (world_of s log) uuid × (1000 ≤ fin.len (world_of s log).restores)) → MayRefuse s log 0 (AskStep (Restore name place)) (TooMany limit)
+full_refused : (s : Start) (log : List Moment) (name place : Bytes) (limit : ℕ) → (limit ≡ 1000) × ((uuid : ℕ) × IsListed (world_of s log) name uuid × IsSpared (world_of s log) uuid × (1000 ≤ fin.len (world_of s log).restores)) → MayRefuse s log 0 (AskStep (Restore name place)) (TooMany limit)
 full_refused s log name place limit h =
     subst (λ (n : ℕ). MayRefuse s log 0 (AskStep (Restore name place)) (TooMany n)) (sym h.0)
     (record { plain = refl; allows = λ image tells same. AskingRestore name place _ image (FullOfRestores h.1.0 image h.1.1 h.1.2 h.1.3) same })
+
+pub refuses_restore : (s : Start) (log : List Moment) (name place : Bytes) (refusal : ListRefusal) → IsRestoreRefused (world_of s log) name refusal → IfSome (entry_of refusal) (λ e. MayRefuse s log 0 (AskStep (Restore name place)) (refusal_of e))
+refuses_restore s log name place (refusals.NoSnapshot at) h = unlisted_refused s log name place at h
+refuses_restore s log name place (refusals.BeingDeleted op) h = deleted_refused s log name place op h
+refuses_restore s log name place (refusals.TooMany limit) h = full_refused s log name place limit h
+refuses_restore s log name place other h = absurd h

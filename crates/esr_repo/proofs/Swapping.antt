@@ -15,7 +15,7 @@ use Rattle.esr_core.specs.Steps.{IsOut, MaySettle}
 use Rattle.esr_core.specs.Tracked.{Tracked}
 use Rattle.esr_core.specs.Entry.{Step, RaiseStep, SettleStep, DroppedStep, RaisedTo, WasSettled, HasEnded, Refused, DepotFault, StaleTerm, GenerationsSpent, Refusal, Moment}
 use Rattle.esr_core.specs.After.{with_given, change, raised, settled_by, settled_of, dropped_of, has_text, fallen}
-use Rattle.esr_core.specs.Allowed.{MayRaise, Raising, Settling, Dropping, RaiseStale, RaiseSpent, SettleStale, DropStale}
+use Rattle.esr_core.specs.Allowed.{HasCleaned, MayDrop, MayRaise, Raising, Settling, Dropping, RaiseStale, RaiseSpent, SettleStale, DropStale}
 use Rattle.esr_core.specs.Ranked.{Ranked}
 use Rattle.esr_record.specs.Record.{Record, AreNumbers}
 use Rattle.esr_meta.specs.Info.{Info}
@@ -25,10 +25,11 @@ use Rattle.esr_record.specs.declared.steps.RecordRefusal.TheVariants as records
 use Rattle.esr_root.specs.Root.{Root}
 use Rattle.esr_formats.specs.Formats.{formats}
 use Rattle.esr_formats.specs.Infos.{info_of_code, info_kind}
+use Rattle.esr_formats.specs.Refs.{ref_of_code}
 use Rattle.esr_formats.specs.Roots.{root_of}
 use Rattle.esr_formats.specs.Clusters.{count_of, cluster_of, op_of}
 use Rattle.esr_progress.specs.Plan.{Plan, Seat, seat_of, IsPlanOf}
-use Rattle.esr_desk.specs.Conditions.{CanRaise, IsUnpruned, CanSettle, CanDrop}
+use Rattle.esr_desk.specs.Conditions.{CanRaise, IsUnpruned, CanSettle}
 use Rattle.esr_desk.specs.Refusals.{refusal_of}
 use Rattle.esr_desk.specs.Taken.{LeftBy, HasRaised, IsSettled, HasEndedAs}
 use Rattle.esr_desk.specs.declared.refusal.StepRefusal.{StepRefusal}
@@ -37,11 +38,13 @@ use Rattle.esr_desk.specs.declared.refusal.EntryRefusal.TheVariants as code
 use Rattle.esr_desk.specs.Start.{Start, formats_of, world_of, or_no_ticket, ticket_of}
 use Rattle.esr_repo.specs.Next.{Added, Did}
 use Rattle.esr_repo.specs.Repo.{AreListed, HasInfos}
-use Rattle.esr_repo.specs.May.{swapped_world, IsMadeInfo, MaySwap, MayRefuse}
+use Rattle.esr_repo.specs.May.{CanTell, swapped_world, IsMadeInfo, MaySwap, CanLeave, MayRefuse}
 use Rattle.esr_repo.specs.Grown.{out_is, put_there, added_ticket, changed_ticket}
-use Rattle.esr_repo.proofs.InfosStay.{IsPlain, HasSettled, infos_stay, root_step, works_step, none_step, infos_settled, listed_settled, of_ticket, final_info, info_apart}
+use Rattle.esr_repo.proofs.InfosStay.{IsPlain, HasSettled, infos_stay, root_step, works_step, none_step, infos_settled, listed_settled, settled_tickets, of_ticket, final_info, info_apart}
+use Rattle.esr_repo.proofs.Coming.{DeletesCome, come_plain}
+use Rattle.esr_repo.proofs.Gone.{plain_come, found_stays, found_more}
 use Rattle.esr_repo.proofs.Repos.{infos_aside}
-use Rattle.esr_repo.proofs.Stepping.{next_given, added_from}
+use Rattle.esr_repo.proofs.Stepping.{told_if, next_given, added_from}
 
 -- ---- the infos
 
@@ -54,8 +57,9 @@ infos_swapped s log who step tracked plain old h =
     let root = root_step (formats_of s) w m tracked plain in
     subst (HasInfos s (record (swapped_world s log who step) { blobs = w.blobs })) (sym (append-nil old))
     (record {
-      are = infos_stay (formats_of s) w (record (swapped_world s log who step) { blobs = w.blobs }) s.tells old root (works_step (formats_of s) w m tracked plain) (none_step (formats_of s) w m tracked plain) (λ told i has bytes at. at) h.are;
+      are = infos_stay (formats_of s) w (record (swapped_world s log who step) { blobs = w.blobs }) s.tells old root (works_step (formats_of s) w m tracked plain) (none_step (formats_of s) w m tracked plain) (λ i has. inr (λ bytes at. at)) h.are;
       listed = subst (λ (r : RootData). AreListed r old) (sym root) h.listed;
+      found = λ i has. found_stays (formats_of s) w (record (swapped_world s log who step) { blobs = w.blobs }) i.uuid.number (map ref_of_code i.indices) (works_step (formats_of s) w m tracked plain) (plain_come (formats_of s) w who step HasEnded None plain) (h.found i has);
     })
 
 info_kind_is : (s : Start) → (formats_of s).info ≡ info_kind
@@ -88,9 +92,9 @@ info_there s log k root seat plan tracked unpruned can present seat_is plan_is n
     none law.op final.1 (ap (λ (m : FinMap nat_cmp Op). fin.get m seat.op) plan_is.ops ∙ ap (λ (x : Seat). fin.get (world_of s log).ops x.op) seat_is ∙ law.op_there) law.done
 
 -- over a settle there is one more
-infos_more : (s : Start) (log : List Moment) (k : ℕ) (root : RootData) (info : Info) → IsMadeInfo s log k info → Tracked (world_of s log) → CanSettle s (ticket_of s log k) root → (ticket_of s log k).term ≡ (world_of s log).term → IsFinal (ticket_of s log k)
+infos_more : (s : Start) (log : List Moment) (k : ℕ) (root : RootData) (info : Info) → IsMadeInfo s log k info → Tracked (world_of s log) → CanSettle s (ticket_of s log k) root → (ticket_of s log k).term ≡ (world_of s log).term → IsUnpruned (ticket_of s log k) → IsFinal (ticket_of s log k)
     → (old : List Info) → HasInfos s (world_of s log) old → HasInfos s (record (swapped_world s log k SettleStep) { blobs = (world_of s log).blobs }) (old ++ info ∷ [])
-infos_more s log k root info made tracked can present final old h =
+infos_more s log k root info made tracked can present unpruned final old h =
     let w : World = world_of s log in
     let f = formats_of s in
     let t : Ticket = ticket_of s log k in
@@ -98,11 +102,16 @@ infos_more s log k root info made tracked can present final old h =
     let code : info_of_code info ≡ final.0 = made.is ∙ final_info w k t final.0 final.1 final.2 tracked out can.put.unsettled present final.3 made.op made.results made.there made.done in
     let back : ReadsBack f.info final.0 = subst (λ kind. ReadsBack kind final.0) (sym (info_kind_is s)) (subst (ReadsBack info_kind) code made.back) in
     let settled : HasSettled f w (settled_of f w k (Some t)) k info = of_ticket f w k can.n info t final.0 final.1 final.2 out can.put.unsettled present final.3 can.put.raised code (info_apart info made.valid) back in
-    infos_aside s (record (settled_of f w k (Some t)) { blobs = w.blobs }) (record (swapped_world s log k SettleStep) { blobs = w.blobs }) (old ++ info ∷ [])
+    let v : World = record (settled_of f w k (Some t)) { blobs = w.blobs } in
+    let over : HasSettled f w v k info = settled_aside f w (settled_of f w k (Some t)) k info w.blobs settled in
+    let come : DeletesCome None w.tickets v.tickets =
+    subst (DeletesCome None w.tickets) (sym (settled_tickets f w k can.n t final.0 final.1 final.2 final.3 can.put.raised)) (come_plain None w.tickets k (record t { settled = true }) unpruned) in
+    infos_aside s v (record (swapped_world s log k SettleStep) { blobs = w.blobs }) (old ++ info ∷ [])
     (ap (λ (x : World). x.root) (ap (settled_of f w k) out.there)) (ap (λ (x : World). x.tickets) (ap (settled_of f w k) out.there)) refl
     (record {
-      are = infos_settled f w (record (settled_of f w k (Some t)) { blobs = w.blobs }) k info tracked (settled_aside f w (settled_of f w k (Some t)) k info w.blobs settled) s.tells old (λ told name bytes at. at) h.listed h.are;
-      listed = listed_settled f w (record (settled_of f w k (Some t)) { blobs = w.blobs }) k info tracked (settled_aside f w (settled_of f w k (Some t)) k info w.blobs settled) old h.listed;
+      are = infos_settled f w v k info tracked over s.tells old (λ told name bytes at. at) h.listed h.are;
+      listed = listed_settled f w v k info tracked over old h.listed;
+      found = found_more f w v k info tracked over come old h.found;
     })
   where
     settled_aside : (f : Formats) (w v : World) (k : ℕ) (i : Info) (blobs : Blobs) → HasSettled f w v k i → HasSettled f w (record v { blobs = blobs }) k i
@@ -311,7 +320,7 @@ may_swap_settle s log k root info cluster plan p next made tracked unpruned can 
       allows = λ image tells same. Settling k image (record { t = ticket_of s log k; s = can.change; n = can.n; may = may_settle s log k (root_of root) can; present = present; info = final.0; results = final.1; made = final.2; work = final.3 }) same;
       cluster_is = cluster_from _ cluster p new (ledger can.n can.put.raised ∙ ap ledger_of (sym is)) ops;
       root_is = λ old h. can.root_is ∙ ap (λ (w : World). w.root) (sym is);
-      infos_are = infos_more s log k (root_of root) info made tracked can present final;
+      infos_are = infos_more s log k (root_of root) info made tracked can present unpruned final;
       plan_is = λ old h. new;
       next_is = next_is ∙ ap (λ (w : World). w.next_id) (sym is);
     }
@@ -359,18 +368,39 @@ dropped_world w k t = record w { ops = fin.remove w.ops t.op; deletes = fin.remo
 dropped_is : (w : World) (k : ℕ) (t : Ticket) → fin.get w.tickets k ≡ Some t → dropped_of w k (fin.get w.tickets k) ≡ dropped_world w k t
 dropped_is w k t there = ap (dropped_of w k) there
 
-pub may_swap_drop : (s : Start) (log : List Moment) (k : ℕ) (cluster : Record) (plan p : Plan) (next : ℕ) → Tracked (world_of s log) → CanDrop (ticket_of s log k) → (ticket_of s log k).term ≡ (world_of s log).term
+leaves_out : (s : Start) (log : List Moment) (k : ℕ) → CanLeave s log k → (ticket_of s log k).out ≡ true
+leaves_out s log k (inl can) = can.out
+leaves_out s log k (inr can) = can.out
+
+-- a cleanup of the present term has its op
+leaves_by : (s : Start) (log : List Moment) (k : ℕ) (image : Option Image) → Tracked (world_of s log) → CanLeave s log k → CanTell s image → ((ticket_of s log k).work ≡ Drop) ⊎ HasCleaned (formats_of s) (world_of s log) k (ticket_of s log k) image
+leaves_by s log k image tracked (inl can) tells = inl can.work
+leaves_by s log k image tracked (inr can) tells = inr (record {
+  uuids = can.uuids;
+  s = can.plan;
+  work = can.work;
+  clean = can.cleans;
+  settled = can.settled;
+  open_op = λ present. let law = tracked.deletions.cleaning k (ticket_of s log k) (out_is s log k can.out).there can.out present can.cleans in (law.x, law.there, law.cleans);
+  latest = can.latest;
+  removals = can.removals;
+  removed = told_if s image _ tells can.removed;
+})
+
+abbrev leaving : (s : Start) (log : List Moment) (k : ℕ) (image : Option Image) → Tracked (world_of s log) → CanLeave s log k → CanTell s image → MayDrop (formats_of s) (world_of s log) k image
+leaving s log k image tracked can tells = record { t = ticket_of s log k; out = out_is s log k (leaves_out s log k can); unit = leaves_by s log k image tracked can tells }
+
+pub may_swap_drop : (s : Start) (log : List Moment) (k : ℕ) (cluster : Record) (plan p : Plan) (next : ℕ) → Tracked (world_of s log) → CanLeave s log k → (ticket_of s log k).term ≡ (world_of s log).term
     → IsPlanOf (world_of s log) plan → ((w : World) → IsPlanOf w plan → IsPlanOf (dropped_of w k (fin.get w.tickets k)) p)
     → (cluster_of cluster).ledger ≡ ledger_of (world_of s log) → map op_of cluster.ops ≡ record_ops p.ops p.deletes → next ≡ (world_of s log).next_id
     → MaySwap s log k DroppedStep HasEnded cluster None None None (Some p) next
 may_swap_drop s log k cluster plan p next tracked can present plan_is goes ledger ops next_is =
-    let out = out_is s log k can.out in
-    let is = dropped_is (world_of s log) k (ticket_of s log k) out.there in
+    let is = dropped_is (world_of s log) k (ticket_of s log k) (out_is s log k (leaves_out s log k can)).there in
     let new = goes (world_of s log) plan_is in
     record {
       swaps = refl;
       answers = refl;
-      allows = λ image tells same. Dropping k image (record { may = record { t = ticket_of s log k; out = out; work = can.work }; present = present }) same;
+      allows = λ image tells same. Dropping k image (record { may = leaving s log k image tracked can tells; present = present }) same;
       cluster_is = cluster_from _ cluster p new (ledger ∙ ap ledger_of (sym is)) ops;
       root_is = λ old h. h ∙ ap (λ (w : World). w.root) (sym is);
       infos_are = infos_swapped s log k DroppedStep tracked tt;
@@ -378,21 +408,21 @@ may_swap_drop s log k cluster plan p next tracked can present plan_is goes ledge
       next_is = next_is ∙ ap (λ (w : World). w.next_id) (sym is);
     }
 
-pub may_refuse_drop : (s : Start) (old log : List Moment) (k : ℕ) (seat : Seat) (now : ℕ) → log ≡ old → CanDrop (ticket_of s old k) → seat ≡ seat_of (ticket_of s log k) → now ≡ (world_of s log).term → seat.term ≢ now → MayRefuse s log k DroppedStep (StaleTerm seat.term now)
-may_refuse_drop s old log k seat now e before seat_is now_is stale =
-    let can : CanDrop (ticket_of s log k) = subst (λ (l : List Moment). CanDrop (ticket_of s l k)) (sym e) before in
+pub may_refuse_drop : (s : Start) (old log : List Moment) (k : ℕ) (seat : Seat) (now : ℕ) → log ≡ old → Tracked (world_of s log) → CanLeave s old k → seat ≡ seat_of (ticket_of s log k) → now ≡ (world_of s log).term → seat.term ≢ now → MayRefuse s log k DroppedStep (StaleTerm seat.term now)
+may_refuse_drop s old log k seat now e tracked before seat_is now_is stale =
+    let can : CanLeave s log k = subst (λ (l : List Moment). CanLeave s l k) (sym e) before in
     let own_is : seat.term ≡ (ticket_of s log k).term = ap (λ (x : Seat). x.term) seat_is in
     subst (MayRefuse s log k DroppedStep) (ap (λ (n : ℕ). StaleTerm n (world_of s log).term) (sym own_is) ∙ ap (StaleTerm seat.term) (sym now_is))
-    (record { plain = refl; allows = λ image tells same. DropStale k image (record { t = ticket_of s log k; out = out_is s log k can.out; work = can.work }) (λ q. stale (own_is ∙ q ∙ sym now_is)) same })
+    (record { plain = refl; allows = λ image tells same. DropStale k image (leaving s log k image tracked can tells) (λ q. stale (own_is ∙ q ∙ sym now_is)) same })
 
-dropped_puts : (s : Start) (old : List Moment) (k : ℕ) → CanDrop (ticket_of s old k) → or_no_ticket (fin.get (dropped_of (world_of s old) k (fin.get (world_of s old).tickets k)).tickets k) ≡ end (ticket_of s old k)
+dropped_puts : (s : Start) (old : List Moment) (k : ℕ) → CanLeave s old k → or_no_ticket (fin.get (dropped_of (world_of s old) k (fin.get (world_of s old).tickets k)).tickets k) ≡ end (ticket_of s old k)
 dropped_puts s old k can =
-    ap (λ (w : World). or_no_ticket (fin.get w.tickets k)) (dropped_is (world_of s old) k (ticket_of s old k) (out_is s old k can.out).there) ∙ ap or_no_ticket (put_there (world_of s old).tickets k (end (ticket_of s old k)))
+    ap (λ (w : World). or_no_ticket (fin.get w.tickets k)) (dropped_is (world_of s old) k (ticket_of s old k) (out_is s old k (leaves_out s old k can)).there) ∙ ap or_no_ticket (put_there (world_of s old).tickets k (end (ticket_of s old k)))
 
-pub dropped_ticket : (s : Start) (old mid new : List Moment) (k : ℕ) → mid ≡ old → CanDrop (ticket_of s old k) → Added s mid new k DroppedStep HasEnded → ticket_of s new k ≡ record (ticket_of s old k) { out = false }
+pub dropped_ticket : (s : Start) (old mid new : List Moment) (k : ℕ) → mid ≡ old → CanLeave s old k → Added s mid new k DroppedStep HasEnded → ticket_of s new k ≡ record (ticket_of s old k) { out = false }
 dropped_ticket s old mid new k e can a = added_ticket s old new k DroppedStep HasEnded (added_from s old mid new k DroppedStep HasEnded e a) k ∙ dropped_puts s old k can
 
-pub drop_left : {X : Type 0} (s : Start) (old new : List Moment) (k : ℕ) (r : Result X StepRefusal) → CanDrop (ticket_of s old k) → Did s old new k DroppedStep (λ x. HasEnded) r → LeftBy (HasEndedAs (ticket_of s old k)) r (ticket_of s old k) (ticket_of s new k)
+pub drop_left : {X : Type 0} (s : Start) (old new : List Moment) (k : ℕ) (r : Result X StepRefusal) → CanLeave s old k → Did s old new k DroppedStep (λ x. HasEnded) r → LeftBy (HasEndedAs (ticket_of s old k)) r (ticket_of s old k) (ticket_of s new k)
 drop_left s old new k (Ok n) can did = tt
 drop_left s old new k (Err steps.Memory) can did = ap (λ (l : List Moment). ticket_of s l k) did
 drop_left s old new k (Err steps.TurnsSpent) can never = absurd never

@@ -12,7 +12,7 @@ use Rattle.esr_model.specs.Image.{Image}
 use Rattle.esr_core.specs.World.{World, Ticket, Swap, swap, record_of}
 use Rattle.esr_core.specs.Entry.{CloneOf, Snapshot, Clone, DeleteSnapshots, Cleanup, Step, AskStep, RaiseStep, SettleStep, DroppedStep, ElectStep, Prune, SettlePruned, PruneStep, Reply, HasEnded, Refused, DepotFault, Entry, Moment}
 use Rattle.esr_core.specs.After.{with_given, done_step, swaps_record, text_is, has_text, settled_by, settled_of, dropped_of, delete_settled_by, delete_settled, fallen, faulted, answered, blobs_in, after}
-use Rattle.esr_core.specs.Allowed.{Accepts, Raises, AcceptsClone, CloneAllows, OpeningClone, CloneFault, DeleteAllows, GoingInto, DeleteFault, PruneAllows, SettlingDelete, SettleDeleteFails, Allows, SameBlobs, Told, Allowed}
+use Rattle.esr_core.specs.Allowed.{Accepts, Raises, AcceptsClone, CloneAllows, OpeningClone, CloneFault, DeleteAllows, GoingInto, DeleteFault, CleanupAllows, OpeningCleanup, CleanupFault, PruneAllows, SettlingDelete, SettleDeleteFails, Allows, SameBlobs, Told, Allowed}
 use Rattle.esr_core.specs.Allowed as allowed
 use Rattle.esr_core.specs.Left.{Leaves}
 use Rattle.esr_core.proofs.AskedDeletes.{delete_leaves}
@@ -134,6 +134,10 @@ delete_may_fail : {w : World} {names : List Bytes} {reply : Reply} → DeleteAll
 delete_may_fail (GoingInto acc) a = DeleteFault acc
 delete_may_fail other a = absurd cc
 
+cleanup_may_fail : {w : World} {reply : Reply} → CleanupAllows w reply → is_refused reply ≡ false → CleanupAllows w (Refused DepotFault)
+cleanup_may_fail (OpeningCleanup acc) a = CleanupFault acc
+cleanup_may_fail other a = absurd cc
+
 clone_may_fail : {f : Formats} {w : World} {source name : Bytes} {names : List Bytes} {moment : ℕ} {taken : Option CloneOf} {reply : Reply} {image : Option Image} → CloneAllows f w source name names moment taken reply image → is_refused reply ≡ false
     → CloneAllows f w source name names moment taken (Refused DepotFault) image
 clone_may_fail {f} {w} {source} {name} {names} {moment} (OpeningClone what o im acc) a = CloneFault what im (subst (λ n. AcceptsClone f w source name names moment n what im) acc.number acc)
@@ -149,6 +153,7 @@ may_fail : {f : Formats} {part_size : ℕ} {w : World} {who : ℕ} {step : Step}
 may_fail {f} {part_size} {w} (allowed.Accepting name indices moment o im acc same) h a is = allowed.AskFails name indices moment im (subst (λ n. Accepts f w name indices moment n) acc.number acc) is
 may_fail (allowed.AskingClone source name names moment taken reply im c same) h a is = allowed.AskingClone source name names moment taken (Refused DepotFault) im (clone_may_fail c a) is
 may_fail (allowed.AskingDelete names reply im d same) h a is = allowed.AskingDelete names (Refused DepotFault) im (delete_may_fail d a) is
+may_fail (allowed.AskingCleanup reply im d same) h a is = allowed.AskingCleanup (Refused DepotFault) im (cleanup_may_fail d a) is
 may_fail {f} {part_size} {w} (allowed.Raising k n im r same) h a is = allowed.RaiseFails k im (subst (λ n. Raises f w k n) r.n_is r) is
 may_fail (allowed.Settling k im r same) h a is = allowed.SettleFails k im r is
 may_fail (allowed.Dropping k im r same) h a is = allowed.DropFails k im r is

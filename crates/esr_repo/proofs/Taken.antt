@@ -2,20 +2,18 @@
 use Rattle.std.proofs.Common.{◌≡◌, ℕ, Bool, true, false, ◌&&◌, List, [], ◌∷◌, map, Option, Some, None, option_map, refl, sym, ap, ◌∙◌, subst, inl, inr}
 use Rattle.std.specs.Prelude.{if◌then◌else◌, ◌==◌}
 use Rattle.std.proofs.lemmas.Bool.{eqb-true}
-use Rattle.std.specs.Ordering.{nat_cmp}
-use Rattle.std.specs.FinMap.{FinMap}
 use Rattle.std.specs.FinMap as fin
 use Rattle.esr_model.specs.Finalize.{finalized_root}
 use Rattle.esr_model.specs.Values.{Bytes, Has, IndexRef, RootData, SnapInfo, ShardResult, ReadsBack, Formats}
-use Rattle.esr_core.specs.World.{World, Op, Deletion, ShardWork, Done, AllDone, Work as UnitWork, Shard, Finalize, Deleting, Drop, Ticket, RestoreShard, Restoring, Reader, info_of, made_of}
+use Rattle.esr_core.specs.World.{World, Op, ShardWork, Done, AllDone, Work as UnitWork, Shard, Finalize, Deleting, Drop, Ticket, RestoreShard, Restoring, Reader, info_of, made_of}
 use Rattle.esr_core.specs.Entry.{Given, GivenShard, GivenFinalize, GivenDrop, GivenRestore, GivenClone, TakeStep, Gave, NothingReady, Moment}
 use Rattle.esr_core.specs.Ready.{ReadyFinalize, AnyReady}
 use Rattle.esr_core.specs.Restores.{restore_shard, reader_of as restore_reader}
 use Rattle.esr_core.specs.Steps.{shard_ticket, final_ticket}
 use Rattle.esr_core.specs.After.{shard_of, taken_shard, taken_restore_shard, taken_restore, taken_by}
-use Rattle.esr_core.specs.Allowed.{NoCleanup, Gives, Giving, GivingNothing}
+use Rattle.esr_core.specs.Allowed.{Gives, Giving, GivingNothing}
 use Rattle.esr_core.specs.Tracked.{Tracked}
-use Rattle.esr_core.specs.Turns.{plain_ticket}
+use Rattle.esr_core.specs.Turns.{plain_ticket, cleaning_ticket}
 use Rattle.esr_root.specs.Root.{Root}
 use Rattle.esr_formats.specs.Formats.{formats}
 use Rattle.esr_formats.specs.Ids.{number_of}
@@ -48,10 +46,6 @@ may_note_nothing s log next none next_is = record { plain = refl; allows = λ im
 pub given_in : (w : World) (plan : Plan) (root : Root) (safe term : ℕ) → IsPlanOf w plan → root_of root ≡ w.root → safe ≡ w.safe → term ≡ w.term → IsGivenIn plan (root_of root) safe term w
 given_in w plan root safe term plan_is root_is safe_is term_is = record { plan = plan_is; root_is = sym root_is; safe_is = sym safe_is; term_is = sym term_is }
 
--- the list of a world without a cleanup has none
-pub none_cleans : (w : World) (plan : Plan) → NoCleanup w → IsPlanOf w plan → (d : ℕ) (x : Deletion) → fin.get plan.deletes d ≡ Some x → x.clean ≡ false
-none_cleans w plan none plan_is d x there = none d x (ap (λ (m : FinMap nat_cmp Deletion). fin.get m d) (sym plan_is.deletes) ∙ there)
-
 -- of what is given the base tells only of a shard
 given_based : (w : World) (o : ℕ) (work : Work) (copy : Copied) → GivesWork w o work copy → given_by work (record copy { base = base_for work copy.base }) ≡ given_by work copy
 given_based w o (works.Shard uuid shard index place) copy h = refl
@@ -60,7 +54,7 @@ given_based w o works.Drop copy h = refl
 given_based w o (works.RestoreShard uuid shard index place) copy h = refl
 given_based w o (works.CloneShard source uuid shard index) copy h = refl
 given_based w o (works.Delete uuids) copy h = refl
-given_based w o work copy h = absurd h
+given_based w o works.Cleanup copy h = refl
 
 gives_based : (w : World) (o : ℕ) (work : Work) (copy : Copied) → GivesWork w o work copy → GivesWork w o work (record copy { base = base_for work copy.base })
 gives_based w o (works.Shard uuid shard index place) copy h = h
@@ -69,7 +63,7 @@ gives_based w o works.Drop copy h = h
 gives_based w o (works.RestoreShard uuid shard index place) copy h = h
 gives_based w o (works.CloneShard source uuid shard index) copy h = h
 gives_based w o (works.Delete uuids) copy h = h
-gives_based w o work copy h = absurd h
+gives_based w o works.Cleanup copy h = h
 
 abbrev Next : World → Plan → ReadyUnit → Type 0
 Next w new u = GivesUnit w u × ((f : Formats) → IsPlanOf (taken_by f w u.op (given_of u) (fin.get w.ops u.op)) new)
@@ -125,6 +119,7 @@ given_so s w u made gives has = go u.work refl gives.gives
     go (works.RestoreShard uuid shard index place) is h = h.gives
     go (works.CloneShard source uuid shard index) is h = h.gives
     go (works.Delete uuids) is h = h
+    go works.Cleanup is h = h
     go (works.Finalize info shards) is h =
         let root = has info shards is in
         let same : root_of root.root ≡ finalized_root w.root (info_of h.0 (map result_of shards)) (map result_of shards) =
@@ -135,7 +130,6 @@ given_so s w u made gives has = go u.work refl gives.gives
           info_is = h.2;
           root_back = subst (λ kind. ReadsBack kind (finalized_root w.root (info_of h.0 (map result_of shards)) (map result_of shards))) (sym (root_kind_is s)) (subst (ReadsBack root_kind) same root.back);
         }
-    go work is h = absurd h
 
 next_restore : (w : World) (o index number : ℕ) (r : Option Restoring) → (taken_restore w o index number r).next_id ≡ w.next_id
 next_restore w o index number None = refl
@@ -266,6 +260,9 @@ module _ (s : Start) (old new : List Moment) (u : ReadyUnit) (made : Option Root
     tried_latest = false;
     settled = false;
     out = true;
+    clean = false;
+    listed = [];
+    whole = false;
   }
 
   final_is : (op : Op) (info : SnapInfo) (results : List ShardResult) → info ≡ info_of op results → None ≡ option_map number_of u.copy.base → final_ticket f w u.op op results ≡ fresh (Finalize info results (made_of f op)) u.op info.uuid [] [] w.term u.copy
@@ -289,6 +286,9 @@ module _ (s : Start) (old new : List Moment) (u : ReadyUnit) (made : Option Root
     tried_latest = false;
     settled = false;
     out = true;
+    clean = false;
+    listed = [];
+    whole = false;
   }
 
   plain_is : (work : UnitWork) → None ≡ option_map number_of u.copy.base → plain_ticket w u.op work ≡ fresh work u.op 0 [] [] w.term u.copy
@@ -312,6 +312,9 @@ module _ (s : Start) (old new : List Moment) (u : ReadyUnit) (made : Option Root
     tried_latest = false;
     settled = false;
     out = true;
+    clean = false;
+    listed = [];
+    whole = false;
   }
 
   reader_is : (r : Restoring) (z : RestoreShard) (index number uuid : ℕ) (name place : Bytes) → z.ref.id ≡ index → z.number ≡ number → uuid ≡ r.uuid → name ≡ z.ref.name → place ≡ r.place
@@ -373,7 +376,8 @@ module _ (s : Start) (old new : List Moment) (u : ReadyUnit) (made : Option Root
   took_by (works.Delete uuids) t q is h base t_is q_is =
       let work : UnitWork = Deleting (map number_of uuids) None in
       (w.term, t_is ∙ put (plain_ticket w u.op work) ∙ plain_is work (ap (option_map number_of) (sym base)))
-  took_by work t q is h base t_is q_is = absurd h
+  took_by works.Cleanup t q is h base t_is q_is =
+      (w.term, t_is ∙ put (cleaning_ticket w u.op) ∙ ap (λ (x : Ticket). record x { clean = true }) (plain_is (Deleting [] None) (ap (option_map number_of) (sym base))))
 
   pub took : (given : Given) → IsBased u → given ≡ given_of u → Added s old new 0 TakeStep (Gave u.ticket u.op given) → TookUnit s new (record { ready = u; new_root = made })
   took given base given_is a =

@@ -8,12 +8,12 @@ use Rattle.std.specs.FinMap.{FinMap, nat_cmp-IsAntisymmetric}
 use Rattle.std.specs.FinMap as fin
 use Rattle.esr_model.specs.Values.{Has, Formats}
 use Rattle.esr_model.specs.Image.{Image}
-use Rattle.esr_core.specs.World.{World, Op, ShardWork, Restoring, RestoreShard, Deleting, Drop, Swap, Ticket}
-use Rattle.esr_core.specs.Entry.{Entry, Given, GivenShard, GivenFinalize, GivenDrop, GivenRestore, GivenClone, GivenDelete, Step, TakeStep, StaleTerm, DepotFault, Reply, Gave, Refused, Moment}
+use Rattle.esr_core.specs.World.{World, Op, Deletion, ShardWork, Restoring, RestoreShard, Deleting, Drop, Swap, Ticket}
+use Rattle.esr_core.specs.Entry.{Entry, Given, GivenShard, GivenFinalize, GivenDrop, GivenRestore, GivenClone, GivenDelete, GivenCleanup, Step, TakeStep, StaleTerm, DepotFault, Reply, Gave, Refused, Moment}
 use Rattle.esr_core.specs.After.{shard_of, taken_shard, taken_restore_shard, taken_restore, taken_by, answered, after}
 use Rattle.esr_core.specs.Restores.{restore_shard}
 use Rattle.esr_core.specs.Steps.{IsOut, shard_ticket, final_ticket}
-use Rattle.esr_core.specs.Turns.{plain_ticket}
+use Rattle.esr_core.specs.Turns.{plain_ticket, cleaning_ticket}
 use Rattle.esr_core.specs.Allowed.{Gives, Allowed, Blocks}
 use Rattle.esr_core.specs.Past.{begins_anew, entries_by}
 use Rattle.esr_core.specs.Tracked.{Tracked}
@@ -22,6 +22,7 @@ use Rattle.esr_core.specs.Causes.{RefusalCause, OfRule, OfTerm}
 use Rattle.esr_desk.specs.Made.{counted_or_before}
 use Rattle.esr_repo.specs.Laws.{Laws}
 use Rattle.esr_repo.specs.Tickets.{AreStale, AreOfOps}
+use Rattle.esr_repo.proofs.Coming.{uuids_same}
 
 -- ---- terms rise
 
@@ -142,7 +143,7 @@ ops_come f w who step new (NewOp ask x completed next a b) o op e = ⊎_elim (λ
 ops_come f w who step new (NewDeletion ask ops x aborts clean) o op e = let old = aborts.was o op e in inl (old.0, old.1)
 ops_come f w who step new (MergedDeletion ask ops d x v aborts there clean failed) o op e = let old = aborts.was o op e in inl (old.0, old.1)
 ops_come f w who step new (NewTicket take t one ops same) o op e = inl (same_ops w.ops ops same o op e)
-ops_come f w who step new (Settlement settle t s n names there swap raised) o op e = inl (op, left_was w.ops t.op o op e)
+ops_come f w who step new (Settlement settle t s n names deletes there swap raised how) o op e = inl (op, left_was w.ops t.op o op e)
 ops_come f w who step new (UnitEnd t x v completed there op_there same) o op e = inl (⊎_elim (λ (here : (o ≡ t.op) × (v ≡ op)). (x, ap (fin.get w.ops) here.0 ∙ op_there)) (λ (was : fin.get w.ops o ≡ Some op). (op, was)) (key_was w.ops t.op v o op e))
 ops_come f w who step new (OpDrop drop t there) o op e = inl (op, left_was w.ops t.op o op e)
 ops_come f w who step new (SwapFault is up change) o op e = ops_come f w who step up change o op e
@@ -158,30 +159,37 @@ put_was w who t v k x there e = ⊎_elim (λ (here : (k ≡ who) × (v ≡ x)). 
 given_by : (f : Formats) (w : World) (who : ℕ) (step : Step) (new : World) → StepChange f w who step new → (k : ℕ) (x : Ticket) → fin.get new.tickets k ≡ Some x → HasTicket w k ⊎ (step ≡ TakeStep)
 given_by f w who step new (NewTicket take t one ops same) k x e = inr take
 given_by f w who step new (OwnTicket t v there same settled next pending a b) k x e = inl (put_was w who t v k x there e)
-given_by f w who step new (Settlement settle t s n names there swap raised) k x e = inl (put_was w who t (record t { settled = true }) k x there e)
+given_by f w who step new (Settlement settle t s n names deletes there swap raised how) k x e = inl (put_was w who t (record t { settled = true }) k x there e)
 given_by f w who step new (UnitEnd t op v completed there op_there same) k x e = inl (put_was w who t (record t { out = false }) k x there e)
 given_by f w who step new (DeletionFailure t d there d_there) k x e = inl (put_was w who t (record t { out = false }) k x there e)
 given_by f w who step new (OpDrop drop t there) k x e = inl (put_was w who t (record t { out = false }) k x there e)
 given_by f w who step new (SwapFault is up change) k x e = given_by f w who step up change k x e
 given_by f w who step new other k x e = inl (x, e)
 
--- ---- a delete's ticket that a take gives
+-- ---- a ticket that a take gives
 
-module _ (f : Formats) (w : World) (tracked : Tracked w) (v : Ticket) (uuids : List ℕ) (plan : Option Swap) (work : v.work ≡ Deleting uuids plan) where
+-- it is of no delete or cleanup
+abbrev IsOther : Ticket → Type 0
+IsOther v = (v.clean ≡ false) × ((uuids : List ℕ) (plan : Option Swap) → v.work ≡ Deleting uuids plan → ⊥)
+
+-- or of one: its number is no open op's, and a cleanup names no snapshot
+abbrev IsPruner : FinMap nat_cmp Op → Ticket → Type 0
+IsPruner ops v = ((op : Op) → fin.get ops v.op ≡ Some op → ⊥) × (v.clean ≡ true → v.work ≡ Deleting [] None)
+
+module _ (f : Formats) (w : World) (tracked : Tracked w) (v : Ticket) where
   fresh_number : fin.get w.tickets w.next_ticket ≡ Some v → ⊥
   fresh_number there = below w.next_ticket (tracked.tickets w.next_ticket v there).0
     where
       below : (n : ℕ) → n < n → ⊥
       below n lt = omega (arith, lt)
 
-  -- one of another unit isn't a delete's
-  other_unit : (t : Ticket) → ((us : List ℕ) (p : Option Swap) → t.work ≡ Deleting us p → ⊥) → fin.get (fin.insert w.tickets w.next_ticket t) w.next_ticket ≡ Some v → ⊥
+  other_unit : (t : Ticket) → IsOther t → fin.get (fin.insert w.tickets w.next_ticket t) w.next_ticket ≡ Some v → IsOther v
   other_unit t other e =
-      ⊎_elim (λ (here : (w.next_ticket ≡ w.next_ticket) × (t ≡ v)). other uuids plan (ap (λ (x : Ticket). x.work) here.1 ∙ work)) (λ (was : fin.get w.tickets w.next_ticket ≡ Some v). fresh_number was) (key_was w.tickets w.next_ticket t w.next_ticket v e)
+      ⊎_elim (λ (here : (w.next_ticket ≡ w.next_ticket) × (t ≡ v)). subst IsOther here.1 other) (λ (was : fin.get w.tickets w.next_ticket ≡ Some v). absurd (fresh_number was)) (key_was w.tickets w.next_ticket t w.next_ticket v e)
 
-  by_shard : (o : ℕ) (op : Op) (base : Option ℕ) (s : Option ShardWork) → fin.get (taken_shard w o op base s).tickets w.next_ticket ≡ Some v → ⊥
-  by_shard o op base None e = fresh_number e
-  by_shard o op base (Some s) e = other_unit (shard_ticket w o op s base) (λ us p is. cc) e
+  by_shard : (o : ℕ) (op : Op) (base : Option ℕ) (s : Option ShardWork) → fin.get (taken_shard w o op base s).tickets w.next_ticket ≡ Some v → IsOther v
+  by_shard o op base None e = absurd (fresh_number e)
+  by_shard o op base (Some s) e = other_unit (shard_ticket w o op s base) (refl, λ us p is. cc) e
 
   by_restore : (o index number : ℕ) (r : Option Restoring) → fin.get (taken_restore w o index number r).tickets w.next_ticket ≡ Some v → ⊥
   by_restore o index number None e = fresh_number e
@@ -191,27 +199,31 @@ module _ (f : Formats) (w : World) (tracked : Tracked w) (v : Ticket) (uuids : L
       go None e = fresh_number e
       go (Some s) e = fresh_number e
 
-  -- its number is no open op's
-  by_unit : (o : ℕ) (unit : Given) (given : Option Op) → Gives f w o unit → fin.get (taken_by f w o unit given).tickets w.next_ticket ≡ Some v → (op : Op) → fin.get (taken_by f w o unit given).ops v.op ≡ Some op → ⊥
-  by_unit o (GivenShard index number base) (Some x) gives e op is_open = by_shard o x base (shard_of x.shards index number) e
-  by_unit o (GivenShard index number base) None gives e op is_open = fresh_number e
-  by_unit o (GivenClone index number source base) (Some x) gives e op is_open = by_shard o x base (shard_of x.shards index number) e
-  by_unit o (GivenClone index number source base) None gives e op is_open = fresh_number e
-  by_unit o (GivenFinalize info results) (Some x) gives e op is_open = other_unit (final_ticket f w o x results) (λ us p is. cc) e
-  by_unit o (GivenFinalize info results) None gives e op is_open = fresh_number e
-  by_unit o GivenDrop given gives e op is_open = other_unit (plain_ticket w o Drop) (λ us p is. cc) e
-  by_unit o (GivenRestore index number uuid) given gives e op is_open = by_restore o index number (fin.get w.restores o) e
-  by_unit o (GivenDelete us) given gives e op is_open =
+  -- of the deletion that is open under this number
+  pruner_unit : (o : ℕ) (x : Deletion) (t : Ticket) → fin.get w.deletes o ≡ Some x → t.op ≡ o → (t.clean ≡ true → t.work ≡ Deleting [] None) → fin.get (fin.insert w.tickets w.next_ticket t) w.next_ticket ≡ Some v → IsPruner w.ops v
+  pruner_unit o x t there own bare e =
       ⊎_elim
-      (λ (here : (w.next_ticket ≡ w.next_ticket) × (plain_ticket w o (Deleting us None) ≡ v)). tracked.apart o op gives.0 (ap (fin.get w.ops) (ap (λ (x : Ticket). x.op) here.1) ∙ is_open) gives.1.there)
-      (λ (was : fin.get w.tickets w.next_ticket ≡ Some v). fresh_number was)
-      (key_was w.tickets w.next_ticket (plain_ticket w o (Deleting us None)) w.next_ticket v e)
-  by_unit o unit given gives e op is_open = fresh_number e
+      (λ (here : (w.next_ticket ≡ w.next_ticket) × (t ≡ v)). subst (IsPruner w.ops) here.1 (λ op is_open. tracked.apart o op x (ap (fin.get w.ops) (sym own) ∙ is_open) there, bare))
+      (λ (was : fin.get w.tickets w.next_ticket ≡ Some v). absurd (fresh_number was))
+      (key_was w.tickets w.next_ticket t w.next_ticket v e)
 
-  by_take : (who : ℕ) (reply : Reply) (image : Option Image) → ((k o : ℕ) (unit : Given) → reply ≡ Gave k o unit → Gives f w o unit) → fin.get (answered f w who TakeStep reply image).tickets w.next_ticket ≡ Some v → (op : Op) → fin.get (answered f w who TakeStep reply image).ops v.op ≡ Some op → ⊥
-  by_take who (Gave k o unit) image gives e op is_open = by_unit o unit (fin.get w.ops o) (gives k o unit refl) e op is_open
-  by_take who (Refused DepotFault) image gives e op is_open = fresh_number e
-  by_take who reply image gives e op is_open = fresh_number e
+  by_unit : (o : ℕ) (unit : Given) (given : Option Op) → Gives f w o unit → fin.get (taken_by f w o unit given).tickets w.next_ticket ≡ Some v → IsOther v ⊎ IsPruner (taken_by f w o unit given).ops v
+  by_unit o (GivenShard index number base) (Some x) gives e = inl (by_shard o x base (shard_of x.shards index number) e)
+  by_unit o (GivenShard index number base) None gives e = absurd (fresh_number e)
+  by_unit o (GivenClone index number source base) (Some x) gives e = inl (by_shard o x base (shard_of x.shards index number) e)
+  by_unit o (GivenClone index number source base) None gives e = absurd (fresh_number e)
+  by_unit o (GivenFinalize info results) (Some x) gives e = inl (other_unit (final_ticket f w o x results) (refl, λ us p is. cc) e)
+  by_unit o (GivenFinalize info results) None gives e = absurd (fresh_number e)
+  by_unit o GivenDrop given gives e = inl (other_unit (plain_ticket w o Drop) (refl, λ us p is. cc) e)
+  by_unit o (GivenRestore index number uuid) given gives e = absurd (by_restore o index number (fin.get w.restores o) e)
+  by_unit o (GivenDelete us) given gives e = inr (pruner_unit o gives.0 (plain_ticket w o (Deleting us None)) gives.1.there refl (λ clean. absurd (true≢false (sym clean))) e)
+  by_unit o GivenCleanup given gives e = inr (pruner_unit o gives.0 (cleaning_ticket w o) gives.1.there refl (λ clean. refl) e)
+
+  by_take : (who : ℕ) (reply : Reply) (image : Option Image) → ((k o : ℕ) (unit : Given) → reply ≡ Gave k o unit → Gives f w o unit) → fin.get (answered f w who TakeStep reply image).tickets w.next_ticket ≡ Some v
+      → IsOther v ⊎ IsPruner (answered f w who TakeStep reply image).ops v
+  by_take who (Gave k o unit) image gives e = by_unit o unit (fin.get w.ops o) (gives k o unit refl) e
+  by_take who (Refused DepotFault) image gives e = absurd (fresh_number e)
+  by_take who reply image gives e = absurd (fresh_number e)
 
 -- ---- the op of a ticket that has settled
 
@@ -243,7 +255,7 @@ settled_come f w who step new (OwnTicket t x there same settled next pending a b
     (λ (here : (k ≡ who) × (x ≡ v)). (t, ap (fin.get w.tickets) here.0 ∙ there, sym settled ∙ ap (λ (y : Ticket). y.settled) here.1 ∙ is, sym same.op ∙ ap (λ (y : Ticket). y.op) here.1))
     (λ (was : fin.get w.tickets k ≡ Some v). (v, was, is, refl))
     (key_was w.tickets who x k v e)
-settled_come f w who step new (Settlement settle t s n names there swap raised) k v op e is is_open =
+settled_come f w who step new (Settlement settle t s n names deletes there swap raised how) k v op e is is_open =
     ⊎_elim
     (λ (here : (k ≡ who) × ((record t { settled = true }) ≡ v)). absurd (none_left w.ops t.op op (ap (fin.get (fin.remove w.ops t.op)) (ap (λ (x : Ticket). x.op) here.1) ∙ is_open)))
     (λ (was : fin.get w.tickets k ≡ Some v). (v, was, is, refl))
@@ -254,13 +266,19 @@ settled_come f w who step new (OpDrop drop t there) k v op e is is_open = ended_
 settled_come f w who step new (SwapFault swaps up change) k v op e is is_open = settled_come f w who step up change k v op e is is_open
 settled_come f w who step new other k v op e is is_open = (v, e, is, refl)
 
--- ---- a delete's ticket has the number of no open op
+-- ---- a ticket of a delete or cleanup has the number of no open op
 
 was_deleting : (t v : Ticket) (uuids : List ℕ) (plan : Option Swap) → SameUnit t v → v.work ≡ Deleting uuids plan → (us : List ℕ) × (p : Option Swap) × (t.work ≡ Deleting us p)
 was_deleting t v uuids plan same work = elim same.work [ inl e ↦ (uuids, plan, sym e ∙ work) | inr x ↦ (x.0, x.1, x.3) ]
 
+stays_bare : (t v : Ticket) (plan : Option Swap) → SameUnit t v → t.work ≡ Deleting [] plan → (p : Option Swap) × (v.work ≡ Deleting [] p)
+stays_bare t v plan same work = elim same.work [
+  | inl e ↦ (plan, e ∙ work)
+  | inr x ↦ (Some x.2, x.4 ∙ ap (λ (us : List ℕ). Deleting us (Some x.2)) (uuids_same x.0 [] x.1 plan (sym x.3 ∙ work)))
+]
+
 pub of_ops_step : (f : Formats) (size : ℕ) (w : World) (m : Moment) → Laws → Tracked w → Allowed f size w m → AreOfOps w → AreOfOps (after f w m)
-of_ops_step f size w m laws tracked a h = record { some = some; apart = apart; over = over }
+of_ops_step f size w m laws tracked a h = record { some = some; apart = apart; bare = bare; over = over }
   where
     frame : StepFrame w (after f w m) m.entry.who m.entry.step
     frame = laws.frames f w m
@@ -282,13 +300,14 @@ of_ops_step f size w m laws tracked a h = record { some = some; apart = apart; o
         (λ (new : v.op ≡ w.next_op). past v.op t.op w.next_op same.op (tracked.begun k t there) new)
         (ops_come f w m.entry.who m.entry.step _ (laws.changes f w m.entry.who m.entry.step m.entry.reply m.image) v.op op is_open)
 
-    given : (v : Ticket) (uuids : List ℕ) (plan : Option Swap) (op : Op) → fin.get (after f w m).tickets w.next_ticket ≡ Some v → v.work ≡ Deleting uuids plan → fin.get (after f w m).ops v.op ≡ Some op → ⊥
-    given v uuids plan op there work is_open = elim (given_by f w m.entry.who m.entry.step _ (laws.changes f w m.entry.who m.entry.step m.entry.reply m.image) w.next_ticket v there) [
-      | inl was ↦ below w.next_ticket (tracked.tickets w.next_ticket was.0 was.1).0
-      | inr take ↦ by_take f w tracked v uuids plan work m.entry.who m.entry.reply m.image
+    given : (v : Ticket) → fin.get (after f w m).tickets w.next_ticket ≡ Some v → IsOther v ⊎ IsPruner (after f w m).ops v
+    given v there = elim (given_by f w m.entry.who m.entry.step _ (laws.changes f w m.entry.who m.entry.step m.entry.reply m.image) w.next_ticket v there) [
+      | inl was ↦ absurd (below w.next_ticket (tracked.tickets w.next_ticket was.0 was.1).0)
+      | inr take ↦
+          subst (λ (s : Step). IsOther v ⊎ IsPruner (answered f w m.entry.who s m.entry.reply m.image).ops v) (sym take)
+          (by_take f w tracked v m.entry.who m.entry.reply m.image
           (λ k o unit is. (laws.gave f size w m k o unit a is).gives)
-          (subst (λ (s : Step). fin.get (answered f w m.entry.who s m.entry.reply m.image).tickets w.next_ticket ≡ Some v) take there) op
-          (subst (λ (s : Step). fin.get (answered f w m.entry.who s m.entry.reply m.image).ops v.op ≡ Some op) take is_open)
+          (subst (λ (s : Step). fin.get (answered f w m.entry.who s m.entry.reply m.image).tickets w.next_ticket ≡ Some v) take there))
     ]
       where
         below : (n : ℕ) → n < n → ⊥
@@ -297,7 +316,13 @@ of_ops_step f size w m laws tracked a h = record { some = some; apart = apart; o
     apart : (k : ℕ) (v : Ticket) (uuids : List ℕ) (plan : Option Swap) (op : Op) → fin.get (after f w m).tickets k ≡ Some v → v.work ≡ Deleting uuids plan → fin.get (after f w m).ops v.op ≡ Some op → ⊥
     apart k v uuids plan op there work is_open = elim (frame.come k v there) [
       | inl was ↦ old k was.0 v uuids plan op was.1 was.2 work is_open
-      | inr new ↦ given v uuids plan op (ap (fin.get (after f w m).tickets) (sym new.0) ∙ there) work is_open
+      | inr new ↦ elim (given v (ap (fin.get (after f w m).tickets) (sym new.0) ∙ there)) [ inl other ↦ other.1 uuids plan work | inr pruner ↦ pruner.0 op is_open ]
+    ]
+
+    bare : (k : ℕ) (v : Ticket) → fin.get (after f w m).tickets k ≡ Some v → v.clean ≡ true → (plan : Option Swap) × (v.work ≡ Deleting [] plan)
+    bare k v there clean = elim (frame.come k v there) [
+      | inl was ↦ let before = h.bare k was.0 was.1 (sym was.2.clean ∙ clean) in stays_bare was.0 v before.0 was.2 before.1
+      | inr new ↦ elim (given v (ap (fin.get (after f w m).tickets) (sym new.0) ∙ there)) [ inl other ↦ absurd (true≢false (sym clean ∙ other.0)) | inr pruner ↦ (None, pruner.1 clean) ]
     ]
 
     over : (k : ℕ) (v : Ticket) (op : Op) → fin.get (after f w m).tickets k ≡ Some v → v.settled ≡ true → fin.get (after f w m).ops v.op ≡ Some op → ⊥

@@ -1,5 +1,5 @@
 -- The steps that call the container for a blob.
-use Rattle.std.proofs.Common.{◌≡◌, ℕ, Bool, true, false, List, Option, Some, None, Result, Ok, Err, IfOk, IfSome, OnErr, refl, sym, ap, ◌∙◌, subst, inl, inr}
+use Rattle.std.proofs.Common.{◌≡◌, ℕ, Bool, true, false, List, [], Option, Some, None, Result, Ok, Err, IfOk, IfSome, OnErr, refl, sym, ap, ◌∙◌, subst, inl, inr}
 use Rattle.std.specs.Prelude.{if◌then◌else◌}
 use Rattle.std.specs.FinMap as fin
 use Rattle.esr_model.specs.Image.{Image}
@@ -25,13 +25,23 @@ use Rattle.esr_repo.specs.Next.{Did}
 use Rattle.esr_repo.specs.May.{MayBegin, MayReplace, MayFetch, IsNamed}
 use Rattle.esr_repo.specs.May.{MayCommit as StepMayCommit}
 use Rattle.esr_repo.specs.Repo.{OwnIndices}
+use Rattle.esr_repo.specs.Tickets.{AreOfOps}
 use Rattle.esr_repo.specs.Calls.{CommitDid, FetchDid}
 use Rattle.esr_repo.specs.Grown.{out_is, added_ticket, changed_ticket}
 use Rattle.esr_repo.proofs.Stepping.{kept_by}
 
 -- a blob of this name and these bytes may be committed
-abbrev committable : (s : Start) (log : List Moment) (k : ℕ) (name : BlobName) (bytes : Bytes) → CanCommit s (ticket_of s log k) name bytes → IsNamed s name → Commits (formats_of s) s.part_size (world_of s log) k name
-committable s log k name bytes can named = record { t = ticket_of s log k; out = out_is s log k can.out; unsettled = can.unsettled; bytes = bytes; named = (named, can.stored); may = can.may; numbered = can.numbered }
+abbrev committable : (s : Start) (log : List Moment) (k : ℕ) (name : BlobName) (bytes : Bytes) → AreOfOps (world_of s log) → CanCommit s (ticket_of s log k) name bytes → IsNamed s name → Commits (formats_of s) s.part_size (world_of s log) k name
+committable s log k name bytes of_ops can named = record {
+  t = ticket_of s log k;
+  out = out_is s log k can.out;
+  unsettled = can.unsettled;
+  bytes = bytes;
+  named = (named, can.stored);
+  may = can.may;
+  numbered = can.numbered;
+  late = λ cleans. let bare = of_ops.bare k (ticket_of s log k) (out_is s log k can.out).there cleans in can.late [] bare.0 bare.1 cleans;
+}
 
 abbrev putting : (s : Start) (log : List Moment) (k n : ℕ) → CanPut s (ticket_of s log k) n → Puts (formats_of s) (world_of s log) k
 putting s log k n can = record { t = ticket_of s log k; out = out_is s log k can.out; s = can.change; is = can.is; unsettled = can.unsettled; n = n; raised = can.raised; written = can.written }
@@ -41,12 +51,12 @@ putting s log k n can = record { t = ticket_of s log k; out = out_is s log k can
 begin_latest : (s : Start) (log : List Moment) (k n : ℕ) → CanPut s (ticket_of s log k) n → MayBegin s log k (BeginStep Latest) Latest
 begin_latest s log k n can = record { is = refl; begins = λ named image tells same. BeginningLatest k image (putting s log k n can) same; fails = λ named image tells same. BeginLatestFails k image (putting s log k n can) same }
 
-begin_by : (s : Start) (log : List Moment) (k : ℕ) (name : BlobName) → CanBegin s (ticket_of s log k) name → MayBegin s log k (BeginStep name) name
-begin_by s log k name (inl h) = record { is = refl; begins = λ named image tells same. Beginning k name image (committable s log k name h.0 h.1 named) same; fails = λ named image tells same. BeginFails k name image (committable s log k name h.0 h.1 named) same }
-begin_by s log k name (inr h) = subst (λ (n : BlobName). MayBegin s log k (BeginStep n) n) (sym h.0) (begin_latest s log k h.1.0 h.1.1)
+begin_by : (s : Start) (log : List Moment) (k : ℕ) (name : BlobName) → AreOfOps (world_of s log) → CanBegin s (ticket_of s log k) name → MayBegin s log k (BeginStep name) name
+begin_by s log k name of_ops (inl h) = record { is = refl; begins = λ named image tells same. Beginning k name image (committable s log k name h.0 of_ops h.1 named) same; fails = λ named image tells same. BeginFails k name image (committable s log k name h.0 of_ops h.1 named) same }
+begin_by s log k name of_ops (inr h) = subst (λ (n : BlobName). MayBegin s log k (BeginStep n) n) (sym h.0) (begin_latest s log k h.1.0 h.1.1)
 
-pub may_begin : (s : Start) (old log : List Moment) (k : ℕ) (name : BlobName) → log ≡ old → CanBegin s (ticket_of s old k) name → MayBegin s log k (BeginStep name) name
-may_begin s old log k name e can = begin_by s log k name (subst (λ (l : List Moment). CanBegin s (ticket_of s l k) name) (sym e) can)
+pub may_begin : (s : Start) (old log : List Moment) (k : ℕ) (name : BlobName) → log ≡ old → AreOfOps (world_of s log) → CanBegin s (ticket_of s old k) name → MayBegin s log k (BeginStep name) name
+may_begin s old log k name e of_ops can = begin_by s log k name of_ops (subst (λ (l : List Moment). CanBegin s (ticket_of s l k) name) (sym e) can)
 
 out_begin : (s : Start) (t : Ticket) (name : BlobName) → CanBegin s t name → t.out ≡ true
 out_begin s t name (inl h) = h.1.out
@@ -218,20 +228,20 @@ refinding f w k t name bytes pruning out unsettled may meta = go may
     go (inl h) = by_swap h.0 h.1 h.2
     go (inr h) = absurd (no_shard name meta.1 h.1)
 
-commit_by : (s : Start) (log : List Moment) (k : ℕ) (name : BlobName) (bytes : Bytes) → OwnIndices (world_of s log) → CanCommit s (ticket_of s log k) name bytes → StepMayCommit s log k (CommitStep name) name bytes
-commit_by s log k name bytes pruning can = record {
+commit_by : (s : Start) (log : List Moment) (k : ℕ) (name : BlobName) (bytes : Bytes) → OwnIndices (world_of s log) → AreOfOps (world_of s log) → CanCommit s (ticket_of s log k) name bytes → StepMayCommit s log k (CommitStep name) name bytes
+commit_by s log k name bytes pruning of_ops can = record {
   is = refl;
   stored = can.stored;
-  commits = λ named image tells adds. Committing k name image (committable s log k name bytes can named) adds;
+  commits = λ named image tells adds. Committing k name image (committable s log k name bytes of_ops can named) adds;
   finds = λ named meta image tells there. Finding k name image (refinding (formats_of s) (world_of s log) k (ticket_of s log k) name bytes pruning (out_is s log k can.out) can.unsettled can.may meta) there;
-  taken = λ named no_meta image tells there. Taken k name image (committable s log k name bytes can named) no_meta there;
-  fails = λ named image tells left. CommitFails k name image (committable s log k name bytes can named) left;
+  taken = λ named no_meta image tells there. Taken k name image (committable s log k name bytes of_ops can named) no_meta there;
+  fails = λ named image tells left. CommitFails k name image (committable s log k name bytes of_ops can named) left;
 }
 
-pub may_commit : (s : Start) (old log : List Moment) (k : ℕ) (name : BlobName) (contents : Option Bytes) → log ≡ old → OwnIndices (world_of s log) → CommitsSo s old k name contents → (bytes : Bytes) × Holds s contents bytes × StepMayCommit s log k (CommitStep name) name bytes
-may_commit s old log k name contents e pruning can =
+pub may_commit : (s : Start) (old log : List Moment) (k : ℕ) (name : BlobName) (contents : Option Bytes) → log ≡ old → OwnIndices (world_of s log) → AreOfOps (world_of s log) → CommitsSo s old k name contents → (bytes : Bytes) × Holds s contents bytes × StepMayCommit s log k (CommitStep name) name bytes
+may_commit s old log k name contents e pruning of_ops can =
     let here : CommitsSo s log k name contents = subst (λ (l : List Moment). CommitsSo s l k name contents) (sym e) can in
-    (here.0, here.1, commit_by s log k name here.0 pruning here.2)
+    (here.0, here.1, commit_by s log k name here.0 pruning of_ops here.2)
 
 committed : (s : Start) (old new : List Moment) (k : ℕ) (name : BlobName) (contents : Option Bytes) (r : Result Commit StepRefusal) → (ticket_of s old k).out ≡ true → CommitDid s old new k (CommitStep name) name contents r
     → IfOk r (λ c. ticket_of s new k ≡ committed_by name contents c (ticket_of s old k))

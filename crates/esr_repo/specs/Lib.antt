@@ -2,6 +2,7 @@ pub mod Log
 pub mod Repo
 pub mod Next
 pub mod Blocks
+pub mod Asked
 pub mod Hands
 pub mod Client
 pub mod Tickets

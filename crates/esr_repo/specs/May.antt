@@ -19,6 +19,8 @@ use Rattle.esr_formats.specs.Clusters.{cluster_of}
 use Rattle.esr_formats.specs.Infos.{info_of_code, info_kind}
 use Rattle.esr_progress.specs.Plan.{Plan, IsPlanOf}
 use Rattle.esr_desk.specs.Start.{Start, formats_of, world_of, ticket_of}
+use Rattle.esr_desk.specs.Conditions.{CanDrop}
+use Rattle.esr_desk.specs.Delete.Conditions.{CanEndCleanup}
 use Rattle.esr_repo.specs.Log.{calls}
 use Rattle.esr_repo.specs.Repo.{HasInfos}
 
@@ -85,6 +87,10 @@ pub record MaySwap (s : Start) (log : List Moment) (who : ℕ) (step : Step) (re
   pub infos_are : (old : List Info) → HasInfos s (world_of s log) old → HasInfos s (record (swapped_world s log who step) { blobs = (world_of s log).blobs }) (infos_after left info old)
   pub plan_is : (old : Plan) → IsPlanOf (world_of s log) old → IsPlanOf (swapped_world s log who step) (unwrap_or plan old)
   pub next_is : next ≡ (swapped_world s log who step).next_id
+
+-- an op leaves by its drop, or by a cleanup that is over
+abbrev pub CanLeave : Start → List Moment → ℕ → Type 0
+CanLeave s log k = CanDrop (ticket_of s log k) ⊎ CanEndCleanup s log k
 
 -- the name is one of the layout
 abbrev pub IsNamed : Start → BlobName → Type 0

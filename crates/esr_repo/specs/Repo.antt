@@ -1,17 +1,17 @@
 -- A container beside the history of its steps, and what is kept of the world that they lead to.
-use Rattle.std.specs.Prelude.{◌≡◌, ◌≢◌, ℕ, ◌+◌, ◌-◌, ◌^◌, ◌<◌, ◌≤◌, Bool, true, false, List, [], length, Option, Some, None}
+use Rattle.std.specs.Prelude.{◌≡◌, ◌≢◌, ◌⊎◌, ℕ, ◌+◌, ◌-◌, ◌^◌, ◌<◌, ◌≤◌, Bool, true, false, List, [], length, map, Option, Some, None}
 use Rattle.std.specs.Ordering.{nat_cmp}
 use Rattle.std.specs.FinMap.{FinMap}
 use Rattle.std.specs.FinMap as fin
 use Rattle.esr_model.specs.Names.{BlobName, ShardIndex}
-use Rattle.esr_model.specs.Values.{Bytes, Has, RootSnap, RootData, ReadsBack}
+use Rattle.esr_model.specs.Values.{Bytes, Has, IndexRef, RootSnap, RootData, ReadsBack, Formats}
 use Rattle.esr_model.specs.Shelf.{names_uuid}
 use Rattle.esr_model.specs.Delete.{PrunedShard, deleted_root}
 use Rattle.esr_core.specs.World.{World, Op, Deleting, Swap, Ticket, Caller, record_of}
 use Rattle.esr_core.specs.World as core
 use Rattle.esr_core.specs.Restores.{IsTestOf}
 use Rattle.esr_core.specs.Entry.{Entry, Moment}
-use Rattle.esr_core.specs.Allowed.{NoCleanup}
+use Rattle.esr_core.specs.Allowed.{WasMade}
 use Rattle.esr_core.specs.Tracked.{Tracked}
 use Rattle.esr_core.specs.Ranked.{Ranked}
 use Rattle.esr_core.specs.ReadTracked.{ReadTracked}
@@ -19,6 +19,7 @@ use Rattle.esr_depot.specs.Image.{Image as Held}
 use Rattle.esr_depot.specs.Look.{Look, now}
 use Rattle.esr_meta.specs.Info.{Info}
 use Rattle.esr_formats.specs.Clusters.{cluster_kind}
+use Rattle.esr_formats.specs.Refs.{ref_of_code}
 use Rattle.esr_progress.specs.Infos.{AreInfosOf}
 use Rattle.esr_desk.specs.Start.{Start, formats_of, world_of, Legal}
 pub use Rattle.esr_opening.specs.Opening.{Kept, IsKeptOf}
@@ -70,10 +71,23 @@ Gone w = (uuid : ℕ) → TookAway w.tickets uuid → IsPast w.root w.ops w.next
 abbrev pub AreListed : RootData → List Info → Type 0
 AreListed root infos = (info : Info) → Has infos info → (snap : RootSnap) × Has root.snapshots snap × (info.uuid.number ≡ snap.uuid)
 
+-- the root lists a snapshot of this uuid
+abbrev pub ListsUuid : RootData → ℕ → Type 0
+ListsUuid root uuid = (snap : RootSnap) × Has root.snapshots snap × (snap.uuid ≡ uuid)
+
+-- each delete and cleanup that has settled found it listed
+abbrev pub FoundBy : FinMap nat_cmp Ticket → ℕ → Type 0
+FoundBy tickets uuid = (k : ℕ) (t : Ticket) (uuids : List ℕ) (plan : Option Swap) → fin.get tickets k ≡ Some t → t.settled ≡ true → t.work ≡ Deleting uuids plan → ListsUuid t.root uuid
+
+-- a finalization of the history made the snapshot, or each of these found it listed
+abbrev pub MadeOrFound : Formats → World → ℕ → List IndexRef → Type 0
+MadeOrFound f w uuid indices = WasMade f w uuid indices ⊎ FoundBy w.tickets uuid
+
 -- the infos are those of the listed snapshots, and of no others
 pub record HasInfos (s : Start) (w : World) (infos : List Info) : Type 0 where
   pub are : AreInfosOf (formats_of s) w s.tells infos
   pub listed : AreListed w.root infos
+  pub found : (info : Info) → Has infos info → MadeOrFound (formats_of s) w info.uuid.number (map ref_of_code info.indices)
 
 -- the name is that of a test blob
 abbrev pub IsTest : BlobName → Type 0
@@ -90,7 +104,6 @@ pub record IsSteady (s : Start) (log : List Moment) (l : Look) : Type 0 where
   pub record_back : ReadsBack cluster_kind (record_of (world_of s log))
   pub tracked : Tracked (world_of s log)
   pub ranked : Ranked (world_of s log)
-  pub no_cleanups : NoCleanup (world_of s log)
   pub pruning : OwnIndices (world_of s log)
   pub gone : Gone (world_of s log)
   pub read_tracked : ReadTracked (world_of s log)

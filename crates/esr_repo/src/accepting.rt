@@ -1,12 +1,12 @@
 //! What a repository keeps after a command was accepted, or why it is not.
-ghost use Rattle.std.specs.Prelude.{◌≡◌, ◌<◌, ◌^◌, List, length, IfOk, IfErr, IfSome};
-ghost use Rattle.esr_model.specs.Values.{Bytes};
-ghost use Rattle.esr_core.specs.Entry.{Asked, DeleteSnapshots, AskStep, Accepted, Moment};
+ghost use Rattle.std.specs.Prelude.{◌≡◌, ◌<◌, ◌^◌, length, IfOk, IfErr, IfSome};
+ghost use Rattle.esr_core.specs.Entry.{DeleteSnapshots, Cleanup, AskStep, Accepted};
 ghost use Rattle.esr_progress.specs.Asked.{asked_of, IsAskable};
-ghost use Rattle.esr_progress.specs.Accepting.{IsRefused, IsDeleteRefused, name_asked};
+ghost use Rattle.esr_progress.specs.Accepting.{IsRefused, IsDeleteRefused, IsCleanupRefused, name_asked};
 ghost use Rattle.esr_desk.specs.Entries.{step_of};
 ghost use Rattle.esr_desk.specs.Refusals.{refusal_of};
-ghost use Rattle.esr_desk.specs.Start.{Start, world_of};
+ghost use Rattle.esr_desk.specs.Start.{world_of};
+ghost use Rattle.esr_repo.specs.Asked.{entry_of};
 ghost use Rattle.esr_repo.specs.Next.{IsLive, GoesOn, AddedOr};
 ghost use Rattle.esr_repo.specs.May.{MaySwap, MayRefuse};
 
@@ -92,11 +92,9 @@ pub(crate) fn command_copy(alloc: Global, command: &Command) -> Result<Command, 
     }
 }
 
-/// Why a command is not accepted, as an entry tells it; of want of memory none does.
-fn command_refusal(refusal: Refusal) -> Option<EntryRefusal>
-    requires { (s : Start) × (log : List Moment) × (command : Asked) × IsRefused (world_of s log) (name_asked command) command refusal }
-    ensures { (s : Start) (log : List Moment) (command : Asked) → IsAskable command → IsRefused (world_of s log) (name_asked command) command refusal
-        → IfSome result (λ e. MayRefuse s log 0 (AskStep command) (refusal_of e)) }
+/// A refusal of the list of ops, as an entry tells it; of want of memory none does.
+fn as_entry(refusal: Refusal) -> Option<EntryRefusal>
+    ensures { result ≡ entry_of refusal }
 {
     match refusal {
         Refusal::Memory => None,
@@ -104,45 +102,25 @@ fn command_refusal(refusal: Refusal) -> Option<EntryRefusal>
         Refusal::NameInUse { uuid } => Some(EntryRefusal::NameInUse { uuid }),
         Refusal::TooMany { limit } => Some(EntryRefusal::TooMany { limit }),
         Refusal::IdsSpent { next } => Some(EntryRefusal::IdsSpent { next }),
-        // Of restores, clones and deletes.
-        Refusal::NoSnapshot { .. } => unreachable!(),
-        Refusal::NoIndex { .. } => unreachable!(),
-        Refusal::BeingDeleted { .. } => unreachable!(),
-        Refusal::CloneRunning { .. } => unreachable!(),
-        Refusal::RestoreRunning { .. } => unreachable!(),
-    }
-}
-
-/// Why a delete is not accepted, as an entry tells it; of want of memory none does.
-fn delete_refusal(refusal: Refusal) -> Option<EntryRefusal>
-    requires { (s : Start) × (log : List Moment) × (names : List Bytes) × IsDeleteRefused (world_of s log) names refusal }
-    ensures { (s : Start) (log : List Moment) (names : List Bytes) → IsDeleteRefused (world_of s log) names refusal
-        → IfSome result (λ e. MayRefuse s log 0 (AskStep (DeleteSnapshots names)) (refusal_of e)) }
-{
-    match refusal {
-        Refusal::Memory => None,
-        Refusal::CleanupRunning { op } => Some(EntryRefusal::CleanupRunning { op }),
         Refusal::NoSnapshot { place } => Some(EntryRefusal::NoSnapshot { place }),
+        Refusal::NoIndex { place } => Some(EntryRefusal::NoIndex { place }),
+        Refusal::BeingDeleted { op } => Some(EntryRefusal::BeingDeleted { op }),
         Refusal::CloneRunning { op } => Some(EntryRefusal::CloneRunning { op }),
         Refusal::RestoreRunning { op } => Some(EntryRefusal::RestoreRunning { op }),
-        Refusal::TooMany { limit } => Some(EntryRefusal::TooMany { limit }),
-        // Of other commands.
-        Refusal::NameInUse { .. } => unreachable!(),
-        Refusal::NoIndex { .. } => unreachable!(),
-        Refusal::BeingDeleted { .. } => unreachable!(),
-        Refusal::IdsSpent { .. } => unreachable!(),
+        Refusal::BusyOp { op } => Some(EntryRefusal::BusyOp { op }),
+        Refusal::BusyTicket { ticket } => Some(EntryRefusal::BusyTicket { ticket }),
     }
 }
 
 impl<D: Depot, K: Told> Repo<D, K> {
     /// A command is not accepted, which changes nothing.
-    pub(crate) fn refuse_command(&mut self, step: Step, refusal: Refusal) -> StepRefusal
+    pub(crate) fn refuse_asked(&mut self, step: Step, refusal: Refusal) -> StepRefusal
         requires live { IsLive K.start self.old }
         requires goes { GoesOn K.start self.old 0 (step_of step) }
-        requires why { (command : Asked) × IsAskable command × (step_of step ≡ AskStep command) × IsRefused (world_of K.start self.old) (name_asked command) command refusal }
+        requires may { IfSome (entry_of refusal) (λ e. MayRefuse K.start self.old 0 (step_of step) (refusal_of e)) }
         ensures { AddedOr K.start self.old self.new 0 (step_of step) result }
     {
-        match command_refusal(refusal) {
+        match as_entry(refusal) {
             Some(refusal) => self.refuse(0, step, refusal),
             None => {
                 drop(step);
@@ -184,22 +162,6 @@ impl<D: Depot, K: Told> Repo<D, K> {
         Ok((accepted.op, renewed))
     }
 
-    /// A delete is not accepted, which changes nothing.
-    pub(crate) fn refuse_delete(&mut self, step: Step, refusal: Refusal) -> StepRefusal
-        requires live { IsLive K.start self.old }
-        requires goes { GoesOn K.start self.old 0 (step_of step) }
-        requires why { (names : List Bytes) × (step_of step ≡ AskStep (DeleteSnapshots names)) × IsDeleteRefused (world_of K.start self.old) names refusal }
-        ensures { AddedOr K.start self.old self.new 0 (step_of step) result }
-    {
-        match delete_refusal(refusal) {
-            Some(refusal) => self.refuse(0, step, refusal),
-            None => {
-                drop(step);
-                StepRefusal::Memory
-            }
-        }
-    }
-
     /// The op that a delete of these snapshots is, or goes into, and what is kept then.
     pub(crate) fn accepted_delete(
         &self,
@@ -224,6 +186,29 @@ impl<D: Depot, K: Told> Repo<D, K> {
             left: None,
             info: None,
             progress: Some(list),
+            next,
+        };
+        Ok((op, renewed))
+    }
+
+    /// The op that a cleanup is, and what is kept then.
+    pub(crate) fn accepted_cleanup(&self, alloc: Global) -> Result<(u64, Renewed), Refusal>
+        requires live { IsLive K.start self.now }
+        requires room { length self.now < 2 ^ 41 }
+        ensures ok { IfOk result (λ r. MaySwap K.start self.now 0 (AskStep Cleanup) (Accepted r.0) r.1.cluster r.1.root r.1.left r.1.info r.1.progress r.1.next.number) }
+        ensures err { IfErr result (λ e. IsCleanupRefused (world_of K.start self.now) e) }
+    {
+        self.rules();
+        let (progress, op) = self.plan().accept_cleanup(alloc)?;
+        let mut cluster = self.record().try_clone(alloc)?;
+        cluster.ops = progress.record_ops(alloc)?;
+        let next = self.next_id();
+        let renewed = Renewed {
+            cluster,
+            root: None,
+            left: None,
+            info: None,
+            progress: Some(progress),
             next,
         };
         Ok((op, renewed))

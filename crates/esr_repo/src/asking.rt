@@ -1,6 +1,6 @@
 //! The steps that ask, take and look.
 ghost use Rattle.std.specs.Prelude.{length, ◌≡◌, ◌<◌, ◌^◌, ◌≤ℤ◌, negsuc, map, Option, Some, None, IfOk, IfSome};
-ghost use Rattle.esr_core.specs.Entry.{DeleteSnapshots, AskStep, TakeStep, LookStep, Accepted, Looked};
+ghost use Rattle.esr_core.specs.Entry.{DeleteSnapshots, Cleanup, AskStep, TakeStep, LookStep, Accepted, Looked};
 ghost use Rattle.esr_formats.specs.Roots.{root_snap_of};
 ghost use Rattle.esr_formats.specs.Clusters.{count_of};
 ghost use Rattle.esr_progress.specs.Asked.{asked_of, IsAskable};
@@ -46,7 +46,7 @@ impl<D: Depot, K: Told> Repo<D, K> {
                 self.swap(alloc, 0, step, Answer::Accepted { op }, renewed)?;
                 Ok(op)
             }
-            Err(refusal) => Err(self.refuse_command(step, refusal)),
+            Err(refusal) => Err(self.refuse_asked(step, refusal)),
         }
     }
 
@@ -62,7 +62,25 @@ impl<D: Depot, K: Told> Repo<D, K> {
                 self.swap(alloc, 0, step, Answer::Accepted { op }, renewed)?;
                 Ok(op)
             }
-            Err(refusal) => Err(self.refuse_delete(step, refusal)),
+            Err(refusal) => Err(self.refuse_asked(step, refusal)),
+        }
+    }
+
+    /// Asks for a cleanup, which is accepted as the op that is answered.
+    pub fn cleanup(&mut self, alloc: Global) -> Result<u64, StepRefusal>
+        requires room { length self.old < 2 ^ 41 }
+        ensures { Did K.start self.old self.new 0 (AskStep Cleanup) (λ op. Accepted op) result }
+    {
+        let command = Command::Cleanup;
+        self.check(0, Step::Ask { command })?;
+        let command = Command::Cleanup;
+        let step = Step::Ask { command };
+        match self.accepted_cleanup(alloc) {
+            Ok((op, renewed)) => {
+                self.swap(alloc, 0, step, Answer::Accepted { op }, renewed)?;
+                Ok(op)
+            }
+            Err(refusal) => Err(self.refuse_asked(step, refusal)),
         }
     }
 

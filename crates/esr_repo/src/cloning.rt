@@ -1,20 +1,18 @@
 //! The step that asks for a clone.
-ghost use Rattle.std.specs.Prelude.{◌≡◌, ◌<◌, ◌^◌, ℕ, List, Option, Some, None, length, IfOk};
-ghost use Rattle.esr_model.specs.Values.{Bytes};
+ghost use Rattle.std.specs.Prelude.{◌≡◌, ◌<◌, ◌^◌, Option, Some, None, length, IfOk};
 ghost use Rattle.esr_core.specs.Restores.{AreOnce};
-ghost use Rattle.esr_core.specs.Entry.{CloneOf as Taken, Clone, AskStep, Accepted, Moment};
+ghost use Rattle.esr_core.specs.Entry.{CloneOf as Taken, Clone, AskStep, Accepted};
 ghost use Rattle.esr_progress.specs.Accepting.{IsCloneRefused, Clonable};
 ghost use Rattle.esr_desk.specs.Entries.{cloned_of, step_of};
-ghost use Rattle.esr_desk.specs.Refusals.{refusal_of};
-ghost use Rattle.esr_desk.specs.Start.{Start, world_of};
+ghost use Rattle.esr_desk.specs.Start.{world_of};
 ghost use Rattle.esr_repo.specs.Next.{IsLive, GoesOn, AddedOr, Did};
-ghost use Rattle.esr_repo.specs.May.{MaySwap, MayRefuse};
+ghost use Rattle.esr_repo.specs.May.{MaySwap};
 
 use crate::accepting::index_names_copy;
 use crate::swap::Renewed;
 use crate::{Repo, Told};
 use esr_depot::Depot;
-use esr_desk::{Answer, CloneOf, EntryRefusal, Step, StepRefusal};
+use esr_desk::{Answer, CloneOf, Step, StepRefusal};
 use esr_names::{Id, IndexNames, SnapName};
 use esr_progress::{Command, Refusal, chosen};
 use std::alloc::{AllocError, Global};
@@ -62,27 +60,6 @@ fn takes(
         moment,
         taken,
     })
-}
-
-/// Why a clone is not accepted, as an entry tells it.
-fn clone_refusal(refusal: Refusal) -> EntryRefusal
-    requires { (s : Start) × (log : List Moment) × (source : Bytes) × (name : Bytes) × (names : List Bytes) × IsCloneRefused (world_of s log) source name names refusal }
-    ensures { (s : Start) (log : List Moment) (source name : Bytes) (names : List Bytes) (moment : ℕ) → IsCloneRefused (world_of s log) source name names refusal
-        → MayRefuse s log 0 (AskStep (Clone source name names moment None)) (refusal_of result) }
-{
-    match refusal {
-        Refusal::CleanupRunning { op } => EntryRefusal::CleanupRunning { op },
-        Refusal::NameInUse { uuid } => EntryRefusal::NameInUse { uuid },
-        Refusal::NoSnapshot { place } => EntryRefusal::NoSnapshot { place },
-        Refusal::BeingDeleted { op } => EntryRefusal::BeingDeleted { op },
-        Refusal::NoIndex { place } => EntryRefusal::NoIndex { place },
-        Refusal::TooMany { limit } => EntryRefusal::TooMany { limit },
-        Refusal::IdsSpent { next } => EntryRefusal::IdsSpent { next },
-        // Of other commands.
-        Refusal::Memory => unreachable!(),
-        Refusal::CloneRunning { .. } => unreachable!(),
-        Refusal::RestoreRunning { .. } => unreachable!(),
-    }
 }
 
 impl<D: Depot, K: Told> Repo<D, K> {
@@ -141,7 +118,7 @@ impl<D: Depot, K: Told> Repo<D, K> {
         ensures { AddedOr K.start self.old self.new 0 (AskStep (Clone source.now name.now indices.now moment None)) result }
     {
         match asks(alloc, source, name, indices, moment) {
-            Ok(step) => self.refuse(0, step, clone_refusal(refusal)),
+            Ok(step) => self.refuse_asked(step, refusal),
             Err(_) => StepRefusal::Memory,
         }
     }

@@ -1,4 +1,4 @@
-//! The steps of a delete's ticket, its writing aside.
+//! The steps of the ticket of a delete or cleanup, its writing and listing aside.
 ghost use Rattle.std.specs.Prelude.{◌≡◌, ◌+◌, ◌<◌, ◌^◌, List, ℕ, length, map, filter, count_by, true, false, IfOk, OnOk, OnErr};
 ghost use Rattle.esr_model.specs.Values.{Has, IsOneEach, ReadsBack};
 ghost use Rattle.esr_model.specs.Delete.{kept_count, deleted_root};
@@ -178,7 +178,7 @@ impl<D: Depot, K: Told> Repo<D, K> {
         self.draw_planned(ticket, step, shards, plan)
     }
 
-    /// What is kept after a delete's ticket settled on its root.
+    /// What is kept after the ticket settled on its root.
     fn pruned(&self, alloc: Global, ticket: u64, root: &RootData) -> Result<Renewed, AllocError>
         requires live { IsLive K.start self.now }
         requires may { CanSettleDelete K.start (ticket_of K.start self.now ticket) (root_of root.now) }
@@ -201,7 +201,7 @@ impl<D: Depot, K: Told> Repo<D, K> {
         })
     }
 
-    /// Makes the root that the ticket committed the safe one. The delete leaves the list.
+    /// Makes the root that the ticket committed the safe one. A delete leaves the list, a cleanup stays.
     pub fn settle_delete(
         &mut self,
         alloc: Global,
@@ -231,7 +231,7 @@ impl<D: Depot, K: Told> Repo<D, K> {
         self.swap(alloc, ticket, step, Answer::Settled, renewed)
     }
 
-    /// Takes blobs that the ticket's plan dooms away.
+    /// Takes blobs that the ticket dooms away.
     pub fn remove(
         &mut self,
         alloc: Global,

@@ -6,9 +6,11 @@ ghost use Rattle.esr_results.specs.Results.{result_of};
 ghost use Rattle.esr_desk.specs.Start.{ticket_of};
 ghost use Rattle.esr_desk.specs.Once.{IsFresh};
 ghost use Rattle.esr_desk.specs.Conditions.{CanRaise, IsUnpruned, CanSettle, CanEnd, CanFinish, CanDrop};
+ghost use Rattle.esr_desk.specs.Delete.Conditions.{CanEndCleanup};
 ghost use Rattle.esr_desk.specs.Taken.{LeftBy, HasRaised, IsSettled, HasEndedAs};
 ghost use Rattle.esr_desk.specs.declared.refusal.StepRefusal.{StepRefusal};
 ghost use Rattle.esr_repo.specs.Next.{Did};
+ghost use Rattle.esr_repo.specs.May.{CanLeave};
 
 use crate::renewing::{count, entry_refusal};
 use crate::{Repo, Told};
@@ -89,15 +91,16 @@ impl<D: Depot, K: Told> Repo<D, K> {
         self.note(ticket, step, Answer::Ended, Some(progress), next)
     }
 
-    /// An op that failed leaves the list; its ticket ends.
-    pub fn end_drop(&mut self, alloc: Global, ticket: u64) -> Result<(), StepRefusal>
-        requires may { CanDrop (ticket_of K.start self.old ticket) }
+    /// The op of the ticket leaves the list; the ticket ends.
+    fn end_op(&mut self, alloc: Global, ticket: u64) -> Result<(), StepRefusal>
+        requires { CanLeave K.start self.old ticket }
         ensures step { Did K.start self.old self.new ticket DroppedStep (λ _. HasEnded) result }
         ensures own { OnOk result (ticket_of K.start self.new ticket
             ≡ record (ticket_of K.start self.old ticket) { out = false }) }
         ensures kept { LeftBy (HasEndedAs (ticket_of K.start self.old ticket)) result (ticket_of K.start self.old ticket) (ticket_of K.start self.new ticket) }
     {
         self.check(ticket, Step::Dropped)?;
+        self.rules();
         let own = self.seat(ticket).term;
         let now = self.term();
         if own != now {
@@ -106,6 +109,28 @@ impl<D: Depot, K: Told> Repo<D, K> {
         }
         let renewed = self.without_op(alloc, ticket)?;
         self.swap(alloc, ticket, Step::Dropped, Answer::Ended, renewed)
+    }
+
+    /// An op that failed leaves the list; its ticket ends.
+    pub fn end_drop(&mut self, alloc: Global, ticket: u64) -> Result<(), StepRefusal>
+        requires may { CanDrop (ticket_of K.start self.old ticket) }
+        ensures step { Did K.start self.old self.new ticket DroppedStep (λ _. HasEnded) result }
+        ensures own { OnOk result (ticket_of K.start self.new ticket
+            ≡ record (ticket_of K.start self.old ticket) { out = false }) }
+        ensures kept { LeftBy (HasEndedAs (ticket_of K.start self.old ticket)) result (ticket_of K.start self.old ticket) (ticket_of K.start self.new ticket) }
+    {
+        self.end_op(alloc, ticket)
+    }
+
+    /// A cleanup is over: its removals took away all that it dooms. Its op leaves the list; its ticket ends.
+    pub fn end_cleanup(&mut self, alloc: Global, ticket: u64) -> Result<(), StepRefusal>
+        requires may { CanEndCleanup K.start self.old ticket }
+        ensures step { Did K.start self.old self.new ticket DroppedStep (λ _. HasEnded) result }
+        ensures own { OnOk result (ticket_of K.start self.new ticket
+            ≡ record (ticket_of K.start self.old ticket) { out = false }) }
+        ensures kept { LeftBy (HasEndedAs (ticket_of K.start self.old ticket)) result (ticket_of K.start self.old ticket) (ticket_of K.start self.new ticket) }
+    {
+        self.end_op(alloc, ticket)
     }
 
     /// The unit of a snapshot or a clone that has settled ends, and so does any but a shard's once its term is over, as a step of its

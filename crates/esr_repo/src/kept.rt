@@ -3,7 +3,6 @@ ghost use Rattle.std.specs.Prelude.{◌≡◌, ◌+◌, ◌^◌, ◌<◌, ◌≤
 ghost use Rattle.esr_model.specs.Kept.{first_id};
 ghost use Rattle.esr_core.specs.World.{record_of};
 ghost use Rattle.esr_core.specs.Entry.{Step, Refused as RefusedAs};
-ghost use Rattle.esr_core.specs.Allowed.{NoCleanup};
 ghost use Rattle.esr_core.specs.Tracked.{Tracked};
 ghost use Rattle.esr_core.specs.Ranked.{Ranked};
 ghost use Rattle.esr_core.specs.ReadTracked.{ReadTracked};
@@ -37,7 +36,6 @@ impl<D: Depot, K: Told> Repo<D, K> {
     pub(crate) fn rules(&self)
         ensures tracked { Tracked (world_of K.start self.now) }
         ensures ranked { Ranked (world_of K.start self.now) }
-        ensures no_cleanups { NoCleanup (world_of K.start self.now) }
         ensures pruning { OwnIndices (world_of K.start self.now) }
         ensures gone { Gone (world_of K.start self.now) }
         ensures read_tracked { ReadTracked (world_of K.start self.now) }

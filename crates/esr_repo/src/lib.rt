@@ -12,6 +12,7 @@ mod election;
 mod ending;
 mod hands;
 mod kept;
+mod listing;
 mod removing;
 mod renewing;
 mod repo;

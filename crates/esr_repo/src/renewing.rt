@@ -9,9 +9,9 @@ ghost use Rattle.esr_formats.specs.Roots.{root_of};
 ghost use Rattle.esr_formats.specs.Clusters.{count_of, cluster_of};
 ghost use Rattle.esr_desk.specs.Refusals.{refusal_of};
 ghost use Rattle.esr_desk.specs.Start.{world_of, ticket_of};
-ghost use Rattle.esr_desk.specs.Conditions.{CanRaise, IsUnpruned, CanSettle, CanDrop};
+ghost use Rattle.esr_desk.specs.Conditions.{CanRaise, IsUnpruned, CanSettle};
 ghost use Rattle.esr_repo.specs.Next.{IsLive};
-ghost use Rattle.esr_repo.specs.May.{MaySwap, IsMadeInfo};
+ghost use Rattle.esr_repo.specs.May.{MaySwap, IsMadeInfo, CanLeave};
 
 use crate::swap::Renewed;
 use crate::{Repo, Told};
@@ -147,10 +147,10 @@ impl<D: Depot, K: Told> Repo<D, K> {
         })
     }
 
-    /// What is kept after the op of a ticket was dropped.
+    /// What is kept after the op of a ticket left.
     pub(crate) fn without_op(&self, alloc: Global, ticket: u64) -> Result<Renewed, AllocError>
         requires live { IsLive K.start self.now }
-        requires may { CanDrop (ticket_of K.start self.now ticket) }
+        requires may { CanLeave K.start self.now ticket }
         requires present { (ticket_of K.start self.now ticket).term ≡ (world_of K.start self.now).term }
         ensures { IfOk result (λ r. MaySwap K.start self.now ticket DroppedStep HasEnded r.cluster r.root r.left r.info r.progress r.next.number) }
     {

@@ -1,25 +1,22 @@
 //! The steps of restores.
-ghost use Rattle.std.specs.Prelude.{◌≡◌, ◌==◌, ◌<◌, ◌^◌, List, map, find, option_copied, length, false, IfOk, OnOk, OnErr};
+ghost use Rattle.std.specs.Prelude.{◌≡◌, ◌==◌, ◌<◌, ◌^◌, map, find, option_copied, length, false, IfOk, OnOk, OnErr};
 ghost use Rattle.esr_model.specs.Values.{Bytes};
-ghost use Rattle.esr_core.specs.Entry.{Moment, Restore, AskStep, ReadStep, RestoredShard, HasEnded, AcceptedRestore as Accepted};
+ghost use Rattle.esr_core.specs.Entry.{Restore, AskStep, ReadStep, RestoredShard, HasEnded, AcceptedRestore as Accepted};
 ghost use Rattle.esr_core.specs.Allowed.{IsListed};
 ghost use Rattle.esr_formats.specs.Refs.{ref_of_code, AreApart};
-ghost use Rattle.esr_progress.specs.Accepting.{IsRestoreRefused};
 ghost use Rattle.esr_progress.specs.Infos.{HasIndices};
 ghost use Rattle.esr_desk.specs.Entries.{step_of};
-ghost use Rattle.esr_desk.specs.Refusals.{refusal_of};
 ghost use Rattle.esr_desk.specs.Own.{reader_of};
-ghost use Rattle.esr_desk.specs.Start.{Start, formats_of, world_of};
+ghost use Rattle.esr_desk.specs.Start.{formats_of, world_of};
 ghost use Rattle.esr_desk.specs.Restore.Conditions.{CanEndRestore};
-ghost use Rattle.esr_repo.specs.May.{MayRefuse};
 ghost use Rattle.esr_repo.specs.Next.{IsLive, Did};
 
 use crate::{Repo, Told};
 use esr_depot::Depot;
-use esr_desk::{AcceptedRestore, Answer, EntryRefusal, Read, Step, StepRefusal};
+use esr_desk::{AcceptedRestore, Answer, Read, Step, StepRefusal};
 use esr_meta::{SnapInfo, indices_copy};
 use esr_names::{Id, IndexRefs, SnapName};
-use esr_progress::{Command, Refusal};
+use esr_progress::Command;
 use esr_seq::Text;
 use std::alloc::{AllocError, Global};
 
@@ -31,27 +28,6 @@ fn asks(alloc: Global, name: &SnapName, place: &Text) -> Result<Step, AllocError
     let place = place.try_clone(alloc)?;
     let command = Command::Restore { name, place };
     Ok(Step::Ask { command })
-}
-
-/// Why a restore is not accepted, as an entry tells it.
-fn restore_refusal(refusal: Refusal) -> EntryRefusal
-    requires { (s : Start) × (log : List Moment) × (name : Bytes) × IsRestoreRefused (world_of s log) name refusal }
-    ensures { (s : Start) (log : List Moment) (name place : Bytes) → IsRestoreRefused (world_of s log) name refusal
-        → MayRefuse s log 0 (AskStep (Restore name place)) (refusal_of result) }
-{
-    match refusal {
-        Refusal::NoSnapshot { place } => EntryRefusal::NoSnapshot { place },
-        Refusal::BeingDeleted { op } => EntryRefusal::BeingDeleted { op },
-        Refusal::TooMany { limit } => EntryRefusal::TooMany { limit },
-        // Of other commands.
-        Refusal::NoIndex { .. } => unreachable!(),
-        Refusal::Memory => unreachable!(),
-        Refusal::CleanupRunning { .. } => unreachable!(),
-        Refusal::NameInUse { .. } => unreachable!(),
-        Refusal::IdsSpent { .. } => unreachable!(),
-        Refusal::CloneRunning { .. } => unreachable!(),
-        Refusal::RestoreRunning { .. } => unreachable!(),
-    }
 }
 
 /// The info of a snapshot.
@@ -79,7 +55,7 @@ impl<D: Depot, K: Told> Repo<D, K> {
             Ok(uuid) => uuid,
             Err(refusal) => {
                 let refused = asks(alloc, name, place)?;
-                return Err(self.refuse(0, refused, restore_refusal(refusal)));
+                return Err(self.refuse_asked(refused, refusal));
             }
         };
         let indices = self.indices_of(alloc, uuid)?;

@@ -68,6 +68,7 @@ impl<D: Depot, K: Told> Repo<D, K> {
         ensures sure { IfOk result (λ s. K.start.quiet ≡ true → length self.old < 2 ^ 41 → IsTrue (D.Stage.is_sure s.stage)) }
     {
         self.check(ticket, Step::Begin { name })?;
+        self.rules();
         self.call_begin(alloc, ticket, Step::Begin { name }, name, room)
     }
 

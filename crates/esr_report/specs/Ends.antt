@@ -1,5 +1,11 @@
 -- The ends of ops and of restores' shards that a history tells, in lists.
-use Rattle.std.specs.Prelude.{◌≡◌, ℕ, ◌==◌, if◌then◌else◌, List, [], ◌∷◌, Option, Some, None}
+use Rattle.std.specs.Prelude.{◌≡◌, ℕ, Bool, ◌==◌, if◌then◌else◌, List, [], ◌∷◌, Option, Some, None}
+use Rattle.std.specs.Ordering.{nat_cmp}
+use Rattle.std.specs.Cmp.Lexicographic.{slice_cmp}
+use Rattle.std.specs.BTreeSet.{BTreeSet, contains_by}
+use Rattle.std.specs.declared.alloc.Global.{Global}
+use Rattle.std.specs.declared.vec.Vec.{Vec}
+use Rattle.esr_model.specs.Values.{Bytes}
 use Rattle.esr_core.specs.After.{or_else}
 use Rattle.esr_core.specs.Entry.{Entry}
 use Rattle.esr_desk.specs.Entries.{why_of}
@@ -12,12 +18,13 @@ use Rattle.esr_report.specs.declared.restores.ShardEnd.{ShardEnd as CodeEnd}
 use Rattle.esr_report.specs.declared.restores.ShardEnd.TheVariants as code
 use Rattle.esr_report.specs.declared.restores.TicketEnd.{TicketEnd}
 use Rattle.esr_report.specs.declared.told.ToldEnds.{ToldEnds}
-use Rattle.esr_report.specs.Replies.{Reply, Made, Deleted, Failed, Aborted, end_of_op, ReadShard, ShardEnd, ShardRestored, ShardFailed, first_by, same_shard, shard_ticket, ticket_end}
+use Rattle.esr_report.specs.Replies.{Reply, Made, Deleted, Cleaned, Failed, Aborted, end_of_op, ReadShard, ShardEnd, ShardRestored, ShardFailed, first_by, same_shard, shard_ticket, ticket_end}
 
 -- what the end of an op answers its command
 abbrev pub reply_of_end : End → Reply
 reply_of_end (ends.Made uuid) = Made uuid.number
 reply_of_end (ends.Deleted op) = Deleted op
+reply_of_end (ends.Cleaned blobs bytes) = Cleaned blobs bytes
 reply_of_end (ends.Failed why op) = Failed (why_of why) op
 reply_of_end (ends.Aborted by) = Aborted by
 
@@ -68,3 +75,9 @@ pub record AreAllEnds (all : List Entry) (e : ToldEnds) : Type 0 where
   pub ops : AreEnds all e.ops.items
   pub takes : AreTakes all e.takes.items
   pub shards : AreShardEnds all e.shards.items
+
+-- ---- the texts of names that are gone
+
+-- the set has the text
+abbrev pub holds_text : BTreeSet (Vec ℕ Global) → Bytes → Bool
+holds_text texts text = contains_by (λ (key : Vec ℕ Global). slice_cmp nat_cmp text key.items) texts

@@ -1,5 +1,5 @@
+pub mod Cleaned
 pub mod Replies
-pub mod Lines
 pub mod Status
 pub mod Code
 pub mod Ends

@@ -5,10 +5,11 @@ use Rattle.esr_model.specs.Places.{places}
 use Rattle.esr_model.specs.Uploads.{same_bytes}
 use Rattle.esr_core.specs.After.{or_else, swaps_record}
 use Rattle.esr_core.specs.Entry as entry
-use Rattle.esr_core.specs.Entry.{Given, GivenShard, GivenFinalize, GivenDrop, GivenRestore, GivenClone, GivenDelete, GivenCleanup, Why, OfDepot, Read, RestoredShard, CheckedAll, VerifiedAll, ReadFails, SettlePruned, DeleteFails, Snapshot, Clone, DeleteSnapshots, Step, AskStep, SettleStep, FailedStep, FinishStep, ElectStep, LookStep, ReadStep, PruneStep, Refusal, DeposedAt, DepotFault, Accepted, AcceptedRestore, Gave, WasSettled, HasEnded, ElectedTerm, Looked, Entry}
+use Rattle.esr_core.specs.Entry.{Given, GivenShard, GivenFinalize, GivenDrop, GivenRestore, GivenClone, GivenDelete, GivenCleanup, Why, OfDepot, Read, RestoredShard, CheckedAll, VerifiedAll, ReadFails, SettlePruned, DeleteFails, Snapshot, Clone, DeleteSnapshots, Step, AskStep, SettleStep, FailedStep, FinishStep, DroppedStep, ElectStep, LookStep, ReadStep, PruneStep, Refusal, DeposedAt, DepotFault, Accepted, AcceptedRestore, Gave, WasSettled, HasEnded, ElectedTerm, Looked, Entry}
 use Rattle.esr_script.specs.declared.item.Item.{Item}
 use Rattle.esr_script.specs.declared.item.Item.TheVariants as items
 use Rattle.esr_script.specs.declared.item.ScriptLine.{ScriptLine}
+use Rattle.esr_report.specs.Cleaned.{is_cleanup_ticket, blobs_gone, bytes_gone}
 
 pub data Reply : Type 0 where
   -- the snapshot of this uuid is in the root
@@ -107,12 +108,23 @@ abbrev pub fails_by : Bool → Why → Option ℕ → Option Reply
 fails_by true why op = None
 fails_by false why op = Some (Failed why op)
 
--- What a step of a ticket answers the command of its op: the root is settled, or the unit failed. A delete is answered with its op.
+-- the op of the delete that a ticket is of; a cleanup is none
+abbrev pub delete_of_ticket : List Entry → ℕ → Option ℕ
+delete_of_ticket all k = if is_cleanup_ticket all k then None else op_of_ticket all k
+
+-- what the drop of an op answers its command: a cleanup has come to its end
+abbrev pub cleaned_by : List Entry → ℕ → Bool → Option Reply
+cleaned_by all k true = Some (Cleaned (blobs_gone all k) (bytes_gone all k))
+cleaned_by all k false = None
+
+-- What a step of a ticket answers the command of its op: the root is settled, a cleanup's op left, or the unit failed. A delete is answered
+-- with its op.
 abbrev pub ends_by : List Entry → Bool → ℕ → Step → entry.Reply → Option Reply
 ends_by all stale who SettleStep WasSettled = option_map Made (uuid_of_ticket all who)
 ends_by all stale who (FailedStep why) HasEnded = fails_by stale why None
-ends_by all stale who (PruneStep SettlePruned) WasSettled = option_map Deleted (op_of_ticket all who)
-ends_by all stale who (PruneStep (DeleteFails why)) HasEnded = fails_by stale why (op_of_ticket all who)
+ends_by all stale who (PruneStep SettlePruned) WasSettled = option_map Deleted (delete_of_ticket all who)
+ends_by all stale who (PruneStep (DeleteFails why)) HasEnded = fails_by stale why (delete_of_ticket all who)
+ends_by all stale who DroppedStep HasEnded = cleaned_by all who (is_cleanup_ticket all who)
 ends_by all stale who step reply = None
 
 -- what an entry after these answers the command of an op

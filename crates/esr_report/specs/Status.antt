@@ -1,13 +1,11 @@
--- The exit status of a run's replies, and the report's last line.
-use Rattle.std.specs.Prelude.{ℕ, Bool, true, false, ◌||◌, nat_lt, if◌then◌else◌, List, [], ◌∷◌, ◌++◌, length, codes, Option, Some, None}
+-- How a run ended, by its replies, and its exit status.
+use Rattle.std.specs.Prelude.{ℕ, Bool, true, false, ◌||◌, nat_lt, if◌then◌else◌, List, [], ◌∷◌, length, Option, Some, None}
 use Rattle.std.specs.List.{list_any}
 use Rattle.esr_model.specs.Names.{BlobName}
 use Rattle.esr_core.specs.After.{or_else}
 use Rattle.esr_core.specs.Entry.{OfAbsence, OfUnreadable, OfAhead, OfIdsSpent, OfGenerationsSpent, OfPrint, OfDisagreement, GenerationsSpent, TermsSpent, IdsSpent, Entry}
-use Rattle.esr_formats.specs.Names.{name_kind}
 use Rattle.esr_script.specs.declared.item.ScriptLine.{ScriptLine}
 use Rattle.esr_report.specs.Replies.{Reply, Made, Deleted, Restored, Cleaned, Term, Waited, Listed, Checked, Verified, Refused, Failed, Aborted, Deposed, replies, end_reply}
-use Rattle.esr_report.specs.Lines.{Text, lines_text}
 
 abbrev pub is_deposed : Reply → Bool
 is_deposed Deposed = true
@@ -81,14 +79,3 @@ status_of SomeRefused = 1
 status_of SwapFailed = 3
 status_of (BlobDamaged name) = 4
 status_of NumbersSpent = 7
-
-abbrev pub last_line : Ending → Text
-last_line AllOk = []
-last_line SomeRefused = []
-last_line SwapFailed = codes "deposed\n"
-last_line (BlobDamaged name) = codes "damaged " ++ name_kind.text name ++ codes "\n"
-last_line NumbersSpent = codes "numbers spent\n"
-
--- the whole report of a run that opened the container
-unfoldable pub report_text : List ScriptLine → List Entry → Text
-report_text script history = lines_text script (replies script history) ++ last_line (ending script history)

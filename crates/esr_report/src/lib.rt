@@ -1,18 +1,15 @@
-//! The report of a run: what each line of its script was answered, by the history alone.
+//! What each line of a script was answered, and how the run ended, by the history alone.
 #![tactic(auto)]
 
 mod aborts;
+mod cleaned;
 mod ended;
 mod history;
-mod lines;
 mod reply;
 mod restores;
-mod sorted;
-mod text;
 mod tickets;
 mod told;
 
 pub use ended::{Ending, end_of_run};
 pub use history::replies;
-pub use lines::{push_line, report};
 pub use reply::{Replies, Reply};

@@ -3,22 +3,24 @@ ghost use Rattle.std.specs.Prelude.{◌≡◌, ℕ, option_map, IfOk, OnOk};
 ghost use Rattle.esr_core.specs.After.{or_else};
 ghost use Rattle.esr_formats.specs.Ids.{number_of};
 ghost use Rattle.esr_desk.specs.Entries.{unit_of, answer_of, why_of};
-ghost use Rattle.esr_report.specs.Replies.{op_by, op_of_ticket, uuid_by, uuid_of_ticket, is_of_term, takes_of_term, begins_term, has_term, is_stale, fails_by, ends_by, ends_at};
+ghost use Rattle.esr_report.specs.Replies.{op_by, op_of_ticket, uuid_by, uuid_of_ticket, is_of_term, takes_of_term, begins_term, has_term, is_stale, fails_by, delete_of_ticket, ends_by, ends_at};
 ghost use Rattle.esr_report.specs.Ends.{reply_of_end, end_in, first_end, AreEnds};
 ghost use Rattle.esr_report.specs.Code.{reply_of};
 
 use crate::Reply;
 use crate::aborts::push_aborts;
+use crate::cleaned::{cleaned_by, is_cleanup_ticket};
 use esr_desk::{Answer, Entry, Given, Prune, Step, Why};
 use esr_names::Id;
 use std::alloc::{AllocError, Global};
 
-/// How an op ended: its snapshot is in the root, this delete took snapshots out of it, one of its units failed, with the op of
-/// a delete, or this delete aborted it.
+/// How an op ended: its snapshot is in the root, this delete took snapshots out of it, a cleanup took so many blobs away, one of
+/// its units failed, with the op of a delete, or this delete aborted it.
 #[derive(Clone, Copy)]
 pub enum End {
     Made { uuid: Id },
     Deleted { op: u64 },
+    Cleaned { blobs: u64, bytes: u64 },
     Failed { why: Why, op: Option<u64> },
     Aborted { by: u64 },
 }
@@ -33,6 +35,7 @@ impl End {
         match self {
             End::Made { uuid } => Reply::Made { uuid },
             End::Deleted { op } => Reply::Deleted { op },
+            End::Cleaned { blobs, bytes } => Reply::Cleaned { blobs, bytes },
             End::Failed { why, op } => Reply::Failed { why, op },
             End::Aborted { by } => Reply::Aborted { by },
         }
@@ -166,41 +169,68 @@ fn fails_by(stale: bool, why: Why, op: Option<u64>) -> Option<End>
     Some(End::Failed { why, op })
 }
 
+/// The op of the delete that a ticket is of.
+fn delete_of_ticket(entries: &[Entry], ticket: u64) -> Option<u64>
+    ensures { result ≡ delete_of_ticket entries.now ticket }
+{
+    if is_cleanup_ticket(entries, ticket) {
+        return None;
+    }
+    op_of_ticket(entries, ticket)
+}
+
 /// What a step of a ticket answers the command of its op, if it ends it, after these entries of all.
-fn ends_by(entries: &[Entry], before: &[Entry], entry: &Entry) -> Option<End>
-    ensures { option_map reply_of_end result ≡ ends_by entries.now (is_stale before.now entry.now.who) entry.now.who entry.now.step entry.now.reply }
+fn ends_by(
+    alloc: Global,
+    entries: &[Entry],
+    before: &[Entry],
+    entry: &Entry,
+) -> Result<Option<End>, AllocError>
+    ensures { IfOk result (λ end. option_map reply_of_end end ≡ ends_by entries.now (is_stale before.now entry.now.who) entry.now.who entry.now.step entry.now.reply) }
 {
     match (&entry.step, &entry.answer) {
         (Step::Settle, Answer::Settled) => {
-            uuid_of_ticket(entries, entry.who).map(|uuid| End::Made { uuid })
+            Ok(uuid_of_ticket(entries, entry.who).map(|uuid| End::Made { uuid }))
         }
-        (Step::Failed { why }, Answer::Ended) => fails_by(is_stale(before, entry.who), *why, None),
+        (Step::Failed { why }, Answer::Ended) => {
+            Ok(fails_by(is_stale(before, entry.who), *why, None))
+        }
         (
             Step::Prune {
                 prune: Prune::Settle,
             },
             Answer::Settled,
-        ) => op_of_ticket(entries, entry.who).map(|op| End::Deleted { op }),
+        ) => Ok(delete_of_ticket(entries, entry.who).map(|op| End::Deleted { op })),
         (
             Step::Prune {
                 prune: Prune::Failed { why },
             },
             Answer::Ended,
         ) => {
-            let op = op_of_ticket(entries, entry.who);
-            fails_by(is_stale(before, entry.who), *why, op)
+            let op = delete_of_ticket(entries, entry.who);
+            Ok(fails_by(is_stale(before, entry.who), *why, op))
         }
-        _ => None,
+        (Step::Dropped, Answer::Ended) => cleaned_by(alloc, entries, entry.who),
+        _ => Ok(None),
     }
 }
 
 /// The end of an op that an entry tells, after these of all.
-fn op_end(entries: &[Entry], before: &[Entry], entry: &Entry) -> Option<OpEnd>
-    ensures { (op : ℕ) → ends_at entries.now before.now op entry.now ≡ end_in result op }
+fn op_end(
+    alloc: Global,
+    entries: &[Entry],
+    before: &[Entry],
+    entry: &Entry,
+) -> Result<Option<OpEnd>, AllocError>
+    ensures { IfOk result (λ end. (op : ℕ) → ends_at entries.now before.now op entry.now ≡ end_in end op) }
 {
-    let end = ends_by(entries, before, entry)?;
-    let op = op_of_ticket(entries, entry.who)?;
-    Some(OpEnd { op, end })
+    let Some(end) = ends_by(alloc, entries, before, entry)? else {
+        return Ok(None);
+    };
+    let Some(op) = op_of_ticket(entries, entry.who) else {
+        return Ok(None);
+    };
+    Ok(Some(OpEnd { op, end }))
 }
 
 /// Appends an end where there is one.
@@ -220,7 +250,8 @@ pub fn ends_of(alloc: Global, entries: &[Entry]) -> Result<Vec<OpEnd>, AllocErro
 {
     let mut ends = Vec::new(alloc);
     for (at, entry) in entries.iter().enumerate() {
-        keep(&mut ends, op_end(entries, &entries[..at], entry))?;
+        let end = op_end(alloc, entries, &entries[..at], entry)?;
+        keep(&mut ends, end)?;
         push_aborts(&mut ends, &entries[..at], entry)?;
     }
     Ok(ends)

@@ -1,18 +1,19 @@
--- Who 0 asks for commands only where no ticket is out.
-use Rattle.std.proofs.Common.{◌≡◌, ◌⊎◌, ℕ, suc, ◌≤◌, Bool, true, List, [], ◌∷◌, ◌++◌, append-nil, append_assoc, length, refl, sym, ap, ◌∙◌, subst, inl, inr, ⊎_elim, arith}
+-- Who 0 asks for commands and draws for verifications only where no ticket is out, and takes units in waits alone.
+use Rattle.std.proofs.Common.{◌≡◌, ◌≢◌, ◌⊎◌, ℕ, suc, ◌≤◌, Bool, true, List, [], ◌∷◌, ◌++◌, append-nil, append_assoc, length, refl, sym, ap, ◌∙◌, subst, inl, inr, ⊎_elim, arith}
 use Rattle.std.specs.Prelude.{◌&&◌, ◌==◌, if◌then◌else◌}
 use Rattle.esr_model.specs.Values.{Has}
-use Rattle.esr_core.specs.Entry.{Asked, Read, ReadBlob, DrawTest, AskStep, LookStep, TakeStep, ElectStep, ReadStep, Moment}
+use Rattle.esr_model.specs.Names.{BlobName}
+use Rattle.esr_core.specs.Entry.{Asked, Read, ReadBlob, DrawTest, Step, AskStep, LookStep, TakeStep, ElectStep, ReadStep, Moment}
 use Rattle.esr_script.specs.declared.item.Item.{Item}
 use Rattle.esr_script.specs.declared.item.Item.TheVariants as items
 use Rattle.esr_desk.specs.Start.{Start}
 use Rattle.esr_desk.specs.Check.Shown.{AllFetches}
 use Rattle.esr_quiet.specs.Asked.{is_line_ask, is_asked, as_asked, asked_steps, GrewAsking}
-use Rattle.esr_drive.specs.Elections.{AllOfWait, WaitsOnly}
-use Rattle.esr_verify.specs.Began.{AllFurther, HasBegun}
-use Rattle.esr_check.specs.Began.{HasEndedCheck}
+use Rattle.esr_drive.specs.Elections.{IsOfWait, AllOfWait, WaitsOnly}
+use Rattle.esr_verify.specs.Began.{IsFurther, AllFurther, HasBegun}
+use Rattle.esr_check.specs.Began.{IsCheckEnd, HasEndedCheck}
 use Rattle.esr_complete.specs.Lines.{steps_of_item}
-use Rattle.esr_run.specs.Made.{AreIn, AsksLine, AllAsk, AsksOnly, WasLookRefused, LinePart, AskedApart}
+use Rattle.esr_run.specs.Made.{AreIn, AsksLine, AllAsk, AsksOnly, WasLookRefused, LinePart, NoneOpen, AsksOrDraws, IsWaiting, AskedApart}
 use Rattle.esr_run.proofs.Parts.{cancel}
 
 -- ---- where a moment stands in two lists
@@ -35,91 +36,180 @@ no_middle (x ∷ front) m back e = cc
 -- ---- one part after another
 
 pub apart_none : (s : Start) (log : List Moment) → AskedApart s log log
-apart_none s log = record { more = []; is = sym (append-nil log); apart = λ front back m command is who step. absurd (no_middle front m back is) }
+apart_none s log = record {
+  more = [];
+  is = sym (append-nil log);
+  apart = λ front back m is who step. absurd (no_middle front m back is);
+  taken = λ front back m is step. absurd (no_middle front m back is);
+}
 
 pub apart_on : (s : Start) (old mid new : List Moment) → AskedApart s old mid → AskedApart s mid new → AskedApart s old new
 apart_on s old mid new first second = record {
   more = first.more ++ second.more;
   is = second.is ∙ ap (λ (l : List Moment). l ++ second.more) first.is ∙ append_assoc old first.more second.more;
-  apart = λ front back m command is who step. elim (split_both first.more second.more front m back is) [
-    | inl here ↦ first.apart front here.0 m command here.1 who step
-    | inr later ↦ subst (AreIn s)
-        (ap (λ (l : List Moment). l ++ later.0) first.is ∙ append_assoc old first.more later.0 ∙ ap (λ (l : List Moment). old ++ l) (sym later.1))
-        (second.apart later.0 back m command later.2 who step)
+  apart = λ front back m is who step. elim (split_both first.more second.more front m back is) [
+    | inl here ↦ first.apart front here.0 m here.1 who step
+    | inr later ↦ subst (AreIn s) (place front later.0 later.1) (second.apart later.0 back m later.2 who step)
+  ];
+  taken = λ front back m is step. elim (split_both first.more second.more front m back is) [
+    | inl here ↦ first.taken front here.0 m here.1 step
+    | inr later ↦ subst (IsWaiting s) (place front later.0 later.1) (second.taken later.0 back m later.2 step)
   ];
 }
+  where
+    place : (front own : List Moment) → front ≡ first.more ++ own → mid ++ own ≡ old ++ front
+    place front own is = ap (λ (l : List Moment). l ++ own) first.is ∙ append_assoc old first.more own ∙ ap (λ (l : List Moment). old ++ l) (sym is)
 
--- where nothing is asked
+-- where nothing is asked or drawn, and no unit taken
 abbrev AsksNone : List Moment → Type 0
-AsksNone more = (m : Moment) (command : Asked) → Has more m → m.entry.who ≡ 0 → m.entry.step ≡ AskStep command → ⊥
+AsksNone more = (m : Moment) → Has more m → m.entry.who ≡ 0 → AsksOrDraws m.entry.step → ⊥
+
+abbrev TakesNone : List Moment → Type 0
+TakesNone more = (m : Moment) → Has more m → m.entry.step ≡ TakeStep → ⊥
 
 has_middle : (front : List Moment) (m : Moment) (back : List Moment) → Has (front ++ m ∷ back) m
 has_middle [] m back = inl refl
 has_middle (x ∷ front) m back = inr (has_middle front m back)
 
-apart_asking_none : (s : Start) (old new more : List Moment) → new ≡ old ++ more → AsksNone more → AskedApart s old new
-apart_asking_none s old new more is none = record {
+in_more : (more front : List Moment) (m : Moment) (back : List Moment) → more ≡ front ++ m ∷ back → Has more m
+in_more more front m back at = subst (λ (l : List Moment). Has l m) (sym at) (has_middle front m back)
+
+apart_asking_none : (s : Start) (old new more : List Moment) → new ≡ old ++ more → AsksNone more → TakesNone more → AskedApart s old new
+apart_asking_none s old new more is none untaken = record {
   more = more;
   is = is;
-  apart = λ front back m command at who step. absurd (none m command (subst (λ (l : List Moment). Has l m) (sym at) (has_middle front m back)) who step);
+  apart = λ front back m at who step. absurd (none m (in_more more front m back at) who step);
+  taken = λ front back m at step. absurd (untaken m (in_more more front m back at) step);
 }
 
--- what is asked comes first
-apart_asking_one : (s : Start) (old new more : List Moment) → new ≡ old ++ more → length more ≤ 1 → AreIn s old → AskedApart s old new
-apart_asking_one s old new more is few rests = record { more = more; is = is; apart = λ front back m command at who step. subst (AreIn s) (sym (append-nil old) ∙ ap (λ (l : List Moment). old ++ l) (sym (first more front m back few at))) rests }
+-- what is asked or drawn comes first
+apart_asking_one : (s : Start) (old new : List Moment) (x : Moment) (rest : List Moment) → new ≡ old ++ x ∷ rest → AsksNone rest → TakesNone (x ∷ rest) → AreIn s old → AskedApart s old new
+apart_asking_one s old new x rest is none untaken rests = record {
+  more = x ∷ rest;
+  is = is;
+  apart = λ front back m at who step. subst (AreIn s) (sym (append-nil old) ∙ ap (λ (l : List Moment). old ++ l) (sym (first front m back at who step))) rests;
+  taken = λ front back m at step. absurd (untaken m (in_more (x ∷ rest) front m back at) step);
+}
   where
-    first : (more front : List Moment) (m : Moment) (back : List Moment) → length more ≤ 1 → more ≡ front ++ m ∷ back → front ≡ []
-    first more [] m back few at = refl
-    first [] (x ∷ front) m back few at = absurd (no_middle (x ∷ front) m back at)
-    first (y ∷ []) (x ∷ front) m back few at = let rest : [] ≡ front ++ m ∷ back = cc in absurd (no_middle front m back rest)
-    first (y ∷ z ∷ more) (x ∷ front) m back few at = let le : suc (suc (length more)) ≤ 1 = few in absurd (omega (arith, le))
+    first : (front : List Moment) (m : Moment) (back : List Moment) → x ∷ rest ≡ front ++ m ∷ back → m.entry.who ≡ 0 → AsksOrDraws m.entry.step → front ≡ []
+    first [] m back at who step = refl
+    first (y ∷ front) m back at who step = let later : rest ≡ front ++ m ∷ back = cc in absurd (none m (in_more rest front m back later) who step)
 
--- ---- steps that ask for nothing
+-- ---- steps that ask for nothing, draw for no verification, and take no unit
 
-no_look : (command : Asked) → LookStep ≡ AskStep command → ⊥
-no_look command e = cc
+no_look : AsksOrDraws LookStep → ⊥
+no_look (inl ask) = no_command ask.0 ask.1
+  where
+    no_command : (command : Asked) → LookStep ≡ AskStep command → ⊥
+    no_command command e = cc
+no_look (inr draw) = cc
 
-no_take : (command : Asked) → TakeStep ≡ AskStep command → ⊥
-no_take command e = cc
+no_take : AsksOrDraws TakeStep → ⊥
+no_take (inl ask) = no_command ask.0 ask.1
+  where
+    no_command : (command : Asked) → TakeStep ≡ AskStep command → ⊥
+    no_command command e = cc
+no_take (inr draw) = cc
 
-no_elect : (command : Asked) → ElectStep ≡ AskStep command → ⊥
-no_elect command e = cc
+no_elect : AsksOrDraws ElectStep → ⊥
+no_elect (inl ask) = no_command ask.0 ask.1
+  where
+    no_command : (command : Asked) → ElectStep ≡ AskStep command → ⊥
+    no_command command e = cc
+no_elect (inr draw) = cc
 
-no_read : (read : Read) (command : Asked) → ReadStep read ≡ AskStep command → ⊥
-no_read read command e = cc
+no_read : (read : Read) → (read ≢ DrawTest) → AsksOrDraws (ReadStep read) → ⊥
+no_read read other (inl ask) = no_command ask.0 ask.1
+  where
+    no_command : (command : Asked) → ReadStep read ≡ AskStep command → ⊥
+    no_command command e = cc
+no_read read other (inr draw) = other (let same : read ≡ DrawTest = cc in same)
+
+look_untaken : LookStep ≡ TakeStep → ⊥
+look_untaken e = cc
+
+read_untaken : (read : Read) → ReadStep read ≡ TakeStep → ⊥
+read_untaken read e = cc
 
 none_asked : AsksNone []
-none_asked m command has who step = has
+none_asked m has who step = has
 
-one_more : (x : Moment) (more : List Moment) → ((command : Asked) → x.entry.who ≡ 0 → x.entry.step ≡ AskStep command → ⊥) → AsksNone more → AsksNone (x ∷ more)
-one_more x more here later m command (inl same) who step = here command (ap (λ (y : Moment). y.entry.who) same ∙ who) (ap (λ (y : Moment). y.entry.step) same ∙ step)
-one_more x more here later m command (inr has) who step = later m command has who step
+none_taken : TakesNone []
+none_taken m has step = has
+
+one_more : (x : Moment) (more : List Moment) → (x.entry.who ≡ 0 → AsksOrDraws x.entry.step → ⊥) → AsksNone more → AsksNone (x ∷ more)
+one_more x more here later m (inl same) who step = here (ap (λ (y : Moment). y.entry.who) same ∙ who) (subst AsksOrDraws (sym (ap (λ (y : Moment). y.entry.step) same)) step)
+one_more x more here later m (inr has) who step = later m has who step
+
+taken_more : (x : Moment) (more : List Moment) → (x.entry.step ≡ TakeStep → ⊥) → TakesNone more → TakesNone (x ∷ more)
+taken_more x more here later m (inl same) step = here (ap (λ (y : Moment). y.entry.step) same ∙ step)
+taken_more x more here later m (inr has) step = later m has step
+
+-- of a step that reads
+reads_more : (x : Moment) (more : List Moment) (read : Read) → x.entry.step ≡ ReadStep read → read ≢ DrawTest → AsksNone more → AsksNone (x ∷ more)
+reads_more x more read is other = one_more x more (λ who step. no_read read other (subst AsksOrDraws is step))
+
+untaken_read : (x : Moment) (more : List Moment) (read : Read) → x.entry.step ≡ ReadStep read → TakesNone more → TakesNone (x ∷ more)
+untaken_read x more read is = taken_more x more (λ take. read_untaken read (sym is ∙ take))
 
 wait_none : (more : List Moment) → AllOfWait more → AsksNone more
 wait_none [] all = none_asked
 wait_none (x ∷ more) all =
-    one_more x more (λ command who step. elim all.0 [ inl some ↦ some who | inr (inl take) ↦ no_take command (sym take ∙ step) | inr (inr elect) ↦ no_elect command (sym elect ∙ step) ]) (wait_none more all.1)
+    one_more x more (λ who step. elim all.0 [ inl some ↦ some who | inr (inl take) ↦ no_take (subst AsksOrDraws take step) | inr (inr elect) ↦ no_elect (subst AsksOrDraws elect step) ]) (wait_none more all.1)
+
+no_draw : (read : Read) → IsFurther read → read ≢ DrawTest
+no_draw read further e = subst IsFurther e further
 
 further_none : (more : List Moment) → AllFurther more → AsksNone more
 further_none [] all = none_asked
-further_none (x ∷ more) all = one_more x more (λ command who step. no_read all.1.0 command (sym all.1.1 ∙ step)) (further_none more all.2)
+further_none (x ∷ more) all = reads_more x more all.1.0 all.1.1 (no_draw all.1.0 all.1.2) (further_none more all.2)
+
+further_untaken : (more : List Moment) → AllFurther more → TakesNone more
+further_untaken [] all = none_taken
+further_untaken (x ∷ more) all = untaken_read x more all.1.0 all.1.1 (further_untaken more all.2)
+
+no_blob_draw : (name : BlobName) → ReadBlob name ≢ DrawTest
+no_blob_draw name e = cc
 
 fetches_none : (more last : List Moment) → AllFetches more → AsksNone last → AsksNone (more ++ last)
 fetches_none [] last all none = none
-fetches_none (x ∷ more) last all none = one_more x (more ++ last) (λ command who step. no_read (ReadBlob all.1.0) command (sym all.1.1 ∙ step)) (fetches_none more last all.2 none)
+fetches_none (x ∷ more) last all none = reads_more x (more ++ last) (ReadBlob all.1.0) all.1.1 (no_blob_draw all.1.0) (fetches_none more last all.2 none)
 
-pub waits_apart : (s : Start) (old new : List Moment) → WaitsOnly old new → AskedApart s old new
-waits_apart s old new w = apart_asking_none s old new w.more w.is (wait_none w.more w.all)
+fetches_untaken : (more last : List Moment) → AllFetches more → TakesNone last → TakesNone (more ++ last)
+fetches_untaken [] last all none = none
+fetches_untaken (x ∷ more) last all none = untaken_read x (more ++ last) (ReadBlob all.1.0) all.1.1 (fetches_untaken more last all.2 none)
+
+-- a front of a wait
+wait_front : (more front : List Moment) (m : Moment) (back : List Moment) → AllOfWait more → more ≡ front ++ m ∷ back → AllOfWait front
+wait_front more [] m back all at = tt
+wait_front [] (y ∷ front) m back all at = absurd (no_middle (y ∷ front) m back at)
+wait_front (x ∷ more) (y ∷ front) m back all at =
+    let same : x ≡ y = cc in
+    let rest : more ≡ front ++ m ∷ back = cc in
+    (subst IsOfWait same all.0, wait_front more front m back all.1 rest)
+
+pub waits_apart : (s : Start) (old new : List Moment) → NoneOpen s old → WaitsOnly old new → AskedApart s old new
+waits_apart s old new closed w = record {
+  more = w.more;
+  is = w.is;
+  apart = λ front back m at who step. absurd (wait_none w.more w.all m (in_more w.more front m back at) who step);
+  taken = λ front back m at step. record { start = old; work = front; is = refl; all = wait_front w.more front m back w.all at; closed = closed };
+}
+
+-- the end of a check draws nothing
+no_end_draw : (read : Read) → IsCheckEnd read → read ≢ DrawTest
+no_end_draw read is e = subst IsCheckEnd e is
 
 check_apart : (s : Start) (old new : List Moment) → HasEndedCheck old new → AskedApart s old new
 check_apart s old new e = apart_asking_none s old new (e.look ∷ e.fetches ++ e.end ∷ []) (e.is ∙ append_assoc old (e.look ∷ e.fetches) (e.end ∷ []))
-    (one_more e.look (e.fetches ++ e.end ∷ []) (λ command who step. no_look command (sym e.looks ∙ step)) (fetches_none e.fetches (e.end ∷ []) e.all (one_more e.end [] (λ command who step. no_read e.read command (sym e.ends ∙ step)) none_asked)))
+    (one_more e.look (e.fetches ++ e.end ∷ []) (λ who step. no_look (subst AsksOrDraws e.looks step)) (fetches_none e.fetches (e.end ∷ []) e.all (reads_more e.end [] e.read e.ends (no_end_draw e.read e.is_end) none_asked)))
+    (taken_more e.look (e.fetches ++ e.end ∷ []) (λ take. look_untaken (sym e.looks ∙ take)) (fetches_untaken e.fetches (e.end ∷ []) e.all (untaken_read e.end [] e.read e.ends none_taken)))
 
 look_apart : (s : Start) (old new : List Moment) → WasLookRefused old new → AskedApart s old new
-look_apart s old new r = apart_asking_none s old new (r.look ∷ []) r.is (one_more r.look [] (λ command who step. no_look command (sym r.looks ∙ step)) none_asked)
+look_apart s old new r = apart_asking_none s old new (r.look ∷ []) r.is (one_more r.look [] (λ who step. no_look (subst AsksOrDraws r.looks step)) none_asked) (taken_more r.look [] (λ take. look_untaken (sym r.looks ∙ take)) none_taken)
 
-begun_apart : (s : Start) (old new : List Moment) → HasBegun old new → AskedApart s old new
-begun_apart s old new h = apart_asking_none s old new (h.draw ∷ h.rest) h.is (one_more h.draw h.rest (λ command who step. no_read DrawTest command (sym h.drew ∙ step)) (further_none h.rest h.all))
+begun_apart : (s : Start) (old new : List Moment) → AreIn s old → HasBegun old new → AskedApart s old new
+begun_apart s old new rests h = apart_asking_one s old new h.draw h.rest h.is (further_none h.rest h.all) (untaken_read h.draw h.rest DrawTest h.drew (further_untaken h.rest h.all)) rests
 
 -- ---- a line asks for one step
 
@@ -137,27 +227,39 @@ few_steps moment (items.Snapshot name indices) = let is : 1 ≤ 1 = omega arith 
 few_steps moment (items.Clone source name indices) = let is : 1 ≤ 1 = omega arith in is
 few_steps moment (items.Delete names) = let is : 1 ≤ 1 = omega arith in is
 few_steps moment (items.Restore name place) = let is : 1 ≤ 1 = omega arith in is
-few_steps moment items.Cleanup = let is : 0 ≤ 1 = omega arith in is
+few_steps moment items.Cleanup = let is : 1 ≤ 1 = omega arith in is
 few_steps moment items.Failover = let is : 0 ≤ 1 = omega arith in is
 few_steps moment items.Wait = let is : 0 ≤ 1 = omega arith in is
 few_steps moment items.List = let is : 1 ≤ 1 = omega arith in is
 few_steps moment items.Check = let is : 1 ≤ 1 = omega arith in is
 few_steps moment items.Verify = let is : 1 ≤ 1 = omega arith in is
 
+ask_untaken : (step : Step) → AsksLine step → step ≡ TakeStep → ⊥
+ask_untaken step (inl ask) take = no_ask ask.0 (sym ask.1 ∙ take)
+  where
+    no_ask : (command : Asked) → AskStep command ≡ TakeStep → ⊥
+    no_ask command e = cc
+ask_untaken step (inr look) take = look_untaken (sym look ∙ take)
+
+one_apart : (s : Start) (old new more : List Moment) → new ≡ old ++ more → AllAsk more → length more ≤ 1 → AreIn s old → AskedApart s old new
+one_apart s old new [] is all few rests = apart_asking_none s old new [] is none_asked none_taken
+one_apart s old new (x ∷ []) is all few rests = apart_asking_one s old new x [] is none_asked (taken_more x [] (ask_untaken x.entry.step all.1) none_taken) rests
+one_apart s old new (x ∷ y ∷ more) is all few rests = let le : suc (suc (length more)) ≤ 1 = few in absurd (omega (arith, le))
+
 asks_apart : (s : Start) (moment : ℕ) (item : Item) (old new : List Moment) → s.alone ≡ true → AreIn s old → GrewAsking s (steps_of_item moment item) old new → AsksOnly old new → AskedApart s old new
 asks_apart s moment item old new alone rests g a =
     let same : a.more ≡ g.more = cancel old a.more g.more (sym a.is ∙ g.is) in
     let many : length a.more ≡ length (steps_of_item moment item) = sym (as_many a.more a.all) ∙ ap (λ (l : List Moment). length (asked_steps l)) same ∙ ap length (g.asked alone) in
-    apart_asking_one s old new a.more a.is (subst (λ (n : ℕ). n ≤ 1) (sym many) (few_steps moment item)) rests
+    one_apart s old new a.more a.is a.all (subst (λ (n : ℕ). n ≤ 1) (sym many) (few_steps moment item)) rests
 
-pub line_apart : (s : Start) (moment : ℕ) (item : Item) (old new : List Moment) → s.alone ≡ true → AreIn s old → GrewAsking s (steps_of_item moment item) old new → LinePart item old new → AskedApart s old new
-line_apart s moment items.Check old new alone rests g p = ⊎_elim (λ ended. check_apart s old new ended) (λ refused. look_apart s old new refused) (p.checks refl)
-line_apart s moment items.Verify old new alone rests g p = begun_apart s old new (p.verifies refl)
-line_apart s moment items.Wait old new alone rests g p = waits_apart s old new p.only
-line_apart s moment (items.Snapshot name indices) old new alone rests g p = asks_apart s moment (items.Snapshot name indices) old new alone rests g p.only
-line_apart s moment (items.Clone source name indices) old new alone rests g p = asks_apart s moment (items.Clone source name indices) old new alone rests g p.only
-line_apart s moment (items.Delete names) old new alone rests g p = asks_apart s moment (items.Delete names) old new alone rests g p.only
-line_apart s moment (items.Restore name place) old new alone rests g p = asks_apart s moment (items.Restore name place) old new alone rests g p.only
-line_apart s moment items.Cleanup old new alone rests g p = asks_apart s moment items.Cleanup old new alone rests g p.only
-line_apart s moment items.Failover old new alone rests g p = asks_apart s moment items.Failover old new alone rests g p.only
-line_apart s moment items.List old new alone rests g p = asks_apart s moment items.List old new alone rests g p.only
+pub line_apart : (s : Start) (moment : ℕ) (item : Item) (old new : List Moment) → s.alone ≡ true → AreIn s old → NoneOpen s old → GrewAsking s (steps_of_item moment item) old new → LinePart item old new → AskedApart s old new
+line_apart s moment items.Check old new alone rests closed g p = ⊎_elim (λ ended. check_apart s old new ended) (λ refused. look_apart s old new refused) (p.checks refl)
+line_apart s moment items.Verify old new alone rests closed g p = begun_apart s old new rests (p.verifies refl)
+line_apart s moment items.Wait old new alone rests closed g p = waits_apart s old new closed p.only
+line_apart s moment (items.Snapshot name indices) old new alone rests closed g p = asks_apart s moment (items.Snapshot name indices) old new alone rests g p.only
+line_apart s moment (items.Clone source name indices) old new alone rests closed g p = asks_apart s moment (items.Clone source name indices) old new alone rests g p.only
+line_apart s moment (items.Delete names) old new alone rests closed g p = asks_apart s moment (items.Delete names) old new alone rests g p.only
+line_apart s moment (items.Restore name place) old new alone rests closed g p = asks_apart s moment (items.Restore name place) old new alone rests g p.only
+line_apart s moment items.Cleanup old new alone rests closed g p = asks_apart s moment items.Cleanup old new alone rests g p.only
+line_apart s moment items.Failover old new alone rests closed g p = asks_apart s moment items.Failover old new alone rests g p.only
+line_apart s moment items.List old new alone rests closed g p = asks_apart s moment items.List old new alone rests g p.only

@@ -21,7 +21,6 @@ use Rattle.esr_desk.specs.Own.{or_no_reader, caller_of}
 use Rattle.esr_desk.specs.Evidence.{Evidence}
 use Rattle.esr_quiet.specs.Asked.{is_line_ask, as_asked, asked_steps, GrewAsking}
 use Rattle.esr_quiet.specs.Numbers.{HasNoTickets}
-use Rattle.esr_quiet.proofs.Prefixes.{legal_front}
 use Rattle.esr_drive.specs.Takes.{idle_take, idle_takes, takes_more}
 use Rattle.esr_drive.specs.Elections.{election, elections, elections_more}
 use Rattle.esr_verify.specs.Idle.{IsIdle}
@@ -35,7 +34,7 @@ use Rattle.esr_run.specs.Checked.{AreChecked, HasLooked}
 use Rattle.esr_run.specs.Made.{MadeFirst, AreIn, LineMade, LineRests, LineSpends, WasLookRefused, CheckEnds}
 use Rattle.esr_run.specs.Verified.{AreVerified, AreBegun, AreClosed, AreWhole, MayVerify, VerifiesOn}
 use Rattle.esr_run.proofs.Completing.{in_front, in_middle}
-use Rattle.esr_run.proofs.Making.{world_one, legal_one, same_or_not}
+use Rattle.esr_run.proofs.Making.{world_one, legal_one, legal_front, same_or_not}
 use Rattle.esr_run.proofs.Taking.{no_take, no_elect}
 use Rattle.esr_run.proofs.Checks.{split_end, IsNoCheckEnd, checked_more}
 use Rattle.esr_run.proofs.Verifying.{NoShard, AllRead, StandsAfter, TurnsAre, all_asked, none_asked, reads_in, reads_takes, reads_elect, same_read, none_idle, closed_one, begun_one, verified_more}

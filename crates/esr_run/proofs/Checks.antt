@@ -13,11 +13,10 @@ use Rattle.esr_core.proofs.Blocked.{blocked_stays}
 use Rattle.esr_desk.specs.Start.{Start, Legal, formats_of, world_of, no_ticket, or_no_ticket, ticket_of}
 use Rattle.esr_desk.specs.Own.{caller_of}
 use Rattle.esr_quiet.proofs.Callers.{caller_one}
-use Rattle.esr_quiet.proofs.Prefixes.{legal_front}
 use Rattle.esr_verify.specs.Began.{IsFurther, AllFurther, HasBegun, BeganOne, NotBegun, Begun}
 use Rattle.esr_check.specs.First.{NamesOne, FirstOf}
 use Rattle.esr_run.specs.Checked.{AreChecked}
-use Rattle.esr_run.proofs.Making.{world_one, legal_one}
+use Rattle.esr_run.proofs.Making.{world_one, legal_one, legal_front}
 
 -- ---- the last of a list
 

@@ -1,12 +1,12 @@
 -- What a run over quiet objects ends with.
-use Rattle.std.proofs.Common.{◌≡◌, ◌⊎◌, ℕ, suc, ◌+◌, ◌^◌, ◌<◌, ◌≤◌, Bool, true, false, cond, nat_lt, List, [], ◌∷◌, ◌++◌, map, length, Option, Some, is_some, refl, sym, ap, ◌∙◌, subst, inl, inr, ⊎_elim, arith}
+use Rattle.std.proofs.Common.{◌≡◌, ◌⊎◌, ℕ, suc, ◌+◌, ◌^◌, ◌<◌, ◌≤◌, Bool, true, false, cond, nat_lt, List, [], ◌∷◌, ◌++◌, append_assoc, map, length, Option, Some, is_some, refl, sym, ap, ◌∙◌, subst, inl, inr, ⊎_elim, arith}
 use Rattle.std.specs.Prelude.{◌&&◌, ◌==◌, unwrap_or, if◌then◌else◌}
 use Rattle.std.proofs.lemmas.Bool.{ltb-true, ltb-false}
 use Rattle.std.proofs.lemmas.List.Sums.{sum_by-cons}
 use Rattle.esr_model.specs.Values.{Bytes, Has}
 use Rattle.esr_model.specs.Image.{Image}
 use Rattle.esr_core.specs.World.{World, Caller, Opened}
-use Rattle.esr_core.specs.Entry.{AskedIndex, Snapshot, Restore, Step, AskStep, ElectStep, Reply, Refused, DepotFault, DeposedAt, IdsSpent, GenerationsSpent, TermsSpent, Entry, Moment}
+use Rattle.esr_core.specs.Entry.{AskedIndex, Snapshot, Restore, GivenCleanup, Step, AskStep, TakeStep, ElectStep, Reply, Gave, Refused, DepotFault, DeposedAt, IdsSpent, GenerationsSpent, TermsSpent, Entry, Moment}
 use Rattle.esr_core.specs.History.{AreTold}
 use Rattle.esr_depot.specs.Image.{Image as Held}
 use Rattle.esr_depot.specs.Look.{Look, now}
@@ -16,7 +16,7 @@ use Rattle.esr_script.specs.declared.item.Item.TheVariants as items
 use Rattle.esr_script.specs.declared.item.ScriptLine.{ScriptLine}
 use Rattle.esr_report.specs.Replies.{replies}
 use Rattle.esr_report.specs.Status.{ending, status_of}
-use Rattle.esr_desk.specs.Start.{Start, Legal}
+use Rattle.esr_desk.specs.Start.{Start, Legal, formats_of, world_of}
 use Rattle.esr_desk.specs.declared.fault.Fault.{Fault}
 use Rattle.esr_desk.specs.declared.hand.Hand.TheVariants as hands
 use Rattle.esr_desk.specs.Evidence.{Evidence}
@@ -39,9 +39,11 @@ use Rattle.esr_run.specs.Images.{TellsAll}
 use Rattle.esr_run.specs.Complete.{AsksRestore, IsQuietFor, IsAnsweredWell, Completes}
 use Rattle.esr_run.specs.Laws.{QuietLaws}
 use Rattle.esr_run.specs.Verified.{AreClosed}
-use Rattle.esr_run.specs.Made.{MadeFirst, AreElected, AskedApart, HasFallen, AreDone, NoneOpen}
+use Rattle.esr_run.specs.Made.{MadeFirst, AreElected, IsWaiting, AskedApart, HasFallen, AreDone, NoneOpen}
 use Rattle.esr_run.specs.Waits.{failovers_in, failovers_of}
 use Rattle.esr_run.proofs.Parts.{are_parts}
+use Rattle.esr_run.proofs.Making.{legal_one, legal_front}
+use Rattle.esr_run.proofs.Callers.{waiting_closed}
 
 -- ---- entries and moments
 
@@ -210,7 +212,7 @@ none_failover (line ∷ lines) known =
     one_none items.List known = refl
     one_none items.Check known = refl
     one_none items.Verify known = refl
-    one_none items.Cleanup known = absurd known
+    one_none items.Cleanup known = refl
     one_none items.Failover known = absurd known
 
 -- an election counts
@@ -238,6 +240,8 @@ of_snapshot moment (items.Delete names) name indices when (inl e) = absurd cc
 of_snapshot moment (items.Delete names) name indices when (inr h) = absurd h
 of_snapshot moment (items.Restore called place) name indices when (inl e) = absurd cc
 of_snapshot moment (items.Restore called place) name indices when (inr h) = absurd h
+of_snapshot moment items.Cleanup name indices when (inl e) = absurd cc
+of_snapshot moment items.Cleanup name indices when (inr h) = absurd h
 of_snapshot moment items.List name indices when (inl e) = absurd cc
 of_snapshot moment items.List name indices when (inr h) = absurd h
 of_snapshot moment items.Check name indices when (inl e) = absurd cc
@@ -255,6 +259,8 @@ of_restore moment (items.Clone source called of) name place (inl e) = absurd cc
 of_restore moment (items.Clone source called of) name place (inr h) = absurd h
 of_restore moment (items.Delete names) name place (inl e) = absurd cc
 of_restore moment (items.Delete names) name place (inr h) = absurd h
+of_restore moment items.Cleanup name place (inl e) = absurd cc
+of_restore moment items.Cleanup name place (inr h) = absurd h
 of_restore moment items.List name place (inl e) = absurd cc
 of_restore moment items.List name place (inr h) = absurd h
 of_restore moment items.Check name place (inl e) = absurd cc
@@ -344,6 +350,16 @@ module _ {S F H T : Type 0} (laws : QuietLaws S F H T) (evidence : Evidence S F 
     calm_log : AreCalm log
     calm_log = calm_is log history entries none_faults
 
+    -- where a unit is given no verification is open
+    given_closed : AskedApart s [] log → (front back : List Moment) (m : Moment) (ticket op : ℕ) → log ≡ front ++ m ∷ back → m.entry.reply ≡ Gave ticket op GivenCleanup → NoneOpen s front
+    given_closed asked_apart front back m ticket op is gave =
+        let whole : Legal s (front ++ m ∷ back) = subst (Legal s) is legal in
+        let one : Legal s (front ++ m ∷ []) = legal_front (formats_of s) size (front ++ m ∷ []) back world (subst (Legal s) (sym (append_assoc front (m ∷ []) back)) whole) in
+        let step : m.entry.step ≡ TakeStep = (laws.gave (formats_of s) size (world_of s front) m ticket op GivenCleanup (legal_one (formats_of s) size world front m one).1.0 gave).step_is in
+        let waits : IsWaiting s front = asked_apart.taken front back m (sym asked_apart.is ∙ is) step in
+        let was : Legal s front = legal_front (formats_of s) size front (m ∷ back) world whole in
+        waiting_closed laws.leaves s front was waits
+
     smooth : AreElected lines [] log → AskedApart s [] log → IsSmooth s log
     smooth elected asked_apart = record {
       tells = tells;
@@ -362,7 +378,11 @@ module _ {S F H T : Type 0} (laws : QuietLaws S F H T) (evidence : Evidence S F 
       calm = calm_log;
       unspent = λ m h spent. unspent m.entry (subst (λ (l : List Entry). Has l m.entry) entries (has_entry log m h)) spent;
       unelected = unelected elected;
-      apart = λ front back m command is who step. (asked_apart.apart front back m command (sym asked_apart.is ∙ is) who step).tickets;
+      apart = λ front back m command is who step. (asked_apart.apart front back m (sym asked_apart.is ∙ is) who (inl (command, step))).tickets;
+      tests_apart = record {
+        given = λ front back m ticket op is gave. ap (λ (c : Caller). c.drawn) (given_closed asked_apart front back m ticket op is gave);
+        drawn = λ front back m is who step k clean. (asked_apart.apart front back m (sym asked_apart.is ∙ is) who (inr step)).tickets k;
+      };
     }
 
     none_failed : IsSmooth s log → NoneFailed log

@@ -44,6 +44,7 @@ use Rattle.esr_run.specs.Causes.{Given, IsScript, IsOpenedRun, IsUntouched, IsUn
 use Rattle.esr_run.proofs.Worlds.{begun_world, start_is}
 use Rattle.esr_run.proofs.Keeping.{untouched_kept, refused_kept, every_image_kept, end_kept, answers_stay}
 use Rattle.esr_run.proofs.Dooms.{untouched_tidy, refused_tidy, every_image_tidy, end_tidy, each_dooms_exactly}
+use Rattle.esr_run.proofs.Cleanups.{cleanups_leave_reach}
 use Rattle.esr_run.proofs.Told.{stays_told}
 use Rattle.esr_run.proofs.Sourceless.{needs_no_source}
 use Rattle.esr_run.proofs.Undamaged.{stays_undamaged}
@@ -130,6 +131,7 @@ opened_run {S} {F} {H} {T} laws kept evidence files size workers moment lines qu
       tidy = every_image_tidy laws files size quiet before mid after k history o run was;
       end_tidy = end_tidy laws files size quiet before mid after k history o run was;
       dooms = each_dooms_exactly laws files size quiet before mid after k history o run was;
+      cleaned = cleanups_leave_reach laws files size quiet before mid after k history o run was;
       undamaged = stays_undamaged kept evidence files size quiet before after (world_in (now before) o.cluster o.root) mid.clock history faults (λ i e. o.opens i _ _ e) run.legal
           (stays_told files size quiet before after _ mid.clock mid.since history run was) seen single;
       shown = seen;

@@ -15,7 +15,7 @@ use Rattle.esr_complete.specs.Answers.{IsIdle}
 use Rattle.esr_verify.specs.Began.{HasBegun}
 use Rattle.esr_check.specs.Began.{HasEndedCheck}
 use Rattle.esr_run.specs.Waits.{owed_after, LineElects}
-use Rattle.esr_run.specs.Made.{MadeFirst, HasStopped, AreIn, LineMade, LineRests, LineSpends, WaitEnds, WasLookRefused, CheckEnds, VerifyBegins, AddsOnly}
+use Rattle.esr_run.specs.Made.{MadeFirst, HasStopped, AreIn, LineMade, LineRests, LineSpends, WaitEnds, WasLookRefused, CheckEnds, VerifyBegins, AddsOnly, NoneOpen}
 use Rattle.esr_run.specs.Verified.{MayVerify, VerifiesOn}
 use Rattle.esr_run.proofs.Making.{IsTold, LineEnded, Front, refused_line, line_counts, front_step, take_rest, AsksFirst, made_stopped, ElectedOr}
 
@@ -62,11 +62,11 @@ told_may s workers checks new (Err (steps.Refused refusal)) told h = h
 
 -- so many lines were carried out, and this one
 pub line_front : (s : Start) (moment owed after : ℕ) (line : ScriptLine) (left lines : List ScriptLine) (old mid new : List Moment) (r : Answer) → 1 ≤ length left → line ≡ slice_index_or left 0 line → after ≡ owed_after line.item owed → IsTold r → Front s moment owed left lines old mid
-    → LineMade s (steps_of_item moment line.item) mid new r → LineElects owed line.item mid new r → (line.item ≡ items.Check → CheckEnds mid new r) → (line.item ≡ items.Verify → VerifyBegins mid new r) → AddsOnly line.item mid new
+    → LineMade s (steps_of_item moment line.item) mid new r → LineElects owed line.item mid new r → (line.item ≡ items.Check → CheckEnds mid new r) → (line.item ≡ items.Verify → VerifyBegins mid new r) → AddsOnly line.item mid new → NoneOpen s mid
     → (AreIn s mid → LineRests s new r) → (line.item ≡ items.Wait → WaitEnds s new r) → Front s moment after (take (length left - 1) (drop 1 left)) lines old new
-line_front s moment owed after line left lines old mid new r some is owes told f made elects checked begun only rests ended =
+line_front s moment owed after line left lines old mid new r some is owes told f made elects checked begun only closed rests ended =
     front_step s moment owed after line left lines old mid new some is owes f (told_made s (steps_of_item moment line.item) mid new r told made) (line_counts owed line.item mid new r told elects)
-    (record { checks = told_checked line.item mid new r told checked; verifies = told_begun line.item mid new r told begun; only = only })
+    (record { checks = told_checked line.item mid new r told checked; verifies = told_begun line.item mid new r told begun; only = only }) closed
     (λ alone none. told_ended s line.item new r told (rests none) ended)
 
 -- a line that stopped

@@ -2,6 +2,7 @@ pub mod Alone
 pub mod Parts
 pub mod Apart
 pub mod Making
+pub mod Callers
 pub mod Reading
 pub mod Asking
 pub mod Scripts
@@ -9,6 +10,8 @@ pub mod Numbering
 pub mod Worlds
 pub mod Keeping
 pub mod Dooms
+pub mod Unlisted
+pub mod Cleanups
 pub mod Told
 pub mod Ending
 pub mod Restoring

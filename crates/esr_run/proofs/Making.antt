@@ -69,6 +69,10 @@ pub legal_one : (f : Formats) (size : ℕ) (w : World) (log : List Moment) (m : 
 legal_one f size w [] m legal = (tt, legal)
 legal_one f size w (n ∷ log) m legal = let h = legal_one f size (after f w n) log m legal.1 in ((legal.0, h.0), h.1)
 
+pub legal_front : (f : Formats) (size : ℕ) (front back : List Moment) (w : World) → IsLegal f size w (front ++ back) → IsLegal f size w front
+legal_front f size [] back w legal = tt
+legal_front f size (m ∷ front) back w legal = (legal.0, legal_front f size front back (after f w m) legal.1)
+
 module _ (laws : StepsStay) (s : Start) (numbered : HasNoTickets s) (ops : Tracked s.world) (alone : s.alone ≡ true) where
   stepped_rests : (old new : List Moment) (step : Step) (reply : Reply) → GivesNone reply → Stepped s old new 0 step reply → NoneOut s old → NoneOut s new
   stepped_rests old new step reply none h rest k =
@@ -426,8 +430,8 @@ pub front_none : (s : Start) (moment : ℕ) (lines : List ScriptLine) (log : Lis
 front_none s moment lines log = record { done = []; is = refl; grew = asking_none s log; elected = refl; checks = no_checks s moment log log; owed_is = refl; parts = refl; rests = λ alone none. inl (record { none_out = none; waits = no_waits s moment log log; apart = apart_none s log }) }
 
 pub front_next : (s : Start) (moment owed : ℕ) (line : ScriptLine) (rest lines : List ScriptLine) (old mid new : List Moment) → Front s moment owed (line ∷ rest) lines old mid → GrewAsking s (steps_of_item moment line.item) mid new → LineCounts owed line.item mid new
-    → LinePart line.item mid new → (s.alone ≡ true → AreIn s mid → LineEnded s line.item new) → Front s moment (owed_after line.item owed) rest lines old new
-front_next s moment owed line rest lines old mid new f g counts part ended =
+    → LinePart line.item mid new → NoneOpen s mid → (s.alone ≡ true → AreIn s mid → LineEnded s line.item new) → Front s moment (owed_after line.item owed) rest lines old new
+front_next s moment owed line rest lines old mid new f g counts part closed ended =
     let same : steps_of moment (f.done ++ line ∷ []) ≡ steps_of moment f.done ++ steps_of_item moment line.item =
     steps_append moment f.done (line ∷ []) ∙ ap (λ (l : List Step). steps_of moment f.done ++ l) (append-nil (steps_of_item moment line.item)) in
     record {
@@ -443,7 +447,7 @@ front_next s moment owed line rest lines old mid new f g counts part ended =
           (λ (e : AreIn s new × (line.item ≡ items.Wait → NoneReady s new)). inl (record {
             none_out = e.0;
             waits = waits_next s moment f.done line old mid new f.grew g r.waits (λ wait. elected_here owed f.done line.item old mid new wait f.elected counts) e.0 e.1;
-            apart = apart_on s old mid new r.apart (line_apart s moment line.item mid new alone r.none_out g part);
+            apart = apart_on s old mid new r.apart (line_apart s moment line.item mid new alone r.none_out closed g part);
           }))
           (λ (was : HasStopped new). inr was)
           (ended alone r.none_out))
@@ -553,7 +557,7 @@ done_then s moment owed lines old mid new made g works counts done closes none =
       waits = λ before after line is wait. wait_on s moment before [] old mid new g (a.waits before after line is wait);
       checks = checks_then a.checks;
       parted = record { mid = mid; parts = a.parts; elects = all ∙ ap (λ (n : ℕ). elections mid + n) a.owed_is; grew = g; waits = works };
-      apart = apart_on s old mid new a.apart (waits_apart s mid new works);
+      apart = apart_on s old mid new a.apart (waits_apart s mid new a.closed works);
       idle = idle;
       closed = closes a.closed;
     })
@@ -617,12 +621,12 @@ take_rest [] = take_all (length (drop 1 none) - 1) (drop 1 none) (let few : 0 �
 take_rest (x ∷ rest) = take_all (length (x ∷ rest) - 1) rest (let le : length rest ≤ suc (length rest) - 1 = omega arith in le)
 
 step_front : (s : Start) (moment owed : ℕ) (line : ScriptLine) (left lines : List ScriptLine) (old mid new : List Moment) → 1 ≤ length left → line ≡ slice_index_or left 0 line → Front s moment owed left lines old mid → GrewAsking s (steps_of_item moment line.item) mid new
-    → LineCounts owed line.item mid new → LinePart line.item mid new → (s.alone ≡ true → AreIn s mid → LineEnded s line.item new) → Front s moment (owed_after line.item owed) (drop 1 left) lines old new
-step_front s moment owed line [] lines old mid new some is f g counts part ended = absurd (let none : List ScriptLine = [] in let le : 1 ≤ length none = some in omega (arith, le))
-step_front s moment owed line (x ∷ rest) lines old mid new some is f g counts part ended =
+    → LineCounts owed line.item mid new → LinePart line.item mid new → NoneOpen s mid → (s.alone ≡ true → AreIn s mid → LineEnded s line.item new) → Front s moment (owed_after line.item owed) (drop 1 left) lines old new
+step_front s moment owed line [] lines old mid new some is f g counts part closed ended = absurd (let none : List ScriptLine = [] in let le : 1 ≤ length none = some in omega (arith, le))
+step_front s moment owed line (x ∷ rest) lines old mid new some is f g counts part closed ended =
     subst (λ (l : ScriptLine). Front s moment (owed_after l.item owed) rest lines old new) (sym is)
     (front_next s moment owed x rest lines old mid new f (subst (λ (l : ScriptLine). GrewAsking s (steps_of_item moment l.item) mid new) is g) (subst (λ (l : ScriptLine). LineCounts owed l.item mid new) is counts)
-    (subst (λ (l : ScriptLine). LinePart l.item mid new) is part) (subst (λ (l : ScriptLine). s.alone ≡ true → AreIn s mid → LineEnded s l.item new) is ended))
+    (subst (λ (l : ScriptLine). LinePart l.item mid new) is part) closed (subst (λ (l : ScriptLine). s.alone ≡ true → AreIn s mid → LineEnded s l.item new) is ended))
 
 -- a line that is a check is one of these
 asks_has : (done : List ScriptLine) (line : ScriptLine) (rest : List ScriptLine) → is_check line.item ≡ true → asks_check (done ++ line ∷ rest) ≡ true
@@ -647,10 +651,10 @@ asks_here s moment owed line left lines old mid some is f check =
     subst (λ (l : List ScriptLine). asks_check l ≡ true) (ap (λ (l : List ScriptLine). f.done ++ l) (sym first.1) ∙ f.is) (asks_has f.done line first.0 check)
 
 pub front_step : (s : Start) (moment owed after : ℕ) (line : ScriptLine) (left lines : List ScriptLine) (old mid new : List Moment) → 1 ≤ length left → line ≡ slice_index_or left 0 line → after ≡ owed_after line.item owed → Front s moment owed left lines old mid
-    → GrewAsking s (steps_of_item moment line.item) mid new → LineCounts owed line.item mid new → LinePart line.item mid new → (s.alone ≡ true → AreIn s mid → LineEnded s line.item new) → Front s moment after (take (length left - 1) (drop 1 left)) lines old new
-front_step s moment owed after line left lines old mid new some is owes f g counts part ended =
+    → GrewAsking s (steps_of_item moment line.item) mid new → LineCounts owed line.item mid new → LinePart line.item mid new → NoneOpen s mid → (s.alone ≡ true → AreIn s mid → LineEnded s line.item new) → Front s moment after (take (length left - 1) (drop 1 left)) lines old new
+front_step s moment owed after line left lines old mid new some is owes f g counts part closed ended =
     subst (λ (n : ℕ). Front s moment n (take (length left - 1) (drop 1 left)) lines old new) (sym owes)
-    (subst (λ (l : List ScriptLine). Front s moment (owed_after line.item owed) l lines old new) (sym (take_rest left)) (step_front s moment owed line left lines old mid new some is f g counts part ended))
+    (subst (λ (l : List ScriptLine). Front s moment (owed_after line.item owed) l lines old new) (sym (take_rest left)) (step_front s moment owed line left lines old mid new some is f g counts part closed ended))
 
 when_good : (b : Bool) (number : ℕ) (o : Option ℕ) → (if b then o else Some number) ≡ None → o ≡ None
 when_good true number o e = e

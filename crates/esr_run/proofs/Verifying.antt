@@ -7,7 +7,7 @@ use Rattle.esr_model.specs.Names.{BlobName}
 use Rattle.esr_model.specs.Image.{Image}
 use Rattle.esr_core.specs.World.{World, Ticket, Reader, no_caller}
 use Rattle.esr_core.specs.Entry.{Asked, Read, ReadBlob, RestoredShard, DrawTest, BeginTest, CommitTest, RemoveTests, VerifiedAll, ReadFails, Step, AskStep, LookStep, TakeStep, ElectStep, ReadStep, Reply, DeposedAt, AbortedBy, StaleTerm, Refused, HasEnded, DrawnFrom, WasRemoved, Entry, Moment}
-use Rattle.esr_core.specs.After.{answered, caller_after, after}
+use Rattle.esr_core.specs.After.{answered, caller_after}
 use Rattle.esr_desk.specs.declared.refusal.StepRefusal.{StepRefusal}
 use Rattle.esr_desk.specs.declared.refusal.StepRefusal.TheVariants as steps
 use Rattle.esr_desk.specs.declared.refusal.EntryRefusal.{EntryRefusal}
@@ -23,7 +23,6 @@ use Rattle.esr_quiet.specs.Asked.{is_line_ask, as_asked, asked_steps, GrewAsking
 use Rattle.esr_quiet.specs.Asking.{asking_none}
 use Rattle.esr_quiet.specs.Numbers.{HasNoTickets}
 use Rattle.esr_quiet.specs.Smooth.{HasDrawn}
-use Rattle.esr_quiet.proofs.Prefixes.{legal_front}
 use Rattle.esr_drive.specs.Elections.{IsOfWait, AllOfWait, WaitsOnly, election, elections, elections_more}
 use Rattle.esr_drive.specs.Takes.{idle_take, idle_takes, takes_more}
 use Rattle.esr_verify.specs.Idle.{IsIdle}
@@ -37,7 +36,8 @@ use Rattle.esr_check.specs.Began.{IsOfCheck}
 use Rattle.esr_run.specs.Checked.{HasLooked}
 use Rattle.esr_run.specs.Verified.{AreVerified, AreBegun, AreClosed, AreWhole, MayVerify, VerifiesOn}
 use Rattle.esr_run.proofs.Completing.{in_front, in_middle}
-use Rattle.esr_run.proofs.Making.{world_one, legal_one, same_or_not}
+use Rattle.esr_run.proofs.Making.{world_one, legal_front, same_or_not}
+use Rattle.esr_run.proofs.Callers.{caller_end, caller_worked}
 use Rattle.esr_run.proofs.Checks.{NoneZero, no_cons, split_end, Never, NamesFirst, fails_other, begun_fails, maybe_fails, begun_checked, maybe_checked}
 
 -- ---- steps that read nothing for who 0
@@ -96,9 +96,6 @@ asks_aside step (inl ask) read is = no_ask_read ask.0 read (sym ask.1 ∙ is)
 asks_aside step (inr look) read is = no_look_read read (sym look ∙ is)
 
 -- ---- who 0 stays idle
-
-caller_end : (s : Start) (log : List Moment) (m : Moment) → caller_of s (log ++ m ∷ []) ≡ (after (formats_of s) (world_of s log) m).caller
-caller_end s log m = ap (λ (w : World). w.caller) (world_one (formats_of s) s.world log m)
 
 pub none_idle : IsIdle no_caller
 none_idle = refl
@@ -162,15 +159,6 @@ work_closed s log m (inr (inr elect)) who asks = absurd (true≢false (sym asks 
 whole_more : (s : Start) (workers : ℕ) (checks : Bool) (log more : List Moment) → AllOfWait more → AreWhole s workers checks log → AreWhole s workers checks (log ++ more)
 whole_more s workers checks log [] work w = subst (AreWhole s workers checks) (sym (append-nil log)) w
 whole_more s workers checks log (m ∷ more) work w = subst (AreWhole s workers checks) (append_assoc log (m ∷ []) more) (whole_more s workers checks (log ++ m ∷ []) more work.1 (whole_one s workers checks log m (work_aside m work.0) (work_closed s log m work.0) w))
-
-caller_worked : (leaves : WorkLeaves) (s : Start) (log more : List Moment) → AllOfWait more → Legal s (log ++ more) → caller_of s (log ++ more) ≡ caller_of s log
-caller_worked leaves s log [] work legal = ap (caller_of s) (append-nil log)
-caller_worked leaves s log (m ∷ more) work legal =
-    let whole : (log ++ m ∷ []) ++ more ≡ log ++ m ∷ more = append_assoc log (m ∷ []) more in
-    let all : Legal s ((log ++ m ∷ []) ++ more) = subst (Legal s) (sym whole) legal in
-    let one : Legal s (log ++ m ∷ []) = legal_front (formats_of s) s.part_size (log ++ m ∷ []) more s.world all in
-    ap (caller_of s) (sym whole) ∙ caller_worked leaves s (log ++ m ∷ []) more work.1 all
-    ∙ caller_end s log m ∙ leaves (formats_of s) s.part_size (world_of s log) m (legal_one (formats_of s) s.part_size s.world log m one).1.0 work.0
 
 pub waits_may : (leaves : WorkLeaves) (s : Start) (workers : ℕ) (checks : Bool) (old new : List Moment) → WaitsOnly old new → (Legal s old → Legal s new) → MayVerify s workers checks old → MayVerify s workers checks new
 waits_may leaves s workers checks old new w legal may =

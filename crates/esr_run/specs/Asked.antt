@@ -14,7 +14,7 @@ pub data Wanted : Type 0 where
   ReadScript : (size : ℕ) → Wanted
   -- this command alone, without a script
   OneCommand : (size : ℕ) (item : Item) → Wanted
-  -- a command that is not there yet
+  -- a command that can't be carried out
   NoCommand : Wanted
   -- nothing
   NoRun : Wanted

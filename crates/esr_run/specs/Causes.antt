@@ -34,6 +34,7 @@ use Rattle.esr_run.specs.Faults.{listed, fetch_of, HasFetch}
 use Rattle.esr_run.specs.Start.{Telling, formats_by, start_of, LegalRun}
 use Rattle.esr_run.specs.Images.{StaysKept, EveryImageKept, AnsweredStay}
 use Rattle.esr_run.specs.Tidy.{StaysTidy, EveryImageTidy, EndTidy, EachDoomsExactly}
+use Rattle.esr_run.specs.Cleaned.{CleanupsLeaveReach}
 use Rattle.esr_run.specs.Told.{StaysTold, EndKept}
 use Rattle.esr_run.specs.Sourceless.{NeedsNoSource}
 use Rattle.esr_run.specs.Undamaged.{StaysUndamaged}
@@ -96,7 +97,7 @@ IsReadFor (OneCommand size item) old new old_faults new_faults = IsUnread old ne
 IsReadFor NoCommand old new old_faults new_faults = IsUnread old new old_faults new_faults
 IsReadFor NoRun old new old_faults new_faults = IsUnread old new old_faults new_faults
 
--- the first bad line of the script has this number; or it is the one command, which is not there yet
+-- the first bad line of the script has this number; or it is the one command, which can't be carried out
 abbrev pub IsBadLine : Wanted → Option Bytes → ℕ → Type 0
 IsBadLine (ReadScript size) script number = (bytes : Bytes) × AreBytes script bytes × (bad_line (script_of bytes) ≡ Some number)
 IsBadLine (OneCommand size item) script number = ⊥
@@ -165,6 +166,8 @@ pub record IsOpenedRun {S F H T : Type 0} (evidence : Evidence S F H T) (files :
   pub tidy : EveryImageTidy (formats_by files) world (log_of after clock history) before after
   pub end_tidy : EndTidy (formats_by files) world (log_of after clock history) before after
   pub dooms : EachDoomsExactly (formats_by files) world (log_of after clock history) before
+  -- a cleanup that came to its end left exactly what the safe root reaches, and `index.latest`
+  pub cleaned : CleanupsLeaveReach (formats_by files) world (log_of after clock history) before
   -- over a kept container that tells nothing is found damaged and no name taken, whatever calls fail
   pub undamaged : StaysUndamaged (formats_by files) world (log_of after clock history) before
   -- each failure of a unit that the history tells has its cause, and the objects that failed are listed

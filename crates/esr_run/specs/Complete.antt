@@ -31,8 +31,7 @@ abbrev pub AsksRestore : List ScriptLine → Type 0
 AsksRestore lines = (line : ScriptLine) × (name : Bytes) × (place : Bytes) × Has lines line × (line.item ≡ items.Restore name place)
 
 -- The container tells its image, which is kept, and it is sure to serve 2^62 calls; the sources are quiet, and each shard for which
--- the lines ask is there; the targets are quiet, if some line asks for a restore; and no line asks for a command that is not there
--- yet.
+-- the lines ask is there; the targets are quiet, if some line asks for a restore; and no line asks for a failover.
 pub record IsQuietFor (telling : Telling) (before : Look) (lines : List ScriptLine) : Type 0 where
   pub sure : 2 ^ 62 ≤ before.sure
   pub shelf : List Shelved

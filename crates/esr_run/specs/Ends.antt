@@ -3,7 +3,8 @@ use Rattle.std.specs.Prelude.{ℕ, List, [], ◌++◌, codes, decimal, Option, S
 use Rattle.esr_model.specs.Values.{Bytes}
 use Rattle.esr_core.specs.Entry.{Entry}
 use Rattle.esr_script.specs.declared.item.ScriptLine.{ScriptLine}
-use Rattle.esr_report.specs.Status.{ending, status_of, report_text}
+use Rattle.esr_report.specs.Status.{ending, status_of}
+use Rattle.esr_lines.specs.Lines.{report_text}
 
 pub data RunEnd : Type 0 where
   -- the words ask for nothing that can be carried out

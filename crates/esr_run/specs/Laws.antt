@@ -12,6 +12,7 @@ use Rattle.esr_core.specs.History.{world_from, IsLegal, TellsHandedOut, AreTold,
 use Rattle.esr_law.specs.Digests.{HonestUploads, AskNoSnapshot, AreClones}
 use Rattle.esr_core.specs.Ids.{Law}
 use Rattle.esr_core.specs.Allowed.{Allowed}
+use Rattle.esr_core.specs.Causes.{TakeGave}
 use Rattle.esr_core.specs.Tracked.{Tracked}
 use Rattle.esr_core.specs.Ranked.{Ranked}
 use Rattle.esr_core.specs.ReadTracked.{ReadTracked}
@@ -36,6 +37,7 @@ use Rattle.esr_complete.specs.Lines.{steps_of, AreKnown, entries_of}
 use Rattle.esr_complete.specs.InTurn.{IsInTurn, AreChecksInTurn}
 use Rattle.esr_complete.specs.Answers.{IsIdle, AreAnswered, EndsWell}
 use Rattle.esr_run.specs.Tidy.{TidyLaws}
+use Rattle.esr_run.specs.Cleaned.{CleanedLaw}
 
 pub record Laws : Type 0 where
   pub read_tracked : (blobs : Blobs) (cluster : ClusterRecord) (root : RootData) → ReadTracked (opened blobs cluster root)
@@ -47,6 +49,7 @@ pub record Laws : Type 0 where
   pub stays : (f : Formats) (part_size : ℕ) (w : World) (before rest : List Moment) (m : Moment) (t : Ticket) (n : ℕ) (i : Image) → Tracked w → Ranked w → IsLegal f part_size w (before ++ m ∷ rest) → (m.entry.step ≡ SettleStep) ⊎ (m.entry.step ≡ PruneStep SettlePruned)
       → m.entry.reply ≡ WasSettled → fin.get (world_from f w before).tickets m.entry.who ≡ Some t → t.raised ≡ Some n → Leaves f part_size (after f (world_from f w before) m) rest i → suc n ≤ safe_in f i
   pub tidy : TidyLaws
+  pub cleaned : CleanedLaw
   -- what is asked of sources and digests, where no snapshot is asked
   pub told : (f : Formats) (part_size : ℕ) (w : World) (log : List Moment) → Tracked w → AreClones w.ops → IsLegal f part_size w log → AskNoSnapshot log → TellsHandedOut f w log
   pub honest : (f : Formats) (part_size : ℕ) (w : World) (log : List Moment) → Tracked w → AreClones w.ops → IsLegal f part_size w log → AskNoSnapshot log → HonestUploads f w log
@@ -90,3 +93,6 @@ pub record QuietLaws (S F H T : Type 0) : Type 0 where
       → AreAnswered lines (replies lines (entries_of log))
   pub ends : (s : Start) (log : List Moment) (lines : List ScriptLine) (moment : ℕ) → IsSmooth s log → NoneFailed log → NoneUndeleted log → NoneUnrestored log → NoneUnverified log → AreChecksInTurn moment lines log → AreByRule log → IsInTurn s log → IsIdle s log → AreKnown lines → asked_steps log ≡ steps_of moment lines
       → EndsWell lines (entries_of log)
+  -- a unit is given by a take, and the work of units leaves verifications
+  pub gave : (f : Formats) (part_size : ℕ) (w : World) (m : Moment) (k o : ℕ) (unit : Given) → Allowed f part_size w m → m.entry.reply ≡ Gave k o unit → TakeGave f w m.entry.who m.entry.step k o unit
+  pub leaves : WorkLeaves

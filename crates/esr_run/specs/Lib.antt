@@ -5,6 +5,7 @@ pub mod Faults
 pub mod Start
 pub mod Images
 pub mod Tidy
+pub mod Cleaned
 pub mod Told
 pub mod Sourceless
 pub mod Made

@@ -1,7 +1,7 @@
 -- How far lines were carried out.
 use Rattle.std.specs.Prelude.{◌≡◌, ◌⊎◌, ℕ, ◌+◌, ◌^◌, ◌≤◌, List, [], ◌∷◌, ◌++◌, length, Result, Ok, Err}
 use Rattle.std.specs.FinMap as fin
-use Rattle.esr_core.specs.Entry.{Asked, Step, AskStep, LookStep, DeposedAt, Refused, Moment}
+use Rattle.esr_core.specs.Entry.{Asked, DrawTest, Step, AskStep, TakeStep, LookStep, ReadStep, DeposedAt, Refused, Moment}
 use Rattle.esr_core.specs.Ready.{AnyReady}
 use Rattle.esr_core.specs.Refusing.{SwapFailed}
 use Rattle.esr_script.specs.declared.item.Item.{Item}
@@ -14,7 +14,7 @@ use Rattle.esr_desk.specs.Grew.{NoneOut}
 use Rattle.esr_desk.specs.Own.{caller_of}
 use Rattle.esr_quiet.specs.Asked.{GrewAsking}
 use Rattle.esr_drive.specs.Stopped.{WasStopped}
-use Rattle.esr_drive.specs.Elections.{WaitsOnly, elections}
+use Rattle.esr_drive.specs.Elections.{AllOfWait, WaitsOnly, elections}
 use Rattle.esr_complete.specs.Lines.{steps_of_item, steps_of}
 use Rattle.esr_complete.specs.Answers.{NoReaderOut, IsIdle}
 use Rattle.esr_verify.specs.Idle as verify
@@ -173,15 +173,29 @@ pub record AreParted (s : Start) (moment : ℕ) (lines : List ScriptLine) (old n
   pub grew : GrewAsking s [] mid new
   pub waits : WaitsOnly mid new
 
--- among what was added who 0 asked for commands only where no ticket was out
-pub record AskedApart (s : Start) (old new : List Moment) : Type 0 where
-  pub more : List Moment
-  pub is : new ≡ old ++ more
-  pub apart : (front back : List Moment) (m : Moment) (command : Asked) → more ≡ front ++ m ∷ back → m.entry.who ≡ 0 → m.entry.step ≡ AskStep command → AreIn s (old ++ front)
-
 -- no verification is open
 abbrev pub NoneOpen : Start → List Moment → Type 0
 NoneOpen s log = verify.IsIdle (caller_of s log)
+
+-- a command, or the draw of a verification
+abbrev pub AsksOrDraws : Step → Type 0
+AsksOrDraws step = ((command : Asked) × (step ≡ AskStep command)) ⊎ (step ≡ ReadStep DrawTest)
+
+-- the history has gone on by steps of a wait alone, from where no verification was open
+pub record IsWaiting (s : Start) (log : List Moment) : Type 0 where
+  pub start : List Moment
+  pub work : List Moment
+  pub is : log ≡ start ++ work
+  pub all : AllOfWait work
+  pub closed : NoneOpen s start
+
+-- among what was added who 0 asked for commands, and drew for verifications, only where no ticket was out; and units were taken by waits alone,
+-- each of which began where no verification was open
+pub record AskedApart (s : Start) (old new : List Moment) : Type 0 where
+  pub more : List Moment
+  pub is : new ≡ old ++ more
+  pub apart : (front back : List Moment) (m : Moment) → more ≡ front ++ m ∷ back → m.entry.who ≡ 0 → AsksOrDraws m.entry.step → AreIn s (old ++ front)
+  pub taken : (front back : List Moment) (m : Moment) → more ≡ front ++ m ∷ back → m.entry.step ≡ TakeStep → IsWaiting s (old ++ front)
 
 -- the next wait owes so many of the elections for which these lines ask; the others were made
 abbrev pub Owes : ℕ → List ScriptLine → List Moment → List Moment → Type 0

@@ -57,20 +57,20 @@ abbrev pub have_names_once : List Bytes → Bool
 have_names_once [] = true
 have_names_once (name ∷ names) = if names_one name names then false else have_names_once names
 
--- a snapshot, a clone, a delete, a restore, a failover, a wait, a list, a check or a verification: cleanups are not there yet
+-- a snapshot's indices are askable, a clone names each of its once; each other line can be carried out
 abbrev pub is_carried : Item → Bool
 is_carried (items.Snapshot name indices) = is_askable indices
 is_carried (items.Clone source name indices) = have_names_once indices
 is_carried (items.Delete names) = true
 is_carried (items.Restore name place) = true
-is_carried items.Cleanup = false
+is_carried items.Cleanup = true
 is_carried items.Failover = true
 is_carried items.Wait = true
 is_carried items.List = true
 is_carried items.Check = true
 is_carried items.Verify = true
 
--- the number of the first line that isn't one of these
+-- the number of the first line that can't be carried out
 abbrev pub first_bad : List ScriptLine → Option ℕ
 first_bad [] = None
 first_bad (line ∷ lines) = if is_carried line.item then first_bad lines else Some line.number

@@ -35,7 +35,7 @@ IsNoRun words stops.OpenFault = ⊥
 IsNoRun words (stops.Damaged name) = ⊥
 IsNoRun words stops.NoTerm = ⊥
 
--- the command is not there yet: it is a bad line 1
+-- the command can't be carried out: it is a bad line 1
 abbrev pub IsNoCommand : Item → Stop → Type 0
 IsNoCommand item stops.Memory = Unit {0}
 IsNoCommand item stops.BadWords = ⊥

@@ -1,5 +1,5 @@
--- From a tidy image on each image of a run is tidy, and each delete dooms exactly what it leaves.
-use Rattle.std.specs.Prelude.{◌≡◌, ℕ, true, List, ◌∷◌, ◌++◌, Some}
+-- From a tidy image on each image of a run is tidy, and each delete dooms exactly what it leaves behind.
+use Rattle.std.specs.Prelude.{◌≡◌, ℕ, true, false, List, ◌∷◌, ◌++◌, Some}
 use Rattle.esr_model.specs.Values.{Formats, ReadsBack}
 use Rattle.esr_model.specs.Image.{Image}
 use Rattle.esr_model.specs.Shelf.{Shelved}
@@ -37,7 +37,7 @@ EndTidy f world log before after = (shelf : List Shelved) → Holds f before she
 abbrev pub EachDoomsExactly : Formats → World → List Moment → Look → Type 0
 EachDoomsExactly f world log before =
     (shelf : List Shelved) → Holds f before shelf → IsTidyAt f before → HonestWork f world log → (front back : List Moment) (m : Moment) → log ≡ front ++ m ∷ back → m.entry.step ≡ PruneStep SettlePruned → counts m.entry.reply ≡ true
-    → (s : SettlesDeletion f (world_from f world front) m.entry.who) × DoomsExactly f (world_from f world front) m.entry.who s
+    → (s : SettlesDeletion f (world_from f world front) m.entry.who) × (s.t.clean ≡ false → DoomsExactly f (world_from f world front) m.entry.who s)
 
 -- the laws of the core on tidy images
 pub record TidyLaws : Type 0 where
@@ -46,4 +46,4 @@ pub record TidyLaws : Type 0 where
       → AreTold log → AreHonest f w log → Leaves f part_size w log i → TidyImage f i
   pub dooms : (f : Formats) (part_size : ℕ) (image : Image) (shelf : List Shelved) (w : World) (before rest : List Moment) (m : Moment) → TellsHandedOut f w (before ++ m ∷ rest) → Kept f image shelf → TidyImage f image
       → Opened f image w → IsLegal f part_size w (before ++ m ∷ rest) → AreTold (before ++ m ∷ rest) → AreHonest f w (before ++ m ∷ rest) → m.entry.step ≡ PruneStep SettlePruned → counts m.entry.reply ≡ true
-      → (s : SettlesDeletion f (world_from f w before) m.entry.who) × DoomsExactly f (world_from f w before) m.entry.who s
+      → (s : SettlesDeletion f (world_from f w before) m.entry.who) × (s.t.clean ≡ false → DoomsExactly f (world_from f w before) m.entry.who s)

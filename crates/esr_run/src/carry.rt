@@ -1,7 +1,7 @@
 //! The lines of a script are carried out, in order.
 ghost use Rattle.std.specs.Prelude.{◌≡◌, ◌⊎◌, ◌+◌, ◌<◌, ◌≤◌, ℕ, Bool, ◌^◌, ◌∷◌, ◌++◌, [], true, false, None, IfOk, OnOk, length};
 ghost use Rattle.esr_script.specs.declared.item.Item.TheVariants.{Wait, Check, Verify};
-ghost use Rattle.esr_core.specs.Entry.{Clone, DeleteSnapshots, Restore, DrawTest, AskStep, LookStep, ReadStep};
+ghost use Rattle.esr_core.specs.Entry.{Clone, DeleteSnapshots, Restore, Cleanup, DrawTest, AskStep, LookStep, ReadStep};
 ghost use Rattle.esr_core.specs.Restores.{AreOnce};
 ghost use Rattle.esr_core.specs.Tracked.{Tracked};
 ghost use Rattle.esr_core.specs.ReadTracked.{ReadTracked};
@@ -103,6 +103,24 @@ fn delete<Q: Client>(alloc: Global, desk: &mut Q, names: &SnapNames) -> Result<(
 {
     steps_stay();
     if let Err(refusal) = desk.delete(alloc, names) {
+        return Err(refusal);
+    }
+    Ok(())
+}
+
+/// Asks for a cleanup.
+fn cleanup<Q: Client>(alloc: Global, desk: &mut Q) -> Result<(), StepRefusal>
+    requires numbered { HasNoTickets Q.start }
+    requires ops { Tracked Q.start.world }
+    ensures made { LineMade Q.start (AskStep Cleanup ∷ []) (Q.seen desk.old) (Q.seen desk.new) result }
+    ensures rests { Q.start.alone ≡ true → AreIn Q.start (Q.seen desk.old) → LineRests Q.start (Q.seen desk.new) result }
+    ensures spent { Q.start.alone ≡ true → LineSpends (Q.seen desk.new) result }
+    ensures takes { Q.start.alone ≡ true → idle_takes (Q.seen desk.new) ≡ idle_takes (Q.seen desk.old) }
+    ensures only { Q.start.alone ≡ true → AsksOnly (Q.seen desk.old) (Q.seen desk.new) }
+    ensures verified { (workers : ℕ) (checks : Bool) → Q.start.alone ≡ true → MayVerify Q.start workers checks (Q.seen desk.old) → VerifiesOn Q.start workers checks (Q.seen desk.new) result }
+{
+    steps_stay();
+    if let Err(refusal) = desk.cleanup(alloc) {
         return Err(refusal);
     }
     Ok(())
@@ -234,11 +252,11 @@ fn carry_step<Q: Client>(
         } => make_clone(alloc, desk, source, name, indices, moment),
         Item::Delete { names } => delete(alloc, desk, names),
         Item::Restore { name, place } => restore(alloc, desk, name, place),
+        Item::Cleanup => cleanup(alloc, desk),
         Item::List => list(alloc, desk),
         Item::Check => check(alloc, desk),
         Item::Verify => verify(alloc, desk, workers),
         Item::Failover => Ok(()),
-        Item::Cleanup => unreachable!("no cleanup is carried out"),
         Item::Wait => unreachable!("a wait has a crew"),
     }
 }

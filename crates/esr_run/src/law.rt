@@ -28,6 +28,7 @@ pub(crate) fn laws()
     esr_law::no_snapshot_asks_nothing_of_sources();
     esr_core::answered_settles_stay();
     tidy_laws();
+    esr_law::a_cleanup_leaves_exactly_the_reach();
 }
 
 /// What steps leave of tickets.
@@ -77,6 +78,8 @@ pub(crate) fn quiet_laws<S, F, H, T>()
     esr_quiet::no_check_fails::<S, F, H, T>();
     esr_quiet::only_rules_refuse();
     esr_complete::smooth_runs_are_answered();
+    esr_core::answers_tell_their_steps();
+    work_leaves();
 }
 
 /// Since now a crash leaves no image but that of now.

@@ -96,7 +96,7 @@ fn have_names_once(names: &[IndexName]) -> bool
     true
 }
 
-/// The line can be carried out: cleanups are not there yet.
+/// The line can be carried out.
 pub(crate) fn is_carried(item: &Item) -> bool
     ensures { result ≡ is_carried item.now }
 {
@@ -107,14 +107,14 @@ pub(crate) fn is_carried(item: &Item) -> bool
             name: _,
             indices,
         } => have_names_once(indices.as_slice()),
-        Item::Delete { names: _ } => true,
-        Item::Restore { name: _, place: _ } => true,
-        Item::Failover => true,
-        Item::Wait => true,
-        Item::List => true,
-        Item::Check => true,
-        Item::Verify => true,
-        _ => false,
+        Item::Delete { .. }
+        | Item::Restore { .. }
+        | Item::Cleanup
+        | Item::Failover
+        | Item::Wait
+        | Item::List
+        | Item::Check
+        | Item::Verify => true,
     }
 }
 

@@ -11,7 +11,8 @@ ghost use Rattle.std.specs.Prelude.{Some, IfOk};
 
 use crate::stop::{Stop, stop_status, stop_text};
 use esr_desk::History;
-use esr_report::{end_of_run, replies, report};
+use esr_lines::report;
+use esr_report::{end_of_run, replies};
 use esr_script::Script;
 use esr_seq::Bytes;
 use esr_source::Out;

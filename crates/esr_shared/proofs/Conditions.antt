@@ -1,12 +1,13 @@
 -- What a step of a ticket needs in its turn, by what it needed of the ticket as the worker had seen it.
-use Rattle.std.proofs.Common.{◌≡◌, ℕ, Bool, true, List, ◌++◌, length, Some, None, Result, inl, inr, refl, sym, ap, subst, ⊎_elim}
+use Rattle.std.proofs.Common.{◌≡◌, ℕ, Bool, true, false, List, ◌++◌, length, Option, Some, None, Result, inl, inr, refl, sym, ap, subst, ⊎_elim}
 use Rattle.esr_model.specs.Names.{BlobName}
 use Rattle.esr_model.specs.Values.{Bytes, Has, RootData, ShardResult}
 use Rattle.esr_model.specs.Delete.{PrunedShard}
 use Rattle.esr_core.specs.World.{Ticket, Reader, Deleting}
 use Rattle.esr_core.specs.Ready.{IsShard}
-use Rattle.esr_core.specs.Entry.{Step, Reply, Entry, Moment}
-use Rattle.esr_core.specs.Past.{Repeats, WasStale, removal_names}
+use Rattle.esr_core.specs.Entry.{Step, Reply, WasRemoved, Entry, Moment}
+use Rattle.esr_core.specs.Past.{Repeats, WasStale, IsRemoval, removal_names, gone_names}
+use Rattle.esr_core.specs.Allowed.{HasPutLatest}
 use Rattle.esr_core.specs.Pruning.{dooms}
 use Rattle.esr_depot.specs.declared.depot.Commit.{Commit}
 use Rattle.esr_depot.specs.declared.depot.Commit.TheVariants as commits
@@ -20,7 +21,7 @@ use Rattle.esr_desk.specs.Outcome.{Waited, Outcome, commit_reply}
 use Rattle.esr_desk.specs.Made.{waited_made}
 use Rattle.esr_desk.specs.Evidence.{Evidence}
 use Rattle.esr_desk.specs.Conditions.{CanDraw, CanCommit, CanPut, CanBegin, CanRaise, IsUnpruned, CanSettle, CanEnd, HasSettled, CanFinish, CanDrop}
-use Rattle.esr_desk.specs.Delete.Conditions.{CanPlan, CanSettleDelete, CanRemove, CanEndDelete}
+use Rattle.esr_desk.specs.Delete.Conditions.{CanPlan, CanList, CanSettleDelete, CanRemove, CanEndDelete, CanEndCleanup}
 use Rattle.esr_desk.specs.Restore.Conditions.{CanEndRestore}
 use Rattle.esr_desk.specs.Restore.Targets.{IsFilled}
 use Rattle.esr_shared.specs.Owned.{given_by, calls_in}
@@ -35,7 +36,7 @@ module _ (s : Start) (t : Ticket) where
   draw_alike n h = record { out = h.out; shard = h.shard; once = h.once; some = h.some; most = h.most; few = h.few }
 
   commit_alike : (name : BlobName) (bytes : Bytes) → CanCommit (shared s) t name bytes → CanCommit s t name bytes
-  commit_alike name bytes h = record { out = h.out; unsettled = h.unsettled; may = h.may; stored = h.stored; once = h.once; numbered = h.numbered }
+  commit_alike name bytes h = record { out = h.out; unsettled = h.unsettled; may = h.may; stored = h.stored; once = h.once; numbered = h.numbered; late = h.late }
 
   put_alike : (n : ℕ) → CanPut (shared s) t n → CanPut s t n
   put_alike n h = record { out = h.out; change = h.change; is = h.is; unsettled = h.unsettled; raised = h.raised; written = h.written }
@@ -73,6 +74,7 @@ module _ (s : Start) (t : Ticket) where
     uuids = h.uuids;
     work = h.work;
     commands = h.commands;
+    listed = h.listed;
   }
 
   remove_alike : (names : List BlobName) → CanRemove (shared s) t names → CanRemove s t names
@@ -143,6 +145,9 @@ module _ {s : Start} {before : List Moment} {pass turn : Seen} {value : List Mom
   pub settle_delete_on : (root : RootData) → CanSettleDelete (shared s) (ticket_of s (before ++ pass.seen) who) root → CanSettleDelete s (ticket_of s value who) root
   settle_delete_on root h = subst (λ (u : Ticket). CanSettleDelete s u root) same_ticket (settle_delete_alike s (ticket_of s (before ++ pass.seen) who) root h)
 
+  pub list_on : (after : Option Bytes) → CanList (ticket_of s (before ++ pass.seen) who) after → CanList (ticket_of s value who) after
+  list_on after h = subst (λ (u : Ticket). CanList u after) same_ticket h
+
   pub remove_on : (names : List BlobName) → CanRemove (shared s) (ticket_of s (before ++ pass.seen) who) names → CanRemove s (ticket_of s value who) names
   remove_on names h = subst (λ (u : Ticket). CanRemove s u names) same_ticket (remove_alike s (ticket_of s (before ++ pass.seen) who) names h)
 
@@ -172,7 +177,25 @@ module _ {s : Start} {before : List Moment} {pass turn : Seen} {value : List Mom
     uuids = h.uuids;
     plan = h.plan;
     work = subst (λ (u : Ticket). u.work ≡ Deleting h.uuids (Some h.plan)) same_ticket h.work;
+    deletes = subst (λ (u : Ticket). u.clean ≡ false) same_ticket h.deletes;
     removed = λ tells name doomed. subst (λ (entries : List Entry). Has (removal_names entries) name) same_made
+        (h.removed tells name (subst (λ (u : Ticket). Has (dooms (formats_of s) u) name) (sym same_ticket) doomed));
+  }
+
+  latest_on : HasPutLatest (world_of s (before ++ pass.seen)) who → HasPutLatest (world_of s value) who
+  latest_on h = record { entry = h.entry; there = subst (λ (entries : List Entry). Has entries h.entry) same_made h.there; step_is = h.step_is; reply_is = h.reply_is }
+
+  pub end_cleanup_on : CanEndCleanup (shared s) (before ++ pass.seen) who → CanEndCleanup s value who
+  end_cleanup_on h = record {
+    out = subst (λ (u : Ticket). u.out ≡ true) same_ticket h.out;
+    settled = subst (λ (u : Ticket). u.settled ≡ true) same_ticket h.settled;
+    uuids = h.uuids;
+    plan = h.plan;
+    work = subst (λ (u : Ticket). u.work ≡ Deleting h.uuids (Some h.plan)) same_ticket h.work;
+    cleans = subst (λ (u : Ticket). u.clean ≡ true) same_ticket h.cleans;
+    latest = latest_on h.latest;
+    removals = subst (λ (entries : List Entry). (e : Entry) → Has entries e → IsRemoval e.step → e.reply ≡ WasRemoved) same_made h.removals;
+    removed = λ tells name doomed. subst (λ (entries : List Entry). Has (gone_names entries) name) same_made
         (h.removed tells name (subst (λ (u : Ticket). Has (dooms (formats_of s) u) name) (sym same_ticket) doomed));
   }
 

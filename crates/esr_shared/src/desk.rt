@@ -11,9 +11,10 @@ ghost use Rattle.esr_desk.specs.Restore.Conditions.{CanEndRestore};
 ghost use Rattle.esr_desk.specs.Restore.Targets.{IsFilled, refused_of};
 ghost use Rattle.esr_desk.specs.Shown.{IsShown};
 
+use crate::steps::StepResult;
 use crate::{Since, Sitting};
-use esr_depot::{Commit, Depot};
-use esr_desk::{By, Desk, Hand, Named, Planned, RestoredTarget, StepRefusal, Unended, Unit, Why};
+use esr_depot::{Commit, Depot, Listing};
+use esr_desk::{By, Desk, Hand, Named, Planned, RestoredTarget, Unended, Unit, Why};
 use esr_names::{BlobName, Id, Ids};
 use esr_repo::Told;
 use esr_results::{PrunedShards, ShardResult};
@@ -41,11 +42,11 @@ impl<D: Depot, K: Told, H: Shard, T: Target, B: Since> Desk for Sitting<D, K, H,
         self.desk.never_fails();
     }
 
-    fn take(&mut self, alloc: Global) -> Result<Option<Unit>, StepRefusal> {
+    fn take(&mut self, alloc: Global) -> StepResult<Option<Unit>> {
         self.desk.take(alloc)
     }
 
-    fn elect(&mut self, alloc: Global) -> Result<u64, StepRefusal> {
+    fn elect(&mut self, alloc: Global) -> StepResult<u64> {
         self.desk.elect(alloc)
     }
 
@@ -55,7 +56,7 @@ impl<D: Depot, K: Told, H: Shard, T: Target, B: Since> Desk for Sitting<D, K, H,
         hand: Hand,
         who: u64,
         name: BlobName,
-    ) -> Result<Option<Self::Fetch>, StepRefusal> {
+    ) -> StepResult<Option<Self::Fetch>> {
         self.desk.fetch(alloc, hand, who, name)
     }
 
@@ -66,7 +67,7 @@ impl<D: Depot, K: Told, H: Shard, T: Target, B: Since> Desk for Sitting<D, K, H,
         who: u64,
         why: Why,
         by: By<D::Stage, D::Fetch, H, T>,
-    ) -> Result<(), StepRefusal>
+    ) -> StepResult<()>
         requires mine { IsMine hand (calls_at 0 self.old) who }
         requires may { MayFail hand K.start self.old who }
         requires shown { IsShown hand (evidence D.Stage.faults D.Fetch.faults H.faults T.faults H.told T.told)
@@ -79,7 +80,7 @@ impl<D: Depot, K: Told, H: Shard, T: Target, B: Since> Desk for Sitting<D, K, H,
         self.desk.fail(alloc, hand, who, why, by)
     }
 
-    fn draw(&mut self, alloc: Global, ticket: u64, count: u64) -> Result<Id, StepRefusal> {
+    fn draw(&mut self, alloc: Global, ticket: u64, count: u64) -> StepResult<Id> {
         self.desk.draw(alloc, ticket, count)
     }
 
@@ -89,7 +90,7 @@ impl<D: Depot, K: Told, H: Shard, T: Target, B: Since> Desk for Sitting<D, K, H,
         ticket: u64,
         name: BlobName,
         room: usize,
-    ) -> Result<Named<Self::Stage>, StepRefusal> {
+    ) -> StepResult<Named<Self::Stage>> {
         self.desk.begin(alloc, ticket, name, room)
     }
 
@@ -99,7 +100,7 @@ impl<D: Depot, K: Told, H: Shard, T: Target, B: Since> Desk for Sitting<D, K, H,
         ticket: u64,
         name: BlobName,
         stage: Self::Stage,
-    ) -> Result<Commit, StepRefusal> {
+    ) -> StepResult<Commit> {
         self.desk.commit(alloc, ticket, name, stage)
     }
 
@@ -109,15 +110,15 @@ impl<D: Depot, K: Told, H: Shard, T: Target, B: Since> Desk for Sitting<D, K, H,
         ticket: u64,
         name: BlobName,
         stage: Self::Stage,
-    ) -> Result<(), StepRefusal> {
+    ) -> StepResult<()> {
         self.desk.latest(alloc, ticket, name, stage)
     }
 
-    fn raise(&mut self, alloc: Global, ticket: u64) -> Result<u64, StepRefusal> {
+    fn raise(&mut self, alloc: Global, ticket: u64) -> StepResult<u64> {
         self.desk.raise(alloc, ticket)
     }
 
-    fn settle(&mut self, alloc: Global, ticket: u64, root: &RootData) -> Result<(), StepRefusal> {
+    fn settle(&mut self, alloc: Global, ticket: u64, root: &RootData) -> StepResult<()> {
         self.desk.settle(alloc, ticket, root)
     }
 
@@ -128,34 +129,23 @@ impl<D: Depot, K: Told, H: Shard, T: Target, B: Since> Desk for Sitting<D, K, H,
         root: &RootData,
         uuids: &Ids,
         shards: &PrunedShards,
-    ) -> Result<Planned, StepRefusal> {
+    ) -> StepResult<Planned> {
         self.desk.plan(alloc, ticket, root, uuids, shards)
     }
 
-    fn settle_delete(
-        &mut self,
-        alloc: Global,
-        ticket: u64,
-        root: &RootData,
-    ) -> Result<(), StepRefusal> {
+    fn list(&mut self, alloc: Global, ticket: u64, after: Option<&str>) -> StepResult<Listing> {
+        self.desk.list(alloc, ticket, after)
+    }
+
+    fn settle_delete(&mut self, alloc: Global, ticket: u64, root: &RootData) -> StepResult<()> {
         self.desk.settle_delete(alloc, ticket, root)
     }
 
-    fn remove(
-        &mut self,
-        alloc: Global,
-        ticket: u64,
-        names: &Seq<BlobName>,
-    ) -> Result<(), StepRefusal> {
+    fn remove(&mut self, alloc: Global, ticket: u64, names: &Seq<BlobName>) -> StepResult<()> {
         self.desk.remove(alloc, ticket, names)
     }
 
-    fn end_shard(
-        &mut self,
-        alloc: Global,
-        ticket: u64,
-        outcome: &ShardResult,
-    ) -> Result<(), StepRefusal> {
+    fn end_shard(&mut self, alloc: Global, ticket: u64, outcome: &ShardResult) -> StepResult<()> {
         self.desk.end_shard(alloc, ticket, outcome)
     }
 
@@ -181,15 +171,19 @@ impl<D: Depot, K: Told, H: Shard, T: Target, B: Since> Desk for Sitting<D, K, H,
         self.desk.end_restore(alloc, ticket, files, bytes, target)
     }
 
-    fn end_delete(&mut self, alloc: Global, ticket: u64) -> Result<(), StepRefusal> {
+    fn end_delete(&mut self, alloc: Global, ticket: u64) -> StepResult<()> {
         self.desk.end_delete(alloc, ticket)
     }
 
-    fn end_drop(&mut self, alloc: Global, ticket: u64) -> Result<(), StepRefusal> {
+    fn end_drop(&mut self, alloc: Global, ticket: u64) -> StepResult<()> {
         self.desk.end_drop(alloc, ticket)
     }
 
-    fn finish(&mut self, alloc: Global, ticket: u64) -> Result<(), StepRefusal> {
+    fn end_cleanup(&mut self, alloc: Global, ticket: u64) -> StepResult<()> {
+        self.desk.end_cleanup(alloc, ticket)
+    }
+
+    fn finish(&mut self, alloc: Global, ticket: u64) -> StepResult<()> {
         self.desk.finish(alloc, ticket)
     }
 }

@@ -14,10 +14,10 @@ ghost use Rattle.esr_shared.specs.Owned.{calls_in};
 ghost use Rattle.esr_shared.specs.Turned.{shared, IsFit};
 
 use crate::seat::Seat;
-use crate::steps::Steps;
+use crate::steps::{StepResult, Steps};
 use crate::{Share, Since, Sitting};
-use esr_depot::{Commit, Depot};
-use esr_desk::{By, Desk, Hand, Named, Planned, RestoredTarget, StepRefusal, Unended, Unit, Why};
+use esr_depot::{Commit, Depot, Listing};
+use esr_desk::{By, Desk, Hand, Named, Planned, RestoredTarget, Unended, Unit, Why};
 use esr_names::{BlobName, Id, Ids};
 use esr_repo::Told;
 use esr_results::{PrunedShards, ShardResult};
@@ -114,14 +114,14 @@ impl<'a, D: Depot, K: Told, H: Shard, T: Target, B: Since, W: Share, R: Wait + S
         let _is_over = seat.is_over;
     }
 
-    fn take(&mut self, alloc: Global) -> Result<Option<Unit>, StepRefusal> {
+    fn take(&mut self, alloc: Global) -> StepResult<Option<Unit>> {
         let seat = self.seat.take().unwrap();
         let (seat, answer) = seat.take(alloc);
         drop(self.seat.replace(seat));
         answer
     }
 
-    fn elect(&mut self, alloc: Global) -> Result<u64, StepRefusal> {
+    fn elect(&mut self, alloc: Global) -> StepResult<u64> {
         let seat = self.seat.take().unwrap();
         let (seat, answer) = seat.elect(alloc);
         drop(self.seat.replace(seat));
@@ -134,7 +134,7 @@ impl<'a, D: Depot, K: Told, H: Shard, T: Target, B: Since, W: Share, R: Wait + S
         hand: Hand,
         who: u64,
         name: BlobName,
-    ) -> Result<Option<Self::Fetch>, StepRefusal> {
+    ) -> StepResult<Option<Self::Fetch>> {
         let seat = self.seat.take().unwrap();
         let (seat, answer) = seat.fetch(alloc, hand, who, name);
         drop(self.seat.replace(seat));
@@ -148,7 +148,7 @@ impl<'a, D: Depot, K: Told, H: Shard, T: Target, B: Since, W: Share, R: Wait + S
         who: u64,
         why: Why,
         by: By<D::Stage, D::Fetch, H, T>,
-    ) -> Result<(), StepRefusal>
+    ) -> StepResult<()>
         requires mine { IsMine hand (calls_in (length B.before) self.old.pass.seen self.old.pass.mine) who }
         requires may { MayFail hand (shared K.start) (B.before ++ self.old.pass.seen) who }
         requires shown { IsShown hand (evidence D.Stage.faults D.Fetch.faults H.faults T.faults H.told T.told)
@@ -165,7 +165,7 @@ impl<'a, D: Depot, K: Told, H: Shard, T: Target, B: Since, W: Share, R: Wait + S
         answer
     }
 
-    fn draw(&mut self, alloc: Global, ticket: u64, count: u64) -> Result<Id, StepRefusal> {
+    fn draw(&mut self, alloc: Global, ticket: u64, count: u64) -> StepResult<Id> {
         let seat = self.seat.take().unwrap();
         let (seat, answer) = seat.draw(alloc, ticket, count);
         drop(self.seat.replace(seat));
@@ -178,7 +178,7 @@ impl<'a, D: Depot, K: Told, H: Shard, T: Target, B: Since, W: Share, R: Wait + S
         ticket: u64,
         name: BlobName,
         room: usize,
-    ) -> Result<Named<Self::Stage>, StepRefusal> {
+    ) -> StepResult<Named<Self::Stage>> {
         let seat = self.seat.take().unwrap();
         let (seat, answer) = seat.begin(alloc, ticket, name, room);
         drop(self.seat.replace(seat));
@@ -191,7 +191,7 @@ impl<'a, D: Depot, K: Told, H: Shard, T: Target, B: Since, W: Share, R: Wait + S
         ticket: u64,
         name: BlobName,
         stage: Self::Stage,
-    ) -> Result<Commit, StepRefusal> {
+    ) -> StepResult<Commit> {
         let seat = self.seat.take().unwrap();
         let (seat, answer) = seat.commit(alloc, ticket, name, stage);
         drop(self.seat.replace(seat));
@@ -204,21 +204,21 @@ impl<'a, D: Depot, K: Told, H: Shard, T: Target, B: Since, W: Share, R: Wait + S
         ticket: u64,
         name: BlobName,
         stage: Self::Stage,
-    ) -> Result<(), StepRefusal> {
+    ) -> StepResult<()> {
         let seat = self.seat.take().unwrap();
         let (seat, answer) = seat.latest(alloc, ticket, name, stage);
         drop(self.seat.replace(seat));
         answer
     }
 
-    fn raise(&mut self, alloc: Global, ticket: u64) -> Result<u64, StepRefusal> {
+    fn raise(&mut self, alloc: Global, ticket: u64) -> StepResult<u64> {
         let seat = self.seat.take().unwrap();
         let (seat, answer) = seat.raise(alloc, ticket);
         drop(self.seat.replace(seat));
         answer
     }
 
-    fn settle(&mut self, alloc: Global, ticket: u64, root: &RootData) -> Result<(), StepRefusal> {
+    fn settle(&mut self, alloc: Global, ticket: u64, root: &RootData) -> StepResult<()> {
         let seat = self.seat.take().unwrap();
         let (seat, answer) = seat.settle(alloc, ticket, root);
         drop(self.seat.replace(seat));
@@ -232,43 +232,35 @@ impl<'a, D: Depot, K: Told, H: Shard, T: Target, B: Since, W: Share, R: Wait + S
         root: &RootData,
         uuids: &Ids,
         shards: &PrunedShards,
-    ) -> Result<Planned, StepRefusal> {
+    ) -> StepResult<Planned> {
         let seat = self.seat.take().unwrap();
         let (seat, answer) = seat.plan(alloc, ticket, root, uuids, shards);
         drop(self.seat.replace(seat));
         answer
     }
 
-    fn settle_delete(
-        &mut self,
-        alloc: Global,
-        ticket: u64,
-        root: &RootData,
-    ) -> Result<(), StepRefusal> {
+    fn list(&mut self, alloc: Global, ticket: u64, after: Option<&str>) -> StepResult<Listing> {
+        let seat = self.seat.take().unwrap();
+        let (seat, answer) = seat.list(alloc, ticket, after);
+        drop(self.seat.replace(seat));
+        answer
+    }
+
+    fn settle_delete(&mut self, alloc: Global, ticket: u64, root: &RootData) -> StepResult<()> {
         let seat = self.seat.take().unwrap();
         let (seat, answer) = seat.settle_delete(alloc, ticket, root);
         drop(self.seat.replace(seat));
         answer
     }
 
-    fn remove(
-        &mut self,
-        alloc: Global,
-        ticket: u64,
-        names: &Seq<BlobName>,
-    ) -> Result<(), StepRefusal> {
+    fn remove(&mut self, alloc: Global, ticket: u64, names: &Seq<BlobName>) -> StepResult<()> {
         let seat = self.seat.take().unwrap();
         let (seat, answer) = seat.remove(alloc, ticket, names);
         drop(self.seat.replace(seat));
         answer
     }
 
-    fn end_shard(
-        &mut self,
-        alloc: Global,
-        ticket: u64,
-        outcome: &ShardResult,
-    ) -> Result<(), StepRefusal> {
+    fn end_shard(&mut self, alloc: Global, ticket: u64, outcome: &ShardResult) -> StepResult<()> {
         let seat = self.seat.take().unwrap();
         let (seat, answer) = seat.end_shard(alloc, ticket, outcome);
         drop(self.seat.replace(seat));
@@ -300,21 +292,28 @@ impl<'a, D: Depot, K: Told, H: Shard, T: Target, B: Since, W: Share, R: Wait + S
         answer
     }
 
-    fn end_delete(&mut self, alloc: Global, ticket: u64) -> Result<(), StepRefusal> {
+    fn end_delete(&mut self, alloc: Global, ticket: u64) -> StepResult<()> {
         let seat = self.seat.take().unwrap();
         let (seat, answer) = seat.end_delete(alloc, ticket);
         drop(self.seat.replace(seat));
         answer
     }
 
-    fn end_drop(&mut self, alloc: Global, ticket: u64) -> Result<(), StepRefusal> {
+    fn end_drop(&mut self, alloc: Global, ticket: u64) -> StepResult<()> {
         let seat = self.seat.take().unwrap();
         let (seat, answer) = seat.end_drop(alloc, ticket);
         drop(self.seat.replace(seat));
         answer
     }
 
-    fn finish(&mut self, alloc: Global, ticket: u64) -> Result<(), StepRefusal> {
+    fn end_cleanup(&mut self, alloc: Global, ticket: u64) -> StepResult<()> {
+        let seat = self.seat.take().unwrap();
+        let (seat, answer) = seat.end_cleanup(alloc, ticket);
+        drop(self.seat.replace(seat));
+        answer
+    }
+
+    fn finish(&mut self, alloc: Global, ticket: u64) -> StepResult<()> {
         let seat = self.seat.take().unwrap();
         let (seat, answer) = seat.finish(alloc, ticket);
         drop(self.seat.replace(seat));

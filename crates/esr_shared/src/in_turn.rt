@@ -14,9 +14,9 @@ ghost use Rattle.esr_shared.specs.Owned.{calls_in};
 ghost use Rattle.esr_shared.specs.Turned.{shared, was_told};
 
 use crate::seat::{Ends, Seat, Turns, is_told};
-use crate::steps::Steps;
+use crate::steps::{StepResult, Steps};
 use crate::{Share, Since};
-use esr_depot::{Commit, Depot};
+use esr_depot::{Commit, Depot, Listing};
 use esr_desk::{
     By, Desk, Hand, Named, Planned, RestoredTarget, StepRefusal, Unended, Unit, Why,
     each_ticket_is_given_once,
@@ -46,7 +46,7 @@ impl<'a, D: Depot, K: Told, H: Shard, T: Target, B: Since, W: Share, R: Wait> St
 
     ghost calls = { λ s. calls_in (length B.before) s.pass.seen s.pass.mine };
 
-    fn take(self, alloc: Global) -> (Self, Result<Option<Unit>, StepRefusal>) {
+    fn take(self, alloc: Global) -> (Self, StepResult<Option<Unit>>) {
         each_ticket_is_given_once();
         if self.is_over() {
             return (self, Err(StepRefusal::Memory));
@@ -59,7 +59,7 @@ impl<'a, D: Depot, K: Told, H: Shard, T: Target, B: Since, W: Share, R: Wait> St
         (lent.home(is_told(&answer)), answer)
     }
 
-    fn elect(self, alloc: Global) -> (Self, Result<u64, StepRefusal>) {
+    fn elect(self, alloc: Global) -> (Self, StepResult<u64>) {
         if self.is_over() {
             return (self, Err(StepRefusal::Memory));
         }
@@ -77,7 +77,7 @@ impl<'a, D: Depot, K: Told, H: Shard, T: Target, B: Since, W: Share, R: Wait> St
         hand: Hand,
         who: u64,
         name: BlobName,
-    ) -> (Self, Result<Option<Self::Fetch>, StepRefusal>) {
+    ) -> (Self, StepResult<Option<Self::Fetch>>) {
         if self.is_over() {
             return (self, Err(StepRefusal::Memory));
         }
@@ -96,7 +96,7 @@ impl<'a, D: Depot, K: Told, H: Shard, T: Target, B: Since, W: Share, R: Wait> St
         who: u64,
         why: Why,
         by: By<D::Stage, D::Fetch, H, T>,
-    ) -> (Self, Result<(), StepRefusal>)
+    ) -> (Self, StepResult<()>)
         requires mine { IsMine hand (calls_in (length B.before) self.pass.seen self.pass.mine) who }
         requires may { MayFail hand (shared K.start) (B.before ++ self.pass.seen) who }
         requires shown { IsShown hand (evidence D.Stage.faults D.Fetch.faults H.faults T.faults H.told T.told) (shared K.start) (B.before ++ self.pass.seen) who (why_of why) by }
@@ -119,7 +119,7 @@ impl<'a, D: Depot, K: Told, H: Shard, T: Target, B: Since, W: Share, R: Wait> St
         (lent.home(is_told(&answer)), answer)
     }
 
-    fn draw(self, alloc: Global, ticket: u64, count: u64) -> (Self, Result<Id, StepRefusal>) {
+    fn draw(self, alloc: Global, ticket: u64, count: u64) -> (Self, StepResult<Id>) {
         if self.is_over() {
             return (self, Err(StepRefusal::Memory));
         }
@@ -137,7 +137,7 @@ impl<'a, D: Depot, K: Told, H: Shard, T: Target, B: Since, W: Share, R: Wait> St
         ticket: u64,
         name: BlobName,
         room: usize,
-    ) -> (Self, Result<Named<Self::Stage>, StepRefusal>) {
+    ) -> (Self, StepResult<Named<Self::Stage>>) {
         if self.is_over() {
             return (self, Err(StepRefusal::Memory));
         }
@@ -155,7 +155,7 @@ impl<'a, D: Depot, K: Told, H: Shard, T: Target, B: Since, W: Share, R: Wait> St
         ticket: u64,
         name: BlobName,
         stage: Self::Stage,
-    ) -> (Self, Result<Commit, StepRefusal>) {
+    ) -> (Self, StepResult<Commit>) {
         if self.is_over() {
             return (self, Err(StepRefusal::Memory));
         }
@@ -173,7 +173,7 @@ impl<'a, D: Depot, K: Told, H: Shard, T: Target, B: Since, W: Share, R: Wait> St
         ticket: u64,
         name: BlobName,
         stage: Self::Stage,
-    ) -> (Self, Result<(), StepRefusal>) {
+    ) -> (Self, StepResult<()>) {
         if self.is_over() {
             return (self, Err(StepRefusal::Memory));
         }
@@ -185,7 +185,7 @@ impl<'a, D: Depot, K: Told, H: Shard, T: Target, B: Since, W: Share, R: Wait> St
         (lent.home(is_told(&answer)), answer)
     }
 
-    fn raise(self, alloc: Global, ticket: u64) -> (Self, Result<u64, StepRefusal>) {
+    fn raise(self, alloc: Global, ticket: u64) -> (Self, StepResult<u64>) {
         if self.is_over() {
             return (self, Err(StepRefusal::Memory));
         }
@@ -197,12 +197,7 @@ impl<'a, D: Depot, K: Told, H: Shard, T: Target, B: Since, W: Share, R: Wait> St
         (lent.home(is_told(&answer)), answer)
     }
 
-    fn settle(
-        self,
-        alloc: Global,
-        ticket: u64,
-        root: &RootData,
-    ) -> (Self, Result<(), StepRefusal>) {
+    fn settle(self, alloc: Global, ticket: u64, root: &RootData) -> (Self, StepResult<()>) {
         if self.is_over() {
             return (self, Err(StepRefusal::Memory));
         }
@@ -221,7 +216,7 @@ impl<'a, D: Depot, K: Told, H: Shard, T: Target, B: Since, W: Share, R: Wait> St
         root: &RootData,
         uuids: &Ids,
         shards: &PrunedShards,
-    ) -> (Self, Result<Planned, StepRefusal>) {
+    ) -> (Self, StepResult<Planned>) {
         if self.is_over() {
             return (self, Err(StepRefusal::Memory));
         }
@@ -233,12 +228,19 @@ impl<'a, D: Depot, K: Told, H: Shard, T: Target, B: Since, W: Share, R: Wait> St
         (lent.home(is_told(&answer)), answer)
     }
 
-    fn settle_delete(
-        self,
-        alloc: Global,
-        ticket: u64,
-        root: &RootData,
-    ) -> (Self, Result<(), StepRefusal>) {
+    fn list(self, alloc: Global, ticket: u64, after: Option<&str>) -> (Self, StepResult<Listing>) {
+        if self.is_over() {
+            return (self, Err(StepRefusal::Memory));
+        }
+        if self.left() == 0 {
+            return (self, Err(StepRefusal::TurnsSpent));
+        }
+        let mut lent = self.turn();
+        let answer = lent.held.value.list(alloc, ticket, after);
+        (lent.home(is_told(&answer)), answer)
+    }
+
+    fn settle_delete(self, alloc: Global, ticket: u64, root: &RootData) -> (Self, StepResult<()>) {
         if self.is_over() {
             return (self, Err(StepRefusal::Memory));
         }
@@ -250,12 +252,7 @@ impl<'a, D: Depot, K: Told, H: Shard, T: Target, B: Since, W: Share, R: Wait> St
         (lent.home(is_told(&answer)), answer)
     }
 
-    fn remove(
-        self,
-        alloc: Global,
-        ticket: u64,
-        names: &Seq<BlobName>,
-    ) -> (Self, Result<(), StepRefusal>) {
+    fn remove(self, alloc: Global, ticket: u64, names: &Seq<BlobName>) -> (Self, StepResult<()>) {
         if self.is_over() {
             return (self, Err(StepRefusal::Memory));
         }
@@ -272,7 +269,7 @@ impl<'a, D: Depot, K: Told, H: Shard, T: Target, B: Since, W: Share, R: Wait> St
         alloc: Global,
         ticket: u64,
         outcome: &ShardResult,
-    ) -> (Self, Result<(), StepRefusal>) {
+    ) -> (Self, StepResult<()>) {
         if self.is_over() {
             return (self, Err(StepRefusal::Memory));
         }
@@ -317,7 +314,7 @@ impl<'a, D: Depot, K: Told, H: Shard, T: Target, B: Since, W: Share, R: Wait> St
         (lent.home(is_end_told(&answer)), answer)
     }
 
-    fn end_delete(self, alloc: Global, ticket: u64) -> (Self, Result<(), StepRefusal>) {
+    fn end_delete(self, alloc: Global, ticket: u64) -> (Self, StepResult<()>) {
         if self.is_over() {
             return (self, Err(StepRefusal::Memory));
         }
@@ -329,7 +326,7 @@ impl<'a, D: Depot, K: Told, H: Shard, T: Target, B: Since, W: Share, R: Wait> St
         (lent.home(is_told(&answer)), answer)
     }
 
-    fn end_drop(self, alloc: Global, ticket: u64) -> (Self, Result<(), StepRefusal>) {
+    fn end_drop(self, alloc: Global, ticket: u64) -> (Self, StepResult<()>) {
         if self.is_over() {
             return (self, Err(StepRefusal::Memory));
         }
@@ -341,7 +338,19 @@ impl<'a, D: Depot, K: Told, H: Shard, T: Target, B: Since, W: Share, R: Wait> St
         (lent.home(is_told(&answer)), answer)
     }
 
-    fn finish(self, alloc: Global, ticket: u64) -> (Self, Result<(), StepRefusal>) {
+    fn end_cleanup(self, alloc: Global, ticket: u64) -> (Self, StepResult<()>) {
+        if self.is_over() {
+            return (self, Err(StepRefusal::Memory));
+        }
+        if self.left() == 0 {
+            return (self, Err(StepRefusal::TurnsSpent));
+        }
+        let mut lent = self.turn();
+        let answer = lent.held.value.end_cleanup(alloc, ticket);
+        (lent.home(is_told(&answer)), answer)
+    }
+
+    fn finish(self, alloc: Global, ticket: u64) -> (Self, StepResult<()>) {
         if self.is_over() {
             return (self, Err(StepRefusal::Memory));
         }
@@ -359,12 +368,7 @@ fn is_end_told<T: Drop>(answer: &Result<(), Unended<T>>) -> bool
     ensures { result ≡ was_told (refused_of answer.now) }
 {
     match answer {
-        Err(
-            Unended {
-                refusal: StepRefusal::Memory | StepRefusal::TurnsSpent,
-                ..
-            },
-        ) => false,
-        _ => true,
+        Ok(()) => true,
+        Err(unended) => is_told::<()>(&Err(unended.refusal)),
     }
 }

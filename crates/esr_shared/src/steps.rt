@@ -1,11 +1,13 @@
 //! The steps of a worker, by value.
-ghost use Rattle.std.specs.Prelude.{◌≡◌, ◌+◌, ◌<◌, ◌^◌, ℕ, List, [], map, length, Some, true, false, IsTrue, IfOk, IfErr, IfSome, OnOk, OnErr};
+ghost use Rattle.std.specs.Prelude.{◌≡◌, ◌+◌, ◌<◌, ◌^◌, ℕ, List, [], map, option_copied, length, Some, true, false, IsTrue, IfOk, IfErr, IfSome, OnOk, OnErr};
 ghost use Rattle.esr_model.specs.Names.{Latest};
 ghost use Rattle.esr_model.specs.Values.{Bytes, Has};
 ghost use Rattle.esr_model.specs.Delete.{deleted_root};
-ghost use Rattle.esr_core.specs.Entry.{Moment, TakeStep, DrawStep, BeginStep, CommitStep, LatestStep, RaiseStep, SettleStep, DoneStep, FinishStep, DroppedStep, ElectStep, ReadStep, RestoredShard, PruneStep, PlanShards, SettlePruned, RemoveDoomed, EndDelete, DrawnFrom, WasBegun, WasReplaced, RaisedTo, WasSettled, WasRemoved, HasEnded, ElectedTerm};
+ghost use Rattle.esr_model.specs.Cleanup.{IsPage};
+ghost use Rattle.esr_core.specs.Entry.{Moment, TakeStep, DrawStep, BeginStep, CommitStep, LatestStep, ListStep, RaiseStep, SettleStep, DoneStep, FinishStep, DroppedStep, ElectStep, ReadStep, RestoredShard, PruneStep, PlanShards, SettlePruned, RemoveDoomed, EndDelete, DrawnFrom, WasBegun, WasReplaced, WasListed, RaisedTo, WasSettled, WasRemoved, HasEnded, ElectedTerm};
 ghost use Rattle.esr_core.specs.Allowed.{IsMetadata, latest_text};
 ghost use Rattle.esr_core.specs.Pruning.{planned};
+ghost use Rattle.esr_core.specs.Steps.{listing};
 ghost use Rattle.esr_names.specs.Layout.{IsName};
 ghost use Rattle.esr_formats.specs.Ids.{number_of};
 ghost use Rattle.esr_formats.specs.Names.{name_of, name_kind};
@@ -13,6 +15,7 @@ ghost use Rattle.esr_formats.specs.Roots.{root_of};
 ghost use Rattle.esr_results.specs.Pruned.{pruned_of};
 ghost use Rattle.esr_results.specs.Results.{result_of};
 ghost use Rattle.esr_desk.specs.Entries.{why_of};
+ghost use Rattle.esr_desk.specs.Listing.{page_of};
 ghost use Rattle.esr_desk.specs.Start.{Start, formats_of, ticket_of};
 ghost use Rattle.esr_desk.specs.Own.{own_of, reader_of, made_of};
 ghost use Rattle.esr_desk.specs.Once.{IsFresh};
@@ -22,14 +25,14 @@ ghost use Rattle.esr_desk.specs.Shown.{IsShown};
 ghost use Rattle.esr_desk.specs.Hands.{fetch_step, fail_step, MayFetch, MayFail, own_fetched, own_failed};
 ghost use Rattle.esr_desk.specs.Outcome.{Outcome, commit_reply, fetch_reply, take_reply};
 ghost use Rattle.esr_desk.specs.Conditions.{CanDraw, CanCommit, CanPut, CanBegin, Holds, CanRaise, IsUnpruned, CanSettle, CanEnd, CanFinish, CanDrop};
-ghost use Rattle.esr_desk.specs.Delete.Conditions.{CanPlan, CanSettleDelete, CanRemove, CanEndDelete};
+ghost use Rattle.esr_desk.specs.Delete.Conditions.{CanPlan, CanList, CanSettleDelete, CanRemove, CanEndDelete, CanEndCleanup};
 ghost use Rattle.esr_desk.specs.Restore.Conditions.{CanEndRestore};
 ghost use Rattle.esr_desk.specs.Restore.Targets.{IsFilled, refused_of};
 ghost use Rattle.esr_desk.specs.Readers.{TookUnit, IsBare};
 ghost use Rattle.esr_desk.specs.Taken.{committed_by, begun_by, tried_by, LeftBy, HasRaised, IsSettled, HasEndedAs};
 ghost use Rattle.esr_desk.specs.declared.refusal.StepRefusal.{StepRefusal};
 
-use esr_depot::{Commit, Fetch, Stage};
+use esr_depot::{Commit, Fetch, Listing, Stage};
 use esr_desk::{By, Hand, Named, Planned, RestoredTarget, StepRefusal, Unended, Unit, Why};
 use esr_names::{BlobName, Id, Ids};
 use esr_results::{PrunedShards, ShardResult};
@@ -37,6 +40,9 @@ use esr_root::RootData;
 use esr_seq::Seq;
 use esr_source::{Shard, Target};
 use std::alloc::Global;
+
+/// The answer to a step, or why it was refused.
+pub(crate) type StepResult<X> = Result<X, StepRefusal>;
 
 /// The steps of a desk, each of which takes it and gives it back.
 pub(crate) trait Steps {
@@ -54,7 +60,7 @@ pub(crate) trait Steps {
 
     ghost calls: { Self → List Call };
 
-    fn take(self, alloc: Global) -> (Self, Result<Option<Unit>, StepRefusal>)
+    fn take(self, alloc: Global) -> (Self, StepResult<Option<Unit>>)
         ensures step { Outcome start (seen self) (seen result.0) 0 TakeStep take_reply result.1 }
         ensures took { IfOk result.1 (λ o. IfSome o (λ u. TookUnit start (seen result.0) u)) }
         ensures bare { IfOk result.1 (λ o. IfSome o (λ u. IsBare start (seen result.0) u)) }
@@ -62,7 +68,7 @@ pub(crate) trait Steps {
         ensures mine { IfOk result.1 (λ o. IfSome o (λ u. HasTaken (calls result.0) u.ready.ticket)) }
         ensures calls { calls result.0 ≡ called (seen result.0) TakeStep take_reply result.1 (calls self) };
 
-    fn elect(self, alloc: Global) -> (Self, Result<u64, StepRefusal>)
+    fn elect(self, alloc: Global) -> (Self, StepResult<u64>)
         ensures step { Outcome start (seen self) (seen result.0) 0 ElectStep (λ term. ElectedTerm term) result.1 }
         ensures range { IfOk result.1 (λ term. term < 2 ^ 63) }
         ensures calls { calls result.0 ≡ called (seen result.0) ElectStep (λ term. ElectedTerm term) result.1 (calls self) };
@@ -73,7 +79,7 @@ pub(crate) trait Steps {
         hand: Hand,
         who: u64,
         name: BlobName,
-    ) -> (Self, Result<Option<Self::Fetch>, StepRefusal>)
+    ) -> (Self, StepResult<Option<Self::Fetch>>)
         requires mine { IsMine hand (calls self) who }
         requires layout { IsName name }
         requires may { MayFetch hand start (seen self) who (name_of name) }
@@ -94,7 +100,7 @@ pub(crate) trait Steps {
         who: u64,
         why: Why,
         by: By<Self::Stage, Self::Fetch, Self::Shard, Self::Target>,
-    ) -> (Self, Result<(), StepRefusal>)
+    ) -> (Self, StepResult<()>)
         requires mine { IsMine hand (calls self) who }
         requires may { MayFail hand start (seen self) who }
         requires shown { IsShown hand
@@ -105,7 +111,7 @@ pub(crate) trait Steps {
         ensures kept { OnErr result.1 (own_of start (seen result.0) who ≡ own_of start (seen self) who) }
         ensures calls { calls result.0 ≡ called_by hand (seen result.0) (fail_step hand (why_of why)) (λ _. HasEnded) result.1 (calls self) };
 
-    fn draw(self, alloc: Global, ticket: u64, count: u64) -> (Self, Result<Id, StepRefusal>)
+    fn draw(self, alloc: Global, ticket: u64, count: u64) -> (Self, StepResult<Id>)
         requires mine { HasTaken (calls self) ticket }
         requires may { CanDraw start (ticket_of start (seen self) ticket) count }
         requires new { IsFresh start (seen self) ticket (DrawStep count) }
@@ -122,7 +128,7 @@ pub(crate) trait Steps {
         ticket: u64,
         name: BlobName,
         room: usize,
-    ) -> (Self, Result<Named<Self::Stage>, StepRefusal>)
+    ) -> (Self, StepResult<Named<Self::Stage>>)
         requires mine { HasTaken (calls self) ticket }
         requires layout { IsName name }
         requires may { CanBegin start (ticket_of start (seen self) ticket) (name_of name) }
@@ -143,7 +149,7 @@ pub(crate) trait Steps {
         ticket: u64,
         name: BlobName,
         stage: Self::Stage,
-    ) -> (Self, Result<Commit, StepRefusal>)
+    ) -> (Self, StepResult<Commit>)
         requires mine { HasTaken (calls self) ticket }
         requires named { Self.Stage.name stage ≡ name_kind.text (name_of name) }
         requires layout { IsName name }
@@ -163,7 +169,7 @@ pub(crate) trait Steps {
         ticket: u64,
         name: BlobName,
         stage: Self::Stage,
-    ) -> (Self, Result<(), StepRefusal>)
+    ) -> (Self, StepResult<()>)
         requires mine { HasTaken (calls self) ticket }
         requires named { Self.Stage.name stage ≡ name_kind.text (name_of name) }
         requires name { name_of name ≡ Latest }
@@ -174,7 +180,7 @@ pub(crate) trait Steps {
         ensures own { ticket_of start (seen result.0) ticket ≡ tried_by result.1 (ticket_of start (seen self) ticket) }
         ensures calls { calls result.0 ≡ calls self };
 
-    fn raise(self, alloc: Global, ticket: u64) -> (Self, Result<u64, StepRefusal>)
+    fn raise(self, alloc: Global, ticket: u64) -> (Self, StepResult<u64>)
         requires mine { HasTaken (calls self) ticket }
         requires may { CanRaise start (ticket_of start (seen self) ticket) }
         requires new { IsFresh start (seen self) ticket RaiseStep }
@@ -185,7 +191,7 @@ pub(crate) trait Steps {
         ensures kept { LeftBy (HasRaised (ticket_of start (seen self) ticket)) result.1 (ticket_of start (seen self) ticket) (ticket_of start (seen result.0) ticket) }
         ensures calls { calls result.0 ≡ calls self };
 
-    fn settle(self, alloc: Global, ticket: u64, root: &RootData) -> (Self, Result<(), StepRefusal>)
+    fn settle(self, alloc: Global, ticket: u64, root: &RootData) -> (Self, StepResult<()>)
         requires mine { HasTaken (calls self) ticket }
         requires may { CanSettle start (ticket_of start (seen self) ticket) (root_of root.now) }
         requires unpruned { IsUnpruned (ticket_of start (seen self) ticket) }
@@ -203,7 +209,7 @@ pub(crate) trait Steps {
         root: &RootData,
         uuids: &Ids,
         shards: &PrunedShards,
-    ) -> (Self, Result<Planned, StepRefusal>)
+    ) -> (Self, StepResult<Planned>)
         requires mine { HasTaken (calls self) ticket }
         requires copied { root_of root.now ≡ (ticket_of start (seen self) ticket).root }
         requires may { CanPlan start (ticket_of start (seen self) ticket) (map number_of uuids.now) (map pruned_of shards.now) }
@@ -216,12 +222,18 @@ pub(crate) trait Steps {
         ensures kept { OnErr result.1 (ticket_of start (seen result.0) ticket ≡ ticket_of start (seen self) ticket) }
         ensures calls { calls result.0 ≡ calls self };
 
-    fn settle_delete(
-        self,
-        alloc: Global,
-        ticket: u64,
-        root: &RootData,
-    ) -> (Self, Result<(), StepRefusal>)
+    fn list(self, alloc: Global, ticket: u64, after: Option<&str>) -> (Self, StepResult<Listing>)
+        requires mine { HasTaken (calls self) ticket }
+        requires may { CanList (ticket_of start (seen self) ticket) (option_copied after) }
+        requires new { IsFresh start (seen self) ticket (ListStep (option_copied after)) }
+        ensures step { Outcome start (seen self) (seen result.0) ticket (ListStep (option_copied after.entry)) (λ page. WasListed (page_of page)) result.1 }
+        ensures own { IfOk result.1 (λ page. ticket_of start (seen result.0) ticket
+            ≡ listing (ticket_of start (seen self) ticket) (page_of page)) }
+        ensures page { IfOk result.1 (λ page. IsPage (option_copied after.entry) (page_of page)) }
+        ensures kept { OnErr result.1 (ticket_of start (seen result.0) ticket ≡ ticket_of start (seen self) ticket) }
+        ensures calls { calls result.0 ≡ calls self };
+
+    fn settle_delete(self, alloc: Global, ticket: u64, root: &RootData) -> (Self, StepResult<()>)
         requires mine { HasTaken (calls self) ticket }
         requires may { CanSettleDelete start (ticket_of start (seen self) ticket) (root_of root.now) }
         requires new { IsFresh start (seen self) ticket (PruneStep SettlePruned) }
@@ -231,12 +243,7 @@ pub(crate) trait Steps {
         ensures kept { LeftBy (IsSettled (ticket_of start (seen self) ticket)) result.1 (ticket_of start (seen self) ticket) (ticket_of start (seen result.0) ticket) }
         ensures calls { calls result.0 ≡ calls self };
 
-    fn remove(
-        self,
-        alloc: Global,
-        ticket: u64,
-        names: &Seq<BlobName>,
-    ) -> (Self, Result<(), StepRefusal>)
+    fn remove(self, alloc: Global, ticket: u64, names: &Seq<BlobName>) -> (Self, StepResult<()>)
         requires mine { HasTaken (calls self) ticket }
         requires layout { (name : BlobName) → Has names.now name → IsName name }
         requires may { CanRemove start (ticket_of start (seen self) ticket) (map name_of names.now) }
@@ -245,12 +252,7 @@ pub(crate) trait Steps {
         ensures own { ticket_of start (seen result.0) ticket ≡ ticket_of start (seen self) ticket }
         ensures calls { calls result.0 ≡ calls self };
 
-    fn end_shard(
-        self,
-        alloc: Global,
-        ticket: u64,
-        outcome: &ShardResult,
-    ) -> (Self, Result<(), StepRefusal>)
+    fn end_shard(self, alloc: Global, ticket: u64, outcome: &ShardResult) -> (Self, StepResult<()>)
         requires mine { HasTaken (calls self) ticket }
         requires may { CanEnd start (ticket_of start (seen self) ticket) (result_of outcome.now) }
         ensures step { Outcome start (seen self) (seen result.0) ticket (DoneStep (result_of outcome.now)) (λ _. HasEnded) result.1 }
@@ -278,7 +280,7 @@ pub(crate) trait Steps {
         ensures target { IfErr result.1 (λ u. u.target ≡ target) }
         ensures calls { calls result.0 ≡ calls self };
 
-    fn end_delete(self, alloc: Global, ticket: u64) -> (Self, Result<(), StepRefusal>)
+    fn end_delete(self, alloc: Global, ticket: u64) -> (Self, StepResult<()>)
         requires mine { HasTaken (calls self) ticket }
         requires may { CanEndDelete start (seen self) ticket }
         ensures step { Outcome start (seen self) (seen result.0) ticket (PruneStep EndDelete) (λ _. HasEnded) result.1 }
@@ -286,7 +288,7 @@ pub(crate) trait Steps {
         ensures kept { OnErr result.1 (ticket_of start (seen result.0) ticket ≡ ticket_of start (seen self) ticket) }
         ensures calls { calls result.0 ≡ calls self };
 
-    fn end_drop(self, alloc: Global, ticket: u64) -> (Self, Result<(), StepRefusal>)
+    fn end_drop(self, alloc: Global, ticket: u64) -> (Self, StepResult<()>)
         requires mine { HasTaken (calls self) ticket }
         requires may { CanDrop (ticket_of start (seen self) ticket) }
         ensures step { Outcome start (seen self) (seen result.0) ticket DroppedStep (λ _. HasEnded) result.1 }
@@ -294,7 +296,15 @@ pub(crate) trait Steps {
         ensures kept { LeftBy (HasEndedAs (ticket_of start (seen self) ticket)) result.1 (ticket_of start (seen self) ticket) (ticket_of start (seen result.0) ticket) }
         ensures calls { calls result.0 ≡ calls self };
 
-    fn finish(self, alloc: Global, ticket: u64) -> (Self, Result<(), StepRefusal>)
+    fn end_cleanup(self, alloc: Global, ticket: u64) -> (Self, StepResult<()>)
+        requires mine { HasTaken (calls self) ticket }
+        requires may { CanEndCleanup start (seen self) ticket }
+        ensures step { Outcome start (seen self) (seen result.0) ticket DroppedStep (λ _. HasEnded) result.1 }
+        ensures own { OnOk result.1 (HasEndedAs (ticket_of start (seen self) ticket) (ticket_of start (seen result.0) ticket)) }
+        ensures kept { LeftBy (HasEndedAs (ticket_of start (seen self) ticket)) result.1 (ticket_of start (seen self) ticket) (ticket_of start (seen result.0) ticket) }
+        ensures calls { calls result.0 ≡ calls self };
+
+    fn finish(self, alloc: Global, ticket: u64) -> (Self, StepResult<()>)
         requires mine { HasTaken (calls self) ticket }
         requires may { CanFinish start (seen self) ticket }
         ensures step { Outcome start (seen self) (seen result.0) ticket FinishStep (λ _. HasEnded) result.1 }

@@ -53,6 +53,17 @@ impl<D: Depot, K: Told, H: Shard, T: Target> Client for Solo<D, K, H, T> {
         answer
     }
 
+    fn cleanup(&mut self, alloc: Global) -> Result<u64, StepRefusal> {
+        self.repo.is_legal();
+        if self.left == 0 {
+            return Err(StepRefusal::TurnsSpent);
+        }
+        let answer = self.repo.cleanup(alloc);
+        self.left -= turns(&answer);
+        self.repo.grounds();
+        answer
+    }
+
     fn restore(
         &mut self,
         alloc: Global,

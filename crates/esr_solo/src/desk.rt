@@ -14,7 +14,7 @@ ghost use Rattle.esr_desk.specs.Shown.{IsShown};
 use crate::Solo;
 use crate::kept::{keep, list};
 use crate::solo::{TURNS, turns};
-use esr_depot::{Commit, Depot};
+use esr_depot::{Commit, Depot, Listing};
 use esr_desk::{
     By, Desk, Hand, Named, Planned, RestoredTarget, StepRefusal, Unended, Unit, Why,
     each_ticket_is_new,
@@ -222,6 +222,22 @@ impl<D: Depot, K: Told, H: Shard, T: Target> Desk for Solo<D, K, H, T> {
         answer
     }
 
+    fn list(
+        &mut self,
+        alloc: Global,
+        ticket: u64,
+        after: Option<&str>,
+    ) -> Result<Listing, StepRefusal> {
+        self.repo.is_legal();
+        if self.left == 0 {
+            return Err(StepRefusal::TurnsSpent);
+        }
+        let answer = self.repo.list(alloc, ticket, after);
+        self.left -= turns(&answer);
+        self.repo.grounds();
+        answer
+    }
+
     fn settle_delete(
         &mut self,
         alloc: Global,
@@ -321,6 +337,17 @@ impl<D: Depot, K: Told, H: Shard, T: Target> Desk for Solo<D, K, H, T> {
             return Err(StepRefusal::TurnsSpent);
         }
         let answer = self.repo.end_drop(alloc, ticket);
+        self.left -= turns(&answer);
+        self.repo.grounds();
+        answer
+    }
+
+    fn end_cleanup(&mut self, alloc: Global, ticket: u64) -> Result<(), StepRefusal> {
+        self.repo.is_legal();
+        if self.left == 0 {
+            return Err(StepRefusal::TurnsSpent);
+        }
+        let answer = self.repo.end_cleanup(alloc, ticket);
         self.left -= turns(&answer);
         self.repo.grounds();
         answer

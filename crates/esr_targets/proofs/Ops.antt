@@ -2,7 +2,7 @@
 use Rattle.std.proofs.Common.{◌≡◌, ◌⊎◌, ℕ, ◌<◌, Bool, if◌then◌else◌, List, [], ◌∷◌, ◌++◌, Some, None, map, append_assoc, refl, sym, ap, ◌∙◌, inl, inr, arith}
 use Rattle.std.proofs.lemmas.Bool.Decides.{eqb_tells}
 use Rattle.esr_model.specs.Values.{Bytes, Has, IndexRef}
-use Rattle.esr_core.specs.Entry.{Clone, DeleteSnapshots, Restore, Step, DrawTest, AskStep, LookStep, ReadStep, Reply, AcceptedRestore, Entry}
+use Rattle.esr_core.specs.Entry.{Clone, DeleteSnapshots, Restore, Cleanup, Step, DrawTest, AskStep, LookStep, ReadStep, Reply, AcceptedRestore, Entry}
 use Rattle.esr_core.proofs.Reading.{none_some, some_same, Has-either}
 use Rattle.esr_script.specs.declared.item.Item.{Item}
 use Rattle.esr_script.specs.declared.item.Item.TheVariants as items
@@ -148,6 +148,7 @@ module _ (moment : ℕ) (line : ScriptLine) (lines : List ScriptLine) (op number
   by_item es rest (items.Clone source name indices) is same found on = ask (AskStep (Clone source name indices moment None)) es rest (ap (steps_of_item moment) is) same found on
   by_item es rest (items.Delete names) is same found on = ask (AskStep (DeleteSnapshots names)) es rest (ap (steps_of_item moment) is) same found on
   by_item es rest (items.Restore name place) is same found on = ask (AskStep (Restore name place)) es rest (ap (steps_of_item moment) is) same found on
+  by_item es rest items.Cleanup is same found on = ask (AskStep Cleanup) es rest (ap (steps_of_item moment) is) same found on
   by_item es rest items.List is same found on = ask LookStep es rest (ap (steps_of_item moment) is) same found on
   by_item es rest items.Check is same found on = ask LookStep es rest (ap (steps_of_item moment) is) same found on
   by_item es rest items.Verify is same found on = ask (ReadStep DrawTest) es rest (ap (steps_of_item moment) is) same found on
@@ -171,6 +172,7 @@ module _ (moment : ℕ) (line : ScriptLine) (earlier lines : List ScriptLine) (f
   both_by es (items.Clone source name indices) same = both_asked (AskStep (Clone source name indices moment None)) es same
   both_by es (items.Delete names) same = both_asked (AskStep (DeleteSnapshots names)) es same
   both_by es (items.Restore name place) same = both_asked (AskStep (Restore name place)) es same
+  both_by es items.Cleanup same = both_asked (AskStep Cleanup) es same
   both_by es items.List same = both_asked LookStep es same
   both_by es items.Check same = both_asked LookStep es same
   both_by es items.Verify same = both_asked (ReadStep DrawTest) es same
@@ -229,6 +231,7 @@ module _ (line : ScriptLine) (lines : List ScriptLine) (p : ℕ × ℕ) where
   op_by_item es (items.Clone source name indices) h on = op_asked es h on
   op_by_item es (items.Delete names) h on = op_asked es h on
   op_by_item es (items.Restore name place) h on = op_asked es h on
+  op_by_item es items.Cleanup h on = op_asked es h on
   op_by_item es items.List h on = op_asked es h on
   op_by_item es items.Check h on = op_asked es h on
   op_by_item es items.Verify h on = op_asked es h on
@@ -274,6 +277,7 @@ module _ (line : ScriptLine) (lines : List ScriptLine) (first : (later : ScriptL
   one_by_item es (items.Clone source name indices) a b on = one_asked es a b on
   one_by_item es (items.Delete names) a b on = one_asked es a b on
   one_by_item es (items.Restore name place) a b on = one_asked es a b on
+  one_by_item es items.Cleanup a b on = one_asked es a b on
   one_by_item es items.List a b on = one_asked es a b on
   one_by_item es items.Check a b on = one_asked es a b on
   one_by_item es items.Verify a b on = one_asked es a b on
@@ -296,6 +300,7 @@ restore_item moment (items.Restore n l) name place e = same (heads (AskStep (Res
   where
     same : AskStep (Restore n l) ≡ AskStep (Restore name place) → items.Restore n l ≡ items.Restore name place
     same x = cc
+restore_item moment items.Cleanup name place e = absurd (other_command name place (AskStep Cleanup) (λ a b x. cc) e)
 restore_item moment items.List name place e = absurd (other_command name place LookStep (λ a b x. cc) e)
 restore_item moment items.Check name place e = absurd (other_command name place LookStep (λ a b x. cc) e)
 restore_item moment items.Verify name place e = absurd (other_command name place (ReadStep DrawTest) (λ a b x. cc) e)

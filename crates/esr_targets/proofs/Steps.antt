@@ -45,6 +45,7 @@ gives_next f size w who step k o index number uuid image (allowed.Giving j p uni
 gives_next f size w who step k o index number uuid image (allowed.AskingRestore name place rep im h same) = absurd (restore_gives h refl)
 gives_next f size w who step k o index number uuid image (allowed.AskingClone source name names moment taken rep im h same) = elim h [ ]
 gives_next f size w who step k o index number uuid image (allowed.AskingDelete names rep im h same) = elim h [ ]
+gives_next f size w who step k o index number uuid image (allowed.AskingCleanup rep im h same) = elim h [ ]
 gives_next f size w who step k o index number uuid image (allowed.Verifying read rep im h) = elim h [ ]
 gives_next f size w who step k o index number uuid image (allowed.Pruning j prune rep im h) = elim h [ ]
 gives_next f size w who step k o index number uuid image (allowed.Reading j read rep im h same) = elim h [ ]
@@ -66,6 +67,7 @@ accepted_by : (f : Formats) (size : ℕ) (w : World) (who : ℕ) (step : Step) (
 accepted_by f size w who step o uuid indices image (allowed.AskingRestore name place rep im h same) = record { name = name; place = place; step_is = refl }
 accepted_by f size w who step o uuid indices image (allowed.AskingClone source name names moment taken rep im h same) = elim h [ ]
 accepted_by f size w who step o uuid indices image (allowed.AskingDelete names rep im h same) = elim h [ ]
+accepted_by f size w who step o uuid indices image (allowed.AskingCleanup rep im h same) = elim h [ ]
 accepted_by f size w who step o uuid indices image (allowed.Verifying read rep im h) = elim h [ ]
 accepted_by f size w who step o uuid indices image (allowed.Pruning j prune rep im h) = elim h [ ]
 accepted_by f size w who step o uuid indices image (allowed.Reading j read rep im h same) = elim h [ ]

@@ -36,6 +36,7 @@ ops_at line es more (items.Snapshot name indices) = ops_by line.number es more
 ops_at line es more (items.Clone source name indices) = ops_by line.number es more
 ops_at line es more (items.Delete names) = ops_by line.number es more
 ops_at line es more (items.Restore name place) = ops_by line.number es more
+ops_at line es more items.Cleanup = ops_by line.number es more
 ops_at line es more items.List = ops_by line.number es more
 ops_at line es more items.Check = ops_by line.number es more
 ops_at line es more items.Verify = ops_by line.number es more

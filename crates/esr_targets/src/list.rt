@@ -80,7 +80,7 @@ fn asks(line: &ScriptLine) -> bool
         } => true,
         Item::Delete { names: _ } => true,
         Item::Restore { name: _, place: _ } => true,
-        Item::Cleanup => false,
+        Item::Cleanup => true,
         Item::Failover => false,
         Item::Wait => false,
         Item::List => true,

@@ -4,9 +4,10 @@ ghost use Rattle.esr_depot.specs.Calls.{up};
 ghost use Rattle.esr_depot.specs.Untold.{untold};
 
 use crate::blob::{NewBlob, OpenBlob};
-use esr_depot::{CallError, Commit, Counted, Depot, Failed, Listed, Listing, Names};
-use esr_seq::{Bytes, Seq, Text};
+use esr_depot::{CallError, Commit, Counted, Depot, Failed, Names, Pages, page_of};
+use esr_seq::{Bytes, Text};
 use std::alloc::Global;
+use std::collections::BTreeMap;
 
 #[derive(Drop)]
 struct Blob {
@@ -105,17 +106,14 @@ impl Depot for Store {
         Ok(found)
     }
 
-    fn list(&mut self, alloc: Global) -> Result<Listing, CallError> {
-        let mut listed = Vec::new(alloc);
+    fn list(&mut self, alloc: Global, after: Option<&str>) -> Result<Pages, CallError> {
+        let mut lengths = BTreeMap::new(alloc);
         for blob in &self.blobs {
-            listed.push(Listed {
-                name: blob.name.try_clone(alloc)?,
-                length: blob.bytes.len() as u64,
-            })?;
+            lengths.insert(blob.name.try_clone(alloc)?, blob.bytes.len() as u64)?;
         }
-        listed.sort_unstable_by(|one, other| one.name.cmp(&other.name));
+        let pages = page_of(alloc, after, lengths)?;
         self.pass();
-        Ok(Seq::from_vec(listed))
+        Ok(pages)
     }
 
     fn remove(&mut self, names: &Names) -> Result<(), Failed> {

@@ -6,11 +6,10 @@ use Rattle.std.specs.Prelude.{Ok}
 use Rattle.std.specs.FinMap as fin
 use Rattle.esr_model.specs.Values.{Bytes, IndexRef, RootData, Formats, ShardResult}
 use Rattle.esr_model.specs.Kept.{first_id}
-use Rattle.esr_core.specs.World.{World, Op, Deletion, ReadState, Ticket, Work, Shard, Finalize, Deleting, Drop, Swap, swap, swap_of}
-use Rattle.esr_core.specs.Allowed.{NoCleanup}
+use Rattle.esr_core.specs.World.{World, Op, ReadState, Ticket, Work, Shard, Finalize, Deleting, Drop, Swap, swap, swap_of}
 use Rattle.esr_core.specs.Tracked.{Named}
 use Rattle.esr_core.specs.Entry.{CloneOf, Snapshot}
-use Rattle.esr_core.specs.After.{asked, asked_op, new_names, clone_opened, change, raised, settled_of, done_of, failed_of, dropped_of, delete_failed, delete_settled, read_over}
+use Rattle.esr_core.specs.After.{asked, asked_op, new_names, clone_opened, cleanup_opened, change, raised, settled_of, done_of, failed_of, dropped_of, delete_failed, delete_settled, read_over}
 use Rattle.esr_core.specs.Deletes.{named_uuids, waiting_delete, running_delete, asked_delete}
 use Rattle.esr_core.specs.Restores.{waits, restore_opened}
 use Rattle.esr_core.proofs.Naming.{named_new, named_up, new_asked}
@@ -23,7 +22,7 @@ use Rattle.esr_progress.specs.declared.command.Command.{Command}
 use Rattle.esr_progress.specs.declared.command.Command.TheVariants as commands
 use Rattle.esr_progress.specs.declared.unit.ReadyUnit.{ReadyUnit}
 use Rattle.esr_progress.specs.Asked.{asked_of, asked_index_of, IsAskable}
-use Rattle.esr_progress.specs.Accepting.{MayAccept, IsAccepted, Accepting, AcceptingDelete, name_asked}
+use Rattle.esr_progress.specs.Accepting.{Accepting, AcceptingDelete, AcceptingCleanup}
 use Rattle.esr_progress.specs.Plan.{Plan, Seat, UnitKind, OfShard, OfFinalize, OfDelete, OfDrop, kind_of, seat_of, IsPlanOf, IsAskedIn, IsGivenIn}
 use Rattle.esr_progress.specs.Units.{given_of, NextUnit}
 use Rattle.esr_progress.proofs.Lists.{none_some, some_same}
@@ -60,7 +59,6 @@ started before after k o =
     record {
       w = w;
       plan = o.kept.plan;
-      no_cleanup = o.order.no_cleanups;
       first = o.kept.plan.next_ticket;
       named =
           subst (λ (r : RootData). Named r k.plan.ops k.next) (sym o.kept.root)
@@ -69,7 +67,7 @@ started before after k o =
     }
 
 pub opened_board : {p : Plan} {root : RootData} {next : ℕ} (term : ℕ) → IsStart p root next → term < 2 ^ 63 → next < first_id (suc term) → IsBoard p root term next 0 false
-opened_board term start low below = record { w = start.w; plan = start.plan; no_cleanup = start.no_cleanup; few = omega (arith, start.first); low_term = low; in_term = below; named = λ e. start.named }
+opened_board term start low below = record { w = start.w; plan = start.plan; few = omega (arith, start.first); low_term = low; in_term = below; named = λ e. start.named }
 
 -- ---- tickets and their swaps
 
@@ -91,7 +89,7 @@ ticket_with None s e = absurd (none_some s e)
 ticket_with (Some t) s e = (t, refl, some_same (seat_of t) s e)
 
 abbrev with_kind : Ticket → UnitKind → Seat
-with_kind t kind = record { kind = kind; op = t.op; term = t.term; raised = t.raised; settled = t.settled; out = t.out }
+with_kind t kind = record { kind = kind; clean = t.clean; op = t.op; term = t.term; raised = t.raised; settled = t.settled; out = t.out }
 
 finalizes : (f : Formats) (work : Work) (root : RootData) → kind_of work ≡ OfFinalize → (s : Swap) × (swap_of f work root ≡ Some s)
 finalizes f (Shard index number) root e = absurd cc
@@ -113,18 +111,14 @@ module _ {p : Plan} {root : RootData} {term next given : ℕ} {begun : Bool} (b 
   pub given_in : (safe : ℕ) → IsGivenIn p root safe term (world safe 0)
   given_in safe = record { plan = plan_in safe 0; root_is = refl; safe_is = refl; term_is = refl }
 
-  pub clean_in : (d : ℕ) (x : Deletion) → fin.get p.deletes d ≡ Some x → x.clean ≡ false
-  clean_in d x e = b.no_cleanup d x (sym (ap (λ m. fin.get m d) b.plan.deletes) ∙ e)
-
   pub few_tickets : given < 4294967296 → p.next_ticket < 2 ^ 62
   few_tickets few = omega (arith, few, b.few)
 
-  moved : (n : ℕ) (w v : World) (new : Plan) (later more : ℕ) → IsPlanOf w p → NoCleanup w → Follows n w v → IsPlanOf v new → later < first_id (suc term) → given + n ≤ more → IsBoard new root term later more true
-  moved n w v new later more is clean f plan below few = record {
+  moved : (n : ℕ) (w v : World) (new : Plan) (later more : ℕ) → IsPlanOf w p → Follows n w v → IsPlanOf v new → later < first_id (suc term) → given + n ≤ more → IsBoard new root term later more true
+  moved n w v new later more is f plan below few = record {
     w = v;
     plan = plan;
-    no_cleanup = f.clean clean;
-    few = let a : v.next_ticket ≤ w.next_ticket + n = f.few in omega (arith, a, plan.next_ticket, is.next_ticket, b.few, few);
+    few = let a : v.next_ticket ≤ w.next_ticket + n = f in omega (arith, a, plan.next_ticket, is.next_ticket, b.few, few);
     low_term = b.low_term;
     in_term = below;
     named = λ e. never e;
@@ -133,14 +127,14 @@ module _ {p : Plan} {root : RootData} {term next given : ℕ} {begun : Bool} (b 
   -- ---- another term or id
 
   pub elected : (new first : ℕ) → new < 2 ^ 63 → first < first_id (suc new) → IsBoard p root new first given true
-  elected new first low below = record { w = b.w; plan = b.plan; no_cleanup = b.no_cleanup; few = b.few; low_term = low; in_term = below; named = λ e. never e }
+  elected new first low below = record { w = b.w; plan = b.plan; few = b.few; low_term = low; in_term = below; named = λ e. never e }
 
   pub skipped : (later : ℕ) → next ≤ later → later < first_id (suc term) → IsBoard p root term later given begun
-  skipped later le below = record { w = b.w; plan = b.plan; no_cleanup = b.no_cleanup; few = b.few; low_term = b.low_term; in_term = below; named = λ e. named_up root p.ops next later le (b.named e) }
+  skipped later le below = record { w = b.w; plan = b.plan; few = b.few; low_term = b.low_term; in_term = below; named = λ e. named_up root p.ops next later le (b.named e) }
 
   module _ (new : Plan) where
-    at : (n : ℕ) (w v : World) (more : ℕ) → IsPlanOf w p → NoCleanup w → Follows n w v → IsPlanOf v new → given + n ≤ more → IsBoard new root term next more true
-    at n w v more is clean f plan few = moved n w v new next more is clean f plan b.in_term few
+    at : (n : ℕ) (w v : World) (more : ℕ) → IsPlanOf w p → Follows n w v → IsPlanOf v new → given + n ≤ more → IsBoard new root term next more true
+    at n w v more is f plan few = moved n w v new next more is f plan b.in_term few
 
     -- ---- what is asked for
 
@@ -154,7 +148,6 @@ module _ {p : Plan} {root : RootData} {term next given : ℕ} {begun : Bool} (b 
         record {
           w = asked w (Snapshot name asks_for moment);
           plan = h.1.plan;
-          no_cleanup = b.no_cleanup;
           few = let e : new.next_ticket ≡ b.w.next_ticket = h.1.plan.next_ticket in omega (arith, e, b.plan.next_ticket, b.few);
           low_term = b.low_term;
           in_term = h.1.fits;
@@ -168,42 +161,45 @@ module _ {p : Plan} {root : RootData} {term next given : ℕ} {begun : Bool} (b 
 
     pub cloned : (later : ℕ) (name : Bytes) (moment : ℕ) (copy : CloneOf) → later < first_id (suc term) → ((w : World) → IsPlanOf w p → w.next_id ≡ next → IsPlanOf (clone_opened w name moment copy) new) → IsBoard new root term later given true
     cloned later name moment copy below h =
-        moved 0 (world 0 0) (clone_opened (world 0 0) name moment copy) new later given (plan_in 0 0) b.no_cleanup (record { clean = λ c. c; few = omega arith }) (h (world 0 0) (plan_in 0 0) refl) below (omega arith)
+        moved 0 (world 0 0) (clone_opened (world 0 0) name moment copy) new later given (plan_in 0 0) (omega arith) (h (world 0 0) (plan_in 0 0) refl) below (omega arith)
 
     pub restoring : (uuid : ℕ) (place : Bytes) (indices : List IndexRef) → ((w : World) → IsPlanOf w p → IsPlanOf (restore_opened w uuid place indices) new) → IsBoard new root term next given true
-    restoring uuid place indices h = at 0 b.w (restore_opened b.w uuid place indices) given b.plan b.no_cleanup (record { clean = λ c. c; few = omega arith }) (h b.w b.plan) (omega arith)
+    restoring uuid place indices h = at 0 b.w (restore_opened b.w uuid place indices) given b.plan (omega arith) (h b.w b.plan) (omega arith)
 
     pub deleting : (names : List Bytes) (op : ℕ) → ((w : World) → IsPlanOf w p → w.root ≡ root → w.term ≡ term → AcceptingDelete w names (Ok (new, op))) → IsBoard new root term next given true
     deleting names op h =
         let w : World = world 0 0 in
-        at 0 w (asked_delete w names) given (plan_in 0 0) b.no_cleanup (asks w names (waiting_delete w) (running_delete w (named_uuids w names))) (h w (plan_in 0 0) refl refl).2 (omega arith)
+        at 0 w (asked_delete w names) given (plan_in 0 0) (asks w names (waiting_delete w) (running_delete w (named_uuids w names))) (h w (plan_in 0 0) refl refl).2 (omega arith)
+
+    pub cleaning : (op : ℕ) → ((w : World) → IsPlanOf w p → AcceptingCleanup w (Ok (new, op))) → IsBoard new root term next given true
+    cleaning op h = at 0 b.w (cleanup_opened b.w) given b.plan (omega arith) (h b.w b.plan).2 (omega arith)
 
     -- ---- what is given and reported
 
     pub gave : (safe : ℕ) (u : ReadyUnit) → NextUnit (world safe 0) (Some (new, u)) → IsBoard new root term next (given + 1) true
-    gave safe u n = let w : World = world safe 0 in at 1 w _ (given + 1) (plan_in safe 0) b.no_cleanup (taken any_formats w u.op (given_of u) (fin.get w.ops u.op)) (n.1 any_formats) (omega arith)
+    gave safe u n = let w : World = world safe 0 in at 1 w _ (given + 1) (plan_in safe 0) (taken any_formats w u.op (given_of u) (fin.get w.ops u.op)) (n.1 any_formats) (omega arith)
 
     module _ (k : ℕ) where
       pub done : (r : ShardResult) → ((w : World) → IsPlanOf w p → IsPlanOf (done_of w k r (fin.get w.tickets k)) new) → IsBoard new root term next given true
-      done r h = at 0 b.w _ given b.plan b.no_cleanup (dones b.w k r (fin.get b.w.tickets k)) (h b.w b.plan) (omega arith)
+      done r h = at 0 b.w _ given b.plan (dones b.w k r (fin.get b.w.tickets k)) (h b.w b.plan) (omega arith)
 
       pub failed : ((w : World) → IsPlanOf w p → w.term ≡ term → IsPlanOf (failed_of w k (fin.get w.tickets k)) new) → IsBoard new root term next given true
-      failed h = let w : World = world 0 0 in at 0 w _ given (plan_in 0 0) b.no_cleanup (fails w k (fin.get w.tickets k)) (h w (plan_in 0 0) refl) (omega arith)
+      failed h = let w : World = world 0 0 in at 0 w _ given (plan_in 0 0) (fails w k (fin.get w.tickets k)) (h w (plan_in 0 0) refl) (omega arith)
 
       pub undeleted : ((w : World) → IsPlanOf w p → w.term ≡ term → IsPlanOf (delete_failed w k (fin.get w.tickets k)) new) → IsBoard new root term next given true
-      undeleted h = let w : World = world 0 0 in at 0 w _ given (plan_in 0 0) b.no_cleanup (delete_fails w k (fin.get w.tickets k)) (h w (plan_in 0 0) refl) (omega arith)
+      undeleted h = let w : World = world 0 0 in at 0 w _ given (plan_in 0 0) (delete_fails w k (fin.get w.tickets k)) (h w (plan_in 0 0) refl) (omega arith)
 
       pub raising : (n : ℕ) → ((w : World) → IsPlanOf w p → w.pending ≡ n → IsPlanOf (raised w k) new) → IsBoard new root term next given true
-      raising n h = let w : World = world 0 n in at 0 w (raised w k) given (plan_in 0 n) b.no_cleanup (raises w k (λ t. record t { raised = Some w.pending }) (fin.get w.tickets k)) (h w (plan_in 0 n) refl) (omega arith)
+      raising n h = let w : World = world 0 n in at 0 w (raised w k) given (plan_in 0 n) (raises w k (λ t. record t { raised = Some w.pending }) (fin.get w.tickets k)) (h w (plan_in 0 n) refl) (omega arith)
 
       pub ending : ((w : World) → IsPlanOf w p → IsPlanOf (change w k (λ t. record t { out = false })) new) → IsBoard new root term next given true
-      ending h = at 0 b.w _ given b.plan b.no_cleanup (changes b.w k (λ t. record t { out = false }) (fin.get b.w.tickets k)) (h b.w b.plan) (omega arith)
+      ending h = at 0 b.w _ given b.plan (changes b.w k (λ t. record t { out = false }) (fin.get b.w.tickets k)) (h b.w b.plan) (omega arith)
 
       pub dropping : ((w : World) → IsPlanOf w p → IsPlanOf (dropped_of w k (fin.get w.tickets k)) new) → IsBoard new root term next given true
-      dropping h = at 0 b.w _ given b.plan b.no_cleanup (drops b.w k (fin.get b.w.tickets k)) (h b.w b.plan) (omega arith)
+      dropping h = at 0 b.w _ given b.plan (drops b.w k (fin.get b.w.tickets k)) (h b.w b.plan) (omega arith)
 
       pub reading : (state : ReadState) → waits state ≡ false → ((w : World) (s : ReadState) → waits s ≡ false → IsPlanOf w p → IsPlanOf (read_over w k s (fin.get w.readers k)) new) → IsBoard new root term next given true
-      reading state over h = at 0 b.w _ given b.plan b.no_cleanup (reads b.w k state (fin.get b.w.readers k)) (h b.w state over b.plan) (omega arith)
+      reading state over h = at 0 b.w _ given b.plan (reads b.w k state (fin.get b.w.readers k)) (h b.w state over b.plan) (omega arith)
 
       -- ---- a swap settles: of a ticket that has a seat, and in it the generation that it raised
 
@@ -217,7 +213,7 @@ module _ {p : Plan} {root : RootData} {term next given : ℕ} {begun : Bool} (b 
         settling kind h =
             let t : Ticket = mine.0 in
             let s = finalizes any_formats t.work t.root (ap (λ (x : Seat). x.kind) mine.2 ∙ kind) in
-            at 0 b.w _ given b.plan b.no_cleanup (settles any_formats b.w k t (swap any_formats t) t.raised) (h any_formats b.w t s.0 n b.plan mine.1 s.1 (ap (λ (x : Seat). x.raised) mine.2 ∙ raised_is)) (omega arith)
+            at 0 b.w _ given b.plan (settles any_formats b.w k t (swap any_formats t) t.raised) (h any_formats b.w t s.0 n b.plan mine.1 s.1 (ap (λ (x : Seat). x.raised) mine.2 ∙ raised_is)) (omega arith)
 
         -- the list doesn't tell the plan of a delete, so it is that of a world where there is one
         module _ (kind : seat.kind ≡ OfDelete) where
@@ -254,5 +250,5 @@ module _ {p : Plan} {root : RootData} {term next given : ℕ} {begun : Bool} (b 
           pub settling_delete : ((f : Formats) (w : World) (t : Ticket) (s : Swap) (m : ℕ) → IsPlanOf w p → fin.get w.tickets k ≡ Some t → swap f t ≡ Some s → t.raised ≡ Some m → IsPlanOf (delete_settled f w k (Some t)) new)
               → IsBoard new root term next given true
           settling_delete h =
-              at 0 planned _ given plan_of b.no_cleanup (delete_settles any_formats planned k planned_ticket (swap any_formats planned_ticket) planned_ticket.raised)
+              at 0 planned _ given plan_of (delete_settles any_formats planned k planned_ticket (swap any_formats planned_ticket) planned_ticket.raised)
               (h any_formats planned planned_ticket planned_swap n plan_of planned_there refl (ap (λ (x : Seat). x.raised) mine.2 ∙ raised_is)) (omega arith)

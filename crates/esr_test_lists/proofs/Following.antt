@@ -1,48 +1,30 @@
--- What stays of a world with each change of the list of open ops: no cleanup is open, and few tickets were given.
-use Rattle.std.proofs.Common.{◌≡◌, ℕ, suc, ◌+◌, ◌≤◌, Bool, true, false, cond, eqb, List, Option, Some, None, refl, sym, ap, ◌∙◌, arith, nat_cmp}
+-- How many tickets more each change of the list of open ops gives.
+use Rattle.std.proofs.Common.{ℕ, suc, ◌+◌, ◌≤◌, Bool, true, false, cond, List, Option, Some, None, arith}
 use Rattle.std.specs.FinMap as fin
-use Rattle.esr_model.specs.Values.{Bytes, Formats, RootData, ShardResult}
+use Rattle.esr_model.specs.Values.{Bytes, Formats, ShardResult}
 use Rattle.esr_core.specs.World.{World, Op, Deletion, ShardWork, ReadState, RestoreShard, Restoring, Reader, Ticket, Swap}
-use Rattle.esr_core.specs.Allowed.{NoCleanup}
 use Rattle.esr_core.specs.Entry.{Given, GivenShard, GivenFinalize, GivenDrop, GivenRestore, GivenClone, GivenDelete, GivenCleanup}
 use Rattle.esr_core.specs.After.{shard_of, taken_by, taken_shard, taken_restore_shard, taken_restore, with_given, is_stale, settled_by, done_of, done_by, failed_of, failed_by, dropped_of, delete_failed_by, delete_failed, delete_settled_by, read_over, shard_over}
-use Rattle.esr_core.specs.Deletes.{with_named, named_uuids, delete_merged, delete_by}
+use Rattle.esr_core.specs.Deletes.{delete_merged, delete_by}
 use Rattle.esr_core.specs.Restores.{restore_shard}
 use Rattle.esr_core.specs.Steps.{with_ticket}
-use Rattle.esr_progress.proofs.Lists.{none_some, some_same}
-use Rattle.esr_progress.proofs.Entries.{get_put, get_left}
 
-put_clean : (m : fin.FinMap nat_cmp Deletion) (k : ℕ) (v : Deletion) → v.clean ≡ false → ((d : ℕ) (x : Deletion) → fin.get m d ≡ Some x → x.clean ≡ false) → (d : ℕ) (x : Deletion) → fin.get (fin.insert m k v) d ≡ Some x → x.clean ≡ false
-put_clean m k v clean rest d x e = go (eqb d k) (sym (get_put m k v d) ∙ e)
-  where
-    go : (b : Bool) → cond b (Some v) (fin.get m d) ≡ Some x → x.clean ≡ false
-    go true is = ap (λ (z : Deletion). z.clean) (sym (some_same v x is)) ∙ clean
-    go false is = rest d x is
-
-left_clean : (m : fin.FinMap nat_cmp Deletion) (k : ℕ) → ((d : ℕ) (x : Deletion) → fin.get m d ≡ Some x → x.clean ≡ false) → (d : ℕ) (x : Deletion) → fin.get (fin.remove m k) d ≡ Some x → x.clean ≡ false
-left_clean m k rest d x e = go (eqb d k) (sym (get_left m k d) ∙ e)
-  where
-    go : (b : Bool) → cond b None (fin.get m d) ≡ Some x → x.clean ≡ false
-    go true is = absurd (none_some x is)
-    go false is = rest d x is
-
--- the deletes of the second are no cleanups where those of the first are none, and at most n tickets more were given
-pub record Follows (n : ℕ) (w v : World) : Type 0 where
-  pub clean : NoCleanup w → NoCleanup v
-  pub few : v.next_ticket ≤ w.next_ticket + n
+-- at most n tickets more were given
+abbrev pub Follows : ℕ → World → World → Type 0
+Follows n w v = v.next_ticket ≤ w.next_ticket + n
 
 stays : (n : ℕ) (w : World) → Follows n w w
-stays n w = record { clean = λ h. h; few = omega arith }
+stays n w = omega arith
 
 -- ---- a ticket is given
 
 taken_one : (w : World) (o : ℕ) (op : Op) (base : Option ℕ) (s : Option ShardWork) → Follows 1 w (taken_shard w o op base s)
 taken_one w o op base None = stays 1 w
-taken_one w o op base (Some s) = record { clean = λ h. h; few = omega arith }
+taken_one w o op base (Some s) = omega arith
 
 read_one : (w : World) (o : ℕ) (r : Restoring) (s : Option RestoreShard) → Follows 1 w (taken_restore_shard w o r s)
 read_one w o r None = stays 1 w
-read_one w o r (Some s) = record { clean = λ h. h; few = omega arith }
+read_one w o r (Some s) = omega arith
 
 read_of : (w : World) (o index number : ℕ) (r : Option Restoring) → Follows 1 w (taken_restore w o index number r)
 read_of w o index number None = stays 1 w
@@ -51,20 +33,20 @@ read_of w o index number (Some r) = read_one w o r (restore_shard r.shards index
 pub taken : (f : Formats) (w : World) (o : ℕ) (g : Given) (op : Option Op) → Follows 1 w (taken_by f w o g op)
 taken f w o (GivenShard index number base) (Some op) = taken_one w o op base (shard_of op.shards index number)
 taken f w o (GivenShard index number base) None = stays 1 w
-taken f w o (GivenFinalize info results) (Some op) = record { clean = λ h. h; few = omega arith }
+taken f w o (GivenFinalize info results) (Some op) = omega arith
 taken f w o (GivenFinalize info results) None = stays 1 w
-taken f w o GivenDrop op = record { clean = λ h. h; few = omega arith }
+taken f w o GivenDrop op = omega arith
 taken f w o (GivenRestore index number uuid) op = read_of w o index number (fin.get w.restores o)
 taken f w o (GivenClone index number source base) (Some op) = taken_one w o op base (shard_of op.shards index number)
 taken f w o (GivenClone index number source base) None = stays 1 w
-taken f w o (GivenDelete uuids) op = record { clean = λ h. h; few = omega arith }
-taken f w o GivenCleanup op = stays 1 w
+taken f w o (GivenDelete uuids) op = omega arith
+taken f w o GivenCleanup op = omega arith
 
 -- ---- what units report
 
 done_one : (w : World) (k : ℕ) (r : ShardResult) (t : Ticket) (x : Option Op) → Follows 0 w (done_by w k r t x)
 done_one w k r t None = stays 0 w
-done_one w k r t (Some op) = record { clean = λ h. h; few = omega arith }
+done_one w k r t (Some op) = omega arith
 
 pub dones : (w : World) (k : ℕ) (r : ShardResult) (o : Option Ticket) → Follows 0 w (done_of w k r o)
 dones w k r None = stays 0 w
@@ -75,44 +57,44 @@ fails w k None = stays 0 w
 fails w k (Some t) = either (is_stale w t t.work) (fin.get w.ops t.op)
   where
     either : (b : Bool) (x : Option Op) → Follows 0 w (cond b (with_ticket w k (record t { out = false })) (failed_by w k t x))
-    either true x = record { clean = λ h. h; few = omega arith }
+    either true x = omega arith
     either false None = stays 0 w
-    either false (Some op) = record { clean = λ h. h; few = omega arith }
+    either false (Some op) = omega arith
 
 pub delete_fails : (w : World) (k : ℕ) (o : Option Ticket) → Follows 0 w (delete_failed w k o)
 delete_fails w k None = stays 0 w
-delete_fails w k (Some t) = either (is_stale w t t.work) (fin.get w.deletes t.op) refl
+delete_fails w k (Some t) = either (is_stale w t t.work) (fin.get w.deletes t.op)
   where
-    either : (b : Bool) (x : Option Deletion) → fin.get w.deletes t.op ≡ x → Follows 0 w (cond b (with_ticket w k (record t { out = false })) (delete_failed_by w k t x))
-    either true x e = record { clean = λ h. h; few = omega arith }
-    either false None e = stays 0 w
-    either false (Some x) e = record { clean = λ h. put_clean w.deletes t.op (record x { failed = true }) (h t.op x e) h; few = omega arith }
+    either : (b : Bool) (x : Option Deletion) → Follows 0 w (cond b (with_ticket w k (record t { out = false })) (delete_failed_by w k t x))
+    either true x = omega arith
+    either false None = stays 0 w
+    either false (Some x) = omega arith
 
 pub changes : (w : World) (k : ℕ) (g : Ticket → Ticket) (o : Option Ticket) → Follows 0 w (with_given w k g o)
 changes w k g None = stays 0 w
-changes w k g (Some t) = record { clean = λ h. h; few = omega arith }
+changes w k g (Some t) = omega arith
 
 pub raises : (w : World) (k : ℕ) (g : Ticket → Ticket) (o : Option Ticket) → Follows 0 w (record (with_given w k g o) { pending = suc w.pending })
-raises w k g None = record { clean = λ h. h; few = omega arith }
-raises w k g (Some t) = record { clean = λ h. h; few = omega arith }
+raises w k g None = omega arith
+raises w k g (Some t) = omega arith
 
 pub settles : (f : Formats) (w : World) (k : ℕ) (t : Ticket) (s : Option Swap) (n : Option ℕ) → Follows 0 w (settled_by f w k t s n)
-settles f w k t (Some s) (Some n) = record { clean = λ h. left_clean w.deletes t.op h; few = omega arith }
+settles f w k t (Some s) (Some n) = omega arith
 settles f w k t (Some s) None = stays 0 w
 settles f w k t None n = stays 0 w
 
 pub delete_settles : (f : Formats) (w : World) (k : ℕ) (t : Ticket) (s : Option Swap) (n : Option ℕ) → Follows 0 w (delete_settled_by f w k t s n)
-delete_settles f w k t (Some s) (Some n) = record { clean = λ h. left_clean w.deletes t.op h; few = omega arith }
+delete_settles f w k t (Some s) (Some n) = omega arith
 delete_settles f w k t (Some s) None = stays 0 w
 delete_settles f w k t None n = stays 0 w
 
 pub drops : (w : World) (k : ℕ) (o : Option Ticket) → Follows 0 w (dropped_of w k o)
 drops w k None = stays 0 w
-drops w k (Some t) = record { clean = λ h. left_clean w.deletes t.op h; few = omega arith }
+drops w k (Some t) = omega arith
 
 read_end : (w : World) (k : ℕ) (state : ReadState) (q : Reader) (r : Option Restoring) → Follows 0 w (shard_over w k state q r)
 read_end w k state q None = stays 0 w
-read_end w k state q (Some r) = record { clean = λ h. h; few = omega arith }
+read_end w k state q (Some r) = omega arith
 
 pub reads : (w : World) (k : ℕ) (state : ReadState) (q : Option Reader) → Follows 0 w (read_over w k state q)
 reads w k state None = stays 0 w
@@ -120,11 +102,11 @@ reads w k state (Some q) = read_end w k state q (fin.get w.restores q.op)
 
 -- ---- a delete is asked for
 
-grows : (w : World) (names : List Bytes) (d : ℕ) (o : Option Deletion) → fin.get w.deletes d ≡ o → Follows 0 w (delete_merged w names d o)
-grows w names d None e = stays 0 w
-grows w names d (Some x) e = record { clean = λ h. put_clean w.deletes d (record x { uuids = with_named w x.uuids names }) (h d x e) h; few = omega arith }
+grows : (w : World) (names : List Bytes) (d : ℕ) (o : Option Deletion) → Follows 0 w (delete_merged w names d o)
+grows w names d None = stays 0 w
+grows w names d (Some x) = omega arith
 
 pub asks : (w : World) (names : List Bytes) (waiting running : Option ℕ) → Follows 0 w (delete_by w names waiting running)
-asks w names (Some d) running = grows w names d (fin.get w.deletes d) refl
+asks w names (Some d) running = grows w names d (fin.get w.deletes d)
 asks w names None (Some d) = stays 0 w
-asks w names None None = record { clean = λ h. put_clean w.deletes w.next_op (record { uuids = named_uuids w names; clean = false; failed = false }) refl h; few = omega arith }
+asks w names None None = omega arith

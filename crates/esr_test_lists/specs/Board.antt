@@ -2,25 +2,21 @@
 use Rattle.std.specs.Prelude.{◌≡◌, ℕ, ◌+◌, ◌<◌, ◌≤◌, ◌^◌, suc, Bool, true, false}
 use Rattle.esr_model.specs.Values.{RootData}
 use Rattle.esr_model.specs.Kept.{first_id}
-use Rattle.esr_core.specs.Allowed.{NoCleanup}
 use Rattle.esr_core.specs.Tracked.{Named}
 use Rattle.esr_core.specs.World.{World}
 use Rattle.esr_progress.specs.Plan.{Plan, UnitKind, OfShard, OfFinalize, OfDelete, OfDrop, IsPlanOf}
 
--- It is that of a world in which no cleanup is open and no ticket was given, and its names and ids are apart.
+-- It is that of a world in which no ticket was given, and its names and ids are apart.
 pub record IsStart (p : Plan) (root : RootData) (next : ℕ) : Type 0 where
   pub w : World
   pub plan : IsPlanOf w p
-  pub no_cleanup : NoCleanup w
   pub first : p.next_ticket ≡ 1
   pub named : Named root p.ops next
 
--- It is that of a world in which no cleanup is open, and not more tickets were given than so many. Until it is begun its names and ids
--- are apart.
+-- It is that of a world in which not more tickets were given than so many. Until it is begun its names and ids are apart.
 pub record IsBoard (p : Plan) (root : RootData) (term next given : ℕ) (begun : Bool) : Type 0 where
   pub w : World
   pub plan : IsPlanOf w p
-  pub no_cleanup : NoCleanup w
   pub few : p.next_ticket ≤ given + 1
   pub low_term : term < 2 ^ 63
   pub in_term : next < first_id (suc term)

@@ -119,6 +119,7 @@ pub(crate) fn asked(alloc: Global, board: &mut Board, line: &str) -> Result<Stri
         } => open_clone(alloc, board, &source, &name, &indices),
         Item::Delete { names } => { Ok(format!(in alloc; "op {}", board.delete(alloc, &names)?)?) }
         Item::Restore { name, place } => open_restore(alloc, board, &name, &place),
+        Item::Cleanup => { Ok(format!(in alloc; "op {}", board.cleanup(alloc)?)?) }
         _ => Err(Trouble::Unread("not a line that asks a list of ops")),
     }
 }

@@ -81,7 +81,7 @@ fn is_unfinal(kind: SeatKind) -> bool
     !matches!(kind, SeatKind::Finalize)
 }
 
-/// Whether a ticket is of no delete.
+/// Whether a ticket is of no delete and no cleanup.
 fn is_no_delete(kind: SeatKind) -> bool
     ensures { result ≡ not (is_delete (kind_of_code kind)) }
 {
@@ -303,6 +303,17 @@ impl Board {
         Ok(op)
     }
 
+    /// A cleanup is asked for: its op.
+    pub(crate) fn cleanup(&mut self, alloc: Global) -> Result<u64, Trouble> {
+        if is_long(&self.list) {
+            return Err(Trouble::Unread("too many ops"));
+        }
+        let (list, op) = self.list.accept_cleanup(alloc)?;
+        self.list = list;
+        self.begun = true;
+        Ok(op)
+    }
+
     /// The next unit is given, where one is ready.
     pub(crate) fn take(&mut self, alloc: Global) -> Result<Option<ReadyUnit>, Trouble> {
         if is_many(self.given) {
@@ -356,7 +367,7 @@ impl Board {
         Ok(())
     }
 
-    /// A delete fails.
+    /// A delete or cleanup fails.
     pub(crate) fn delete_failed(&mut self, alloc: Global, ticket: u64) -> Result<(), AllocError> {
         let list = self.list.delete_failed(alloc, self.term, ticket)?;
         self.list = list;
@@ -394,7 +405,7 @@ impl Board {
         Ok(())
     }
 
-    /// A delete that raised a generation settles.
+    /// A delete or cleanup that raised a generation settles.
     pub(crate) fn delete_settled(&mut self, alloc: Global, ticket: u64) -> Result<(), Trouble> {
         let Some(seat) = self.list.seat(ticket) else {
             return Err(Trouble::Unread("no such ticket"));
@@ -419,7 +430,7 @@ impl Board {
         Ok(())
     }
 
-    /// An op that failed or was aborted leaves.
+    /// An op that failed or was aborted leaves, or a cleanup that is over.
     pub(crate) fn dropped(&mut self, alloc: Global, ticket: u64) -> Result<(), AllocError> {
         let list = self.list.dropped(alloc, ticket)?;
         self.list = list;

@@ -10,7 +10,8 @@ use crate::replies::in_one_line;
 use crate::trouble::Trouble;
 use crate::words::Words;
 use esr_desk::{Entry, History};
-use esr_report::{end_of_run, replies, report};
+use esr_lines::report;
+use esr_report::{end_of_run, replies};
 use esr_script::script_read;
 use std::alloc::Global;
 

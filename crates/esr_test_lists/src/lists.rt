@@ -12,8 +12,8 @@
 //! its `term`, the `next` id, the `next-op`, and the `ops` of the list as the record tells them, each ended by a `;`, or `none`. An id
 //! stands as its term and its counter: `1.8`.
 //!
-//! What the list is asked for: `snapshot`, `clone`, `delete` or `restore`, as a line of a script does, which is answered by its `op` (a
-//! snapshot with how many ids it `drew`) or by the rule that refuses it; `would LINE` is answered alike and changes nothing;
+//! What the list is asked for: `snapshot`, `clone`, `delete`, `restore` or `cleanup`, as a line of a script does, which is answered by its
+//! `op` (a snapshot with how many ids it `drew`) or by the rule that refuses it; `would LINE` is answered alike and changes nothing;
 //! `many COUNT` asks for so many snapshots `x0`, `x1`, .., of no index.
 //!
 //! What is done with the list: `take` is answered by the unit that is given, or by `nothing`; `done TICKET GENERATION`, `failed TICKET`,
@@ -96,7 +96,7 @@ fn list_answer(alloc: Global, board: &mut Board, line: &str) -> Result<String, T
     let mut words = Words::new(line);
     let what = words.word();
     match what {
-        "snapshot" | "clone" | "delete" | "restore" => asked(alloc, board, line),
+        "snapshot" | "clone" | "delete" | "restore" | "cleanup" => asked(alloc, board, line),
         "would" => would(alloc, board, words.rest()),
         "many" => many(alloc, board, &mut words),
         "take" => take(alloc, board),

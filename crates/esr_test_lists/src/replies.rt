@@ -6,7 +6,8 @@
 use crate::causes::{refusal_of, why_of};
 use crate::trouble::Trouble;
 use crate::words::Words;
-use esr_report::{Reply, push_line};
+use esr_lines::push_line;
+use esr_report::Reply;
 use esr_script::script_read;
 use esr_seq::Bytes;
 use std::alloc::{AllocError, Global};

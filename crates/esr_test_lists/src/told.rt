@@ -40,6 +40,8 @@ fn refusal_told(alloc: Global, refusal: Refusal) -> Result<String, AllocError> {
         Refusal::BeingDeleted { op } => numbered(alloc, "being-deleted", op),
         Refusal::CloneRunning { op } => numbered(alloc, "clone-running", op),
         Refusal::RestoreRunning { op } => numbered(alloc, "restore-running", op),
+        Refusal::BusyOp { op } => numbered(alloc, "busy-op", op),
+        Refusal::BusyTicket { ticket } => numbered(alloc, "busy-ticket", ticket),
     }
 }
 

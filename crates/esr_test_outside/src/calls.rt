@@ -2,7 +2,8 @@
 ghost use Rattle.std.specs.Prelude.{◌≤◌, ◌+◌, length};
 
 use crate::client::{PutError, put_and_record};
-use esr_depot::{CallError, Commit, Counted, Depot, Fetch, Stage};
+use crate::plan::number_of;
+use esr_depot::{CallError, Commit, Counted, Depot, Fetch, Listed, PAGE, Stage};
 use esr_scenes::{cut, say, say_bytes, say_faults, say_number, say_success, unquoted};
 use esr_seq::{Seq, Text};
 use std::alloc::Global;
@@ -144,14 +145,56 @@ fn fetch<D: Depot>(alloc: Global, depot: &mut D, name: &str, line: &mut String) 
     }
 }
 
-fn list<D: Depot>(alloc: Global, depot: &mut D, line: &mut String) -> Said {
-    for listed in depot.list(alloc)?.as_slice() {
+/// Commits so many empty blobs of a folder, of the names 1000, 1001 and so on.
+fn fill<D: Depot>(alloc: Global, depot: &mut D, folder: &str, count: &str) -> Said {
+    for number in 0..number_of(count).unwrap_or(0) {
+        let number = number.saturating_add(1000);
+        let name = format!(in alloc; "{folder}/{number}")?;
+        let stage = depot.begin(alloc, name.as_str(), 0)?;
+        depot.commit(alloc, stage)?;
+    }
+    Ok("ok")
+}
+
+/// The name in a word, if there is one.
+fn name_in(word: &str) -> Option<&str> {
+    if word.is_empty() { None } else { Some(word) }
+}
+
+fn list<D: Depot>(alloc: Global, depot: &mut D, after: &str, line: &mut String) -> Said {
+    for listed in depot.list(alloc, name_in(after))?.page.as_slice() {
         say(line, listed.name.as_str());
         say(line, ":");
         say_number(line, listed.length);
         say(line, " ");
     }
     Ok("")
+}
+
+/// Says of a page how many names it has, and the first and the last of them.
+fn say_page(page: &[Listed], line: &mut String) {
+    say_number(line, page.len() as u64);
+    if let (Some(first), Some(last)) = (page.first(), page.last()) {
+        say(line, " ");
+        say(line, first.name.as_str());
+        say(line, " ");
+        say(line, last.name.as_str());
+    }
+}
+
+/// Lists page after page, until one that isn't full.
+fn pages<D: Depot>(alloc: Global, depot: &mut D, after: &str, line: &mut String) -> Said {
+    let mut after = Text::from_str(alloc, after)?;
+    for _ in 0..100 {
+        let page = depot.list(alloc, name_in(after.as_str()))?.page;
+        say_page(page.as_slice(), line);
+        match page.as_slice().last() {
+            Some(last) if page.len() == PAGE => after = last.name.try_clone(alloc)?,
+            _ => return Ok(""),
+        }
+        say(line, ", ");
+    }
+    Ok("and more")
 }
 
 /// Says the text of the record after a word, or the other word where there is none.
@@ -169,9 +212,9 @@ fn record<D: Depot>(
     Ok("")
 }
 
-/// Says all names with their blobs, and the record where there is one.
+/// Says the names of the first page with their blobs, and the record where there is one.
 fn held<D: Depot>(alloc: Global, depot: &mut D, line: &mut String) -> Said {
-    for listed in depot.list(alloc)?.as_slice() {
+    for listed in depot.list(alloc, None)?.page.as_slice() {
         say(line, listed.name.as_str());
         say(line, "=");
         fetch(alloc, depot, listed.name.as_str(), line)?;
@@ -185,7 +228,8 @@ fn look<D: Depot>(alloc: Global, depot: &mut D, call: &str, line: &mut String) -
     let (verb, rest) = cut(call);
     match verb {
         "fetch" => fetch(alloc, depot, unquoted(rest), line),
-        "list" => list(alloc, depot, line),
+        "list" => list(alloc, depot, rest, line),
+        "pages" => pages(alloc, depot, rest, line),
         "read-record" => record(alloc, depot, ("", "none"), line),
         "held" => held(alloc, depot, line),
         "faults" => {
@@ -205,6 +249,7 @@ fn answer<D: Depot>(alloc: Global, depot: &mut D, call: &str, line: &mut String)
         "replace" => replace(alloc, depot, name, unquoted(text)),
         "commit-pieces" => commit_pieces(alloc, depot, name, text, line),
         "put" => put(alloc, depot, name, text),
+        "fill" => fill(alloc, depot, name, text),
         "remove" => remove(alloc, depot, name, unquoted(text)),
         "swap-record" => swap(alloc, depot, unquoted(rest)),
         _ => look(alloc, depot, call, line),
@@ -226,12 +271,14 @@ fn say_answer(answer: Said, line: &mut String) {
 /// | `commit NAME TEXT`, `replace NAME TEXT` | of a blob of the text, in one piece | `Done`, `Exists` or `ok` |
 /// | `commit-pieces NAME TEXT` | of a blob in the pieces of the text, with bars between them | each write, the faults of the stage, and the commit |
 /// | `put NAME FIRST SECOND TEXT` | commits a blob of two pieces, and swaps the record | `Done`, `Exists` or `stage failed` |
+/// | `fill FOLDER COUNT` | commits so many empty blobs of the folder, from `FOLDER/1000` on | `ok` |
 /// | `remove NAME OTHER` | of one name, or of two | `ok` |
 /// | `swap-record TEXT` | | `ok` |
 /// | `fetch NAME` | by reads of two bytes, of which a failed one is `!` | the blob, or `none` |
-/// | `list` | | names with lengths |
+/// | `list`, `list NAME` | the first page, or the one after that name | names with lengths |
+/// | `pages`, `pages NAME` | page after page, from the first one on or after that name | of each how many names it has, the first and the last |
 /// | `read-record` | | its text, or `none` |
-/// | `held` | lists, fetches each and reads the record | names with blobs, and the record where there is one |
+/// | `held` | lists a page, fetches each and reads the record | names with blobs, and the record where there is one |
 /// | `faults` | | how often the container has failed |
 ///
 /// Each answers `failed` where a call of the container does.

@@ -3,9 +3,9 @@ ghost use Rattle.std.specs.Prelude.{◌≡◌, None, false};
 ghost use Rattle.esr_depot.specs.Untold.{untold};
 
 use crate::calls::say_call;
-use esr_depot::{CallError, Commit, Counted, Depot, Failed, Fetch, Listing, Names, Stage};
+use esr_depot::{CallError, Commit, Counted, Depot, Failed, Fetch, Names, Pages, Stage};
 use esr_scenes::{Subject, say_number};
-use esr_seq::{Bytes, Seq, Text};
+use esr_seq::{Bytes, Text};
 use std::alloc::Global;
 
 /// Its swaps of the record fail.
@@ -126,9 +126,9 @@ impl Depot for Mute {
         Ok(Some(MuteFetch))
     }
 
-    fn list(&mut self, alloc: Global) -> Result<Listing, CallError> {
+    fn list(&mut self, alloc: Global, _after: Option<&str>) -> Result<Pages, CallError> {
         self.pass();
-        Ok(Seq::new(alloc))
+        Ok(Pages::new(alloc))
     }
 
     fn remove(&mut self, _names: &Names) -> Result<(), Failed> {

@@ -1,4 +1,5 @@
 //! What is done in a folder from outside.
+use crate::plan::number_of;
 use esr_scenes::{cut, say, unquoted};
 use std::alloc::Global;
 use std::os::unix::fs::symlink;
@@ -10,6 +11,16 @@ pub(crate) fn write_file(rt: &HostRuntime, path: &str, text: &str) -> io::Result
         fs::create_dir_all(rt, folder)?;
     }
     fs::write(rt, path, text)
+}
+
+/// Writes so many empty files into a folder, with the names 1000, 1001 and so on.
+fn fill(rt: &HostRuntime, folder: &str, count: &str) -> io::Result<()> {
+    for number in 0..number_of(count).unwrap_or(0) {
+        let number = number.saturating_add(1000);
+        let path = format!(in rt.alloc(); "{folder}/{number}")?;
+        write_file(rt, path.as_str(), "")?;
+    }
+    Ok(())
 }
 
 /// Adds the text of a file.
@@ -33,6 +44,7 @@ fn change(
             return Ok("");
         }
         "write" => write_file(rt, path, text)?,
+        "fill" => fill(rt, path, text)?,
         "link" => symlink(rt, text, path)?,
         "remove" => fs::remove_file(rt, path)?,
         "remove-folder" => fs::remove_dir(rt, path)?,
@@ -48,6 +60,7 @@ fn change(
 /// | `exists PATH` | | `yes` or `no` |
 /// | `text PATH` | | the text of the file |
 /// | `write PATH TEXT` | writes a file, and makes the folders on the way | `done` |
+/// | `fill PATH COUNT` | writes so many empty files into a folder, from `PATH/1000` on | `done` |
 /// | `link PATH TEXT` | makes a symbolic link with this text | `done` |
 /// | `remove PATH`, `remove-folder PATH` | of a file; of an empty folder | `done` |
 ///

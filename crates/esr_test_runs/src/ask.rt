@@ -39,7 +39,7 @@ fn answer_of<D: Depot>(
         "record" => told(alloc, depot.read_record(alloc)?, false),
         "blob" | "bytes" => told(alloc, blob_of(alloc, depot, name)?, what == "bytes"),
         "there" => format!(in alloc; "{}", depot.fetch(alloc, name)?.is_some()),
-        "blobs" => format!(in alloc; "{}", depot.list(alloc)?.len()),
+        "blobs" => format!(in alloc; "{}", depot.list(alloc, None)?.page.len()),
         _ => return Err(Trouble("there is no such question")),
     };
     Ok(text?)

@@ -2,6 +2,7 @@
 use crate::errors::Trouble;
 use crate::setting::{Job, Mishaps, failing_at, plan_of, run_on, source_line, sources_of};
 use crate::shown::{Shown, Shows, push_restored, shown_by};
+use crate::text::last_word;
 use esr_dirdepot::DirDepot;
 use esr_dirsource::{DirShard, DirSources, DirTarget, DirTargets};
 use esr_faulty::Faulty;
@@ -148,15 +149,7 @@ fn asked_line<'a>(job: &Job<'a>, number: u32) -> &'a str {
     ""
 }
 
-/// The last word of a line, which is the place of a line that restores.
-fn last_word(line: &str) -> &str {
-    match line.rsplit_once(' ') {
-        Some((_, word)) => word,
-        None => line,
-    }
-}
-
-/// Takes the names of the folders for this scene into which a run restores.
+/// Takes the names of the folders for this scene into which a run restores, which are the last words of its lines.
 fn claim_targets(rt: &HostRuntime, made: &mut String, job: &Job) -> Result<(), Trouble> {
     for line in job.script.lines() {
         if line.starts_with("restore ") {

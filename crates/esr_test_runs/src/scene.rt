@@ -5,7 +5,7 @@ use crate::faults::{Way, set_mishap, set_round};
 use crate::ground::{Ground, add_source, has_line, run_there};
 use crate::setting::{Job, Mishaps, calm};
 use crate::shown::Shown;
-use crate::text::{front_of, plain};
+use crate::text::{counted_blobs, front_of, plain};
 use std::alloc::{AllocError, Global};
 use std::sync::Wait;
 use std::thread::Threads;
@@ -322,12 +322,22 @@ impl Scene<'_> {
         }
     }
 
+    /// Whether the container there holds `index.latest`, the blobs that the last run's check counted, and no more.
+    fn is_clean(&mut self) -> Result<bool, Trouble> {
+        let counted = counted_blobs(self.shown.as_str())?;
+        let latest = answer_there(self.alloc, &mut self.ground, "there", "index.latest")?;
+        let blobs = answer_there(self.alloc, &mut self.ground, "blobs", "")?;
+        let count = blobs.as_str().parse::<u64>()?;
+        Ok(latest.as_str() == "true" && count == counted.saturating_add(1))
+    }
+
     /// The answer to a question of the last run, or of the container there.
     fn answer(&mut self, question: &str) -> Result<String, Trouble> {
         let (what, name) = question.split_once(' ').unwrap_or((question, ""));
         match what {
             "faults" => Ok(format!(in self.alloc; "{}", self.faults)?),
             "misprints" => Ok(String::from_str(self.alloc, self.misprints.as_str().trim_start())?),
+            "clean" => Ok(format!(in self.alloc; "{}", self.is_clean()?)?),
             "file" => file_there(self.alloc, &self.ground, name),
             _ => answer_there(self.alloc, &mut self.ground, what, name),
         }

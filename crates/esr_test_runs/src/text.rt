@@ -1,4 +1,5 @@
 //! The texts of scenes.
+use crate::errors::Trouble;
 use std::alloc::{AllocError, Global};
 
 /// What stands for a byte that isn't to be seen in a scene, and that byte.
@@ -24,6 +25,25 @@ pub fn front_of(text: &str, length: usize) -> &str {
     match text.split_at_checked(length) {
         Some((front, _)) => front,
         None => text,
+    }
+}
+
+/// How many blobs the last check of a report counted.
+pub fn counted_blobs(report: &str) -> Result<u64, Trouble> {
+    let mut counted = Err(Trouble("a check that counted blobs"));
+    for line in report.lines() {
+        if line.contains(" check ok ") {
+            counted = Ok(last_word(line).parse()?);
+        }
+    }
+    counted
+}
+
+/// The last word of a line.
+pub fn last_word(line: &str) -> &str {
+    match line.rsplit_once(' ') {
+        Some((_, word)) => word,
+        None => line,
     }
 }
 

@@ -1,2 +1,3 @@
 pub mod Askable
 pub mod Staying
+mod Sharing

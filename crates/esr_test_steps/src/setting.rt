@@ -5,7 +5,7 @@ ghost use Rattle.esr_progress.specs.Asked.{asked_of, IsAskable};
 use crate::errors::Trouble;
 use esr_depot::{Depot, Fetch};
 use esr_desk::Client;
-use esr_names::{IndexName, IndexNames, SnapName};
+use esr_names::{IndexName, IndexNames, SnapName, SnapNames};
 use esr_progress::{AskedIndex, Command};
 use esr_seq::{Seq, Text};
 use esr_source::{Address, MemFile, MemSource, MemSources};
@@ -123,6 +123,18 @@ pub(crate) fn ask_clone<Q: Client>(
     Ok(())
 }
 
+/// Asks for a delete of the snapshot of that name.
+pub(crate) fn ask_delete<Q: Client>(
+    alloc: Global,
+    desk: &mut Q,
+    name: &str,
+) -> Result<(), Trouble> {
+    let mut names = SnapNames::new(alloc);
+    names.push(SnapName::new(alloc, name)?)?;
+    desk.delete(alloc, &names)?;
+    Ok(())
+}
+
 /// The text of the blob of that name, or the front of a longer one.
 pub(crate) fn blob_text<D: Depot>(
     alloc: Global,
@@ -136,4 +148,13 @@ pub(crate) fn blob_text<D: Depot>(
     let count = fetch.read(&mut buf)?;
     let text = str::from_utf8(&buf[..count]).unwrap_or("?");
     Ok(Some(String::from_str(alloc, text)?))
+}
+
+/// The text of the record.
+pub(crate) fn record_text<D: Depot>(alloc: Global, depot: &mut D) -> Result<String, Trouble> {
+    let Some(bytes) = depot.read_record(alloc)? else {
+        return Err(Trouble("a container that has a record"));
+    };
+    let text = str::from_utf8(bytes.as_slice()).unwrap_or("?");
+    Ok(String::from_str(alloc, text)?)
 }

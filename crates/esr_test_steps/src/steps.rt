@@ -3,19 +3,29 @@ ghost use Rattle.std.specs.Prelude.{◌≡◌, ◌≤◌, ◌^◌, true, Some};
 ghost use Rattle.esr_depot.specs.Image.{Image};
 ghost use Rattle.esr_depot.specs.Look.{now};
 ghost use Rattle.esr_desk.specs.Sources.{AreSources};
+ghost use Rattle.esr_drive.specs.Outside.{IsOutside};
 ghost use Rattle.esr_repo.specs.Begun.{IsBegun};
+ghost use Rattle.esr_shared.specs.Worked.{IsWorkable};
 
+use crate::between::Due;
+use crate::both::sit;
 use crate::errors::Trouble;
-use crate::setting::{ask_clone, ask_snapshot};
-use crate::units::{PART_SIZE, elect_beside, end_late, take, work_beside, work_next, work_unit};
+use crate::setting::{ask_clone, ask_delete, ask_snapshot};
+use crate::units::{
+    PART_SIZE, elect_beside, end_faulty, end_late, take, work_beside, work_next, work_unit,
+};
 use esr_depot::Depot;
+use esr_desk::Client;
+use esr_drive::work;
 use esr_opening::{Opening, open_container};
 use esr_repo::{Repo, Told};
 use esr_seq::Text;
+use esr_shared::Outside;
 use esr_solo::Solo;
-use esr_source::{MemTarget, Sources};
+use esr_source::{MemTarget, NoGate, Sources, Targets};
 use std::alloc::Global;
 use std::marker::Brand;
+use std::sync::Wait;
 
 /// Takes a unit, works two others, and works it then. The words say what they do.
 fn work_around<D: Depot, K: Told, S: Sources>(
@@ -49,69 +59,132 @@ fn work_late<D: Depot, K: Told, S: Sources>(
     end_late::<D, K, S>(alloc, desk, &held)
 }
 
-/// Makes a step.
-fn step<D: Depot, K: Told, S: Sources>(
+/// Takes a unit, works another one, and works it then, when its source fails. The words say what they do.
+fn work_faulty<D: Depot, K: Told, S: Sources>(
     alloc: Global,
     desk: &mut Solo<D, K, S::Shard, MemTarget>,
     sources: &S,
+    words: &str,
+) -> Result<(), Trouble>
+    requires sources { AreSources K.start (S.told sources.now) }
+    requires size { PART_SIZE ≡ K.start.part_size }
+    requires alone { K.start.alone ≡ true }
+{
+    let (word, other) = words.split_once(' ').unwrap_or((words, ""));
+    let held = take::<D, K, S>(alloc, desk, word)?;
+    work_beside(alloc, desk, &held, sources, other)?;
+    end_faulty(alloc, desk, &held, sources)
+}
+
+/// Makes a step.
+fn step<D: Depot, K: Told, S: Sources, T: Targets<Target = MemTarget>>(
+    alloc: Global,
+    desk: &mut Solo<D, K, S::Shard, MemTarget>,
+    sources: &S,
+    targets: &T,
     line: &str,
 ) -> Result<(), Trouble>
     requires sources { AreSources K.start (S.told sources.now) }
     requires size { PART_SIZE ≡ K.start.part_size }
     requires alone { K.start.alone ≡ true }
+    requires workable { IsWorkable K.start (S.told sources.now) (T.told targets.now) PART_SIZE }
 {
     let (verb, words) = line.split_once(' ').unwrap_or((line, ""));
     match verb {
         "snapshot" => ask_snapshot(alloc, desk, words),
         "clone" => ask_clone(alloc, desk, words),
+        "delete" => ask_delete(alloc, desk, words),
         "work" => work_next(alloc, desk, sources, words),
         "around" => work_around(alloc, desk, sources, words),
+        "faulty" => work_faulty(alloc, desk, sources, words),
         "late" => work_late::<D, K, S>(alloc, desk, words),
+        "cleanup" => Ok(desk.cleanup(alloc).map(|_| ())?),
+        "all" => Ok(work(alloc, desk, sources, targets, &NoGate, PART_SIZE)?),
         _ => Err(Trouble("a step that there is")),
     }
 }
 
 /// Makes the steps of the lines that begin with `>`.
-fn steps<D: Depot, K: Told, S: Sources>(
+fn steps<D: Depot, K: Told, S: Sources, T: Targets<Target = MemTarget>>(
     alloc: Global,
     desk: &mut Solo<D, K, S::Shard, MemTarget>,
     sources: &S,
+    targets: &T,
     lines: &str,
 ) -> Result<(), Trouble>
     requires sources { AreSources K.start (S.told sources.now) }
     requires size { PART_SIZE ≡ K.start.part_size }
     requires alone { K.start.alone ≡ true }
+    requires workable { IsWorkable K.start (S.told sources.now) (T.told targets.now) PART_SIZE }
 {
     for line in lines.lines() {
         if let Some(told) = line.strip_prefix("> ") {
-            step(alloc, desk, sources, told)?;
+            step(alloc, desk, sources, targets, told)?;
         }
     }
     Ok(())
 }
 
-/// The container after these steps.
-fn made<D: Depot, K: Told, S: Sources>(
+/// Where the line that begins with `*` lets the next term begin.
+fn due_of(lines: &str) -> Option<Due> {
+    for line in lines.lines() {
+        match line {
+            "* raise" => return Some(Due::Raise),
+            "* plan" => return Some(Due::Plan),
+            "* drop" => return Some(Due::Drop),
+            _ => {}
+        }
+    }
+    None
+}
+
+/// Works all units by two desks, where a line lets the next term begin. The desk comes back, with what was told of the steps.
+fn go_on<D: Depot, K: Told, S: Sources, T: Targets, R: Wait + Sync>(
+    rt: &R,
+    alloc: Global,
+    desk: Solo<D, K, S::Shard, T::Target>,
+    outside: &Outside<'_, S, T, NoGate>,
+    lines: &str,
+) -> (Solo<D, K, S::Shard, T::Target>, String)
+    requires alone { K.start.alone ≡ true }
+    requires workable { IsWorkable K.start (S.told outside.now.sources.now) (T.told outside.now.targets.now) outside.now.part_size }
+{
+    match due_of(lines) {
+        Some(due) => sit(rt, alloc, desk, outside, due),
+        None => (desk, String::new(alloc)),
+    }
+}
+
+/// The container after these steps, and what was told of those that two desks made then.
+fn made<D: Depot, K: Told, S: Sources, T: Targets<Target = MemTarget>, R: Wait + Sync>(
+    rt: &R,
     alloc: Global,
     opening: Opening<D>,
     sources: &S,
+    targets: &T,
     lines: &Text,
-) -> Result<D, Trouble>
+) -> Result<(D, String), Trouble>
     requires begun { IsBegun K.start K.clock K.past (D.look opening.depot)
         (record { cluster = opening.cluster; root = opening.root; infos = opening.infos; plan = opening.progress; next = opening.next.number }) }
     requires counted { K.faults ≤ D.faults opening.depot }
     requires calm { K.start.quiet ≡ true → 2 ^ 41 ≤ (D.look opening.depot).sure }
-    requires sources { AreSources K.start (S.told sources.now) }
-    requires size { PART_SIZE ≡ K.start.part_size }
+    requires outside { IsOutside K.start (S.told sources.now) (T.told targets.now) PART_SIZE }
     requires alone { K.start.alone ≡ true }
 {
     let repo = Repo::<D, K>::from_opening(alloc, opening);
-    let mut desk = Solo::<D, K, S::Shard, MemTarget>::new(alloc, repo);
-    let stepped = steps(alloc, &mut desk, sources, lines.as_str());
+    let mut desk = Solo::<D, K, S::Shard, T::Target>::new(alloc, repo);
+    let stepped = steps(alloc, &mut desk, sources, targets, lines.as_str());
+    let outside = Outside {
+        sources,
+        targets,
+        gate: &NoGate,
+        part_size: PART_SIZE,
+    };
+    let (desk, told) = go_on(rt, alloc, desk, &outside, lines.as_str());
     let (repo, _faults, _targets) = desk.into_parts();
     let (depot, _history) = repo.into_parts();
     stepped?;
-    Ok(depot)
+    Ok((depot, told))
 }
 
 /// Since now a crash leaves no image but that of now.
@@ -121,18 +194,20 @@ fn only_now<D: Depot>(depot: &D)
     let _ = depot;
 }
 
-/// The container after these steps, from one that is opened first.
-pub(crate) fn made_in<D: Depot, S: Sources>(
+/// The container after these steps, from one that is opened first, and what was told of those that two desks made then.
+pub(crate) fn made_in<D: Depot, S: Sources, T: Targets<Target = MemTarget>, R: Wait + Sync>(
+    rt: &R,
     alloc: Global,
     depot: D,
     sources: &S,
+    targets: &T,
     lines: &Text,
-) -> Result<D, Trouble> {
+) -> Result<(D, String), Trouble> {
     esr_core::opened_worlds_track_restores();
     match open_container(alloc, depot) {
         Ok(opening) => {
             only_now(&opening.depot);
-            made::<D, Brand, S>(alloc, opening, sources, lines)
+            made::<D, Brand, S, T, R>(rt, alloc, opening, sources, targets, lines)
         }
         Err(_) => Err(Trouble("a container that opens")),
     }

@@ -166,3 +166,27 @@ pub(crate) fn end_late<D: Depot, K: Told, S: Sources>(
         Err(UnitRefusal::Stopped(_)) => Err(Trouble("a step that is not refused")),
     }
 }
+
+/// Works a shard that fails, since its source does.
+pub(crate) fn end_faulty<D: Depot, K: Told, S: Sources>(
+    alloc: Global,
+    desk: &mut Solo<D, K, S::Shard, MemTarget>,
+    unit: &Unit,
+    sources: &S,
+) -> Result<(), Trouble>
+    requires mine { HasTaken (calls_at 0 desk.old) unit.now.ready.ticket }
+    requires fresh { Took K.start desk.old unit.now }
+    requires new { made_of K.start desk.old unit.now.ready.ticket ≡ [] }
+    requires sources { AreSources K.start (S.told sources.now) }
+    requires size { PART_SIZE ≡ K.start.part_size }
+{
+    let Work::Shard { .. } = &unit.ready.work else {
+        return Err(Trouble("a unit of a snapshot's shard"));
+    };
+    match esr_upload::run_unit(alloc, desk, unit, sources, &NoGate, PART_SIZE) {
+        Ok(_) => Err(Trouble("a unit that fails")),
+        Err(UnitRefusal::Failed(_)) => Ok(()),
+        Err(UnitRefusal::Stale) => Err(Trouble("a unit whose term is not over")),
+        Err(UnitRefusal::Stopped(_)) => Err(Trouble("a step that is not refused")),
+    }
+}

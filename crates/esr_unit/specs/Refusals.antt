@@ -24,6 +24,7 @@ use Rattle.esr_desk.specs.Made.{own_made, made_last}
 use Rattle.esr_desk.specs.Conditions.{CanFinish}
 use Rattle.esr_desk.specs.Evidence.{Evidence, HadReply}
 use Rattle.esr_desk.specs.Unit.Shown.{Matters}
+use Rattle.esr_desk.specs.Delete.Shown.{MattersTo}
 use Rattle.esr_unit.specs.declared.trouble.Trouble.TheVariants as troubles
 use Rattle.esr_unit.specs.Fetch.{IsRefusedBy}
 use Rattle.esr_unit.specs.Shown.{Shown}
@@ -45,7 +46,7 @@ IsWork (BeginStep name) = Unit {0}
 IsWork (CommitStep name) = Unit {0}
 IsWork LatestStep = Unit {0}
 IsWork (FetchStep name) = Unit {0}
-IsWork ListStep = Unit {0}
+IsWork (ListStep after) = Unit {0}
 IsWork RaiseStep = Unit {0}
 IsWork SettleStep = Unit {0}
 IsWork DroppedStep = Unit {0}
@@ -83,7 +84,7 @@ work_refusal step refusal (CommitFault name) is = tt
 work_refusal step refusal (CommitTaken name) is = tt
 work_refusal step refusal LatestFault is = tt
 work_refusal step refusal (FetchFault name) is = tt
-work_refusal step refusal ListFault is = tt
+work_refusal step refusal (ListFault from) is = tt
 work_refusal step refusal RaiseFault is = tt
 work_refusal step refusal (RaiseStale own now) is = tt
 work_refusal step refusal (RaiseSpent pending) is = tt
@@ -139,7 +140,7 @@ never_anew zero (BeginStep name) is = refl
 never_anew zero (CommitStep name) is = refl
 never_anew zero LatestStep is = refl
 never_anew zero (FetchStep name) is = refl
-never_anew zero ListStep is = refl
+never_anew zero (ListStep after) is = refl
 never_anew zero RaiseStep is = refl
 never_anew zero SettleStep is = refl
 never_anew zero DroppedStep is = refl
@@ -191,8 +192,8 @@ module _ {S F H T : Type 0} (e : Evidence S F H T) (own : Type 0) (s : Start) (o
   unit_refused law steps.TurnsSpent is matters master h = h.1
   unit_refused law (steps.Refused x) is matters master h = unit_refused_in law x is (λ fault. matters) master h
 
-  -- the ticket is a delete's
-  delete_entry : (x : EntryRefusal) → IsWork step → MayRefuseWork step (refusal_of x) → Stepped s old new who step (Refused (refusal_of x)) → Grounds s new who (steps.Refused x) → (refusal_of x ≡ DepotFault → Matters (ticket_of s new who).work step)
+  -- the ticket is of a delete or cleanup
+  delete_entry : (x : EntryRefusal) → IsWork step → MayRefuseWork step (refusal_of x) → Stepped s old new who step (Refused (refusal_of x)) → Grounds s new who (steps.Refused x) → (refusal_of x ≡ DepotFault → MattersTo (ticket_of s new who) step)
       → (uuids : List ℕ) (plan : Option Swap) → (ticket_of s new who).work ≡ Deleting uuids plan → IsMasterOut s new who → Shown {S = S} {F = F} {H = H} {T = T} hands.Delete e own s new who (troubles.Step (steps.Refused x))
   delete_entry (refusals.Deposed entry) is may h grounds matters uuids plan work master = (step, record { front = h.front; image = h.image; is = h.is })
   delete_entry (refusals.Aborted op) is may h grounds matters uuids plan work master = absurd (grounds.no_delete uuids plan work)
@@ -204,13 +205,13 @@ module _ {S F H T : Type 0} (e : Evidence S F H T) (own : Type 0) (s : Start) (o
   delete_entry (refusals.StaleTerm of at) is may h grounds matters uuids plan work master = over s old new who step of at is master h
   delete_entry x is may h grounds matters uuids plan work master = absurd may
 
-  -- a step of a delete's ticket was refused; it matters, where the container failed in it
-  pub delete_refused_in : RefusesSo → (x : EntryRefusal) → IsWork step → (refusal_of x ≡ DepotFault → Matters (ticket_of s new who).work step) → (uuids : List ℕ) (plan : Option Swap) → (ticket_of s new who).work ≡ Deleting uuids plan
+  -- a step of such a ticket was refused; it matters, where the container failed in it
+  pub delete_refused_in : RefusesSo → (x : EntryRefusal) → IsWork step → (refusal_of x ≡ DepotFault → MattersTo (ticket_of s new who) step) → (uuids : List ℕ) (plan : Option Swap) → (ticket_of s new who).work ≡ Deleting uuids plan
       → IsMasterOut s new who → IsRefusedBy s old new who step (steps.Refused x) → Shown {S = S} {F = F} {H = H} {T = T} hands.Delete e own s new who (troubles.Step (steps.Refused x))
   delete_refused_in law x is matters uuids plan work master h = delete_entry x is (work_refused law s old new who step (refusal_of x) is h.0) h.0 h.1 matters uuids plan work master
 
   -- a step that matters, whatever it was refused for
-  pub delete_refused : RefusesSo → (refusal : StepRefusal) → IsWork step → Matters (ticket_of s new who).work step → (uuids : List ℕ) (plan : Option Swap) → (ticket_of s new who).work ≡ Deleting uuids plan → IsMasterOut s new who
+  pub delete_refused : RefusesSo → (refusal : StepRefusal) → IsWork step → MattersTo (ticket_of s new who) step → (uuids : List ℕ) (plan : Option Swap) → (ticket_of s new who).work ≡ Deleting uuids plan → IsMasterOut s new who
       → IsRefusedBy s old new who step refusal → Shown {S = S} {F = F} {H = H} {T = T} hands.Delete e own s new who (troubles.Step refusal)
   delete_refused law steps.Memory is matters uuids plan work master h = tt
   delete_refused law steps.TurnsSpent is matters uuids plan work master h = h.1

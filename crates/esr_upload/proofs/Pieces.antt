@@ -13,7 +13,7 @@ use Rattle.esr_model.specs.Names.{BlobName, File, Part}
 use Rattle.esr_model.specs.Values.{Bytes, Has, Formats, files_told, or_no_files}
 use Rattle.esr_model.specs.Parts.{part_count, parts_from}
 use Rattle.esr_model.specs.Uploads.{pieces, pairs, file_blobs}
-use Rattle.esr_core.specs.World.{Ticket, Work, Shard, Swap, swap_of}
+use Rattle.esr_core.specs.World.{Ticket, Work, Shard, Deleting, Swap, swap_of}
 use Rattle.esr_core.specs.Steps.{Drew}
 use Rattle.esr_core.specs.Ready.{IsShard}
 use Rattle.esr_core.specs.After.{committing}
@@ -52,6 +52,10 @@ no_part_meta i k x p u (inr (inr is)) = let e = is.1 in cc
 pub no_swap : (s : Start) (t : Ticket) (i k : ℕ) → t.work ≡ Shard i k → ◌≡◌ {A = Option Swap} (swap_of (formats_of s) t.work t.root) None
 no_swap s t i k is = subst (λ (w : Work). ◌≡◌ {A = Option Swap} (swap_of (formats_of s) w t.root) None) (sym is) refl
 
+-- nor is it of a delete or cleanup
+pub no_deletion : (t : Ticket) (i k : ℕ) (uuids : List ℕ) (plan : Option Swap) → t.work ≡ Shard i k → t.work ≡ Deleting uuids plan → ⊥
+no_deletion t i k uuids plan is deletes = let same : Shard i k ≡ Deleting uuids plan = sym is ∙ deletes in cc
+
 pub of_shard : (t : Ticket) (i k : ℕ) → t.work ≡ Shard i k → IsShard t.work
 of_shard t i k is = subst IsShard (sym is) tt
 
@@ -84,6 +88,7 @@ whole_can s t at e is drew few part fresh = record {
     stored = λ same. cc;
     once = λ other noted. fresh noted;
     numbered = own_number s t at (code.Whole at e.name) is.work part;
+    late = λ uuids plan deletes clean. absurd (no_deletion t at.index.number at.number uuids plan is.work deletes);
   };
 }
 
@@ -102,6 +107,7 @@ part_can s t at e k is drew few low part fresh = record {
     stored = λ same. cc;
     once = λ other noted. fresh noted;
     numbered = own_number s t at (code.Part at e.name k) is.work part;
+    late = λ uuids plan deletes clean. absurd (no_deletion t at.index.number at.number uuids plan is.work deletes);
   };
 }
 

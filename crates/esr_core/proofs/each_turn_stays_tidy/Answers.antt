@@ -2,4 +2,4 @@ use Rattle.esr_core.proofs.TidyTurns.{turn_tidy}
 use Rattle.esr_core.proofs.each_turn_stays_tidy.Goals as goal
 
 pub returns : goal.returns
-returns c = λ f w new shelf l deletes tidy turn. turn_tidy f w new shelf l (λ rises. deletes) tidy turn
+returns c = λ f w new shelf l tidy turn. turn_tidy f w new shelf l tidy turn

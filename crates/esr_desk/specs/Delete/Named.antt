@@ -1,4 +1,4 @@
--- What the removals of a delete's ticket have named.
+-- What the removals of a ticket have named.
 use Rattle.std.specs.Prelude.{◌≡◌, ◌⊎◌, ℕ, zero, suc, ◌≤◌, true, false, List, [], ◌∷◌, ◌++◌}
 use Rattle.std.proofs.Common.{refl, sym, ap, subst, inl, inr, ⊎_elim}
 use Rattle.esr_model.specs.Names.{BlobName}
@@ -25,16 +25,16 @@ pub record HasNamed (s : Start) (log : List Moment) (who : ℕ) : Type 0 where
 
 -- ---- names and entries
 
-has_front : (xs ys : List BlobName) (name : BlobName) → Has xs name → Has (xs ++ ys) name
+pub has_front : (xs ys : List BlobName) (name : BlobName) → Has xs name → Has (xs ++ ys) name
 has_front [] ys name h = absurd h
 has_front (x ∷ xs) ys name (inl same) = inl same
 has_front (x ∷ xs) ys name (inr h) = inr (has_front xs ys name h)
 
-has_back : (xs ys : List BlobName) (name : BlobName) → Has ys name → Has (xs ++ ys) name
+pub has_back : (xs ys : List BlobName) (name : BlobName) → Has ys name → Has (xs ++ ys) name
 has_back [] ys name h = h
 has_back (x ∷ xs) ys name h = inr (has_back xs ys name h)
 
-has_either : (xs ys : List BlobName) (name : BlobName) → Has (xs ++ ys) name → Has xs name ⊎ Has ys name
+pub has_either : (xs ys : List BlobName) (name : BlobName) → Has (xs ++ ys) name → Has xs name ⊎ Has ys name
 has_either [] ys name h = inr h
 has_either (x ∷ xs) ys name (inl same) = inl (inl same)
 has_either (x ∷ xs) ys name (inr h) = ⊎_elim (λ a. inl (inr a)) (λ b. inr b) (has_either xs ys name h)

@@ -1,7 +1,7 @@
 use Rattle.std.proofs.Common.{sym, subst}
 use Rattle.esr_core.specs.Entry.{FinishStep, HasEnded}
 use Rattle.esr_desk.specs.Grew.{outcome_grew_by}
-use Rattle.esr_finish.proofs.Ends.{was_stale}
+use Rattle.esr_delete.proofs.Ends.{was_stale}
 use Rattle.esr_delete.proofs.Passing.{IsDeletes, finish_halts}
 use Rattle.esr_delete.proofs.end.end_stale.Goals as goal
 
@@ -10,7 +10,7 @@ returns-in-Ok-clause-given_up g c =
     let s = g.Q.Desk.start in
     let old = g.Q.Desk.seen c.args.desk.now in (
       c.in-Ok.ensures.own,
-      record { before = old; refused = was_stale s old c.args.ticket c.requires.may.unsettled c.requires.over; step = c.in-Ok.ensures.step },
+      record { before = old; refused = was_stale s old c.args.ticket c.requires.may c.requires.over; step = c.in-Ok.ensures.step },
     )
 
 pub returns-in-Ok-clause-grew : goal.returns-in-Ok-clause-grew

@@ -43,7 +43,7 @@ fetch_index-requires-clause-may g c κs within =
     let who = c.args.ticket in
     let items = c.as_slice-shard-items.result.now in
     let p = pruned_of (get_or items c.loop-shard.shard-index no_shard) in
-    can_fetch (ticket_of s (g.Q.Desk.seen c.args.desk.now) who) (ticket_of s (g.Q.Desk.seen c.loop-shard.desk) who) (root_of c.args.root.now) (map number_of c.args.uuids.now) p c.requires.may c.loop-shard.invariant.so_far.read
+    can_fetch (ticket_of s (g.Q.Desk.seen c.args.desk.now) who) (ticket_of s (g.Q.Desk.seen c.loop-shard.desk) who) c.args.clean (root_of c.args.root.now) (map number_of c.args.uuids.now) p c.requires.may c.loop-shard.invariant.so_far.read
     (c.in_ok-shards.ensures.each p (shard_in items c.in_ok-shards.shards c.loop-shard.shard-index c.as_slice-shard-items.ensures c.loop-shard-test.true))
 
 pub fetch_index-requires-clause-new : goal.fetch_index-requires-clause-new
@@ -104,7 +104,7 @@ returns-clause-ok g c =
     let new = g.Q.Desk.seen c.loop-shard.desk in
     let items = c.as_slice-shard-items.result.now in
     let whole : map pruned_of (take c.loop-shard.shard-index items) ≡ map pruned_of c.in_ok-shards.shards = all pruned_of items c.loop-shard.shard-index c.loop-shard-test.false ∙ ap (map pruned_of) c.as_slice-shard-items.ensures in
-    gathered_all s old new who (root_of c.args.root.now) (map number_of c.args.uuids.now) (map pruned_of c.in_ok-shards.shards) c.loop-shard.held c.requires.may
+    gathered_all s old new who c.args.clean (root_of c.args.root.now) (map number_of c.args.uuids.now) (map pruned_of c.in_ok-shards.shards) c.loop-shard.held c.requires.may
     (subst (λ (shards : List PrunedShard). IsSoFar s old new who shards c.loop-shard.held) whole c.loop-shard.invariant.so_far) c.in_ok-shards.ensures.all
 
 pub returns-clause-made : goal.returns-clause-made

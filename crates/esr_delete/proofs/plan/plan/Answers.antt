@@ -26,8 +26,8 @@ plan-requires-clause-may g c =
     let uuids = map number_of c.args.uuids.now in
     let shards = map pruned_of c.in_ok-shards.shards in
     let all = c.in_ok-shards.ensures in
-    can_plan s t root uuids c.args.held.now shards c.requires.may c.requires.gathered
-    (found s t root uuids c.args.held.now shards c.requires.may.root_is c.requires.gathered all.one_each all.exact all.of_root all.each all.held all.writable)
+    can_plan s t c.args.clean root uuids c.args.held.now shards c.requires.may c.requires.gathered
+    (found s t c.args.clean root uuids c.args.held.now shards c.requires.may c.requires.gathered all.one_each all.exact all.of_root all.each all.held all.writable)
 
 pub plan-requires-clause-new : goal.plan-requires-clause-new
 plan-requires-clause-new g c = plan_new g.Q.Desk.start (g.Q.Desk.seen c.args.desk.now) c.args.ticket (map pruned_of c.in_ok-shards.shards) c.requires.made
@@ -63,7 +63,7 @@ returns-clause-ok g c =
     let all = c.in_ok-shards.ensures in
     let p = c.in_ok-planned.planned in
     has_planned s t (ticket_of s (g.Q.Desk.seen c.plan.new.self) who) root (root_of p.root) uuids c.args.held.now c.in_ok-shards.shards p.first.number c.requires.may.root_is c.requires.gathered
-    (found s t root uuids c.args.held.now shards c.requires.may.root_is c.requires.gathered all.one_each all.exact all.of_root all.each all.held all.writable)
+    (found s t c.args.clean root uuids c.args.held.now shards c.requires.may c.requires.gathered all.one_each all.exact all.of_root all.each all.held all.writable)
     c.in_ok-planned.ensures.own c.in_ok-planned.ensures.root c.in_ok-planned.ensures.range
 
 pub returns-clause-few : goal.returns-clause-few

@@ -3,14 +3,14 @@ use Rattle.std.proofs.lemmas.Bool.{eqb-true}
 use Rattle.esr_desk.specs.Start.{ticket_of}
 use Rattle.esr_desk.specs.Grew.{grew_by_none, grew_by_on}
 use Rattle.esr_finish.proofs.Runs.{taken_on}
-use Rattle.esr_delete.proofs.Removing.{still_new, still_once, more_named, whole_more, rest_may, rest_layout, all_named}
+use Rattle.esr_delete.proofs.Removing.{still_new, still_once, none_removed, more_removed, whole_more, rest_may, rest_layout, all_removed}
 use Rattle.esr_delete.proofs.remove.remove_all.Goals as goal
 
 pub loop-rest-init : goal.loop-rest-init
 loop-rest-init g c = record {
   front = [];
   whole = refl;
-  named = λ name none. absurd none;
+  removed = none_removed c.args.clean g.Q.Desk.start (g.Q.Desk.seen c.args.desk.now) c.args.ticket;
   once = c.requires.once;
   new = c.requires.new;
   own = refl;
@@ -43,9 +43,9 @@ loop-rest-preserved g c =
     record {
       front = inv.front ++ take n rest;
       whole = whole_more c.args.names.now inv.front rest n inv.whole;
-      named = more_named s mid new who inv.front (take n rest) inv.named c.in_ok-count.ensures.removed;
+      removed = more_removed c.args.clean s old mid new who inv.front (take n rest) c.requires.mine.some inv.removed c.in_ok-count.ensures.removed;
       once = still_once rest n inv.once;
-      new = still_new s mid new who rest n c.requires.mine.some inv.new inv.once c.in_ok-count.ensures.removed;
+      new = still_new c.args.clean s mid new who rest n c.requires.mine.some inv.new inv.once c.in_ok-count.ensures.removed;
       own = c.remove_first.ensures.own ∙ inv.own;
       grew = grew_by_on s who old mid new inv.grew c.remove_first.ensures.grew;
       calls = c.remove_first.ensures.calls ∙ inv.calls;
@@ -59,11 +59,11 @@ returns-in_err-count-clause-grew g c =
     let seen = g.Q.Desk.seen in
     grew_by_on g.Q.Desk.start c.args.ticket (seen c.args.desk.now) (seen c.loop-rest.desk) (seen c.remove_first.new.desk) c.loop-rest.invariant.grew c.remove_first.ensures.grew
 
-pub returns-clause-named : goal.returns-clause-named
-returns-clause-named g c =
+pub returns-clause-removed : goal.returns-clause-removed
+returns-clause-removed g c =
     let inv = c.loop-rest.invariant in
     let none : length c.loop-rest.rest.now ≡ 0 = eqb-true (length c.loop-rest.rest.now) 0 (sym c.loop-rest-test.ensures) in
-    all_named g.Q.Desk.start (g.Q.Desk.seen c.loop-rest.desk) c.args.ticket c.args.names.now inv.front c.loop-rest.rest.now inv.whole none inv.named
+    all_removed c.args.clean g.Q.Desk.start (g.Q.Desk.seen c.args.desk.now) (g.Q.Desk.seen c.loop-rest.desk) c.args.ticket c.args.names.now inv.front c.loop-rest.rest.now inv.whole none inv.removed
 
 pub remove_first-requires-clause-mine : goal.remove_first-requires-clause-mine
 remove_first-requires-clause-mine g c κs within = taken_on (g.Q.Desk.calls c.args.desk.now) (g.Q.Desk.calls c.loop-rest.desk) c.args.ticket c.loop-rest.invariant.calls c.requires.mine

@@ -5,8 +5,7 @@ use Rattle.esr_reach.specs.Names.{AreOnce}
 use Rattle.esr_desk.specs.Start.{ticket_of}
 use Rattle.esr_desk.specs.Grew.{GrewBy}
 use Rattle.esr_desk.specs.Calls.{Call}
-use Rattle.esr_desk.specs.Delete.Named.{AreNamed}
-use Rattle.esr_delete.specs.Removed.{AreUnnamed}
+use Rattle.esr_delete.specs.Removed.{AreUnnamed, HasRemoved}
 use Rattle.esr_delete.proofs.remove.remove_all.Given as goal
 
 abbrev pub invariant-loop-rest : goal.invariant-loop-rest
@@ -17,7 +16,7 @@ invariant-loop-rest g l =
     record {
       front : List CodeName;
       whole : l.fn.names ≡ front ++ l.rest;
-      named : AreNamed s now l.ticket (map name_of front);
+      removed : HasRemoved l.clean s old now l.ticket (map name_of front);
       once : AreOnce (map name_of l.rest);
       new : AreUnnamed s now l.ticket (map name_of l.rest);
       own : ticket_of s now l.ticket ≡ ticket_of s old l.ticket;

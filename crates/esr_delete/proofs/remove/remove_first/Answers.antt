@@ -3,11 +3,11 @@ use Rattle.esr_names.specs.declared.blob.BlobName.{BlobName as CodeName}
 use Rattle.esr_core.specs.Entry.{RemoveDoomed, PruneStep, WasRemoved}
 use Rattle.esr_formats.specs.Names.{name_of}
 use Rattle.esr_desk.specs.Start.{ticket_of}
-use Rattle.esr_desk.specs.Halts.{Halts}
 use Rattle.esr_desk.specs.Grew.{grew_by_none, outcome_grew_by}
+use Rattle.esr_delete.specs.Refused.{IsRemovalRefused}
 use Rattle.esr_delete.specs.Removed.{Removed}
 use Rattle.esr_delete.proofs.Removing.{can_remove, fresh_removal, batch_layout}
-use Rattle.esr_delete.proofs.Passing.{passed_removed, passed_halts}
+use Rattle.esr_delete.proofs.Passing.{passed_removed, passed_refused}
 use Rattle.esr_delete.proofs.Clearing.{passed_on}
 use Rattle.esr_delete.proofs.remove.remove_first.Goals as goal
 
@@ -40,8 +40,8 @@ returns-in_err-passed-clause-refused g c =
     let old = g.Q.Desk.seen c.args.desk.now in
     let new = g.Q.Desk.seen c.remove.new.self in
     let who = c.args.ticket in
-    passed_on c.from_residual-in_err-passed.result (λ e. Halts s new who e) c.in_err-passed.field-0.0 c.from_residual-in_err-passed.ensures.1
-    (passed_halts s old new who (map name_of c.in_ok-batch.batch) c.remove.result c.in_err-passed.field-0.0 c.refusals_are_of_their_steps.ensures c.requires.may.over c.remove.ensures.own c.in_err-passed.ensures c.remove.ensures.step)
+    passed_on c.from_residual-in_err-passed.result (IsRemovalRefused c.args.clean s new who) c.in_err-passed.field-0.0 c.from_residual-in_err-passed.ensures.1
+    (passed_refused c.args.clean s old new who (map name_of c.in_ok-batch.batch) c.remove.result c.in_err-passed.field-0.0 c.refusals_are_of_their_steps.ensures c.requires.may.over c.remove.ensures.own c.in_err-passed.ensures c.remove.ensures.step)
 
 pub returns-in_err-passed-clause-grew : goal.returns-in_err-passed-clause-grew
 returns-in_err-passed-clause-grew g c =
@@ -53,8 +53,8 @@ returns-clause-removed g c =
     let old = g.Q.Desk.seen c.args.desk.now in
     let new = g.Q.Desk.seen c.remove.new.self in
     let who = c.args.ticket in
-    subst (λ (l : List CodeName). Removed s old new who (map name_of l)) c.in_ok-batch.ensures
-    (passed_removed s old new who (map name_of c.in_ok-batch.batch) c.remove.result c.in_ok-passed.field-0 c.requires.mine.some c.in_ok-passed.ensures c.remove.ensures.step)
+    subst (λ (l : List CodeName). Removed c.args.clean s old new who (map name_of l)) c.in_ok-batch.ensures
+    (passed_removed c.args.clean s old new who (map name_of c.in_ok-batch.batch) c.remove.result c.in_ok-passed.field-0 c.requires.mine.some c.in_ok-passed.ensures c.remove.ensures.step)
 
 pub returns-clause-grew : goal.returns-clause-grew
 returns-clause-grew g c =

@@ -6,4 +6,4 @@ use Rattle.esr_dooming.specs.Pieces.{Added, index_piece}
 use Rattle.esr_dooming.proofs.prune.push_indices.Given as goal
 
 abbrev pub invariant-loop-index : goal.invariant-loop-index
-invariant-loop-index l = Added l.fn.shards l.shards (flat_map (index_piece (contains nat_cmp l.named) (contains nat_cmp l.listed) l.read) (map root_index_of (take l.index-index l.indices)))
+invariant-loop-index l = Added l.fn.shards l.shards (flat_map (index_piece l.clean (contains nat_cmp l.named) (contains nat_cmp l.listed) l.read) (map root_index_of (take l.index-index l.indices)))

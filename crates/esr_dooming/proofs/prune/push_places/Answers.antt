@@ -15,4 +15,4 @@ loop-number-preserved c =
     let k = c.loop-number.number in
     let less = c.loop-number-test.true in
     let len : length (map h (take k xs)) ≡ k = length-map (take k xs) h ∙ length-take-le k xs (omega arith) in
-    added_place (place_piece (contains nat_cmp c.args.named.now) (contains nat_cmp c.args.listed.now) c.args.leaves c.args.read.now c.args.index.now.id.number) h xs k _ c.args.shards.now c.loop-number.shards c.push_place.new.shards less (item_is xs k _ less) len c.loop-number.invariant c.in_ok-push_place.ensures
+    added_place (place_piece (contains nat_cmp c.args.named.now) (contains nat_cmp c.args.listed.now) c.args.loss c.args.read.now c.args.index.now.id.number) h xs k _ c.args.shards.now c.loop-number.shards c.push_place.new.shards less (item_is xs k _ less) len c.loop-number.invariant c.in_ok-push_place.ensures

@@ -6,4 +6,4 @@ use Rattle.esr_dooming.specs.Pieces.{Added, read_index}
 use Rattle.esr_dooming.proofs.touched.push_indices.Given as goal
 
 abbrev pub invariant-loop-index : goal.invariant-loop-index
-invariant-loop-index l = Added l.fn.shards l.shards (flat_map (read_index (contains nat_cmp l.named)) (map root_index_of (take l.index-index l.indices)))
+invariant-loop-index l = Added l.fn.shards l.shards (flat_map (read_index l.clean (contains nat_cmp l.named)) (map root_index_of (take l.index-index l.indices)))

@@ -47,7 +47,7 @@ returns-in-Finalize-clause-ended g c =
     master_ended (evidence g.Q.Stage.Counted.faults g.Q.Fetch.Counted.faults g.S.Shard.Counted.faults g.Q.Target.Counted.faults g.S.Shard.Shard.told g.Q.Target.Target.told)
     g.Q.Desk.start (g.Q.Desk.seen c.args.desk.now) (g.Q.Desk.seen run.new.desk) c.args.unit.now.ready.ticket run.result run.ensures.ok run.ensures.refused
 
--- ---- a delete
+-- ---- a delete or cleanup
 
 pub returns-in-Delete-clause-stopped : goal.returns-in-Delete-clause-stopped
 returns-in-Delete-clause-stopped g c =

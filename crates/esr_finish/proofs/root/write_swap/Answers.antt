@@ -26,25 +26,38 @@ returns-clause-went g c =
     let old = g.Q.Desk.seen c.args.desk.now in
     let metadata = g.Q.Desk.seen c.put_metadata.new.desk in
     let root = g.Q.Desk.seen c.put_root.new.desk in
-    let new = g.Q.Desk.seen c.put_latest.new.desk in
-    went_on s old root new who (went_on s old metadata root who c.put_metadata.ensures.went c.put_root.ensures.went) c.put_latest.ensures.went
+    let new = g.Q.Desk.seen c.try_latest.new.desk in
+    went_on s old root new who (went_on s old metadata root who c.put_metadata.ensures.went c.put_root.ensures.went) c.try_latest.ensures.went
 
 pub put_metadata-requires-clause-new : goal.put_metadata-requires-clause-new
 put_metadata-requires-clause-new g c κs within = c.requires.may.unnoted
 
-pub put_latest-requires-clause-untried : goal.put_latest-requires-clause-untried
-put_latest-requires-clause-untried g c κs within =
+pub try_latest-requires-clause-untried : goal.try_latest-requires-clause-untried
+try_latest-requires-clause-untried g c κs within =
     ap (λ (t : Ticket). t.tried_latest) (c.in_ok-generation.ensures.ok.is) ∙ ap (λ (t : Ticket). t.tried_latest) c.in_ok-put_metadata.ensures.ok.is ∙ c.requires.may.untried
 
 pub put_root-requires-clause-mine : goal.put_root-requires-clause-mine
 put_root-requires-clause-mine g c κs within = taken_on (g.Q.Desk.calls c.args.desk.now) (g.Q.Desk.calls c.put_metadata.new.desk) c.args.ticket c.put_metadata.ensures.calls c.requires.mine
 
-pub put_latest-requires-clause-mine : goal.put_latest-requires-clause-mine
-put_latest-requires-clause-mine g c κs within =
+pub try_latest-requires-clause-mine : goal.try_latest-requires-clause-mine
+try_latest-requires-clause-mine g c κs within =
     taken_on (g.Q.Desk.calls c.args.desk.now) (g.Q.Desk.calls c.put_root.new.desk) c.args.ticket (c.put_root.ensures.calls ∙ c.put_metadata.ensures.calls) c.requires.mine
 
 pub returns-in_err-generation-clause-calls : goal.returns-in_err-generation-clause-calls
 returns-in_err-generation-clause-calls g c = c.put_root.ensures.calls ∙ c.put_metadata.ensures.calls
 
 pub returns-clause-calls : goal.returns-clause-calls
-returns-clause-calls g c = c.put_latest.ensures.calls ∙ c.put_root.ensures.calls ∙ c.put_metadata.ensures.calls
+returns-clause-calls g c = c.try_latest.ensures.calls ∙ c.put_root.ensures.calls ∙ c.put_metadata.ensures.calls
+
+pub returns-in_err-try_latest-clause-went : goal.returns-in_err-try_latest-clause-went
+returns-in_err-try_latest-clause-went g c =
+    let s = g.Q.Desk.start in
+    let who = c.args.ticket in
+    let old = g.Q.Desk.seen c.args.desk.now in
+    let metadata = g.Q.Desk.seen c.put_metadata.new.desk in
+    let root = g.Q.Desk.seen c.put_root.new.desk in
+    let new = g.Q.Desk.seen c.try_latest.new.desk in
+    went_on s old root new who (went_on s old metadata root who c.put_metadata.ensures.went c.put_root.ensures.went) c.try_latest.ensures.went
+
+pub returns-in_err-try_latest-clause-calls : goal.returns-in_err-try_latest-clause-calls
+returns-in_err-try_latest-clause-calls g c = c.try_latest.ensures.calls ∙ c.put_root.ensures.calls ∙ c.put_metadata.ensures.calls

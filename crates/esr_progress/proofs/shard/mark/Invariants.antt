@@ -1,5 +1,5 @@
 use Rattle.std.proofs.Common.{◌≡◌, ◌++◌, map, take, drop}
-use Rattle.esr_progress.specs.Shards.{given_open, marked_open, failed_open}
+use Rattle.esr_progress.specs.Shards.{marked_open}
 use Rattle.esr_progress.proofs.shard.mark.Given as goal
 
 abbrev pub invariant-loop-open : goal.invariant-loop-open

@@ -9,7 +9,7 @@ use Rattle.esr_report.proofs.tickets.ends_of.Goals as goal
 
 pub loop-at-preserved : goal.loop-at-preserved
 loop-at-preserved c =
-    end_read c.args.entries.now c.loop-at.ends.items c.keep.new.ends.items c.push_aborts.new.ends.items c.loop-at.at c.index-entries-at.result c.op_end.result c.loop-at-test.true c.index-entries-at.is c.op_end.ensures
+    end_read c.args.entries.now c.loop-at.ends.items c.keep.new.ends.items c.push_aborts.new.ends.items c.loop-at.at c.index-entries-at.result c.in_ok-end.end c.loop-at-test.true c.index-entries-at.is c.in_ok-end.ensures
     c.in_ok-keep.ensures c.in_ok-push_aborts.ensures c.loop-at.invariant
 
 pub returns : goal.returns

@@ -32,7 +32,7 @@ loop-left-preserved g c =
     ] in
     record {
       front = line_front s c.args.moment c.loop-left.owed c.owed_after-owed.result line left lines c.args.desk mid new r c.in-len1-up.len_at_least c.line-item.is c.owed_after-owed.ensures told inv.front
-          c.carry_line-after.ensures.made c.carry_line-after.ensures.elects c.carry_line-after.ensures.checked c.carry_line-after.ensures.begun c.carry_line-after.ensures.only c.carry_line-after.ensures.rests c.carry_line-after.ensures.ended;
+          c.carry_line-after.ensures.made c.carry_line-after.ensures.elects c.carry_line-after.ensures.checked c.carry_line-after.ensures.begun c.carry_line-after.ensures.only inv.may.idle c.carry_line-after.ensures.rests c.carry_line-after.ensures.ended;
       good = good_next left inv.good;
       may = told_may s c.args.workers (asks_check lines) new r told (c.carry_line-after.ensures.verified (asks_check lines) (asks_here s c.args.moment c.loop-left.owed line left lines c.args.desk mid c.in-len1-up.len_at_least c.line-item.is inv.front) inv.may);
       takes = waits_on c.args.workers line left (idle_takes c.args.desk) (idle_takes mid) (idle_takes new) (waits_of c.args.workers lines) c.in-len1-up.len_at_least c.line-item.is inv.takes c.carry_line-after.ensures.takes;

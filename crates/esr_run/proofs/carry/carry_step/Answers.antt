@@ -84,6 +84,24 @@ returns-in-Restore-clause-only g c = subst (λ (i : Item). AddsOnly i (g.Q.Desk.
 pub returns-in-Restore-clause-verified : goal.returns-in-Restore-clause-verified
 returns-in-Restore-clause-verified g c checks asks may = c.restore.ensures.verified c.args.workers checks c.requires.alone may
 
+pub returns-in-Cleanup-clause-rests : goal.returns-in-Cleanup-clause-rests
+returns-in-Cleanup-clause-rests g c rest = c.cleanup.ensures.rests c.requires.alone rest
+
+pub returns-in-Cleanup-clause-spent : goal.returns-in-Cleanup-clause-spent
+returns-in-Cleanup-clause-spent g c = c.cleanup.ensures.spent c.requires.alone
+
+pub returns-in-Cleanup-clause-takes : goal.returns-in-Cleanup-clause-takes
+returns-in-Cleanup-clause-takes g c = c.cleanup.ensures.takes c.requires.alone
+
+pub returns-in-Cleanup-clause-elects : goal.returns-in-Cleanup-clause-elects
+returns-in-Cleanup-clause-elects g c = asks_elect (g.Q.Desk.seen c.args.desk.now) (g.Q.Desk.seen c.cleanup.new.desk) (c.cleanup.ensures.only c.requires.alone)
+
+pub returns-in-Cleanup-clause-only : goal.returns-in-Cleanup-clause-only
+returns-in-Cleanup-clause-only g c = subst (λ (i : Item). AddsOnly i (g.Q.Desk.seen c.args.desk.now) (g.Q.Desk.seen c.cleanup.new.desk)) (sym c.in-Cleanup.is) (c.cleanup.ensures.only c.requires.alone)
+
+pub returns-in-Cleanup-clause-verified : goal.returns-in-Cleanup-clause-verified
+returns-in-Cleanup-clause-verified g c checks asks may = c.cleanup.ensures.verified c.args.workers checks c.requires.alone may
+
 pub returns-in-List-clause-rests : goal.returns-in-List-clause-rests
 returns-in-List-clause-rests g c rest = c.list.ensures.rests c.requires.alone rest
 

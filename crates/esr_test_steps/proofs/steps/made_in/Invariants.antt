@@ -1,4 +1,3 @@
-use Rattle.std.specs.Prelude.{false}
 use Rattle.esr_depot.specs.Look.{now}
 use Rattle.esr_formats.specs.Clusters.{cluster_of}
 use Rattle.esr_formats.specs.Roots.{root_of}
@@ -8,7 +7,7 @@ use Rattle.esr_test_steps.proofs.steps.made_in.Given as goal
 
 abbrev pub ghosts-made : goal.ghosts-made
 ghosts-made g a = record {
-  start = start_of (telling (g.S.Sources.told a.sources.now) (record { tells = false; is_quiet = false })) 16777216 (is_calm_by (g.D.Depot.look a.opening.depot).sure) (g.D.Depot.look a.opening.depot)
+  start = start_of (telling (g.S.Sources.told a.sources.now) (g.T.Targets.told a.targets.now)) 16777216 (is_calm_by (g.D.Depot.look a.opening.depot).sure) (g.D.Depot.look a.opening.depot)
       (begun_world (now (g.D.Depot.look a.opening.depot)) (cluster_of a.opening.cluster) (root_of a.opening.root) a.opening.progress);
   clock = (g.D.Depot.look a.opening.depot).clock;
   faults = g.D.Counted.faults a.opening.depot;

@@ -2,7 +2,7 @@ use Rattle.esr_names.specs.Layout.{IsName}
 use Rattle.std.proofs.Common.{inr}
 use Rattle.esr_desk.specs.Start.{formats_of, ticket_of}
 use Rattle.esr_upload.proofs.Going.{went_none}
-use Rattle.esr_upload.proofs.Pieces.{no_swap, of_shard}
+use Rattle.esr_upload.proofs.Pieces.{no_swap, no_deletion, of_shard}
 use Rattle.esr_upload.proofs.Putting.{index_numbered}
 use Rattle.esr_upload.proofs.publish.put_index.Goals as goal
 
@@ -26,6 +26,7 @@ put_own-requires-clause-may g c κs within =
       stored = λ same. cc;
       once = λ other noted. c.requires.unnoted noted;
       numbered = λ index number is. index_numbered (formats_of s) s.part_size t number at.index.number at.number c.args.generation.number t.source;
+      late = λ uuids plan deletes clean. absurd (no_deletion t at.index.number at.number uuids plan work.work deletes);
     }
 
 pub put_own-requires-clause-work : goal.put_own-requires-clause-work

@@ -5,7 +5,7 @@ use Rattle.esr_model.specs.Names.{ShardSnap}
 use Rattle.esr_model.specs.Values.{Has}
 use Rattle.esr_desk.specs.Start.{formats_of, ticket_of}
 use Rattle.esr_upload.proofs.Going.{went_none}
-use Rattle.esr_upload.proofs.Pieces.{no_swap, of_shard}
+use Rattle.esr_upload.proofs.Pieces.{no_swap, no_deletion, of_shard}
 use Rattle.esr_upload.proofs.Putting.{snap_numbered}
 use Rattle.esr_upload.proofs.publish.put_snap.Goals as goal
 
@@ -29,6 +29,7 @@ put_own-requires-clause-may g c κs within =
       stored = λ same. cc;
       once = λ other noted. c.requires.unnoted (subst (λ (u : Id). Has t.noted (ShardSnap at.index.number at.number u.number)) c.uuid.ensures noted);
       numbered = λ index number is. snap_numbered (formats_of s) s.part_size t number at.index.number at.number c.uuid.result.number t.source;
+      late = λ uuids plan deletes clean. absurd (no_deletion t at.index.number at.number uuids plan work.work deletes);
     }
 
 pub put_own-requires-clause-work : goal.put_own-requires-clause-work

@@ -1,12 +1,10 @@
-use Rattle.std.proofs.Common.{ℕ, ◌≡◌, ◌-◌, ◌^◌, List, true, map, min, sym, ap, ◌∙◌, subst, refl}
+use Rattle.std.proofs.Common.{ℕ, ◌≡◌, ◌-◌, ◌^◌, List, true, min, sym, ap, ◌∙◌, subst, refl}
 use Rattle.std.specs.Prelude.{sum_by}
 use Rattle.std.specs.List.{filter_map}
-use Rattle.esr_core.specs.World.{Op, AllDone, info_of}
+use Rattle.esr_core.specs.World.{Op}
 use Rattle.esr_core.specs.Steps.{all_done}
-use Rattle.esr_formats.specs.Infos.{info_of_code}
 use Rattle.esr_progress.specs.declared.shard.OpenShard.{OpenShard}
 use Rattle.esr_results.specs.declared.result.ShardResult.{ShardResult as CodeResult}
-use Rattle.esr_results.specs.Results.{result_of}
 use Rattle.esr_progress.specs.Shards.{result_in}
 use Rattle.esr_progress.proofs.Results.{final_work}
 use Rattle.esr_progress.proofs.open_op.OpenOp.finalization.Goals as goal

@@ -1,11 +1,9 @@
-use Rattle.std.proofs.Common.{ℕ, ◌≡◌, List, take, map, option_map, sym, ap, ◌∙◌, subst, arith, length}
+use Rattle.std.proofs.Common.{ℕ, ◌≡◌, List, take, option_map, ◌∙◌, subst}
 use Rattle.std.proofs.lemmas.List.{take_all}
 use Rattle.esr_core.specs.World.{Op}
 use Rattle.esr_formats.specs.Ids.{number_of}
 use Rattle.esr_progress.specs.declared.shard.OpenShard.{OpenShard}
-use Rattle.esr_progress.specs.Shards.{generation_open}
-use Rattle.esr_progress.specs.Ops.{IsMost, Among, IsDoneAt, later_of}
-use Rattle.esr_progress.proofs.Results.{most_more}
+use Rattle.esr_progress.specs.Ops.{IsMost, Among, IsDoneAt}
 use Rattle.esr_progress.proofs.OpenOps.{IsDoneOpen, generation_step, most_works}
 use Rattle.esr_progress.proofs.open_op.OpenOp.generation.Goals as goal
 

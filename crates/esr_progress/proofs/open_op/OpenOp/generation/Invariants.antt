@@ -1,4 +1,4 @@
-use Rattle.std.proofs.Common.{take, map, option_map}
+use Rattle.std.proofs.Common.{take, option_map}
 use Rattle.esr_formats.specs.Ids.{number_of}
 use Rattle.esr_progress.specs.Ops.{IsMost, Among}
 use Rattle.esr_progress.proofs.OpenOps.{IsDoneOpen}

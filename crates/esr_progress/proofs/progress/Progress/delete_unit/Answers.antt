@@ -7,7 +7,6 @@ use Rattle.esr_formats.specs.Clusters.{count_of}
 use Rattle.esr_progress.specs.declared.unit.Copied.{Copied}
 use Rattle.esr_progress.specs.Choice.{delete_ready}
 use Rattle.esr_progress.proofs.Choices.{place_within}
-use Rattle.esr_progress.proofs.Lowest.{cleans_none}
 use Rattle.esr_progress.proofs.NextDeletes.{copied_numbers, no_delete, delete_is}
 use Rattle.esr_progress.proofs.progress.Progress.delete_unit.Goals as goal
 
@@ -37,6 +36,6 @@ returns c w is =
     let found = sym (c.find_delete.ensures ∙ (λ j. position (delete_ready (c.deref.ensures.value j) (c.deref-2.ensures.value j) (c.deref-3.ensures.value j) c.args.term) (c.deref-2.ensures.value j))) ∙ c.in-Some.is in
     let lt = (place_within (delete_ready s.ops.items s.deletes.items s.seats.items c.args.term) s.deletes.items c.in-Some.at found).0 in
     delete_is s.ops.items s.deletes.items s.completed.items s.seats.items s.next_op s.restores.items c.args.self.now c.self.view_is c.self.invariant (root_of c.args.root.now) (count_of c.args.safe) c.args.term w is
-    (cleans_none w c.args.self.now is.plan c.requires.no_cleanup) c.in-Some.at c.index-delete.result.now found (slice_get_read s.deletes.items (length s.deletes.items) c.in-Some.at c.index-delete.result.now refl lt c.index-delete.ensures)
-    (c.len.result + 1) count c.number.result c.number.ensures c.in_ok-work.field-0 c.kind.result copy c.in_ok-work.ensures c.kind.ensures
+    c.in-Some.at c.index-delete.result.now found (slice_get_read s.deletes.items (length s.deletes.items) c.in-Some.at c.index-delete.result.now refl lt c.index-delete.ensures)
+    (c.len.result + 1) count c.number.result c.number.ensures c.in_ok-work.field-0 c.kind.result c.gives_cleanup.result copy c.in_ok-work.ensures c.kind.ensures c.gives_cleanup.ensures
     (ap count_of (to_z-of_z w64 c.args.safe c.ranges.safe)) (ap root_of c.in_ok-try_clone.ensures) c.in_ok-ops.ops.items (c.in_ok-ops.ensures ∙ c.deref-4.ensures.value) c.in_ok-with_seat.field-0 c.in_ok-with_seat.ensures

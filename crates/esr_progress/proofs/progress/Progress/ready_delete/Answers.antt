@@ -3,7 +3,6 @@ use Rattle.std.specs.List.{position}
 use Rattle.std.proofs.lemmas.Option.{slice_get_read}
 use Rattle.esr_progress.specs.Choice.{delete_ready}
 use Rattle.esr_progress.proofs.Choices.{place_within}
-use Rattle.esr_progress.proofs.Lowest.{cleans_none}
 use Rattle.esr_progress.proofs.NextDeletes.{no_delete, lowest_delete}
 use Rattle.esr_progress.proofs.progress.Progress.ready_delete.Goals as goal
 
@@ -27,5 +26,5 @@ returns c w is term_is =
     let found = sym (c.find_delete.ensures ∙ (λ j. position (delete_ready (c.deref.ensures.value j) (c.deref-2.ensures.value j) (c.deref-3.ensures.value j) c.args.term) (c.deref-2.ensures.value j))) ∙ c.in-Some.is in
     let lt = (place_within (delete_ready s.ops.items s.deletes.items s.seats.items c.args.term) s.deletes.items c.in-Some.at found).0 in
     lowest_delete s.ops.items s.deletes.items s.completed.items s.seats.items s.next_op s.restores.items c.args.self.now c.self.view_is c.self.invariant
-    w.root w.safe c.args.term w (record { plan = is; root_is = refl; safe_is = refl; term_is = term_is }) (cleans_none w c.args.self.now is c.requires.no_cleanup) c.in-Some.at c.index.result.now found
+    w.root w.safe c.args.term w (record { plan = is; root_is = refl; safe_is = refl; term_is = term_is }) c.in-Some.at c.index.result.now found
     (slice_get_read s.deletes.items (length s.deletes.items) c.in-Some.at c.index.result.now refl lt c.index.ensures) c.number.result c.number.ensures

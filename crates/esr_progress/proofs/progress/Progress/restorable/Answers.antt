@@ -1,4 +1,4 @@
-use Rattle.std.proofs.Common.{◌≡◌, ℕ, List, Option, Some, None, option_map, length, sym, ap, ◌∙◌, refl, arith}
+use Rattle.std.proofs.Common.{ℕ, List, option_map, length, sym, ap, ◌∙◌, refl}
 use Rattle.esr_core.specs.World.{Deletion}
 use Rattle.std.specs.Prelude.{not, nat_lt}
 use Rattle.esr_progress.specs.Plan.{RestorePlan}

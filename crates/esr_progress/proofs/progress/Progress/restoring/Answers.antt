@@ -1,4 +1,4 @@
-use Rattle.std.proofs.Common.{ℕ, map, ap, ◌∙◌}
+use Rattle.std.proofs.Common.{map, ap, ◌∙◌}
 use Rattle.esr_formats.specs.Refs.{ref_of_code}
 use Rattle.esr_progress.specs.Plan.{Plan}
 use Rattle.esr_progress.specs.Asking.{restore_begun}

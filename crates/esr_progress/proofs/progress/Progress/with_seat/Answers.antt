@@ -12,7 +12,7 @@ invariant_of-result c =
 
 pub returns : goal.returns
 returns c =
-    let seat : CodeSeat = record { kind = c.args.kind; op = c.args.op; term = c.args.term; raised = None; settled = false; out = true } in
+    let seat : CodeSeat = record { kind = c.args.kind; clean = c.args.clean; op = c.args.op; term = c.args.term; raised = None; settled = false; out = true } in
     let seats : c.in_ok-seats.seats.items ≡ c.self.inside.seats.items = c.in_ok-seats.ensures.items ∙ c.as_slice.ensures.value in
     let done : c.in_ok-from_slice.field-0.items ≡ c.self.inside.completed.items = c.in_ok-from_slice.ensures.items ∙ c.as_slice-2.ensures.value in
     plan_seated c.self.inside.ops.items c.args.ops.items c.self.inside.deletes.items c.in_ok-copy_deletes.field-0.items c.self.inside.completed.items c.in_ok-from_slice.field-0.items c.self.inside.seats.items _ c.self.inside.next_op c.self.inside.restores.items c.in_ok-copy_restores.field-0.items c.args.self.now

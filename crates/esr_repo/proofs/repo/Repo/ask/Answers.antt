@@ -1,12 +1,18 @@
-use Rattle.std.proofs.Common.{ap}
+use Rattle.std.proofs.Common.{IfSome, sym, subst}
 use Rattle.esr_core.specs.Entry.{AskStep}
 use Rattle.esr_progress.specs.declared.command.Command.{Command}
 use Rattle.esr_progress.specs.Asked.{asked_of}
+use Rattle.esr_desk.specs.Refusals.{refusal_of}
+use Rattle.esr_repo.specs.Asked.{entry_of}
+use Rattle.esr_repo.specs.May.{MayRefuse}
+use Rattle.esr_repo.proofs.Accepts.{refuses}
 use Rattle.esr_repo.proofs.Fresh.{free_fresh, goes_ask}
 use Rattle.esr_repo.proofs.repo.Repo.ask.Goals as goal
 
-pub refuse_command-requires-clause-why : goal.refuse_command-requires-clause-why
-refuse_command-requires-clause-why g c = (asked_of c.args.command.now, c.requires.askable, ap (λ (x : Command). AskStep (asked_of x)) c.in_ok-command_copy-2.ensures, c.in-Err.ensures.err)
+pub refuse_asked-requires-clause-may : goal.refuse_asked-requires-clause-may
+refuse_asked-requires-clause-may g c =
+    subst (λ (command : Command). IfSome (entry_of c.in-Err.refusal) (λ e. MayRefuse g.K.Told.start c.check.new.self 0 (AskStep (asked_of command)) (refusal_of e))) (sym c.in_ok-command_copy-2.ensures)
+    (refuses g.K.Told.start c.check.new.self (asked_of c.args.command.now) c.in-Err.refusal c.requires.askable c.in-Err.ensures.err)
 
 pub check-requires-clause-fresh : goal.check-requires-clause-fresh
 check-requires-clause-fresh g c = free_fresh g.K.Told.start c.args.self.now 0 (AskStep (asked_of c.in_ok-command_copy.field-0)) tt
@@ -14,5 +20,5 @@ check-requires-clause-fresh g c = free_fresh g.K.Told.start c.args.self.now 0 (A
 pub swap-requires-clause-goes : goal.swap-requires-clause-goes
 swap-requires-clause-goes g c = goes_ask g.K.Told.start c.check.new.self _ _ c.in_ok-check.ensures.goes
 
-pub refuse_command-requires-clause-goes : goal.refuse_command-requires-clause-goes
-refuse_command-requires-clause-goes g c = goes_ask g.K.Told.start c.check.new.self _ _ c.in_ok-check.ensures.goes
+pub refuse_asked-requires-clause-goes : goal.refuse_asked-requires-clause-goes
+refuse_asked-requires-clause-goes g c = goes_ask g.K.Told.start c.check.new.self _ _ c.in_ok-check.ensures.goes

@@ -4,7 +4,7 @@ use Rattle.esr_repo.proofs.repo.Repo.commit.Goals as goal
 
 pub call_commit-requires-clause-may : goal.call_commit-requires-clause-may
 call_commit-requires-clause-may g c =
-    may_commit g.K.Told.start c.args.self.now c.check.new.self c.args.ticket (name_of c.args.stage.name) (g.D.Stage.Stage.contents c.args.stage.stage) c.in_ok-check.ensures.step.0 c.rules.ensures.pruning c.requires.may
+    may_commit g.K.Told.start c.args.self.now c.check.new.self c.args.ticket (name_of c.args.stage.name) (g.D.Stage.Stage.contents c.args.stage.stage) c.in_ok-check.ensures.step.0 c.rules.ensures.pruning c.rules.ensures.of_ops c.requires.may
 
 pub returns-clause-own : goal.returns-clause-own
 returns-clause-own g c =

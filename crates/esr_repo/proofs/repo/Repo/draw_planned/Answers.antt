@@ -15,7 +15,7 @@ refuse-requires-clause-may g c =
     let s = g.K.Told.start in
     let old = c.args.self.now in
     subst (λ (step : Step). MayRefuse s old c.args.ticket step (IdsSpent c.args.plan.first.number)) (sym c.requires.is)
-    (may_spend_plan s old c.args.ticket c.requires.may.0 (map pruned_of c.args.shards.now) c.args.plan.first.number c.rules.ensures.no_cleanups c.requires.may.1 c.requires.first
+    (may_spend_plan s old c.args.ticket c.requires.may.0 (map pruned_of c.args.shards.now) c.args.plan.first.number c.rules.ensures.tracked c.rules.ensures.of_ops c.requires.may.1 c.requires.first
     (subst (λ (n : ℕ). first_id (suc (world_of s old).term) ≤ (world_of s old).next_id + n) c.kept_count.ensures c.in_default.ensures.next))
 
 pub note-requires-clause-may : goal.note-requires-clause-may
@@ -23,7 +23,7 @@ note-requires-clause-may g c =
     let s = g.K.Told.start in
     let old = c.args.self.now in
     subst (λ (step : Step). MayNote s old c.args.ticket step (DrawnFrom c.args.plan.first.number) None c.in-Some.next.number) (sym c.requires.is)
-    (may_plan_delete s old c.args.ticket c.requires.may.0 (map pruned_of c.args.shards.now) c.args.plan.first.number c.in-Some.next.number c.rules.ensures.no_cleanups c.requires.may.1 c.requires.may.2 c.requires.first
+    (may_plan_delete s old c.args.ticket c.requires.may.0 (map pruned_of c.args.shards.now) c.args.plan.first.number c.in-Some.next.number c.rules.ensures.tracked c.rules.ensures.of_ops c.requires.may.1 c.requires.may.2 c.requires.first
     (c.in-Some.ensures.next.0 ∙ ap (λ (n : ℕ). (world_of s old).next_id + n) c.kept_count.ensures) c.in-Some.ensures.next.1)
 
 pub returns-clause-own : goal.returns-clause-own

@@ -7,7 +7,7 @@ use Rattle.esr_repo.proofs.repo.Repo.end_delete.Goals as goal
 
 pub note-requires-clause-may : goal.note-requires-clause-may
 note-requires-clause-may g c =
-    may_end_delete g.K.Told.start c.args.self.now c.check.new.self c.args.ticket c.plan.result.now c.in_ok-ended.ended c.next_id-next.result.number c.in_ok-check.ensures.step.0 c.rules.ensures.no_cleanups c.requires.may
+    may_end_delete g.K.Told.start c.args.self.now c.check.new.self c.args.ticket c.plan.result.now c.in_ok-ended.ended c.next_id-next.result.number c.in_ok-check.ensures.step.0 c.rules.ensures.tracked c.rules.ensures.of_ops c.requires.may
     c.plan.ensures c.in_ok-ended.ensures c.next_id-next.ensures.number
 
 pub returns-clause-own : goal.returns-clause-own

@@ -26,7 +26,7 @@ pub note-requires-clause-may : goal.note-requires-clause-may
 note-requires-clause-may g c =
     subst (λ (step : Step). MayNote g.K.Told.start c.check.new.self c.args.who step HasEnded c.in_ok-progress.progress c.next_id-next.result.number) (sym c.fails-2.ensures)
     (may_fail_by c.args.hand g.K.Told.start c.args.self.now c.check.new.self c.args.who (why_of c.args.why) c.in_ok-progress.progress c.next_id-next.result.number c.in_ok-check.ensures.step.0
-    c.rules.ensures.tracked c.rules.ensures.read_tracked c.rules.ensures.no_cleanups c.requires.may c.in_ok-progress.ensures c.next_id-next.ensures.number)
+    c.rules.ensures.tracked c.rules.ensures.read_tracked c.rules.ensures.of_ops c.requires.may c.in_ok-progress.ensures c.next_id-next.ensures.number)
 
 pub returns-clause-step : goal.returns-clause-step
 returns-clause-step g c =

@@ -23,7 +23,7 @@ call_fetch-requires-clause-goes g c =
 pub call_fetch-requires-clause-may : goal.call_fetch-requires-clause-may
 call_fetch-requires-clause-may g c =
     subst (λ (step : Step). MayFetch g.K.Told.start c.check.new.self c.args.who step (name_of c.args.name)) (sym c.fetches-2.ensures)
-    (may_fetch_by c.args.hand g.K.Told.start c.args.self.now c.check.new.self c.args.who (name_of c.args.name) c.in_ok-check.ensures.step.0 c.rules-2.ensures.no_cleanups c.rules-2.ensures.tests c.requires.may)
+    (may_fetch_by c.args.hand g.K.Told.start c.args.self.now c.check.new.self c.args.who (name_of c.args.name) c.in_ok-check.ensures.step.0 c.rules-2.ensures.tracked c.rules-2.ensures.of_ops c.rules-2.ensures.tests c.requires.may)
 
 pub returns-clause-step : goal.returns-clause-step
 returns-clause-step g c =

@@ -17,7 +17,7 @@ settled_record-requires-clause-may g c = (root_of c.args.root.now, c.requires.ma
 
 pub returns : goal.returns
 returns g c =
-    may_swap_delete g.K.Told.start c.args.self.now c.args.ticket c.in_ok-root.root c.infos.result.now c.in_ok-left.left _ c.plan.result.now c.in_ok-progress.progress c.next_id.result.number c.rules.ensures.no_cleanups c.rules.ensures.pruning c.rules.ensures.tracked
+    may_swap_delete g.K.Told.start c.args.self.now c.args.ticket c.in_ok-root.root c.infos.result.now c.in_ok-left.left _ c.plan.result.now c.in_ok-progress.progress c.next_id.result.number c.rules.ensures.of_ops c.rules.ensures.pruning c.rules.ensures.tracked
     (subst (λ (r : Root). CanSettleDelete g.K.Told.start (ticket_of g.K.Told.start c.args.self.now c.args.ticket) (root_of r)) (sym c.in_ok-root.ensures) c.requires.may) c.requires.present c.infos.ensures
     (c.in_ok-left.ensures ∙ ap (λ (ss : List RootSnap). filter (λ (i : Info). lists ss i.uuid) c.infos.result.now) (c.as_slice.ensures.items ∙ ap (λ (r : Root). r.snapshots) c.root.view_is))
     c.plan.ensures c.in_ok-progress.ensures (λ n own. ap (λ (r : Record). (cluster_of r).ledger) c.cluster.view_is ∙ c.in_ok-cluster.ensures n own) c.in_ok-cluster-inside.ensures c.next_id.ensures.number

@@ -3,11 +3,8 @@ use Rattle.std.proofs.lemmas.Int.{to_z-of_z}
 use Rattle.esr_formats.specs.Clusters.{count_of}
 use Rattle.esr_progress.specs.Units.{NextUnit}
 use Rattle.esr_desk.specs.Start.{world_of}
-use Rattle.esr_repo.proofs.Taken.{given_in, none_cleans, next_unit}
+use Rattle.esr_repo.proofs.Taken.{given_in, next_unit}
 use Rattle.esr_repo.proofs.repo.Repo.ready.Goals as goal
-
-pub next_unit-requires-clause-no_cleanup : goal.next_unit-requires-clause-no_cleanup
-next_unit-requires-clause-no_cleanup g c = none_cleans (world_of g.K.Told.start c.args.self.now) c.plan.result.now c.rules.ensures.no_cleanups c.plan.ensures
 
 pub returns-in-Some-clause-next : goal.returns-in-Some-clause-next
 returns-in-Some-clause-next g c =

@@ -13,7 +13,7 @@ use Rattle.esr_repo.proofs.repo.Repo.remove.Goals as goal
 pub call_remove-requires-clause-may : goal.call_remove-requires-clause-may
 call_remove-requires-clause-may g c =
     let s = g.K.Told.start in
-    let may = may_remove_doomed s c.args.self.now c.check.new.self c.args.ticket (map name_of c.args.names.now) c.in_ok-check.ensures.step.0 c.rules.ensures.no_cleanups c.requires.may in
+    let may = may_remove_doomed s c.args.self.now c.check.new.self c.args.ticket (map name_of c.args.names.now) c.in_ok-check.ensures.step.0 c.rules.ensures.tracked c.rules.ensures.of_ops c.requires.may in
     subst (λ (step : Step). MayRemove s c.check.new.self c.args.ticket step (map name_of c.as_slice.result.now)) (sym c.in_ok-step.ensures)
     (subst (λ (names : List CodeName). MayRemove s c.check.new.self c.args.ticket (PruneStep (RemoveDoomed (map name_of c.args.names.now))) (map name_of names)) (sym c.as_slice.ensures) may)
 

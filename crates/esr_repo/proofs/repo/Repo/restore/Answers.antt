@@ -1,4 +1,4 @@
-use Rattle.std.proofs.Common.{List, map, sym, subst}
+use Rattle.std.proofs.Common.{List, map, IfSome, sym, subst}
 use Rattle.esr_names.specs.declared.index_ref.IndexRef.{IndexRef}
 use Rattle.esr_core.specs.Entry.{Step, Restore, AskStep, AcceptedRestore}
 use Rattle.esr_formats.specs.Refs.{ref_of_code}
@@ -6,18 +6,16 @@ use Rattle.std.proofs.Common.{Some}
 use Rattle.esr_desk.specs.Refusals.{refusal_of}
 use Rattle.esr_desk.specs.Start.{world_of}
 use Rattle.esr_repo.specs.May.{MayNote, MayRefuse}
-use Rattle.esr_repo.proofs.Restores.{may_restore}
+use Rattle.esr_repo.specs.Asked.{entry_of}
+use Rattle.esr_repo.proofs.Restores.{refuses_restore, may_restore}
 use Rattle.esr_desk.specs.Entries.{step_of}
 use Rattle.esr_repo.proofs.Fresh.{free_as, goes_as, own_as}
 use Rattle.esr_repo.proofs.repo.Repo.restore.Goals as goal
 
-pub restore_refusal-requires : goal.restore_refusal-requires
-restore_refusal-requires g c = (g.K.Told.start, c.check.new.self, c.args.name.now, c.in-Err.ensures (world_of g.K.Told.start c.check.new.self) c.plan.ensures (sym c.safe_root.ensures))
-
-pub refuse-requires-clause-may : goal.refuse-requires-clause-may
-refuse-requires-clause-may g c =
-    subst (λ (step : Step). MayRefuse g.K.Told.start c.check.new.self 0 step (refusal_of c.restore_refusal.result)) (sym c.in_ok-refused-in-Err.ensures)
-    (c.restore_refusal.ensures g.K.Told.start c.check.new.self c.args.name.now c.args.place.now (c.in-Err.ensures (world_of g.K.Told.start c.check.new.self) c.plan.ensures (sym c.safe_root.ensures)))
+pub refuse_asked-requires-clause-may : goal.refuse_asked-requires-clause-may
+refuse_asked-requires-clause-may g c =
+    subst (λ (step : Step). IfSome (entry_of c.in-Err.refusal) (λ e. MayRefuse g.K.Told.start c.check.new.self 0 step (refusal_of e))) (sym c.in_ok-refused-in-Err.ensures)
+    (refuses_restore g.K.Told.start c.check.new.self c.args.name.now c.args.place.now c.in-Err.refusal (c.in-Err.ensures (world_of g.K.Told.start c.check.new.self) c.plan.ensures (sym c.safe_root.ensures)))
 
 pub note-requires-clause-may : goal.note-requires-clause-may
 note-requires-clause-may g c =
@@ -33,8 +31,8 @@ check-requires-clause-fresh g c = free_as g.K.Told.start c.args.self.now 0 (step
 pub check-requires-clause-own : goal.check-requires-clause-own
 check-requires-clause-own g c = own_as g.K.Told.start c.args.self.now 0 (step_of c.in_ok-asks.field-0) (AskStep (Restore c.args.name.now c.args.place.now)) c.in_ok-asks.ensures tt
 
-pub refuse-requires-clause-goes : goal.refuse-requires-clause-goes
-refuse-requires-clause-goes g c =
+pub refuse_asked-requires-clause-goes : goal.refuse_asked-requires-clause-goes
+refuse_asked-requires-clause-goes g c =
     goes_as g.K.Told.start c.check.new.self 0 (step_of c.in_ok-asks.field-0) (step_of c.in_ok-refused-in-Err.refused) (AskStep (Restore c.args.name.now c.args.place.now)) c.in_ok-asks.ensures c.in_ok-refused-in-Err.ensures c.in_ok-check.ensures.goes
 
 pub note-requires-clause-goes : goal.note-requires-clause-goes

@@ -1,14 +1,11 @@
 use Rattle.std.proofs.Common.{w64, to_z, of_z, subst}
 use Rattle.esr_formats.specs.Clusters.{count_of}
 use Rattle.esr_progress.specs.Units.{NextUnit}
-use Rattle.esr_test_lists.proofs.Boards.{fits, few_tickets, clean_in, given_in, gave}
+use Rattle.esr_test_lists.proofs.Boards.{fits, few_tickets, given_in, gave}
 use Rattle.esr_test_lists.proofs.board.Board.take.Goals as goal
 
-pub next_unit-requires-clause-no_cleanup : goal.next_unit-requires-clause-no_cleanup
-next_unit-requires-clause-no_cleanup c = clean_in c.self.invariant
-
-pub next_unit-requires-clause-room : goal.next_unit-requires-clause-room
-next_unit-requires-clause-room c = few_tickets c.self.invariant (fits c.self.inside.given _ c.is_many.result c.is_many.ensures c.if-is_many.false)
+pub next_unit-requires : goal.next_unit-requires
+next_unit-requires c = few_tickets c.self.invariant (fits c.self.inside.given _ c.is_many.result c.is_many.ensures c.if-is_many.false)
 
 pub invariant_of-self : goal.invariant_of-self
 invariant_of-self c =

@@ -1,0 +1,33 @@
+-- What a map has after an insertion, and what an option holds.
+use Rattle.std.proofs.Common.{◌≡◌, ℕ, Bool, true, false, cond, Option, Some, None, Ordering, Less, Equal, Greater, is_eq, nat_cmp, refl, sym, ap, ◌∙◌, true≢false}
+use Rattle.std.specs.Ordering.{eq_by_cmp}
+use Rattle.std.specs.Cmp.{IsTotalOrder, eq_by_cmp_equiv, nat_cmp_total}
+use Rattle.std.specs.FinMap.{FinMap}
+use Rattle.std.specs.FinMap as fin
+
+pub some_same : {A : Type 0} (x y : A) → Some x ≡ Some y → x ≡ y
+some_same x y e = cc
+
+pub none_some : {A : Type 0} (x : A) → ◌≡◌ {A = Option A} None (Some x) → ⊥
+none_some x e = cc
+
+tied : (r : Ordering) → is_eq r ≡ true → r ≡ Equal
+tied Less e = absurd (true≢false (sym e))
+tied Equal e = refl
+tied Greater e = absurd (true≢false (sym e))
+
+module _ {K X : Type 0} {R : K → K → Ordering} (o : IsTotalOrder R) where
+  pub get_put : (m : FinMap R X) (k : K) (v : X) → fin.get (fin.insert m k v) k ≡ Some v
+  get_put m k v = fin.get-insert o m k v k ∙ ap (λ (b : Bool). cond b (Some v) (fin.get m k)) ((eq_by_cmp_equiv o).refl k)
+
+  -- an insertion at an absent key takes nothing away
+  pub get_kept : (m : FinMap R X) (k : K) (v : X) (q : K) (x : X) → fin.get m k ≡ None → fin.get m q ≡ Some x → fin.get (fin.insert m k v) q ≡ Some x
+  get_kept m k v q x none there = fin.get-insert o m k v q ∙ by (eq_by_cmp R q k) refl
+    where
+      by : (b : Bool) → eq_by_cmp R q k ≡ b → cond b (Some v) (fin.get m q) ≡ Some x
+      by true e = absurd (none_some x (sym none ∙ fin.get_tied o m q k (tied (R q k) e) ∙ there))
+      by false e = there
+
+-- of a ticket put at its number
+pub put_in : {X : Type 0} (m : FinMap nat_cmp X) (k : ℕ) (v : X) → fin.get (fin.insert m k v) k ≡ Some v
+put_in m k v = get_put nat_cmp_total m k v

@@ -1,0 +1,22 @@
+use Rattle.std.proofs.Common.{◌≡◌, ℕ, eqb, ap, ◌∙◌, rules}
+use Rattle.std.proofs.lemmas.Fn.{filter_same}
+use Rattle.std.specs.Prelude.{not}
+use Rattle.std.specs.List.{filter}
+use Rattle.esr_core.specs.World.{Op}
+use Rattle.esr_progress.specs.Plan.{Plan}
+use Rattle.esr_progress.specs.Inside.{plan_with}
+use Rattle.esr_progress.specs.Changes.{without_snap}
+use Rattle.esr_progress.proofs.Changing.{snap_left_keeps, snap_left_is}
+use Rattle.esr_progress.proofs.progress.Progress.remove_snap.Goals as goal
+
+ops : (c : goal.After-retain) → c.retain.new.self.items ≡ filter (λ (e : ℕ × Op). not (eqb e.0 c.args.number)) c.self.inside.ops.items
+ops c = filter_same _ _ _ (λ x b f' k. search rules) _ _ c.retain.ensures.filtered
+
+pub invariant_of-self : goal.invariant_of-self
+invariant_of-self c = rw (ops c) (snap_left_keeps c.self.inside.ops.items c.self.inside.deletes.items c.args.number c.self.inside.next_op c.self.inside.restores.items c.self.invariant)
+
+pub returns : goal.returns
+returns c =
+    (λ j. plan_with (ops c j) c.self.inside.deletes.items c.self.inside.completed.items c.self.inside.seats.items c.self.inside.next_op c.self.inside.restores.items)
+    ∙ snap_left_is c.self.inside.ops.items c.self.inside.deletes.items c.args.number c.self.inside.completed.items c.self.inside.seats.items c.self.inside.next_op c.self.inside.restores.items
+    ∙ ap (λ (p : Plan). without_snap p c.args.number) c.self.view_is

@@ -1,7 +1,0 @@
-use Rattle.std.proofs.Common.{◌≡◌, ◌++◌, drop, map}
-use Rattle.esr_formats.specs.Roots.{root_snap_of}
-use Rattle.esr_report.specs.Lines.{snap_texts}
-use Rattle.esr_report.proofs.lines.push_snaps.Given as goal
-
-abbrev pub invariant-loop-snap : goal.invariant-loop-snap
-invariant-loop-snap l = l.fn.out ++ snap_texts (map root_snap_of l.snaps) ≡ l.out ++ snap_texts (map root_snap_of (drop l.snap-index l.snaps))

@@ -1,0 +1,273 @@
+//! The desk of a worker, beside whom another desk begins the next term at a step that is picked.
+ghost use Rattle.std.specs.Prelude.{◌≡◌, false, IfErr, OnOk, OnErr};
+ghost use Rattle.esr_core.specs.Entry.{ReadStep, RestoredShard, HasEnded};
+ghost use Rattle.esr_desk.specs.Entries.{why_of};
+ghost use Rattle.esr_desk.specs.Own.{reader_of, own_of};
+ghost use Rattle.esr_desk.specs.Calls.{HasTaken, IsMine, called_by};
+ghost use Rattle.esr_desk.specs.Evidence.{evidence};
+ghost use Rattle.esr_desk.specs.Hands.{fail_step, MayFail, own_failed};
+ghost use Rattle.esr_desk.specs.Outcome.{Outcome};
+ghost use Rattle.esr_desk.specs.Restore.Conditions.{CanEndRestore};
+ghost use Rattle.esr_desk.specs.Restore.Targets.{IsFilled, refused_of};
+ghost use Rattle.esr_desk.specs.Shown.{IsShown};
+
+use crate::told::{tell, tell_commit, tell_number};
+use esr_depot::{Commit, Listing};
+use esr_desk::{By, Desk, Hand, Named, Planned, RestoredTarget, StepRefusal, Unended, Unit, Why};
+use esr_names::{BlobName, Id, Ids};
+use esr_results::{PrunedShards, ShardResult};
+use esr_root::RootData;
+use esr_seq::Seq;
+use std::alloc::Global;
+
+/// Where the next term begins: just after the next raise or the next plan, or just before the next drop.
+#[derive(Clone, Copy, Debug)]
+pub(crate) enum Due {
+    Raise,
+    Plan,
+    Drop,
+    Never,
+}
+
+/// The desk of a worker, that of who elects beside it, and what was told of their steps.
+pub(crate) struct Between<Q, E> {
+    pub(crate) own: Q,
+    pub(crate) elector: E,
+    pub(crate) due: Due,
+    pub(crate) told: String,
+}
+
+/// Whether the next term begins there, which it does once.
+fn is_due(due: &mut Due, at: Due) -> bool {
+    let is = matches!(
+        (*due, at),
+        (Due::Raise, Due::Raise) | (Due::Plan, Due::Plan) | (Due::Drop, Due::Drop)
+    );
+    if is {
+        *due = Due::Never;
+    }
+    is
+}
+
+impl<Q: Desk, E: Desk> Desk for Between<Q, E> {
+    type Stage = Q::Stage;
+
+    type Fetch = Q::Fetch;
+
+    type Shard = Q::Shard;
+
+    type Target = Q::Target;
+
+    ghost start = { Q.start };
+
+    ghost seen = { λ b. Q.seen b.own };
+
+    ghost calls = { λ b. Q.calls b.own };
+
+    fn never_fails(&self) {
+        self.own.never_fails();
+    }
+
+    fn take(&mut self, alloc: Global) -> Result<Option<Unit>, StepRefusal> {
+        self.own.take(alloc)
+    }
+
+    fn elect(&mut self, alloc: Global) -> Result<u64, StepRefusal> {
+        self.own.elect(alloc)
+    }
+
+    fn fetch(
+        &mut self,
+        alloc: Global,
+        hand: Hand,
+        who: u64,
+        name: BlobName,
+    ) -> Result<Option<Self::Fetch>, StepRefusal> {
+        self.own.fetch(alloc, hand, who, name)
+    }
+
+    fn fail(
+        &mut self,
+        alloc: Global,
+        hand: Hand,
+        who: u64,
+        why: Why,
+        by: By<Q::Stage, Q::Fetch, Q::Shard, Q::Target>,
+    ) -> Result<(), StepRefusal>
+        requires mine { IsMine hand (Q.calls self.old.own) who }
+        requires may { MayFail hand Q.start (Q.seen self.old.own) who }
+        requires shown { IsShown hand (evidence Q.Stage.faults Q.Fetch.faults Q.Shard.faults Q.Target.faults Q.Shard.told Q.Target.told)
+            Q.start (Q.seen self.old.own) who (why_of why) by }
+        ensures step { Outcome Q.start (Q.seen self.old.own) (Q.seen self.new.own) who (fail_step hand (why_of why)) (λ _. HasEnded) result }
+        ensures own { OnOk result (own_of Q.start (Q.seen self.new.own) who ≡ own_failed hand (own_of Q.start (Q.seen self.old.own) who)) }
+        ensures kept { OnErr result (own_of Q.start (Q.seen self.new.own) who ≡ own_of Q.start (Q.seen self.old.own) who) }
+        ensures calls { Q.calls self.new.own ≡ called_by hand (Q.seen self.new.own) (fail_step hand (why_of why)) (λ _. HasEnded) result (Q.calls self.old.own) }
+    {
+        let answer = self.own.fail(alloc, hand, who, why, by);
+        let _ = tell(&mut self.told, "fail", &answer);
+        answer
+    }
+
+    fn draw(&mut self, alloc: Global, ticket: u64, count: u64) -> Result<Id, StepRefusal> {
+        self.own.draw(alloc, ticket, count)
+    }
+
+    fn begin(
+        &mut self,
+        alloc: Global,
+        ticket: u64,
+        name: BlobName,
+        room: usize,
+    ) -> Result<Named<Self::Stage>, StepRefusal> {
+        self.own.begin(alloc, ticket, name, room)
+    }
+
+    fn commit(
+        &mut self,
+        alloc: Global,
+        ticket: u64,
+        name: BlobName,
+        stage: Self::Stage,
+    ) -> Result<Commit, StepRefusal> {
+        let answer = self.own.commit(alloc, ticket, name, stage);
+        let _ = tell_commit(&mut self.told, &answer);
+        answer
+    }
+
+    fn latest(
+        &mut self,
+        alloc: Global,
+        ticket: u64,
+        name: BlobName,
+        stage: Self::Stage,
+    ) -> Result<(), StepRefusal> {
+        let answer = self.own.latest(alloc, ticket, name, stage);
+        let _ = tell(&mut self.told, "latest", &answer);
+        answer
+    }
+
+    fn raise(&mut self, alloc: Global, ticket: u64) -> Result<u64, StepRefusal> {
+        let answer = self.own.raise(alloc, ticket);
+        let _ = tell_number(&mut self.told, "raise", &answer);
+        if is_due(&mut self.due, Due::Raise) {
+            let term = self.elector.elect(alloc);
+            let _ = tell_number(&mut self.told, "elect", &term);
+        }
+        answer
+    }
+
+    fn settle(&mut self, alloc: Global, ticket: u64, root: &RootData) -> Result<(), StepRefusal> {
+        let answer = self.own.settle(alloc, ticket, root);
+        let _ = tell(&mut self.told, "settle", &answer);
+        answer
+    }
+
+    fn plan(
+        &mut self,
+        alloc: Global,
+        ticket: u64,
+        root: &RootData,
+        uuids: &Ids,
+        shards: &PrunedShards,
+    ) -> Result<Planned, StepRefusal> {
+        let answer = self.own.plan(alloc, ticket, root, uuids, shards);
+        let _ = tell(&mut self.told, "plan", &answer);
+        if is_due(&mut self.due, Due::Plan) {
+            let term = self.elector.elect(alloc);
+            let _ = tell_number(&mut self.told, "elect", &term);
+        }
+        answer
+    }
+
+    fn list(
+        &mut self,
+        alloc: Global,
+        ticket: u64,
+        after: Option<&str>,
+    ) -> Result<Listing, StepRefusal> {
+        let answer = self.own.list(alloc, ticket, after);
+        let _ = tell(&mut self.told, "list", &answer);
+        answer
+    }
+
+    fn settle_delete(
+        &mut self,
+        alloc: Global,
+        ticket: u64,
+        root: &RootData,
+    ) -> Result<(), StepRefusal> {
+        let answer = self.own.settle_delete(alloc, ticket, root);
+        let _ = tell(&mut self.told, "settle", &answer);
+        answer
+    }
+
+    fn remove(
+        &mut self,
+        alloc: Global,
+        ticket: u64,
+        names: &Seq<BlobName>,
+    ) -> Result<(), StepRefusal> {
+        let answer = self.own.remove(alloc, ticket, names);
+        let _ = tell(&mut self.told, "remove", &answer);
+        answer
+    }
+
+    fn end_shard(
+        &mut self,
+        alloc: Global,
+        ticket: u64,
+        outcome: &ShardResult,
+    ) -> Result<(), StepRefusal> {
+        self.own.end_shard(alloc, ticket, outcome)
+    }
+
+    fn end_restore(
+        &mut self,
+        alloc: Global,
+        ticket: u64,
+        files: u64,
+        bytes: u64,
+        target: RestoredTarget<Q::Target>,
+    ) -> Result<(), Unended<Q::Target>>
+        requires mine { HasTaken (Q.calls self.old.own) ticket }
+        requires may { CanEndRestore Q.start (reader_of Q.start (Q.seen self.old.own) ticket) files bytes }
+        requires filled { IsFilled (evidence Q.Stage.faults Q.Fetch.faults Q.Shard.faults Q.Target.faults Q.Shard.told Q.Target.told)
+            Q.start (reader_of Q.start (Q.seen self.old.own) ticket) files bytes target }
+        ensures step { Outcome Q.start (Q.seen self.old.own) (Q.seen self.new.own) ticket (ReadStep (RestoredShard files bytes)) (λ _. HasEnded) (refused_of result) }
+        ensures own { OnOk result (reader_of Q.start (Q.seen self.new.own) ticket
+            ≡ record (reader_of Q.start (Q.seen self.old.own) ticket) { out = false }) }
+        ensures kept { OnErr result (reader_of Q.start (Q.seen self.new.own) ticket ≡ reader_of Q.start (Q.seen self.old.own) ticket) }
+        ensures target { IfErr result (λ u. u.target ≡ target) }
+        ensures calls { Q.calls self.new.own ≡ Q.calls self.old.own }
+    {
+        self.own.end_restore(alloc, ticket, files, bytes, target)
+    }
+
+    fn end_delete(&mut self, alloc: Global, ticket: u64) -> Result<(), StepRefusal> {
+        let answer = self.own.end_delete(alloc, ticket);
+        let _ = tell(&mut self.told, "end", &answer);
+        answer
+    }
+
+    fn end_cleanup(&mut self, alloc: Global, ticket: u64) -> Result<(), StepRefusal> {
+        let answer = self.own.end_cleanup(alloc, ticket);
+        let _ = tell(&mut self.told, "end", &answer);
+        answer
+    }
+
+    fn end_drop(&mut self, alloc: Global, ticket: u64) -> Result<(), StepRefusal> {
+        if is_due(&mut self.due, Due::Drop) {
+            let term = self.elector.elect(alloc);
+            let _ = tell_number(&mut self.told, "elect", &term);
+        }
+        let answer = self.own.end_drop(alloc, ticket);
+        let _ = tell(&mut self.told, "drop", &answer);
+        answer
+    }
+
+    fn finish(&mut self, alloc: Global, ticket: u64) -> Result<(), StepRefusal> {
+        let answer = self.own.finish(alloc, ticket);
+        let _ = tell(&mut self.told, "finish", &answer);
+        answer
+    }
+}
