@@ -204,7 +204,7 @@ pub fn doomed_stay_apart()
 {}
 
 /// What a delete dooms with its settle the safe root reached, or it is that root's name; and the new root doesn't reach it.
-/// Nor does a new root reach what a cleanup dooms, which had to be listed alone.
+/// What a cleanup dooms it had to list alone, and no new root reaches it.
 pub fn a_delete_dooms_what_it_leaves()
     ensures was { (f : Formats) (w : World) (shelf : List Shelved) (k : ℕ) (s : SettlesDeletion f w k) → Law f w shelf → s.t.term ≡ w.term → s.t.clean ≡ false → (name : BlobName) → Has (dooms f s.t) name → Reached f (HeldIn f w) w.root name ⊎ ((m : ℕ) × (name ≡ Root m) × (w.safe ≡ suc m)) }
     ensures left { (f : Formats) (w : World) (shelf : List Shelved) (k : ℕ) (s : SettlesDeletion f w k) → Law f w shelf → s.t.term ≡ w.term → (name : BlobName) → Has (dooms f s.t) name → Reached f (HeldIn f w) s.s.root name → ⊥ }
