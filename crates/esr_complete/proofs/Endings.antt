@@ -1,15 +1,15 @@
 -- How a run ends whose lines were answered.
-use Rattle.std.proofs.Common.{◌≡◌, ◌⊎◌, ℕ, suc, Bool, true, false, ◌||◌, nat_lt, if◌then◌else◌, List, [], ◌∷◌, length, Option, None, refl, ap, ◌∙◌, inl, inr, arith}
+use Rattle.std.proofs.Common.{◌≡◌, ◌⊎◌, ℕ, suc, Bool, true, false, ◌||◌, nat_lt, if◌then◌else◌, List, [], ◌∷◌, ◌++◌, length, Option, None, refl, ap, ◌∙◌, inl, inr, arith}
 use Rattle.std.specs.List.{list_any}
 use Rattle.std.proofs.lemmas.Bool.{le-ltb}
 use Rattle.esr_model.specs.Names.{BlobName}
 use Rattle.esr_model.specs.Values.{Has}
 use Rattle.esr_core.specs.After.{or_else}
-use Rattle.esr_core.specs.Entry.{Refusal, CleanupRunning, NameInUse, TooMany, NoSnapshot, NoIndex, BeingDeleted, CloneRunning, RestoreRunning, BusyOp, BusyTicket, Entry}
+use Rattle.esr_core.specs.Entry.{Refusal, CleanupRunning, NameInUse, TooMany, NoSnapshot, NoIndex, BeingDeleted, CloneRunning, RestoreRunning, BusyOp, Entry}
 use Rattle.esr_script.specs.declared.item.Item.{Item}
 use Rattle.esr_script.specs.declared.item.Item.TheVariants as items
 use Rattle.esr_script.specs.declared.item.ScriptLine.{ScriptLine}
-use Rattle.esr_report.specs.Replies.{Reply, Made, Deleted, Restored, Cleaned, Waited, Listed, Checked, Verified, Refused, Aborted, fails_swap, has_fallen, wait_reply, end_reply, replies}
+use Rattle.esr_report.specs.Replies.{Reply, Made, Deleted, Restored, Cleaned, Term, Waited, Listed, Checked, Verified, Refused, Aborted, fails_swap, has_fallen, wait_reply, end_reply, replies}
 use Rattle.esr_report.specs.Status.{is_deposed, damaged_name, first_damaged, is_spent, are_ok, AllOk, SomeRefused, SwapFailed, ending_by, ending}
 use Rattle.esr_quiet.specs.Refusals.{RefusesSnapshot, RefusesRestore, RefusesClone, RefusesDelete, RefusesCleanup}
 use Rattle.esr_complete.specs.Answers.{IsAnswer, AreAnsweredIn, AreAnswered, EndsWell}
@@ -26,7 +26,6 @@ IsRuled (BeingDeleted op) = Unit {0}
 IsRuled (CloneRunning op) = Unit {0}
 IsRuled (RestoreRunning op) = Unit {0}
 IsRuled (BusyOp op) = Unit {0}
-IsRuled (BusyTicket ticket) = Unit {0}
 IsRuled refusal = ⊥
 
 ruled_snapshot : (refusal : Refusal) → RefusesSnapshot refusal → IsRuled refusal
@@ -61,7 +60,6 @@ ruled_delete refusal h = absurd h
 ruled_cleanup : (refusal : Refusal) → RefusesCleanup refusal → IsRuled refusal
 ruled_cleanup (CleanupRunning op) h = tt
 ruled_cleanup (BusyOp op) h = tt
-ruled_cleanup (BusyTicket ticket) h = tt
 ruled_cleanup refusal h = absurd h
 
 -- a reply that ends no run
@@ -71,6 +69,7 @@ IsFine (Deleted op) = Unit {0}
 IsFine (Aborted by) = Unit {0}
 IsFine (Restored files bytes) = Unit {0}
 IsFine (Cleaned blobs bytes) = Unit {0}
+IsFine (Term term) = Unit {0}
 IsFine Waited = Unit {0}
 IsFine (Listed snapshots) = Unit {0}
 IsFine (Checked snapshots blobs) = Unit {0}
@@ -78,24 +77,25 @@ IsFine Verified = Unit {0}
 IsFine (Refused refusal) = IsRuled refusal
 IsFine reply = ⊥
 
-fine_answer : (script : List ScriptLine) (item : Item) (reply : Reply) → IsAnswer script item reply → IsFine reply
-fine_answer script (items.Snapshot name indices) (Made uuid) h = tt
-fine_answer script (items.Snapshot name indices) (Aborted by) h = tt
-fine_answer script (items.Snapshot name indices) (Refused refusal) h = ruled_snapshot refusal h.0
-fine_answer script (items.Clone source name indices) (Made uuid) h = tt
-fine_answer script (items.Clone source name indices) (Aborted by) h = tt
-fine_answer script (items.Clone source name indices) (Refused refusal) h = ruled_clone refusal h.0
-fine_answer script (items.Delete names) (Deleted op) h = tt
-fine_answer script (items.Delete names) (Refused refusal) h = ruled_delete refusal h.0
-fine_answer script (items.Restore name place) (Restored files bytes) h = tt
-fine_answer script (items.Restore name place) (Refused refusal) h = ruled_restore refusal h
-fine_answer script items.Cleanup (Cleaned blobs bytes) h = tt
-fine_answer script items.Cleanup (Refused refusal) h = ruled_cleanup refusal h.0
-fine_answer script items.Wait Waited h = tt
-fine_answer script items.List (Listed snapshots) h = tt
-fine_answer script items.Check (Checked snapshots blobs) h = tt
-fine_answer script items.Verify Verified h = tt
-fine_answer script item reply h = absurd h
+fine_answer : (script before : List ScriptLine) (item : Item) (reply : Reply) → IsAnswer script before item reply → IsFine reply
+fine_answer script before (items.Snapshot name indices) (Made uuid) h = tt
+fine_answer script before (items.Snapshot name indices) (Aborted by) h = tt
+fine_answer script before (items.Snapshot name indices) (Refused refusal) h = ruled_snapshot refusal h.0
+fine_answer script before (items.Clone source name indices) (Made uuid) h = tt
+fine_answer script before (items.Clone source name indices) (Aborted by) h = tt
+fine_answer script before (items.Clone source name indices) (Refused refusal) h = ruled_clone refusal h.0
+fine_answer script before (items.Delete names) (Deleted op) h = tt
+fine_answer script before (items.Delete names) (Refused refusal) h = ruled_delete refusal h.0
+fine_answer script before (items.Restore name place) (Restored files bytes) h = tt
+fine_answer script before (items.Restore name place) (Refused refusal) h = ruled_restore refusal h
+fine_answer script before items.Cleanup (Cleaned blobs bytes) h = tt
+fine_answer script before items.Cleanup (Refused refusal) h = ruled_cleanup refusal h.0
+fine_answer script before items.Failover (Term term) h = tt
+fine_answer script before items.Wait Waited h = tt
+fine_answer script before items.List (Listed snapshots) h = tt
+fine_answer script before items.Check (Checked snapshots blobs) h = tt
+fine_answer script before items.Verify Verified h = tt
+fine_answer script before item reply h = absurd h
 
 record Calm (reply : Reply) : Type 0 where
   undeposed : is_deposed reply ≡ false
@@ -108,6 +108,7 @@ calm_reply (Deleted op) fine = record { undeposed = refl; undamaged = refl; unsp
 calm_reply (Aborted by) fine = record { undeposed = refl; undamaged = refl; unspent = refl }
 calm_reply (Restored files bytes) fine = record { undeposed = refl; undamaged = refl; unspent = refl }
 calm_reply (Cleaned blobs bytes) fine = record { undeposed = refl; undamaged = refl; unspent = refl }
+calm_reply (Term term) fine = record { undeposed = refl; undamaged = refl; unspent = refl }
 calm_reply Waited fine = record { undeposed = refl; undamaged = refl; unspent = refl }
 calm_reply (Listed snapshots) fine = record { undeposed = refl; undamaged = refl; unspent = refl }
 calm_reply (Checked snapshots blobs) fine = record { undeposed = refl; undamaged = refl; unspent = refl }
@@ -121,7 +122,6 @@ calm_reply (Refused (BeingDeleted op)) fine = record { undeposed = refl; undamag
 calm_reply (Refused (CloneRunning op)) fine = record { undeposed = refl; undamaged = refl; unspent = refl }
 calm_reply (Refused (RestoreRunning op)) fine = record { undeposed = refl; undamaged = refl; unspent = refl }
 calm_reply (Refused (BusyOp op)) fine = record { undeposed = refl; undamaged = refl; unspent = refl }
-calm_reply (Refused (BusyTicket ticket)) fine = record { undeposed = refl; undamaged = refl; unspent = refl }
 calm_reply (Refused refusal) fine = absurd fine
 calm_reply reply fine = absurd fine
 
@@ -134,18 +134,18 @@ record AllCalm (lines : List ScriptLine) (rs : List Reply) : Type 0 where
 neither : (a b : Bool) → a ≡ false → b ≡ false → (a || b) ≡ false
 neither a b x y = ap (λ (c : Bool). c || b) x ∙ y
 
-all_calm : (script lines : List ScriptLine) (rs : List Reply) → AreAnsweredIn script lines rs → AllCalm lines rs
-all_calm script [] [] h = record { undeposed = refl; undamaged = refl; unspent = refl; as_many = refl }
-all_calm script (line ∷ lines) (reply ∷ rs) h =
-    let one = calm_reply reply (fine_answer script line.item reply h.0) in
-    let rest = all_calm script lines rs h.1 in
+all_calm : (script before lines : List ScriptLine) (rs : List Reply) → AreAnsweredIn script before lines rs → AllCalm lines rs
+all_calm script before [] [] h = record { undeposed = refl; undamaged = refl; unspent = refl; as_many = refl }
+all_calm script before (line ∷ lines) (reply ∷ rs) h =
+    let one = calm_reply reply (fine_answer script before line.item reply h.0) in
+    let rest = all_calm script (before ++ line ∷ []) lines rs h.1 in
     record {
       undeposed = neither (is_deposed reply) (list_any is_deposed rs) one.undeposed rest.undeposed;
       undamaged = ap (λ (a : Option BlobName). or_else a (first_damaged rs)) one.undamaged ∙ rest.undamaged;
       unspent = neither (is_spent reply) (list_any is_spent rs) one.unspent rest.unspent;
       as_many = ap (λ (n : ℕ). suc n) rest.as_many;
     }
-all_calm script lines rs h = absurd h
+all_calm script before lines rs h = absurd h
 
 unfallen : (script : List ScriptLine) (all es : List Entry) → ((x : Entry) → Has es x → Fact script all x) → has_fallen es ≡ false
 unfallen script all [] facts = refl
@@ -168,5 +168,5 @@ ends lines rs history none c =
 pub ends_well : (lines : List ScriptLine) (history : List Entry) → ((x : Entry) → Has history x → Fact lines history x) → AreAnswered lines (replies lines history) → EndsWell lines history
 unfolding ending
 ends_well lines history facts answered =
-    let e = ends lines (replies lines history) history (unfallen lines history history facts) (all_calm lines lines (replies lines history) answered) in
+    let e = ends lines (replies lines history) history (unfallen lines history history facts) (all_calm lines [] lines (replies lines history) answered) in
     elim (by_ok (are_ok (replies lines history))) [ inl ok ↦ inl (e ∙ ok) | inr ok ↦ inr (e ∙ ok) ]

@@ -1,8 +1,8 @@
 -- What each entry of a history where nothing fails answers to a line.
-use Rattle.std.proofs.Common.{◌≡◌, ◌||◌, ℕ, Bool, true, false, true≢false, List, [], ◌∷◌, Option, Some, None, refl, sym, ap, ◌∙◌, subst, inl, inr}
+use Rattle.std.proofs.Common.{◌≡◌, ◌⊎◌, ◌||◌, ◌&&◌, ◌==◌, ℕ, Bool, true, false, true≢false, List, [], ◌∷◌, ◌++◌, Option, Some, None, refl, sym, ap, ◌∙◌, subst, inl, inr}
 use Rattle.esr_model.specs.Values.{Bytes, Has}
 use Rattle.esr_core.specs.Entry as entry
-use Rattle.esr_core.specs.Entry.{AskedIndex, CloneOf, Asked, Snapshot, Clone, DeleteSnapshots, Cleanup, SettlePruned, Restore, Step, AskStep, SettleStep, DroppedStep, LookStep, PruneStep, Refusal, CleanupRunning, NameInUse, TooMany, NoSnapshot, NoIndex, BeingDeleted, CloneRunning, RestoreRunning, BusyOp, BusyTicket, Accepted, WasSettled, HasEnded, AcceptedRestore, Looked, Entry, Moment}
+use Rattle.esr_core.specs.Entry.{AskedIndex, CloneOf, Asked, Snapshot, Clone, DeleteSnapshots, Cleanup, SettlePruned, Restore, Step, AskStep, SettleStep, DroppedStep, ElectStep, LookStep, PruneStep, Refusal, CleanupRunning, NameInUse, TooMany, StaleTerm, DepotFault, NoSnapshot, NoIndex, BeingDeleted, CloneRunning, RestoreRunning, BusyOp, Accepted, WasSettled, HasEnded, AcceptedRestore, ElectedTerm, Looked, Entry, Moment}
 use Rattle.esr_core.specs.After.{or_else}
 use Rattle.esr_core.specs.Ready.{IsOpen}
 use Rattle.esr_core.specs.World.{World}
@@ -11,9 +11,9 @@ use Rattle.esr_script.specs.declared.item.Item.{Item}
 use Rattle.esr_script.specs.declared.item.Item.TheVariants as items
 use Rattle.esr_script.specs.declared.item.ScriptLine.{ScriptLine}
 use Rattle.esr_report.specs.Cleaned.{is_cleanup_ticket}
-use Rattle.esr_report.specs.Replies.{Reply, Deleted, Cleaned, name_by, name_of_op, has_name, fails_swap, has_fallen, deposed_by, end_of_op, restore_reply, ask_reply, look_reply}
+use Rattle.esr_report.specs.Replies.{Reply, Deleted, Cleaned, name_by, name_of_op, has_name, fails_swap, has_fallen, deposed_by, end_of_op, restore_reply, ask_reply, look_reply, is_election_step, is_election, election_reply}
 use Rattle.esr_desk.specs.Start.{Start, world_of}
-use Rattle.esr_quiet.specs.Refusals.{IsByRule, HasAskedCleanup, IsOfCleanup, AreByRule}
+use Rattle.esr_quiet.specs.Refusals.{IsByRule, IsOfCleanup, IsOfRule, IsOfTerm, AreByRule}
 use Rattle.esr_quiet.specs.Smooth.{IsSmooth, NoneFailed, NoneUndeleted, NoneUnrestored}
 use Rattle.esr_complete.specs.Lines.{entries_of}
 use Rattle.esr_complete.specs.Answers.{IsIdle, IsDeletedBy, IsCleaningBy, IsAnswer}
@@ -21,59 +21,52 @@ use Rattle.esr_core.proofs.Accepting.{same_one}
 use Rattle.esr_core.proofs.Reading.{some_same, Has-mapped}
 use Rattle.esr_core.proofs.Results.{choose_true}
 use Rattle.esr_complete.proofs.Tickets.{is_cleanup_op, same_op}
-use Rattle.esr_complete.proofs.OpEnds.{IsCalm, IsPruned, IsSettled, IsDropped, IsOver, IsOverBy, IsOfKind, WasAborted, IsEnded, EndsIn, aborted_in, end_found, settled_in, over_found, prune_deleted, drop_cleaned}
+use Rattle.esr_complete.proofs.OpEnds.{IsCalm, AreCalmIn, IsPruned, IsSettled, IsDropped, IsOver, IsOverBy, IsOfKind, WasAborted, IsEnded, EndsIn, aborted_in, end_found, settled_in, over_found, prune_deleted, drop_cleaned}
 use Rattle.esr_complete.proofs.Following.{IsSaid, snapshot_of, delete_of, HasName, IsNameless, IsOverIn, FollowsIn}
 use Rattle.esr_complete.proofs.Steps.{apart_name}
 use Rattle.esr_complete.proofs.RestoreTickets.{IsRestoredReply, restored_reply}
 use Rattle.esr_complete.proofs.FollowingRestores.{AskedRestore, opens}
-use Rattle.esr_complete.proofs.Histories.{Laws, all_calm, all_closed, follows_all}
+use Rattle.esr_complete.proofs.Histories.{Laws, parted, calm_of, all_told, all_closed, follows_all}
 use Rattle.esr_complete.proofs.RestoreHistories.{all_restored}
 
 -- there is an answer, and it is one of the line
-abbrev pub IsAnswerOf : List ScriptLine → Item → Option Reply → Type 0
-IsAnswerOf script item None = ⊥
-IsAnswerOf script item (Some reply) = IsAnswer script item reply
+abbrev pub IsAnswerOf : List ScriptLine → List ScriptLine → Item → Option Reply → Type 0
+IsAnswerOf script before item None = ⊥
+IsAnswerOf script before item (Some reply) = IsAnswer script before item reply
+
+-- a cleanup that runs is one for which a line before asks
+abbrev pub IsCleaningIn : List ScriptLine → entry.Reply → Type 0
+IsCleaningIn before (entry.Refused refusal) = IsCleaningBy before refusal
+IsCleaningIn before reply = Unit {0}
+
+-- it was asked before
+abbrev pub IsAskedIn : List Entry → entry.Reply → Type 0
+IsAskedIn front (entry.Refused (CleanupRunning op)) = (x : Entry) × Has front x × (x.who ≡ 0) × (x.step ≡ AskStep Cleanup)
+IsAskedIn front reply = Unit {0}
 
 pub record Fact (script : List ScriptLine) (all : List Entry) (e : Entry) : Type 0 where
   pub unfallen : fails_swap e.step e.reply ≡ false
-  pub asked : (of : Bytes) (refs : List AskedIndex) (moment : ℕ) → e.step ≡ AskStep (Snapshot of refs moment) → (indices : List LineIndex) → IsAnswerOf script (items.Snapshot of indices) (ask_reply all e.reply)
-  pub cloned : (source of : Bytes) (names : List Bytes) (moment : ℕ) (taken : Option CloneOf) → e.step ≡ AskStep (Clone source of names moment taken) → (from : Bytes) (indices : List Bytes) → IsAnswerOf script (items.Clone from of indices) (ask_reply all e.reply)
-  pub deleted : (names : List Bytes) → e.step ≡ AskStep (DeleteSnapshots names) → IsAnswerOf script (items.Delete names) (ask_reply all e.reply)
-  pub cleaned : e.step ≡ AskStep Cleanup → IsAnswerOf script items.Cleanup (ask_reply all e.reply)
-  pub restored : (of place : Bytes) → e.step ≡ AskStep (Restore of place) → (name at : Bytes) → IsAnswerOf script (items.Restore name at) (ask_reply all e.reply)
-  pub looked : e.step ≡ LookStep → IsAnswerOf script items.List (look_reply e.reply)
+  pub asked : (before : List ScriptLine) → IsCleaningIn before e.reply → (of : Bytes) (refs : List AskedIndex) (moment : ℕ) → e.step ≡ AskStep (Snapshot of refs moment) → (indices : List LineIndex) → IsAnswerOf script before (items.Snapshot of indices) (ask_reply all e.reply)
+  pub cloned : (before : List ScriptLine) → IsCleaningIn before e.reply → (source of : Bytes) (names : List Bytes) (moment : ℕ) (taken : Option CloneOf) → e.step ≡ AskStep (Clone source of names moment taken) → (from : Bytes) (indices : List Bytes) → IsAnswerOf script before (items.Clone from of indices) (ask_reply all e.reply)
+  pub deleted : (before : List ScriptLine) → IsCleaningIn before e.reply → (names : List Bytes) → e.step ≡ AskStep (DeleteSnapshots names) → IsAnswerOf script before (items.Delete names) (ask_reply all e.reply)
+  pub cleaned : (before : List ScriptLine) → IsCleaningIn before e.reply → e.step ≡ AskStep Cleanup → IsAnswerOf script before items.Cleanup (ask_reply all e.reply)
+  pub restored : (before : List ScriptLine) (of place : Bytes) → e.step ≡ AskStep (Restore of place) → (name at : Bytes) → IsAnswerOf script before (items.Restore name at) (ask_reply all e.reply)
+  pub looked : (before : List ScriptLine) → e.step ≡ LookStep → IsAnswerOf script before items.List (look_reply e.reply)
+  pub elected : (before : List ScriptLine) → is_election e ≡ true → IsAnswerOf script before items.Failover (election_reply e.reply)
+  pub cleaning : (front back : List Entry) → all ≡ front ++ e ∷ back → IsAskedIn front e.reply
 
-unfallen_rule : (command : Asked) (refusal : Refusal) → IsByRule command refusal → fails_swap (AskStep command) (entry.Refused refusal) ≡ false
-unfallen_rule (Snapshot name indices moment) (CleanupRunning op) rule = refl
-unfallen_rule (Snapshot name indices moment) (NameInUse uuid) rule = refl
-unfallen_rule (Snapshot name indices moment) (TooMany limit) rule = refl
-unfallen_rule (Snapshot name indices moment) refusal rule = absurd rule
-unfallen_rule (Restore name place) (NoSnapshot at) rule = refl
-unfallen_rule (Restore name place) (BeingDeleted op) rule = refl
-unfallen_rule (Restore name place) (TooMany limit) rule = refl
-unfallen_rule (Restore name place) refusal rule = absurd rule
-unfallen_rule (Clone source name names moment taken) (CleanupRunning op) rule = refl
-unfallen_rule (Clone source name names moment taken) (NameInUse uuid) rule = refl
-unfallen_rule (Clone source name names moment taken) (NoSnapshot at) rule = refl
-unfallen_rule (Clone source name names moment taken) (BeingDeleted op) rule = refl
-unfallen_rule (Clone source name names moment taken) (NoIndex at) rule = refl
-unfallen_rule (Clone source name names moment taken) (TooMany limit) rule = refl
-unfallen_rule (Clone source name names moment taken) refusal rule = absurd rule
-unfallen_rule (DeleteSnapshots names) (CleanupRunning op) rule = refl
-unfallen_rule (DeleteSnapshots names) (NoSnapshot place) rule = refl
-unfallen_rule (DeleteSnapshots names) (CloneRunning op) rule = refl
-unfallen_rule (DeleteSnapshots names) (RestoreRunning op) rule = refl
-unfallen_rule (DeleteSnapshots names) (TooMany limit) rule = refl
-unfallen_rule (DeleteSnapshots names) refusal rule = absurd rule
-unfallen_rule Cleanup (CleanupRunning op) rule = refl
-unfallen_rule Cleanup (BusyOp op) rule = refl
-unfallen_rule Cleanup (BusyTicket ticket) rule = refl
-unfallen_rule Cleanup refusal rule = absurd rule
+-- no rule is a failure of the container
+no_fault_rule : (command : Asked) → IsByRule command DepotFault → ⊥
+no_fault_rule (Snapshot name indices moment) rule = rule
+no_fault_rule (Restore name place) rule = rule
+no_fault_rule (Clone source name names moment taken) rule = rule
+no_fault_rule (DeleteSnapshots names) rule = rule
+no_fault_rule Cleanup rule = rule
 
-unfallen_by : (step : Step) (reply : entry.Reply) → IsCalm reply step → fails_swap step reply ≡ false
-unfallen_by (AskStep command) (entry.Refused refusal) calm = unfallen_rule command refusal calm
-unfallen_by step (entry.Refused refusal) calm = absurd calm
-unfallen_by step reply calm = refl
+unfallen_by : (reply : entry.Reply) (step : Step) → IsCalm (Unit {0}) reply step → fails_swap step reply ≡ false
+unfallen_by (entry.Refused DepotFault) (AskStep command) calm = absurd (no_fault_rule command calm)
+unfallen_by (entry.Refused DepotFault) step calm = absurd calm
+unfallen_by reply step calm = refl
 
 -- ---- commands
 
@@ -84,11 +77,6 @@ untrue false none = refl
 -- what is asked of deletes are lines of the script
 abbrev pub AsksAll : List ScriptLine → List Entry → Type 0
 AsksAll script all = (e : Entry) (names : List Bytes) → Has all e → e.step ≡ AskStep (DeleteSnapshots names) → (line : ScriptLine) × Has script line × (line.item ≡ items.Delete names)
-
--- a cleanup that runs is one for which the script asks
-abbrev IsCleaningIn : List ScriptLine → entry.Reply → Type 0
-IsCleaningIn script (entry.Refused refusal) = IsCleaningBy script refusal
-IsCleaningIn script reply = Unit {0}
 
 -- the snapshot or the clone of each that was accepted was made or aborted
 abbrev AreEnded : List Entry → Step → entry.Reply → Type 0
@@ -105,102 +93,120 @@ deleted_line script all o name answer asks is h =
     let (line, there, item) = asks h.e h.names h.has h.step in
     (line, h.names, there, item, has_has h.names name (subst (λ (n : Bytes). has_name h.names n ≡ true) same h.named))
 
-asked_by : (script : List ScriptLine) (all : List Entry) (of : Bytes) (refs : List AskedIndex) (moment : ℕ) (reply : entry.Reply) (indices : List LineIndex) → IsCalm reply (AskStep (Snapshot of refs moment)) → IsSaid (AskStep (Snapshot of refs moment)) reply → IsCleaningIn script reply → AsksAll script all
-    → AreEnded all (AskStep (Snapshot of refs moment)) reply → IsAnswerOf script (items.Snapshot of indices) (ask_reply all reply)
-asked_by script all of refs moment (Accepted op) indices calm said cleaning asks ended =
+asked_by : (script before : List ScriptLine) (all : List Entry) (of : Bytes) (refs : List AskedIndex) (moment : ℕ) (reply : entry.Reply) (indices : List LineIndex) → IsCalm (Unit {0}) reply (AskStep (Snapshot of refs moment)) → IsSaid (AskStep (Snapshot of refs moment)) reply → IsCleaningIn before reply → AsksAll script all
+    → AreEnded all (AskStep (Snapshot of refs moment)) reply → IsAnswerOf script before (items.Snapshot of indices) (ask_reply all reply)
+asked_by script before all of refs moment (Accepted op) indices calm said cleaning asks ended =
     let (name, by, is, how) = ended op refl in
     let same : of ≡ name = some_same of name (sym (choose_true _ _ _ (same_op op)) ∙ by) in
     elim how [
-      | inl made ↦ subst (λ (a : Option Reply). IsAnswerOf script (items.Snapshot of indices) (or_else a (deposed_by (has_fallen all)))) (sym made.is) tt
-      | inr aborted ↦ subst (λ (a : Option Reply). IsAnswerOf script (items.Snapshot of indices) (or_else a (deposed_by (has_fallen all)))) (sym aborted.is) (subst (IsDeletedBy script) (sym same) (deleted_line script all op name (end_of_op all op [] all) asks is aborted))
+      | inl made ↦ subst (λ (a : Option Reply). IsAnswerOf script before (items.Snapshot of indices) (or_else a (deposed_by (has_fallen all)))) (sym made.is) tt
+      | inr aborted ↦ subst (λ (a : Option Reply). IsAnswerOf script before (items.Snapshot of indices) (or_else a (deposed_by (has_fallen all)))) (sym aborted.is) (subst (IsDeletedBy script) (sym same) (deleted_line script all op name (end_of_op all op [] all) asks is aborted))
     ]
-asked_by script all of refs moment (entry.Refused (CleanupRunning op)) indices calm said cleaning asks ended = (tt, cleaning)
-asked_by script all of refs moment (entry.Refused (NameInUse uuid)) indices calm said cleaning asks ended = (tt, tt)
-asked_by script all of refs moment (entry.Refused (TooMany limit)) indices calm said cleaning asks ended = (tt, tt)
-asked_by script all of refs moment (entry.Refused refusal) indices calm said cleaning asks ended = absurd calm
-asked_by script all of refs moment reply indices calm said cleaning asks ended = absurd said
+asked_by script before all of refs moment (entry.Refused (CleanupRunning op)) indices calm said cleaning asks ended = (tt, cleaning)
+asked_by script before all of refs moment (entry.Refused (NameInUse uuid)) indices calm said cleaning asks ended = (tt, tt)
+asked_by script before all of refs moment (entry.Refused (TooMany limit)) indices calm said cleaning asks ended = (tt, tt)
+asked_by script before all of refs moment (entry.Refused refusal) indices calm said cleaning asks ended = absurd calm
+asked_by script before all of refs moment reply indices calm said cleaning asks ended = absurd said
 
-cloned_by : (script : List ScriptLine) (all : List Entry) (source of : Bytes) (names : List Bytes) (moment : ℕ) (taken : Option CloneOf) (reply : entry.Reply) (from : Bytes) (indices : List Bytes) → IsCalm reply (AskStep (Clone source of names moment taken))
-    → IsSaid (AskStep (Clone source of names moment taken)) reply → IsCleaningIn script reply → AsksAll script all → AreEnded all (AskStep (Clone source of names moment taken)) reply → IsAnswerOf script (items.Clone from of indices) (ask_reply all reply)
-cloned_by script all source of names moment (Some taken) (Accepted op) from indices calm said cleaning asks ended =
+cloned_by : (script before : List ScriptLine) (all : List Entry) (source of : Bytes) (names : List Bytes) (moment : ℕ) (taken : Option CloneOf) (reply : entry.Reply) (from : Bytes) (indices : List Bytes) → IsCalm (Unit {0}) reply (AskStep (Clone source of names moment taken))
+    → IsSaid (AskStep (Clone source of names moment taken)) reply → IsCleaningIn before reply → AsksAll script all → AreEnded all (AskStep (Clone source of names moment taken)) reply → IsAnswerOf script before (items.Clone from of indices) (ask_reply all reply)
+cloned_by script before all source of names moment (Some taken) (Accepted op) from indices calm said cleaning asks ended =
     let (name, by, is, how) = ended op refl in
     let same : of ≡ name = some_same of name (sym (choose_true _ _ _ (same_op op)) ∙ by) in
     elim how [
-      | inl made ↦ subst (λ (a : Option Reply). IsAnswerOf script (items.Clone from of indices) (or_else a (deposed_by (has_fallen all)))) (sym made.is) tt
-      | inr aborted ↦ subst (λ (a : Option Reply). IsAnswerOf script (items.Clone from of indices) (or_else a (deposed_by (has_fallen all)))) (sym aborted.is) (subst (IsDeletedBy script) (sym same) (deleted_line script all op name (end_of_op all op [] all) asks is aborted))
+      | inl made ↦ subst (λ (a : Option Reply). IsAnswerOf script before (items.Clone from of indices) (or_else a (deposed_by (has_fallen all)))) (sym made.is) tt
+      | inr aborted ↦ subst (λ (a : Option Reply). IsAnswerOf script before (items.Clone from of indices) (or_else a (deposed_by (has_fallen all)))) (sym aborted.is) (subst (IsDeletedBy script) (sym same) (deleted_line script all op name (end_of_op all op [] all) asks is aborted))
     ]
-cloned_by script all source of names moment taken (entry.Refused (CleanupRunning op)) from indices calm said cleaning asks ended = (tt, cleaning)
-cloned_by script all source of names moment taken (entry.Refused (NameInUse uuid)) from indices calm said cleaning asks ended = (tt, tt)
-cloned_by script all source of names moment taken (entry.Refused (NoSnapshot at)) from indices calm said cleaning asks ended = (tt, tt)
-cloned_by script all source of names moment taken (entry.Refused (BeingDeleted op)) from indices calm said cleaning asks ended = (tt, tt)
-cloned_by script all source of names moment taken (entry.Refused (NoIndex at)) from indices calm said cleaning asks ended = (tt, tt)
-cloned_by script all source of names moment taken (entry.Refused (TooMany limit)) from indices calm said cleaning asks ended = (tt, tt)
-cloned_by script all source of names moment taken (entry.Refused refusal) from indices calm said cleaning asks ended = absurd calm
-cloned_by script all source of names moment taken reply from indices calm said cleaning asks ended = absurd said
+cloned_by script before all source of names moment taken (entry.Refused (CleanupRunning op)) from indices calm said cleaning asks ended = (tt, cleaning)
+cloned_by script before all source of names moment taken (entry.Refused (NameInUse uuid)) from indices calm said cleaning asks ended = (tt, tt)
+cloned_by script before all source of names moment taken (entry.Refused (NoSnapshot at)) from indices calm said cleaning asks ended = (tt, tt)
+cloned_by script before all source of names moment taken (entry.Refused (BeingDeleted op)) from indices calm said cleaning asks ended = (tt, tt)
+cloned_by script before all source of names moment taken (entry.Refused (NoIndex at)) from indices calm said cleaning asks ended = (tt, tt)
+cloned_by script before all source of names moment taken (entry.Refused (TooMany limit)) from indices calm said cleaning asks ended = (tt, tt)
+cloned_by script before all source of names moment taken (entry.Refused refusal) from indices calm said cleaning asks ended = absurd calm
+cloned_by script before all source of names moment taken reply from indices calm said cleaning asks ended = absurd said
 
 -- the delete of each that was accepted was carried out, and the cleanup came to its end
 abbrev AreDeleted : List Entry → Step → entry.Reply → Type 0
 AreDeleted all step reply = (cleans : Bool) (d : ℕ) → delete_of step reply ≡ Some (cleans, d) → IsOverBy cleans (end_of_op all d [] all)
 
-delete_answer : (script : List ScriptLine) (names : List Bytes) (reply : Reply) → IsOver false reply → IsAnswer script (items.Delete names) reply
-delete_answer script names (Deleted op) over = tt
-delete_answer script names reply over = absurd over
+delete_answer : (script before : List ScriptLine) (names : List Bytes) (reply : Reply) → IsOver false reply → IsAnswer script before (items.Delete names) reply
+delete_answer script before names (Deleted op) over = tt
+delete_answer script before names reply over = absurd over
 
-cleanup_answer : (script : List ScriptLine) (reply : Reply) → IsOver true reply → IsAnswer script items.Cleanup reply
-cleanup_answer script (Cleaned blobs bytes) over = tt
-cleanup_answer script reply over = absurd over
+cleanup_answer : (script before : List ScriptLine) (reply : Reply) → IsOver true reply → IsAnswer script before items.Cleanup reply
+cleanup_answer script before (Cleaned blobs bytes) over = tt
+cleanup_answer script before reply over = absurd over
 
-deleted_by : (script : List ScriptLine) (all : List Entry) (names : List Bytes) (reply : entry.Reply) → IsCalm reply (AskStep (DeleteSnapshots names)) → IsSaid (AskStep (DeleteSnapshots names)) reply → IsCleaningIn script reply → AreDeleted all (AskStep (DeleteSnapshots names)) reply
-    → IsAnswerOf script (items.Delete names) (ask_reply all reply)
-deleted_by script all names (Accepted op) calm said cleaning deleted =
+deleted_by : (script before : List ScriptLine) (all : List Entry) (names : List Bytes) (reply : entry.Reply) → IsCalm (Unit {0}) reply (AskStep (DeleteSnapshots names)) → IsSaid (AskStep (DeleteSnapshots names)) reply → IsCleaningIn before reply → AreDeleted all (AskStep (DeleteSnapshots names)) reply
+    → IsAnswerOf script before (items.Delete names) (ask_reply all reply)
+deleted_by script before all names (Accepted op) calm said cleaning deleted =
     let h = deleted false op refl in
-    subst (λ (a : Option Reply). IsAnswerOf script (items.Delete names) (or_else a (deposed_by (has_fallen all)))) (sym h.is) (delete_answer script names h.reply h.over)
-deleted_by script all names (entry.Refused (CleanupRunning op)) calm said cleaning deleted = (tt, cleaning)
-deleted_by script all names (entry.Refused (NoSnapshot place)) calm said cleaning deleted = (tt, tt)
-deleted_by script all names (entry.Refused (CloneRunning op)) calm said cleaning deleted = (tt, tt)
-deleted_by script all names (entry.Refused (RestoreRunning op)) calm said cleaning deleted = (tt, tt)
-deleted_by script all names (entry.Refused (TooMany limit)) calm said cleaning deleted = (tt, tt)
-deleted_by script all names (entry.Refused refusal) calm said cleaning deleted = absurd calm
-deleted_by script all names reply calm said cleaning deleted = absurd said
+    subst (λ (a : Option Reply). IsAnswerOf script before (items.Delete names) (or_else a (deposed_by (has_fallen all)))) (sym h.is) (delete_answer script before names h.reply h.over)
+deleted_by script before all names (entry.Refused (CleanupRunning op)) calm said cleaning deleted = (tt, cleaning)
+deleted_by script before all names (entry.Refused (NoSnapshot place)) calm said cleaning deleted = (tt, tt)
+deleted_by script before all names (entry.Refused (CloneRunning op)) calm said cleaning deleted = (tt, tt)
+deleted_by script before all names (entry.Refused (RestoreRunning op)) calm said cleaning deleted = (tt, tt)
+deleted_by script before all names (entry.Refused (TooMany limit)) calm said cleaning deleted = (tt, tt)
+deleted_by script before all names (entry.Refused refusal) calm said cleaning deleted = absurd calm
+deleted_by script before all names reply calm said cleaning deleted = absurd said
 
-cleaned_by : (script : List ScriptLine) (all : List Entry) (reply : entry.Reply) → IsCalm reply (AskStep Cleanup) → IsSaid (AskStep Cleanup) reply → IsCleaningIn script reply → AreDeleted all (AskStep Cleanup) reply → IsAnswerOf script items.Cleanup (ask_reply all reply)
-cleaned_by script all (Accepted op) calm said cleaning deleted =
+cleaned_by : (script before : List ScriptLine) (all : List Entry) (reply : entry.Reply) → IsCalm (Unit {0}) reply (AskStep Cleanup) → IsSaid (AskStep Cleanup) reply → IsCleaningIn before reply → AreDeleted all (AskStep Cleanup) reply → IsAnswerOf script before items.Cleanup (ask_reply all reply)
+cleaned_by script before all (Accepted op) calm said cleaning deleted =
     let h = deleted true op refl in
-    subst (λ (a : Option Reply). IsAnswerOf script items.Cleanup (or_else a (deposed_by (has_fallen all)))) (sym h.is) (cleanup_answer script h.reply h.over)
-cleaned_by script all (entry.Refused (CleanupRunning op)) calm said cleaning deleted = (tt, cleaning)
-cleaned_by script all (entry.Refused (BusyOp op)) calm said cleaning deleted = (tt, tt)
-cleaned_by script all (entry.Refused (BusyTicket ticket)) calm said cleaning deleted = (tt, tt)
-cleaned_by script all (entry.Refused refusal) calm said cleaning deleted = absurd calm
-cleaned_by script all reply calm said cleaning deleted = absurd said
+    subst (λ (a : Option Reply). IsAnswerOf script before items.Cleanup (or_else a (deposed_by (has_fallen all)))) (sym h.is) (cleanup_answer script before h.reply h.over)
+cleaned_by script before all (entry.Refused (CleanupRunning op)) calm said cleaning deleted = (tt, cleaning)
+cleaned_by script before all (entry.Refused (BusyOp op)) calm said cleaning deleted = (tt, tt)
+cleaned_by script before all (entry.Refused refusal) calm said cleaning deleted = absurd calm
+cleaned_by script before all reply calm said cleaning deleted = absurd said
 
 -- the restore of each that was accepted is answered
 abbrev IsAnswered : List Entry → entry.Reply → Type 0
 IsAnswered all reply = (a : AskedRestore) → opens reply ≡ Some a → IsRestoredReply (restore_reply all a.op a.uuid a.indices)
 
-restored_by : (script : List ScriptLine) (all : List Entry) (of place : Bytes) (reply : entry.Reply) (name at : Bytes) → IsCalm reply (AskStep (Restore of place)) → IsSaid (AskStep (Restore of place)) reply → IsAnswered all reply → IsAnswerOf script (items.Restore name at) (ask_reply all reply)
-restored_by script all of place (AcceptedRestore op uuid indices) name at calm said made =
-    subst (λ (a : Option Reply). IsAnswerOf script (items.Restore name at) (or_else a (deposed_by (has_fallen all)))) (sym (made (record { op = op; uuid = uuid; indices = indices }) refl).is) tt
-restored_by script all of place (entry.Refused (NoSnapshot number)) name at calm said made = tt
-restored_by script all of place (entry.Refused (BeingDeleted op)) name at calm said made = tt
-restored_by script all of place (entry.Refused (TooMany limit)) name at calm said made = tt
-restored_by script all of place (entry.Refused refusal) name at calm said made = absurd calm
-restored_by script all of place reply name at calm said made = absurd said
+restored_by : (script before : List ScriptLine) (all : List Entry) (of place : Bytes) (reply : entry.Reply) (name at : Bytes) → IsCalm (Unit {0}) reply (AskStep (Restore of place)) → IsSaid (AskStep (Restore of place)) reply → IsAnswered all reply → IsAnswerOf script before (items.Restore name at) (ask_reply all reply)
+restored_by script before all of place (AcceptedRestore op uuid indices) name at calm said made =
+    subst (λ (a : Option Reply). IsAnswerOf script before (items.Restore name at) (or_else a (deposed_by (has_fallen all)))) (sym (made (record { op = op; uuid = uuid; indices = indices }) refl).is) tt
+restored_by script before all of place (entry.Refused (NoSnapshot number)) name at calm said made = tt
+restored_by script before all of place (entry.Refused (BeingDeleted op)) name at calm said made = tt
+restored_by script before all of place (entry.Refused (TooMany limit)) name at calm said made = tt
+restored_by script before all of place (entry.Refused refusal) name at calm said made = absurd calm
+restored_by script before all of place reply name at calm said made = absurd said
 
-looked_by : (script : List ScriptLine) (reply : entry.Reply) → IsSaid LookStep reply → IsAnswerOf script items.List (look_reply reply)
-looked_by script (Looked snapshots safe) said = tt
-looked_by script reply said = absurd said
+looked_by : (script before : List ScriptLine) (reply : entry.Reply) → IsSaid LookStep reply → IsAnswerOf script before items.List (look_reply reply)
+looked_by script before (Looked snapshots safe) said = tt
+looked_by script before reply said = absurd said
 
-fact_by : (script : List ScriptLine) (all : List Entry) (e : Entry) → IsCalm e.reply e.step → IsSaid e.step e.reply → IsCleaningIn script e.reply → AsksAll script all → AreEnded all e.step e.reply → AreDeleted all e.step e.reply → IsAnswered all e.reply → Fact script all e
-fact_by script all e calm said cleaning asks ended deleted answered =
+-- an election that isn't refused begins a term
+elected_by : (script before : List ScriptLine) (reply : entry.Reply) → IsCalm (Unit {0}) reply ElectStep → IsSaid ElectStep reply → IsAnswerOf script before items.Failover (election_reply reply)
+elected_by script before (ElectedTerm term) calm said = tt
+elected_by script before (entry.Refused (StaleTerm own now)) calm said = absurd calm
+elected_by script before (entry.Refused refusal) calm said = absurd calm
+elected_by script before reply calm said = absurd said
+
+elects_by : (who : Bool) (step : Step) → (who && is_election_step step) ≡ true → step ≡ ElectStep
+elects_by true ElectStep e = refl
+elects_by true step e = absurd (true≢false (sym e))
+elects_by false step e = absurd (true≢false (sym e))
+
+fact_by : (script : List ScriptLine) (all : List Entry) (e : Entry) → IsCalm (Unit {0}) e.reply e.step → IsSaid e.step e.reply → ((front back : List Entry) → all ≡ front ++ e ∷ back → IsAskedIn front e.reply) → AsksAll script all → AreEnded all e.step e.reply → AreDeleted all e.step e.reply → IsAnswered all e.reply
+    → Fact script all e
+fact_by script all e calm said asks_before asks ended deleted answered =
     record {
-      unfallen = unfallen_by e.step e.reply calm;
-      asked = λ of refs moment is indices. asked_by script all of refs moment e.reply indices (subst (IsCalm e.reply) is calm) (subst (λ (step : Step). IsSaid step e.reply) is said) cleaning asks (subst (λ (step : Step). AreEnded all step e.reply) is ended);
-      cloned = λ source of names moment taken is from indices.
-          cloned_by script all source of names moment taken e.reply from indices (subst (IsCalm e.reply) is calm) (subst (λ (step : Step). IsSaid step e.reply) is said) cleaning asks (subst (λ (step : Step). AreEnded all step e.reply) is ended);
-      deleted = λ names is. deleted_by script all names e.reply (subst (IsCalm e.reply) is calm) (subst (λ (step : Step). IsSaid step e.reply) is said) cleaning (subst (λ (step : Step). AreDeleted all step e.reply) is deleted);
-      cleaned = λ is. cleaned_by script all e.reply (subst (IsCalm e.reply) is calm) (subst (λ (step : Step). IsSaid step e.reply) is said) cleaning (subst (λ (step : Step). AreDeleted all step e.reply) is deleted);
-      restored = λ of place is name at. restored_by script all of place e.reply name at (subst (IsCalm e.reply) is calm) (subst (λ (step : Step). IsSaid step e.reply) is said) answered;
-      looked = λ is. looked_by script e.reply (subst (λ (step : Step). IsSaid step e.reply) is said);
+      unfallen = unfallen_by e.reply e.step calm;
+      asked = λ before cleaning of refs moment is indices.
+          asked_by script before all of refs moment e.reply indices (subst (IsCalm (Unit {0}) e.reply) is calm) (subst (λ (step : Step). IsSaid step e.reply) is said) cleaning asks (subst (λ (step : Step). AreEnded all step e.reply) is ended);
+      cloned = λ before cleaning source of names moment taken is from indices.
+          cloned_by script before all source of names moment taken e.reply from indices (subst (IsCalm (Unit {0}) e.reply) is calm) (subst (λ (step : Step). IsSaid step e.reply) is said) cleaning asks (subst (λ (step : Step). AreEnded all step e.reply) is ended);
+      deleted = λ before cleaning names is.
+          deleted_by script before all names e.reply (subst (IsCalm (Unit {0}) e.reply) is calm) (subst (λ (step : Step). IsSaid step e.reply) is said) cleaning (subst (λ (step : Step). AreDeleted all step e.reply) is deleted);
+      cleaned = λ before cleaning is. cleaned_by script before all e.reply (subst (IsCalm (Unit {0}) e.reply) is calm) (subst (λ (step : Step). IsSaid step e.reply) is said) cleaning (subst (λ (step : Step). AreDeleted all step e.reply) is deleted);
+      restored = λ before of place is name at. restored_by script before all of place e.reply name at (subst (IsCalm (Unit {0}) e.reply) is calm) (subst (λ (step : Step). IsSaid step e.reply) is said) answered;
+      looked = λ before is. looked_by script before e.reply (subst (λ (step : Step). IsSaid step e.reply) is said);
+      elected = λ before elects.
+          let is : e.step ≡ ElectStep = elects_by (e.who == 0) e.step elects in
+          elected_by script before e.reply (subst (IsCalm (Unit {0}) e.reply) is calm) (subst (λ (step : Step). IsSaid step e.reply) is said);
+      cleaning = asks_before;
     }
 
 -- ---- of a history
@@ -217,7 +223,7 @@ dropped_is : (step : Step) (reply : entry.Reply) → IsDropped step reply → (s
 dropped_is DroppedStep HasEnded is = (refl, refl)
 dropped_is step reply is = absurd is
 
-module _ (w : World) (all : List Entry) (h : FollowsIn w all) (calm : (e : Entry) → Has all e → IsCalm e.reply e.step) (closed : (o : ℕ) → IsOpen w o → ⊥) where
+module _ (w : World) (all : List Entry) (h : FollowsIn w all) (calm : AreCalmIn all) (closed : (o : ℕ) → IsOpen w o → ⊥) where
   -- an op with a name ends as a snapshot
   ends_named : (o : ℕ) → HasName all o → EndsIn all o [] all → IsEnded all o (end_of_op all o [] all)
   ends_named o name ends =
@@ -251,7 +257,6 @@ module _ (w : World) (all : List Entry) (h : FollowsIn w all) (calm : (e : Entry
   kind_of : (cleans : Bool) (d : ℕ) → IsNameless all w.next_op cleans d → (e : Entry) → Has all e → IsOfKind cleans all d e
   kind_of cleans d nameless e has =
       record {
-        calm = calm e has;
         unsettled = λ of settled.
             let is = settled_is e.step e.reply settled in
             let (o, op, name) = h.settles e has is.0 is.1 in
@@ -267,8 +272,8 @@ module _ (w : World) (all : List Entry) (h : FollowsIn w all) (calm : (e : Entry
       }
 
   over_in : (cleans : Bool) (d : ℕ) → IsNameless all w.next_op cleans d → IsOverIn all cleans d → IsOverBy cleans (end_of_op all d [] all)
-  over_in false d nameless p = over_found false all d [] all refl nameless.unnamed (kind_of false d nameless) p.e p.has (prune_deleted all d p.e p.op_is p.deletes p.step p.reply)
-  over_in true d nameless p = over_found true all d [] all refl nameless.unnamed (kind_of true d nameless) p.e p.has (drop_cleaned all d p.e p.op_is p.cleans p.step p.reply)
+  over_in false d nameless p = over_found false all d [] all refl calm nameless.unnamed (kind_of false d nameless) p.e p.has (prune_deleted all d p.e p.op_is p.deletes p.step p.reply)
+  over_in true d nameless p = over_found true all d [] all refl calm nameless.unnamed (kind_of true d nameless) p.e p.has (drop_cleaned all d p.e p.op_is p.cleans p.step p.reply)
 
   deleted : (e : Entry) → Has all e → AreDeleted all e.step e.reply
   deleted e has cleans d accepted =
@@ -278,28 +283,41 @@ module _ (w : World) (all : List Entry) (h : FollowsIn w all) (calm : (e : Entry
         | inr over ↦ over_in cleans d nameless over
       ]
 
--- a cleanup runs only where a line asks for one
-cleaning_in : (script : List ScriptLine) (log : List Moment) → (HasAskedCleanup log → (line : ScriptLine) × Has script line × (line.item ≡ items.Cleanup)) → (reply : entry.Reply) → ((refusal : Refusal) → reply ≡ entry.Refused refusal → IsOfCleanup log refusal) → IsCleaningIn script reply
-cleaning_in script log asked (entry.Refused (CleanupRunning op)) by_rule = asked (by_rule (CleanupRunning op) refl)
-cleaning_in script log asked (entry.Refused refusal) by_rule = tt
-cleaning_in script log asked reply by_rule = tt
+of_cleanup : (s : Start) (front : List Moment) (m : Moment) (refusal : Refusal) → IsOfRule front m refusal ⊎ IsOfTerm s front m refusal → IsOfCleanup front refusal
+of_cleanup s front m refusal (inl rule) = rule.2
+of_cleanup s front m refusal (inr old) = subst (IsOfCleanup front) (sym old.is) tt
 
-pub facts : Laws → (script : List ScriptLine) (s : Start) (log : List Moment) → IsSmooth s log → NoneFailed log → NoneUndeleted log → NoneUnrestored log → AreByRule log → IsIdle s log → AsksAll script (entries_of log)
-    → (HasAskedCleanup log → (line : ScriptLine) × Has script line × (line.item ≡ items.Cleanup)) → (e : Entry) → Has (entries_of log) e → Fact script (entries_of log) e
-facts laws script s log smooth none undeleted unrestored by_rule idle asks cleanup e has =
-    fact_by script (entries_of log) e (calm e has) (h.said e has) cleaning asks (ended (world_of s log) (entries_of log) h calm closed e has) (deleted (world_of s log) (entries_of log) h calm closed e has)
+has_entry : (log : List Moment) (m : Moment) → Has log m → Has (entries_of log) m.entry
+has_entry [] m h = absurd h
+has_entry (n ∷ log) m (inl e) = inl (ap (λ (x : Moment). x.entry) e)
+has_entry (n ∷ log) m (inr h) = inr (has_entry log m h)
+
+-- a cleanup runs only where one was asked before
+asked_in : (front : List Moment) (reply : entry.Reply) → ((refusal : Refusal) → reply ≡ entry.Refused refusal → IsOfCleanup front refusal) → IsAskedIn (entries_of front) reply
+asked_in front (entry.Refused (CleanupRunning op)) by_rule = let (m, has, who, step) = by_rule (CleanupRunning op) refl in (m.entry, has_entry front m has, who, step)
+asked_in front (entry.Refused refusal) by_rule = tt
+asked_in front reply by_rule = tt
+
+pub facts : Laws → (script : List ScriptLine) (s : Start) (log : List Moment) → IsSmooth s log → NoneFailed log → NoneUndeleted s log → NoneUnrestored log → AreByRule s log → IsIdle s log → AsksAll script (entries_of log) → (e : Entry) → Has (entries_of log) e → Fact script (entries_of log) e
+facts laws script s log smooth none undeleted unrestored by_rule idle asks e has =
+    fact_by script (entries_of log) e calm (h.said e has) asks_before asks (ended (world_of s log) (entries_of log) h told closed e has) (deleted (world_of s log) (entries_of log) h told closed e has)
     (λ a opened. restored_reply (entries_of log) a.op a.uuid a.indices (all_restored laws s log smooth none undeleted unrestored by_rule idle e a has opened))
   where
     h : FollowsIn (world_of s log) (entries_of log)
     h = follows_all laws s log smooth none undeleted by_rule
 
-    calm : (x : Entry) → Has (entries_of log) x → IsCalm x.reply x.step
-    calm x m = let (moment, there, is) = Has-mapped (λ (y : Moment). y.entry) log x m in subst (λ (y : Entry). IsCalm y.reply y.step) is (all_calm log none undeleted by_rule moment there)
+    told : AreCalmIn (entries_of log)
+    told = all_told s log none by_rule smooth undeleted
 
     closed : (o : ℕ) → IsOpen (world_of s log) o → ⊥
     closed o stands = all_closed laws s log smooth idle o stands
 
-    cleaning : IsCleaningIn script e.reply
-    cleaning =
-        let (moment, there, is) = Has-mapped (λ (y : Moment). y.entry) log e has in
-        subst (λ (y : Entry). IsCleaningIn script y.reply) is (cleaning_in script log cleanup moment.entry.reply (λ refusal refused. (by_rule moment refusal there refused).2))
+    calm : IsCalm (Unit {0}) e.reply e.step
+    calm = let (m, there, is) = Has-mapped (λ (y : Moment). y.entry) log e has in subst (λ (y : Entry). IsCalm (Unit {0}) y.reply y.step) is (calm_of s log none by_rule m there)
+
+    asks_before : (front back : List Entry) → entries_of log ≡ front ++ e ∷ back → IsAskedIn front e.reply
+    asks_before front back is =
+        let p = parted log front e back is in
+        subst (λ (y : Entry). IsAskedIn front y.reply) p.own
+        (subst (λ (l : List Entry). IsAskedIn l p.moment.entry.reply) p.front_is
+        (asked_in p.front p.moment.entry.reply (λ refusal refused. of_cleanup s p.front p.moment refusal (by_rule p.front p.back p.moment refusal p.is refused))))

@@ -5,7 +5,7 @@ use Rattle.std.specs.FinMap as fin
 use Rattle.esr_model.specs.Values.{Bytes, Has, SnapInfo, ShardResult}
 use Rattle.esr_model.specs.Shelf.{Command}
 use Rattle.esr_core.specs.World.{World, Op, Deletion, Work, Finalize, Deleting, Drop, Swap, Ticket}
-use Rattle.esr_core.specs.Entry.{Snapshot, Clone, DeleteSnapshots, Restore, Cleanup, SettlePruned, Given, Step, AskStep, TakeStep, SettleStep, DroppedStep, LookStep, PruneStep, Reply, Accepted, Gave, WasSettled, HasEnded, Looked, Refused, AcceptedRestore, Entry}
+use Rattle.esr_core.specs.Entry.{Snapshot, Clone, DeleteSnapshots, Restore, Cleanup, SettlePruned, Given, Step, AskStep, TakeStep, SettleStep, DroppedStep, ElectStep, LookStep, PruneStep, Reply, Accepted, Gave, WasSettled, HasEnded, ElectedTerm, Looked, Refused, AcceptedRestore, Entry}
 use Rattle.esr_report.specs.Cleaned.{is_cleanup, cleanup_by, is_cleanup_ticket}
 use Rattle.esr_report.specs.Replies as report
 use Rattle.esr_report.specs.Replies.{op_by, op_of_ticket, is_op, uuid_of_unit, uuid_by, uuid_of_ticket, name_by, name_of_op, is_over, final_out, aborts_at}
@@ -14,7 +14,7 @@ use Rattle.esr_core.proofs.Reading.{Has-left, Has-append}
 use Rattle.esr_core.proofs.Queues.{Ops, Deletes, Tickets, was_in, same_in, other_in, split_at}
 use Rattle.esr_complete.proofs.Tickets.{op_stays, uuid_stays, op_given, uuid_given, cleanup_given, cleanup_stays, cleanup_same, cleanup_other, cleanup_of, is_cleanup_op, cleans_stays, name_stays, name_given, IsGiftless, IsFinalGiven, final_on, final_was, final_gave}
 
--- what may be answered to a command or a look
+-- what may be answered to a command, a look or an election
 abbrev pub IsSaid : Step → Reply → Type 0
 IsSaid (AskStep (Snapshot name indices moment)) (Accepted op) = Unit {0}
 IsSaid (AskStep (Snapshot name indices moment)) (Refused refusal) = Unit {0}
@@ -33,6 +33,9 @@ IsSaid (AskStep Cleanup) (Refused refusal) = Unit {0}
 IsSaid (AskStep Cleanup) reply = ⊥
 IsSaid LookStep (Looked snapshots safe) = Unit {0}
 IsSaid LookStep reply = ⊥
+IsSaid ElectStep (ElectedTerm term) = Unit {0}
+IsSaid ElectStep (Refused refusal) = Unit {0}
+IsSaid ElectStep reply = ⊥
 IsSaid step reply = Unit {0}
 
 -- the op as which a snapshot or a clone was accepted, and the one by which a delete or, where this is true, a cleanup is answered

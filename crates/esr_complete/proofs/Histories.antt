@@ -13,21 +13,24 @@ use Rattle.esr_core.specs.Tracked.{Tracked, IsOneIndex}
 use Rattle.esr_core.specs.ReadTracked.{ReadTracked}
 use Rattle.esr_core.specs.Ids.{Law}
 use Rattle.esr_core.specs.ReadLaw.{ReadLaw}
-use Rattle.esr_core.specs.Entry.{Asked, Why, Step, AskStep, FailedStep, PruneStep, DeleteFails, Refusal, Reply, HasEnded, Refused, Entry, Moment}
+use Rattle.esr_core.specs.Entry.{Why, Step, AskStep, FailedStep, PruneStep, DeleteFails, Refusal, StaleTerm, Reply, HasEnded, Refused, Entry, Moment}
 use Rattle.esr_core.specs.After.{after}
 use Rattle.esr_core.specs.History.{world_from, IsLegal, TellsHandedOut, all_handed_out, AreTold, AreHonest, committed}
 use Rattle.esr_core.proofs.Opening.{nothing}
 use Rattle.esr_core.proofs.Queues.{was_in}
 use Rattle.esr_desk.specs.Start.{Start, formats_of, world_of, or_no_ticket}
 use Rattle.esr_desk.specs.Own.{or_no_reader}
-use Rattle.esr_quiet.specs.Refusals.{IsByRule, AreByRule}
-use Rattle.esr_quiet.specs.Smooth.{IsSmooth, NoneFailed, NoneUndeleted}
-use Rattle.esr_quiet.proofs.Passing.{quiet_at, smooth_front}
+use Rattle.esr_quiet.specs.Refusals.{IsSwapStep, IsOfRule, IsOfTerm, AreByRule}
+use Rattle.esr_report.specs.Replies.{is_stale}
+use Rattle.esr_quiet.specs.Smooth.{IsSmooth, IsStaleTicket, NoneFailed, NoneUndeleted}
+use Rattle.esr_quiet.proofs.Prefixes.{place_of, has_at}
+use Rattle.esr_quiet.proofs.Passing.{smooth_front}
 use Rattle.esr_quiet.proofs.Rooted.{root_named}
 use Rattle.esr_complete.specs.Lines.{entries_of}
 use Rattle.esr_complete.specs.Answers.{IsIdle}
 use Rattle.esr_complete.proofs.Tickets.{none_some}
-use Rattle.esr_complete.proofs.OpEnds.{IsCalm}
+use Rattle.esr_complete.proofs.OpEnds.{IsCalm, AreCalmIn}
+use Rattle.esr_complete.proofs.Stale.{IsStaleIn, terms_at, stale_told}
 use Rattle.esr_complete.proofs.Following.{FollowsIn}
 use Rattle.esr_complete.proofs.Steps.{IsSafe, follows_step}
 
@@ -68,30 +71,93 @@ pub follows_start : (f : Formats) (image : Image) (w : World) → Opened f image
 follows_start f image w (OpenedEmpty none) = follows_opened image.blobs no_record no_root
 follows_start f image w (OpenedRecord cluster text root is reads root_is) = follows_opened image.blobs cluster root
 
--- each entry is of a step where nothing fails
-abbrev pub AreCalm : List Moment → Type 0
-AreCalm log = (m : Moment) → Has log m → IsCalm m.entry.reply m.entry.step
+-- ---- the place of an entry
 
-calm_by : (reply : Reply) (step : Step) → ((why : Why) → step ≡ FailedStep why → reply ≡ HasEnded → ⊥) → ((why : Why) → step ≡ PruneStep (DeleteFails why) → reply ≡ HasEnded → ⊥)
-    → ((refusal : Refusal) → reply ≡ Refused refusal → (of : (command : Asked) × (step ≡ AskStep command)) × IsByRule of.0 refusal) → IsCalm reply step
-calm_by (Refused refusal) step none undeleted by_rule = let x = by_rule refusal refl in subst (IsCalm (Refused refusal)) (sym x.0.1) x.1
-calm_by HasEnded (FailedStep why) none undeleted by_rule = absurd (none why refl refl)
-calm_by HasEnded (PruneStep (DeleteFails why)) none undeleted by_rule = absurd (undeleted why refl refl)
-calm_by reply step none undeleted by_rule = tt
+-- the moment of the entry that stands after these
+pub record Parted (log : List Moment) (before : List Entry) (e : Entry) : Type 0 where
+  pub front : List Moment
+  pub moment : Moment
+  pub back : List Moment
+  pub is : log ≡ front ++ moment ∷ back
+  pub front_is : entries_of front ≡ before
+  pub own : moment.entry ≡ e
 
-pub all_calm : (log : List Moment) → NoneFailed log → NoneUndeleted log → AreByRule log → AreCalm log
-all_calm log none undeleted by_rule m has = calm_by m.entry.reply m.entry.step (λ why is. none m why has is) (λ why is. undeleted m why has is) (λ refusal is. let x = by_rule m refusal has is in (x.0, x.1))
+heads : (a b : Entry) (xs ys : List Entry) → a ∷ xs ≡ b ∷ ys → (a ≡ b) × (xs ≡ ys)
+heads a b xs ys e = (cc, cc)
 
--- each world that the history passes is lawful, and its tickets are of the present term
-abbrev pub AreSafe : Formats → World → List Moment → Type 0
-AreSafe f w log = (front back : List Moment) → log ≡ front ++ back → IsSafe f (world_from f w front)
+no_entry : (e : Entry) (es : List Entry) → [] ≡ e ∷ es → ⊥
+no_entry e es is = cc
 
-pub follows_history : (f : Formats) (size : ℕ) (log : List Moment) (w : World) (es : List Entry) → FollowsIn w es → IsLegal f size w log → AreCalm log → AreSafe f w log → FollowsIn (world_from f w log) (es ++ entries_of log)
+pub parted : (log : List Moment) (before : List Entry) (e : Entry) (rest : List Entry) → entries_of log ≡ before ++ e ∷ rest → Parted log before e
+parted [] [] e rest is = absurd (no_entry e rest is)
+parted [] (x ∷ before) e rest is = absurd (no_entry x (before ++ e ∷ rest) is)
+parted (m ∷ log) [] e rest is = record { front = []; moment = m; back = log; is = refl; front_is = refl; own = (heads m.entry e (entries_of log) rest is).0 }
+parted (m ∷ log) (x ∷ before) e rest is =
+    let both = heads m.entry x (entries_of log) (before ++ e ∷ rest) is in
+    let p = parted log before e rest both.1 in
+    record { front = m ∷ p.front; moment = p.moment; back = p.back; is = ap (λ (l : List Moment). m ∷ l) p.is; front_is = λ i. both.0 i ∷ p.front_is i; own = p.own }
+
+-- each moment is of a step where nothing fails
+abbrev pub AreCalm : Formats → World → List Moment → Type 0
+AreCalm f w log = (front back : List Moment) (m : Moment) → log ≡ front ++ m ∷ back → IsCalm (IsStaleIn (world_from f w front) m.entry.who) m.entry.reply m.entry.step
+
+calm_by : (stale : Type 0) (reply : Reply) (step : Step) → ((why : Why) → step ≡ FailedStep why → reply ≡ HasEnded → ⊥) → ((why : Why) → step ≡ PruneStep (DeleteFails why) → reply ≡ HasEnded → stale)
+    → ((refusal : Refusal) → reply ≡ Refused refusal → IsCalm stale (Refused refusal) step) → IsCalm stale reply step
+calm_by stale (Refused refusal) step none undeleted by_rule = by_rule refusal refl
+calm_by stale HasEnded (FailedStep why) none undeleted by_rule = absurd (none why refl refl)
+calm_by stale HasEnded (PruneStep (DeleteFails why)) none undeleted by_rule = undeleted why refl refl
+calm_by stale reply step none undeleted by_rule = tt
+
+swap_calm : (stale : Type 0) (own now : ℕ) (step : Step) → IsSwapStep step → IsCalm stale (Refused (StaleTerm own now)) step
+swap_calm stale own now (AskStep command) swaps = absurd swaps
+swap_calm stale own now step swaps = swaps
+
+refusal_calm : (stale : Type 0) (s : Start) (front : List Moment) (m : Moment) (refusal : Refusal) → IsOfRule front m refusal ⊎ IsOfTerm s front m refusal → IsCalm stale (Refused refusal) m.entry.step
+refusal_calm stale s front m refusal (inl rule) = subst (IsCalm stale (Refused refusal)) (sym rule.0.1) rule.1
+refusal_calm stale s front m refusal (inr old) = subst (λ (r : Refusal). IsCalm stale (Refused r) m.entry.step) (sym old.is) (swap_calm stale old.own old.now m.entry.step old.swaps)
+
+stale_in : (s : Start) (front : List Moment) (who : ℕ) → IsStaleTicket s front who → IsStaleIn (world_of s front) who
+stale_in s front who stale t there same = stale.apart (ap (λ (o : Option Ticket). (or_no_ticket o).term) there ∙ same)
+
+module _ (s : Start) (log : List Moment) (none : NoneFailed log) (by_rule : AreByRule s log) where
+  -- a step where nothing fails, where a delete or cleanup fails only so
+  calm_where : (stale : Type 0) (front back : List Moment) (m : Moment) → log ≡ front ++ m ∷ back → ((why : Why) → m.entry.step ≡ PruneStep (DeleteFails why) → m.entry.reply ≡ HasEnded → stale) → IsCalm stale m.entry.reply m.entry.step
+  calm_where stale front back m is undeleted =
+      calm_by stale m.entry.reply m.entry.step (λ why. none m why (subst (λ (l : List Moment). Has l m) (sym is) (has_at front back m))) undeleted (λ refusal reply. refusal_calm stale s front m refusal (by_rule front back m refusal is reply))
+
+  pub calm_of : (m : Moment) → Has log m → IsCalm (Unit {0}) m.entry.reply m.entry.step
+  calm_of m has = let p = place_of log m has in calm_where (Unit {0}) p.front p.back m p.is (λ why step reply. tt)
+
+  pub all_calm : NoneUndeleted s log → AreCalm (formats_of s) s.world log
+  all_calm undeleted front back m is = calm_where (IsStaleIn (world_of s front) m.entry.who) front back m is (λ why step reply. stale_in s front m.entry.who (undeleted front back m why is step reply))
+
+  -- by the entries
+  pub all_told : IsSmooth s log → NoneUndeleted s log → AreCalmIn (entries_of log)
+  all_told smooth undeleted before e rest is =
+      let p = parted log before e rest is in
+      subst (λ (x : Entry). IsCalm (is_stale before x.who ≡ true) x.reply x.step) p.own
+      (subst (λ (l : List Entry). IsCalm (is_stale l p.moment.entry.who ≡ true) p.moment.entry.reply p.moment.entry.step) p.front_is
+      (calm_where (is_stale (entries_of p.front) p.moment.entry.who ≡ true) p.front p.back p.moment p.is
+      (λ why step reply. stale_told s log smooth p.front p.back p.moment why p.is step reply (stale_in s p.front p.moment.entry.who (undeleted p.front p.back p.moment why p.is step reply)))))
+
+-- each world that the history passes is lawful, and the finalizations that are out in it are of the present term
+abbrev pub AreSafe : Formats → World → List Entry → List Moment → Type 0
+AreSafe f w es log = (front back : List Moment) → log ≡ front ++ back → IsSafe f (world_from f w front) (es ++ entries_of front)
+
+pub safe_here : (f : Formats) (w : World) (es : List Entry) (log : List Moment) → AreSafe f w es log → IsSafe f w es
+safe_here f w es log safe = subst (IsSafe f w) (append-nil es) (safe [] log refl)
+
+pub safe_then : (f : Formats) (w : World) (es : List Entry) (m : Moment) (log : List Moment) → AreSafe f w es (m ∷ log) → AreSafe f (after f w m) (es ++ m.entry ∷ []) log
+safe_then f w es m log safe front back is = subst (IsSafe f (world_from f (after f w m) front)) (sym (append_assoc es (m.entry ∷ []) (entries_of front))) (safe (m ∷ front) back (ap (λ (l : List Moment). m ∷ l) is))
+
+pub calm_then : (f : Formats) (w : World) (m : Moment) (log : List Moment) → AreCalm f w (m ∷ log) → AreCalm f (after f w m) log
+calm_then f w m log calm front back n is = calm (m ∷ front) back n (ap (λ (l : List Moment). m ∷ l) is)
+
+pub follows_history : (f : Formats) (size : ℕ) (log : List Moment) (w : World) (es : List Entry) → FollowsIn w es → IsLegal f size w log → AreCalm f w log → AreSafe f w es log → FollowsIn (world_from f w log) (es ++ entries_of log)
 follows_history f size [] w es h legal calm safe = subst (FollowsIn w) (sym (append-nil es)) h
 follows_history f size (m ∷ log) w es h legal calm safe =
     subst (FollowsIn (world_from f (after f w m) log)) (append_assoc es (m.entry ∷ []) (entries_of log))
-    (follows_history f size log (after f w m) (es ++ m.entry ∷ []) (follows_step f size w es h m legal.0 (calm m (inl refl)) (safe [] (m ∷ log) refl)) legal.1 (λ n has. calm n (inr has))
-    (λ front back is. safe (m ∷ front) back (ap (λ (l : List Moment). m ∷ l) is)))
+    (follows_history f size log (after f w m) (es ++ m.entry ∷ []) (follows_step f size w es h m legal.0 (calm [] log m refl) (safe_here f w es (m ∷ log) safe)) legal.1 (calm_then f w m log calm) (safe_then f w es m log safe))
 
 -- ---- no unit is ready
 
@@ -151,16 +217,16 @@ all_closed laws s log smooth idle o stands =
       readers = λ k q e out. reader_out (fin.get (world_of s log).readers k) q (idle.no_reader k) e out;
     }))
 
-pub all_safe : Laws → (s : Start) (log : List Moment) → IsSmooth s log → AreSafe (formats_of s) s.world log
+pub all_safe : Laws → (s : Start) (log : List Moment) → IsSmooth s log → AreSafe (formats_of s) s.world [] log
 all_safe laws s log smooth front back is =
     let h = smooth_front s log smooth front back is in
     record {
       shelf = shelf_after h.shelf (committed (formats_of s) (world_of s front).safe s.world front);
       law = laws.lawful (formats_of s) s.part_size h.image h.shelf s.world front (all_handed_out (formats_of s) s.world front h.known) h.kept h.opened h.legal h.told h.honest;
-      present = λ k t e. ((quiet_at s log smooth front back is).tickets k t e).present;
+      present = (terms_at s log smooth front back is).final;
     }
 
 -- what the whole history tells
-pub follows_all : Laws → (s : Start) (log : List Moment) → IsSmooth s log → NoneFailed log → NoneUndeleted log → AreByRule log → FollowsIn (world_of s log) (entries_of log)
+pub follows_all : Laws → (s : Start) (log : List Moment) → IsSmooth s log → NoneFailed log → NoneUndeleted s log → AreByRule s log → FollowsIn (world_of s log) (entries_of log)
 follows_all laws s log smooth none undeleted by_rule =
-    follows_history (formats_of s) s.part_size log s.world [] (follows_start (formats_of s) smooth.image s.world smooth.opened) smooth.legal (all_calm log none undeleted by_rule) (all_safe laws s log smooth)
+    follows_history (formats_of s) s.part_size log s.world [] (follows_start (formats_of s) smooth.image s.world smooth.opened) smooth.legal (all_calm s log none by_rule undeleted) (all_safe laws s log smooth)

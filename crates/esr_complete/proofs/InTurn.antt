@@ -6,7 +6,7 @@ use Rattle.esr_model.specs.Names.{BlobName}
 use Rattle.esr_model.specs.Values.{Bytes, Has, Formats}
 use Rattle.esr_model.specs.Image.{Image}
 use Rattle.esr_core.specs.World.{World, Caller, no_caller, Opened, OpenedEmpty, OpenedRecord}
-use Rattle.esr_core.specs.Entry.{DeleteSnapshots, Cleanup, Read, ReadBlob, CheckedAll, DrawTest, VerifiedAll, ReadFails, Why, Step, AskStep, TakeStep, ElectStep, LookStep, ReadStep, HasEnded, Reply, Refused, Entry, Moment}
+use Rattle.esr_core.specs.Entry.{DeleteSnapshots, Cleanup, Read, ReadBlob, CheckedAll, DrawTest, VerifiedAll, ReadFails, Why, Step, AskStep, TakeStep, ElectStep, LookStep, ReadStep, HasEnded, DeposedAt, Reply, Refused, Entry, Moment}
 use Rattle.esr_core.specs.After.{told_blob, is_heard, caller_told, caller_wrote, caller_read, caller_after}
 use Rattle.esr_core.specs.Allowed as allowed
 use Rattle.esr_core.specs.Allowed.{ReadAllows, ReadFound, ReadMissing, ReadFault, RestoringShard, ReaderFailing, CheckingAll, CheckFailing, VerifyAllows, DrawingTest, TestSpent, BeginningTest, BeginTestFails, CommittingTest, TestTaken, CommitTestFails, RemovingTests, RemoveTestsFails, VerifyingAll, VerifyFailing, Allows, Allowed}
@@ -18,7 +18,7 @@ use Rattle.esr_desk.specs.Check.Shown.{AllFetches}
 use Rattle.esr_desk.specs.Start.{Start, formats_of, world_of}
 use Rattle.esr_desk.specs.Own.{caller_of}
 use Rattle.esr_quiet.specs.Asked.{is_line_ask, is_asked, as_asked, asked_steps}
-use Rattle.esr_quiet.specs.Smooth.{IsSmooth, NoneFailed, NoneUndeleted, NoneUnverified, NoneChecked}
+use Rattle.esr_quiet.specs.Smooth.{IsSmooth, NoneFailed, NoneUnverified, NoneChecked}
 use Rattle.esr_quiet.specs.Refusals.{AreByRule}
 use Rattle.esr_quiet.proofs.Prefixes.{has_at}
 use Rattle.esr_quiet.proofs.Passing.{quiet_at, legal_at}
@@ -26,7 +26,7 @@ use Rattle.esr_quiet.proofs.Callers.{caller_one, caller_left}
 use Rattle.esr_complete.specs.InTurn.{IsInTurn, IsEndOfCheck, IsCheckPart, IsPart, AreParts, NoneAsksCheck, AreChecksInTurn}
 use Rattle.esr_complete.specs.Lines.{steps_of_item, steps_of, entries_of}
 use Rattle.esr_complete.proofs.OpEnds.{IsCalm, calm_unblocked}
-use Rattle.esr_complete.proofs.Histories.{all_calm}
+use Rattle.esr_complete.proofs.Histories.{calm_of}
 
 -- the step reads nothing
 abbrev pub IsNoRead : Step → Type 0
@@ -232,7 +232,7 @@ module _ (f : Formats) (size : ℕ) (w : World) where
   wrote_drawn name None = refl
   wrote_drawn name (Some b) = refl
 
-  reads : (read : Read) (reply : Reply) (image : Option Image) → IsCalm reply (ReadStep read) → GoesWell (ReadStep read) reply → ReadAllows f w 0 read reply image → OneTurn c.drawn (caller_read f c read reply image).drawn (by_nobody (ReadStep read) reply)
+  reads : (read : Read) (reply : Reply) (image : Option Image) → IsCalm (Unit {0}) reply (ReadStep read) → GoesWell (ReadStep read) reply → ReadAllows f w 0 read reply image → OneTurn c.drawn (caller_read f c read reply image).drawn (by_nobody (ReadStep read) reply)
   reads read reply image calm well (ReadFound k name im stored by there) = AsideTurn refl refl (told_drawn name (told_blob f im name))
   reads read reply image calm well (ReadMissing k name im stored by none) = AsideTurn refl refl refl
   reads read reply image calm well (ReadFault k name im stored by) = absurd calm
@@ -241,7 +241,7 @@ module _ (f : Formats) (size : ℕ) (w : World) where
   reads read reply image calm well (CheckingAll snapshots blobs im checks) = absurd (well.1 snapshots blobs refl)
   reads read reply image calm well (CheckFailing why im looked) = absurd (well.0 why refl refl)
 
-  verifies : (read : Read) (reply : Reply) (image : Option Image) → IsCalm reply (ReadStep read) → GoesWell (ReadStep read) reply → VerifyAllows f w read reply image → OneTurn c.drawn (caller_read f c read reply image).drawn (by_nobody (ReadStep read) reply)
+  verifies : (read : Read) (reply : Reply) (image : Option Image) → IsCalm (Unit {0}) reply (ReadStep read) → GoesWell (ReadStep read) reply → VerifyAllows f w read reply image → OneTurn c.drawn (caller_read f c read reply image).drawn (by_nobody (ReadStep read) reply)
   verifies read reply image calm well (DrawingTest im idle fits same) = DrawTurn w.next_id refl refl refl idle.undrawn refl
   verifies read reply image calm well (TestSpent im idle spent same) = absurd calm
   verifies read reply image calm well (BeginningTest name im own same) = AsideTurn refl refl refl
@@ -254,7 +254,7 @@ module _ (f : Formats) (size : ℕ) (w : World) where
   verifies read reply image calm well (VerifyingAll im done same) = EndTurn done.id refl refl refl refl done.drawn refl
   verifies read reply image calm well (VerifyFailing why im begun same) = absurd (well.0 why refl refl)
 
-  by_read : (read : Read) (reply : Reply) (image : Option Image) → IsCalm reply (ReadStep read) → GoesWell (ReadStep read) reply → Allows f size w 0 (ReadStep read) reply image → OneTurn c.drawn (caller_read f c read reply image).drawn (by_nobody (ReadStep read) reply)
+  by_read : (read : Read) (reply : Reply) (image : Option Image) → IsCalm (Unit {0}) reply (ReadStep read) → GoesWell (ReadStep read) reply → Allows f size w 0 (ReadStep read) reply image → OneTurn c.drawn (caller_read f c read reply image).drawn (by_nobody (ReadStep read) reply)
   by_read read reply image calm well (allowed.Reading k r rep im a same) = reads r rep im calm well a
   by_read read reply image calm well (allowed.Verifying r rep im a) = verifies r rep im calm well a
 
@@ -266,7 +266,7 @@ module _ (f : Formats) (size : ℕ) (w : World) where
   looked_none true none = refl
   looked_none false none = none
 
-  one_turn : (step : Step) (reply : Reply) (image : Option Image) → (is_line_ask step ≡ true → IsLineStep step) → (is_line_ask step ≡ true → c.drawn ≡ None) → IsCalm reply step → GoesWell step reply → Allows f size w 0 step reply image
+  one_turn : (step : Step) (reply : Reply) (image : Option Image) → (is_line_ask step ≡ true → IsLineStep step) → (is_line_ask step ≡ true → c.drawn ≡ None) → IsCalm (Unit {0}) reply step → GoesWell step reply → Allows f size w 0 step reply image
       → OneTurn c.drawn (caller_after f c 0 step reply image).drawn (by_nobody step reply)
   one_turn (AskStep command) reply image lined closed calm well a = LineTurn refl refl (λ read e. cc) (closed refl) (asked_none (is_heard reply) (closed refl))
   one_turn LookStep reply image lined closed calm well a = LineTurn refl refl (λ read e. cc) (closed refl) (looked_none (is_heard reply) (closed refl))
@@ -276,7 +276,7 @@ module _ (f : Formats) (size : ℕ) (w : World) where
   one_turn step reply image lined closed calm well a = absurd (lined refl)
 
 -- of who 0
-turn_of : (f : Formats) (size : ℕ) (w : World) (m : Moment) → m.entry.who ≡ 0 → (is_line_ask m.entry.step ≡ true → IsLineStep m.entry.step) → (is_line_ask m.entry.step ≡ true → w.caller.drawn ≡ None) → IsCalm m.entry.reply m.entry.step → GoesWell m.entry.step m.entry.reply
+turn_of : (f : Formats) (size : ℕ) (w : World) (m : Moment) → m.entry.who ≡ 0 → (is_line_ask m.entry.step ≡ true → IsLineStep m.entry.step) → (is_line_ask m.entry.step ≡ true → w.caller.drawn ≡ None) → IsCalm (Unit {0}) m.entry.reply m.entry.step → GoesWell m.entry.step m.entry.reply
     → Allows f size w m.entry.who m.entry.step m.entry.reply m.image → OneTurn w.caller.drawn (caller_after f w.caller m.entry.who m.entry.step m.entry.reply m.image).drawn m.entry
 turn_of f size w m nobody lined closed calm well a =
     subst (λ (k : ℕ). Allows f size w k m.entry.step m.entry.reply m.image → OneTurn w.caller.drawn (caller_after f w.caller k m.entry.step m.entry.reply m.image).drawn (record { who = k; step = m.entry.step; reply = m.entry.reply })) (sym nobody)
@@ -297,13 +297,13 @@ ended_undrawn f c (ReadFails why) image is = refl
 ended_undrawn f c read image is = absurd is
 
 -- a fetch that isn't refused belongs to no line
-fetch_aside : (name : BlobName) (reply : Reply) → IsCalm reply (ReadStep (ReadBlob name)) → is_line_step (ReadStep (ReadBlob name)) reply ≡ false
-fetch_aside name (Refused refusal) calm = absurd calm
+fetch_aside : (name : BlobName) (reply : Reply) → IsCalm (Unit {0}) reply (ReadStep (ReadBlob name)) → is_line_step (ReadStep (ReadBlob name)) reply ≡ false
+fetch_aside name (Refused (DeposedAt place)) calm = absurd calm
 fetch_aside name HasEnded calm = refl
 fetch_aside name reply calm = refl
 
 abbrev AllCalmIn : List Moment → Type 0
-AllCalmIn ms = (m : Moment) → Has ms m → IsCalm m.entry.reply m.entry.step
+AllCalmIn ms = (m : Moment) → Has ms m → IsCalm (Unit {0}) m.entry.reply m.entry.step
 
 -- so fetches leave a check open
 fetches_turn : (ms back : List Moment) (kinds : List Bool) → AllFetches ms → AllCalmIn ms → InTurn InCheck kinds (entries_of back) → InTurn InCheck kinds (entries_of (ms ++ back))
@@ -311,7 +311,7 @@ fetches_turn [] back kinds all calm turn = turn
 fetches_turn (m ∷ ms) back kinds all calm turn =
     let name : BlobName = all.1.0 in
     let asked : is_asked m.entry ≡ false = (λ i. (all.0 i == 0) && is_line_ask (all.1.1 i)) in
-    let line : is_of_line m.entry ≡ false = (λ i. (all.0 i == 0) && is_line_step (all.1.1 i) m.entry.reply) ∙ fetch_aside name m.entry.reply (subst (IsCalm m.entry.reply) all.1.1 (calm m (inl refl))) in
+    let line : is_of_line m.entry ≡ false = (λ i. (all.0 i == 0) && is_line_step (all.1.1 i) m.entry.reply) ∙ fetch_aside name m.entry.reply (subst (IsCalm (Unit {0}) m.entry.reply) all.1.1 (calm m (inl refl))) in
     IsAside InCheck kinds m.entry (entries_of (ms ++ back)) asked line (fetches_turn ms back kinds all.2 (λ n has. calm n (inr has)) turn)
 
 -- ---- the kinds of what other lines ask for
@@ -330,7 +330,7 @@ lines_kinds moment (line ∷ lines) none =
     falses_both (steps_of_item moment line.item) (steps_of moment lines)
     ∙ (λ i. item_kinds moment line.item (none line (inl refl)) i ++ lines_kinds moment lines (λ l has. none l (inr has)) i)
 
-module _ (s : Start) (log : List Moment) (lines : List ScriptLine) (moment : ℕ) (smooth : IsSmooth s log) (none : NoneFailed log) (undeleted : NoneUndeleted log) (unverified : NoneUnverified log) (by_rule : AreByRule log) (in_turn : IsInTurn s log)
+module _ (s : Start) (log : List Moment) (lines : List ScriptLine) (moment : ℕ) (smooth : IsSmooth s log) (none : NoneFailed log) (unverified : NoneUnverified log) (by_rule : AreByRule s log) (in_turn : IsInTurn s log)
     (asked : asked_steps log ≡ steps_of moment lines) where
   lined : (m : Moment) → Has log m → m.entry.who ≡ 0 → is_line_ask m.entry.step ≡ true → IsLineStep m.entry.step
   lined m has who ask =
@@ -346,11 +346,11 @@ module _ (s : Start) (log : List Moment) (lines : List ScriptLine) (moment : ℕ
         | inl nobody ↦ elim a.answered [
           | inl alive ↦
               subst (λ (x : Caller). OneTurn (caller_of s front).drawn x.drawn m.entry) (sym (caller_one s front m))
-              (turn_of (formats_of s) s.part_size (world_of s front) m nobody.1 (lined m has nobody.1) (in_turn.asked front back m is nobody.1) (all_calm log none undeleted by_rule m has)
+              (turn_of (formats_of s) s.part_size (world_of s front) m nobody.1 (lined m has nobody.1) (in_turn.asked front back m is nobody.1) (calm_of s log none by_rule m has)
               ((λ why. unverified m why has nobody.1), (λ snapshots blobs. unchecked snapshots blobs nobody.1)) alive.1)
           | inr dead ↦
-              absurd (calm_unblocked (world_of s front) m.entry.who m.entry.step dead.refusal (quiet_at s log smooth front (m ∷ back) is).present
-              (subst (λ (r : Reply). IsCalm r m.entry.step) dead.refused (all_calm log none undeleted by_rule m has)) dead.blocks)
+              absurd (calm_unblocked (Unit {0}) (world_of s front) m.entry.who m.entry.step dead.refusal (quiet_at s log smooth front (m ∷ back) is).present
+              (subst (λ (r : Reply). IsCalm (Unit {0}) r m.entry.step) dead.refused (calm_of s log none by_rule m has)) dead.blocks)
         ]
         | inr some ↦
             AsideTurn (ap (λ (b : Bool). b && is_line_ask m.entry.step) some.0) (ap (λ (b : Bool). b && is_line_step m.entry.step m.entry.reply) some.0)
@@ -395,7 +395,7 @@ module _ (s : Start) (log : List Moment) (lines : List ScriptLine) (moment : ℕ
       let ending : InTurn InCheck kinds (entries_of (h.end ∷ back)) =
       IsCheckEnd kinds h.end.entry (entries_of back) snapshots blobs end_asked end_line step h.ended (subst (λ (o : Option ℕ). InTurn (turn_by o) kinds (entries_of back)) closed turn) in
       let calm : AllCalmIn h.fetches =
-      λ m has. all_calm log none undeleted by_rule m (subst (λ (l : List Moment). Has l m) (sym from) (behind_all done (h.look ∷ (h.fetches ++ h.end ∷ back)) m (inr (before_all h.fetches (h.end ∷ back) m has)))) in
+      λ m has. calm_of s log none by_rule m (subst (λ (l : List Moment). Has l m) (sym from) (behind_all done (h.look ∷ (h.fetches ++ h.end ∷ back)) m (inr (before_all h.fetches (h.end ∷ back) m has)))) in
       let look_asked : is_asked h.look.entry ≡ true = (λ i. (h.looker i == 0) && is_line_ask (h.looks i)) in
       let look_line : is_of_line h.look.entry ≡ true = (λ i. (h.looker i == 0) && is_line_step (h.looks i) h.look.entry.reply) in
       let looking : InTurn Idle (true ∷ kinds) (entries_of (h.look ∷ (h.fetches ++ h.end ∷ back))) =

@@ -1,5 +1,6 @@
 pub mod Tickets
 pub mod OpEnds
+pub mod Stale
 pub mod RestoreTickets
 pub mod Following
 pub mod AbortedOps

@@ -2,31 +2,38 @@
 use Rattle.std.proofs.Common.{◌≡◌, ◌⊎◌, ℕ, Bool, true, false, true≢false, List, [], ◌∷◌, ◌++◌, append-nil, append_assoc, Option, Some, None, option_map, if◌then◌else◌, refl, sym, ap, ◌∙◌, subst, inl, inr}
 use Rattle.std.proofs.lemmas.Bool.{eqb-true}
 use Rattle.esr_model.specs.Values.{Bytes, Has}
-use Rattle.esr_core.specs.Entry.{DeleteSnapshots, DeleteFails, SettlePruned, Step, AskStep, SettleStep, FailedStep, DroppedStep, PruneStep, Refusal, Reply, Accepted, WasSettled, HasEnded, Refused, Entry}
+use Rattle.esr_core.specs.Entry.{DeleteSnapshots, DeleteFails, SettlePruned, Step, AskStep, SettleStep, FailedStep, DroppedStep, PruneStep, Refusal, StaleTerm, Reply, Accepted, WasSettled, HasEnded, Refused, Entry}
 use Rattle.esr_core.specs.World.{World}
-use Rattle.esr_core.specs.Allowed.{Blocks}
+use Rattle.esr_core.specs.Allowed.{Blocks, ByFailedSwap, ByDelete}
 use Rattle.esr_core.specs.After.{or_else}
 use Rattle.esr_core.proofs.Results.{choose_true, choose_false}
 use Rattle.esr_core.proofs.Deleting.{bool_told}
-use Rattle.esr_quiet.specs.Refusals.{IsByRule}
-use Rattle.esr_quiet.proofs.Rules.{rule_unblocked}
+use Rattle.esr_quiet.specs.Refusals.{IsByRule, IsSwapStep}
+use Rattle.esr_quiet.proofs.Rules.{no_abort_rule}
 use Rattle.esr_report.specs.Cleaned.{is_cleanup_ticket, blobs_gone, bytes_gone}
 use Rattle.esr_report.specs.Replies as report
-use Rattle.esr_report.specs.Replies.{Made, Deleted, Cleaned, Aborted, op_of_ticket, uuid_of_ticket, is_op, is_stale, cleaned_by, ends_by, ends_at, name_of_op, final_out, has_name, abort_of, aborts_at, end_of_op}
+use Rattle.esr_report.specs.Replies.{Made, Deleted, Cleaned, Aborted, op_of_ticket, uuid_of_ticket, is_op, is_stale, fails_by, delete_of_ticket, cleaned_by, ends_by, ends_at, name_of_op, final_out, has_name, abort_of, aborts_at, end_of_op}
 use Rattle.esr_complete.proofs.Tickets.{none_some, name_stays, name_before, same_op}
 
--- no unit failed by this entry, nor a delete or a cleanup, and no refusal but that of a command by a rule
-abbrev pub IsCalm : Reply → Step → Type 0
-IsCalm (Refused refusal) (AskStep command) = IsByRule command refusal
-IsCalm (Refused refusal) step = ⊥
-IsCalm HasEnded (FailedStep why) = ⊥
-IsCalm HasEnded (PruneStep (DeleteFails why)) = ⊥
-IsCalm reply step = Unit {0}
+-- no unit failed by this entry, nor a delete or a cleanup but where this is so, and no refusal but that of a command by a rule, or of a
+-- stale ticket's swap
+abbrev pub IsCalm : Type 0 → Reply → Step → Type 0
+IsCalm stale (Refused refusal) (AskStep command) = IsByRule command refusal
+IsCalm stale (Refused (StaleTerm own now)) step = IsSwapStep step
+IsCalm stale (Refused refusal) step = ⊥
+IsCalm stale HasEnded (FailedStep why) = ⊥
+IsCalm stale HasEnded (PruneStep (DeleteFails why)) = stale
+IsCalm stale reply step = Unit {0}
+
+-- each entry is so, of those that tell a failure the ticket being stale
+abbrev pub AreCalmIn : List Entry → Type 0
+AreCalmIn all = (before : List Entry) (e : Entry) (back : List Entry) → all ≡ before ++ e ∷ back → IsCalm (is_stale before e.who ≡ true) e.reply e.step
 
 -- what is calm nothing blocks
-pub calm_unblocked : (w : World) (who : ℕ) (step : Step) (refusal : Refusal) → w.deposed ≡ false → IsCalm (Refused refusal) step → Blocks w who step refusal → ⊥
-calm_unblocked w who (AskStep command) refusal alive calm blocks = rule_unblocked w who (AskStep command) refusal command alive calm blocks
-calm_unblocked w who step refusal alive calm blocks = calm
+pub calm_unblocked : (stale : Type 0) (w : World) (who : ℕ) (step : Step) (refusal : Refusal) → w.deposed ≡ false → IsCalm stale (Refused refusal) step → Blocks w who step refusal → ⊥
+calm_unblocked stale w who step _ alive calm (ByFailedSwap place deposed) = true≢false (sym deposed ∙ alive)
+calm_unblocked stale w who (AskStep command) _ alive calm (ByDelete op undeposed aborted) = no_abort_rule command op calm
+calm_unblocked stale w who step _ alive calm (ByDelete op undeposed aborted) = calm
 
 -- ---- what an entry answers an op
 
@@ -85,20 +92,20 @@ of_drop all who true true cleans_is = tt
 of_drop all who false true cleans_is = absurd (true≢false (sym (cleans_is refl)))
 of_drop all who cleans false cleans_is = tt
 
-made_by : (all : List Entry) (stale : Bool) (who : ℕ) (step : Step) (reply : Reply) → IsCalm reply step → (IsPruned step reply → ⊥) → (IsDropped step reply → is_cleanup_ticket all who ≡ false) → MadeOrNone (ends_by all stale who step reply)
+made_by : (all : List Entry) (stale : Bool) (who : ℕ) (step : Step) (reply : Reply) → IsCalm (stale ≡ true) reply step → (IsPruned step reply → ⊥) → (IsDropped step reply → is_cleanup_ticket all who ≡ false) → MadeOrNone (ends_by all stale who step reply)
 made_by all stale who SettleStep WasSettled calm other left = of_uuid (uuid_of_ticket all who)
 made_by all stale who (FailedStep why) HasEnded calm other left = absurd calm
 made_by all stale who (PruneStep SettlePruned) WasSettled calm other left = absurd (other tt)
-made_by all stale who (PruneStep (DeleteFails why)) HasEnded calm other left = absurd calm
+made_by all stale who (PruneStep (DeleteFails why)) HasEnded calm other left = subst (λ (b : Bool). MadeOrNone (fails_by b why (delete_of_ticket all who))) (sym calm) tt
 made_by all stale who DroppedStep HasEnded calm other left = subst (λ (b : Bool). MadeOrNone (cleaned_by all who b)) (sym (left tt)) tt
 made_by all stale who step reply calm other left = tt
 
-over_by : (cleans : Bool) (all : List Entry) (stale : Bool) (who : ℕ) (step : Step) (reply : Reply) → IsCalm reply step → (IsSettled step reply → ⊥) → (IsPruned step reply → is_cleanup_ticket all who ≡ cleans) → (IsDropped step reply → is_cleanup_ticket all who ≡ true → cleans ≡ true)
+over_by : (cleans : Bool) (all : List Entry) (stale : Bool) (who : ℕ) (step : Step) (reply : Reply) → IsCalm (stale ≡ true) reply step → (IsSettled step reply → ⊥) → (IsPruned step reply → is_cleanup_ticket all who ≡ cleans) → (IsDropped step reply → is_cleanup_ticket all who ≡ true → cleans ≡ true)
     → OverOrNone cleans (ends_by all stale who step reply)
 over_by cleans all stale who SettleStep WasSettled calm other pruned left = absurd (other tt)
 over_by cleans all stale who (FailedStep why) HasEnded calm other pruned left = absurd calm
 over_by cleans all stale who (PruneStep SettlePruned) WasSettled calm other pruned left = subst (λ (b : Bool). OverOrNone cleans (option_map Deleted (if b then None else op_of_ticket all who))) (sym (pruned tt)) (of_op cleans (op_of_ticket all who))
-over_by cleans all stale who (PruneStep (DeleteFails why)) HasEnded calm other pruned left = absurd calm
+over_by cleans all stale who (PruneStep (DeleteFails why)) HasEnded calm other pruned left = subst (λ (b : Bool). OverOrNone cleans (fails_by b why (delete_of_ticket all who))) (sym calm) tt
 over_by cleans all stale who DroppedStep HasEnded calm other pruned left = of_drop all who cleans (is_cleanup_ticket all who) (left tt)
 over_by cleans all stale who step reply calm other pruned left = tt
 
@@ -110,7 +117,7 @@ is_own o None e = absurd (no_op e)
     no_op h = cc
 is_own o (Some p) e = ap (λ (n : ℕ). Some n) (eqb-true p o e)
 
-made_at : (all before : List Entry) (o : ℕ) (e : Entry) → IsCalm e.reply e.step → (op_of_ticket all e.who ≡ Some o → IsPruned e.step e.reply → ⊥) → (op_of_ticket all e.who ≡ Some o → IsDropped e.step e.reply → is_cleanup_ticket all e.who ≡ false) → MadeOrNone (ends_at all before o e)
+made_at : (all before : List Entry) (o : ℕ) (e : Entry) → IsCalm (is_stale before e.who ≡ true) e.reply e.step → (op_of_ticket all e.who ≡ Some o → IsPruned e.step e.reply → ⊥) → (op_of_ticket all e.who ≡ Some o → IsDropped e.step e.reply → is_cleanup_ticket all e.who ≡ false) → MadeOrNone (ends_at all before o e)
 made_at all before o e calm other left = elim (bool_told (is_op o (op_of_ticket all e.who))) [
   | inl own ↦
       let of : op_of_ticket all e.who ≡ Some o = is_own o (op_of_ticket all e.who) own in
@@ -120,16 +127,15 @@ made_at all before o e calm other left = elim (bool_told (is_op o (op_of_ticket 
 
 -- what the entries of a delete's or a cleanup's ticket are
 pub record IsOfKind (cleans : Bool) (all : List Entry) (o : ℕ) (e : Entry) : Type 0 where
-  pub calm : IsCalm e.reply e.step
   pub unsettled : op_of_ticket all e.who ≡ Some o → IsSettled e.step e.reply → ⊥
   pub pruned : op_of_ticket all e.who ≡ Some o → IsPruned e.step e.reply → is_cleanup_ticket all e.who ≡ cleans
   pub dropped : op_of_ticket all e.who ≡ Some o → IsDropped e.step e.reply → is_cleanup_ticket all e.who ≡ true → cleans ≡ true
 
-over_at : (cleans : Bool) (all before : List Entry) (o : ℕ) (e : Entry) → IsOfKind cleans all o e → OverOrNone cleans (ends_at all before o e)
-over_at cleans all before o e h = elim (bool_told (is_op o (op_of_ticket all e.who))) [
+over_at : (cleans : Bool) (all before : List Entry) (o : ℕ) (e : Entry) → IsCalm (is_stale before e.who ≡ true) e.reply e.step → IsOfKind cleans all o e → OverOrNone cleans (ends_at all before o e)
+over_at cleans all before o e calm h = elim (bool_told (is_op o (op_of_ticket all e.who))) [
   | inl own ↦
       let of : op_of_ticket all e.who ≡ Some o = is_own o (op_of_ticket all e.who) own in
-      subst (OverOrNone cleans) (sym (choose_true _ _ _ own)) (over_by cleans all (is_stale before e.who) e.who e.step e.reply h.calm (h.unsettled of) (h.pruned of) (h.dropped of))
+      subst (OverOrNone cleans) (sym (choose_true _ _ _ own)) (over_by cleans all (is_stale before e.who) e.who e.step e.reply calm (h.unsettled of) (h.pruned of) (h.dropped of))
   | inr none ↦ subst (OverOrNone cleans) (sym (choose_false _ _ _ none)) tt
 ]
 
@@ -202,12 +208,12 @@ aborted_in all o before [] e back answer is = inr (inl (answer, ap (λ (l : List
 aborted_in all o before (x ∷ front) e back answer is = inr (inr (aborted_in all o (before ++ x ∷ []) front e back answer (ap (λ (l : List Entry). aborts_at l o e) (append_assoc before (x ∷ []) front) ∙ is)))
 
 -- the first of these answers it
-pub end_found : (all : List Entry) (o : ℕ) (before es : List Entry) → all ≡ before ++ es → ((e : Entry) → Has es e → IsCalm e.reply e.step) → ((e : Entry) → Has es e → op_of_ticket all e.who ≡ Some o → IsPruned e.step e.reply → ⊥)
+pub end_found : (all : List Entry) (o : ℕ) (before es : List Entry) → all ≡ before ++ es → AreCalmIn all → ((e : Entry) → Has es e → op_of_ticket all e.who ≡ Some o → IsPruned e.step e.reply → ⊥)
     → ((e : Entry) → Has es e → op_of_ticket all e.who ≡ Some o → IsDropped e.step e.reply → is_cleanup_ticket all e.who ≡ false) → EndsIn all o before es → IsEnded all o (end_of_op all o before es)
 end_found all o before [] is calm other left found = absurd found
 end_found all o before (x ∷ es) is calm other left found =
-    by_end (λ behind. end_found all o (before ++ x ∷ []) es (is ∙ sym (append_assoc before (x ∷ []) es)) (λ e m. calm e (inr m)) (λ e m. other e (inr m)) (λ e m. left e (inr m)) behind)
-    (ends_at all before o x) refl (made_at all before o x (calm x (inl refl)) (other x (inl refl)) (left x (inl refl)))
+    by_end (λ behind. end_found all o (before ++ x ∷ []) es (is ∙ sym (append_assoc before (x ∷ []) es)) calm (λ e m. other e (inr m)) (λ e m. left e (inr m)) behind)
+    (ends_at all before o x) refl (made_at all before o x (calm before x es is) (other x (inl refl)) (left x (inl refl)))
   where
     later : (EndsIn all o (before ++ x ∷ []) es → IsEnded all o (end_of_op all o (before ++ x ∷ []) es)) → (ends_at all before o x ≡ None) → (aborts_at before o x ≡ None) → IsEnded all o (end_of_op all o (before ++ x ∷ []) es)
     later on none unaborted = elim found [
@@ -259,12 +265,12 @@ settled_in all o uuid e has op_is uuid_is step reply = made_in all o [] all e ha
 
 -- ---- the end of a delete or a cleanup
 
-pub over_found : (cleans : Bool) (all : List Entry) (o : ℕ) (before es : List Entry) → all ≡ before ++ es → name_of_op all o ≡ None → ((e : Entry) → Has es e → IsOfKind cleans all o e)
+pub over_found : (cleans : Bool) (all : List Entry) (o : ℕ) (before es : List Entry) → all ≡ before ++ es → AreCalmIn all → name_of_op all o ≡ None → ((e : Entry) → Has es e → IsOfKind cleans all o e)
     → (e : Entry) → Has es e → ((b : List Entry) → IsOverBy cleans (ends_at all b o e)) → IsOverBy cleans (end_of_op all o before es)
-over_found cleans all o before [] is unnamed kinds e has over = absurd has
-over_found cleans all o before (x ∷ es) is unnamed kinds e has over =
-    by_end (λ behind. over_found cleans all o (before ++ x ∷ []) es (is ∙ sym (append_assoc before (x ∷ []) es)) unnamed (λ y m. kinds y (inr m)) e behind over)
-    (ends_at all before o x) refl (over_at cleans all before o x (kinds x (inl refl)))
+over_found cleans all o before [] is calm unnamed kinds e has over = absurd has
+over_found cleans all o before (x ∷ es) is calm unnamed kinds e has over =
+    by_end (λ behind. over_found cleans all o (before ++ x ∷ []) es (is ∙ sym (append_assoc before (x ∷ []) es)) calm unnamed (λ y m. kinds y (inr m)) e behind over)
+    (ends_at all before o x) refl (over_at cleans all before o x (calm before x es is) (kinds x (inl refl)))
   where
     unaborted : aborts_at before o x ≡ None
     unaborted = unnamed_abort (name_of_op before o) (final_out before o) x.step x.reply (name_before before (x ∷ es) o (ap (λ (l : List Entry). name_of_op l o) (sym is) ∙ unnamed))

@@ -23,11 +23,12 @@ use Rattle.esr_quiet.specs.Smooth.{IsSmooth, NoneFailed, NoneUndeleted, NoneUnre
 use Rattle.esr_complete.specs.Lines.{entries_of}
 use Rattle.esr_complete.specs.Answers.{IsIdle}
 use Rattle.esr_complete.proofs.Following.{FollowsIn}
+use Rattle.esr_complete.proofs.Stale.{IsStaleIn}
 use Rattle.esr_complete.proofs.Steps.{follows_step}
 use Rattle.esr_complete.proofs.RestoreTickets.{IsRestored}
 use Rattle.esr_complete.proofs.FollowingRestores.{AskedRestore, opens, RestoresIn}
 use Rattle.esr_complete.proofs.RestoreSteps.{IsOrdered, restores_step}
-use Rattle.esr_complete.proofs.Histories.{Laws, read_opened, reader_out, AreCalm, all_calm, AreSafe, all_safe, follows_start}
+use Rattle.esr_complete.proofs.Histories.{Laws, read_opened, reader_out, AreCalm, all_calm, calm_then, AreSafe, all_safe, safe_here, safe_then, follows_start}
 
 -- ---- each world of the history is in order
 
@@ -64,22 +65,22 @@ restores_start : (f : Formats) (image : Image) (w : World) → Opened f image w 
 restores_start f image w (OpenedEmpty none) = restores_opened image.blobs no_record no_root
 restores_start f image w (OpenedRecord cluster text root is reads root_is) = restores_opened image.blobs cluster root
 
-restores_history : (f : Formats) (size : ℕ) (log : List Moment) (w : World) (es : List Entry) → FollowsIn w es → RestoresIn w es → IsLegal f size w log → AreCalm log → AreSafe f w log → NoneUnrestored log → AreOrdered f w log → RestoresIn (world_from f w log) (es ++ entries_of log)
+restores_history : (f : Formats) (size : ℕ) (log : List Moment) (w : World) (es : List Entry) → FollowsIn w es → RestoresIn w es → IsLegal f size w log → AreCalm f w log → AreSafe f w es log → NoneUnrestored log → AreOrdered f w log → RestoresIn (world_from f w log) (es ++ entries_of log)
 restores_history f size [] w es h r legal calm safe none ordered = subst (RestoresIn w) (sym (append-nil es)) r
 restores_history f size (m ∷ log) w es h r legal calm safe none ordered =
     subst (RestoresIn (world_from f (after f w m) log)) (append_assoc es (m.entry ∷ []) (entries_of log))
-    (restores_history f size log (after f w m) (es ++ m.entry ∷ []) (follows_step f size w es h m legal.0 (calm m (inl refl)) (safe [] (m ∷ log) refl))
-    (restores_step f size w es r (ordered [] (m ∷ log) refl) h.live m legal.0 (calm m (inl refl)) (λ why from is. none m why (inl refl) from is)) legal.1 (λ n has. calm n (inr has)) (λ front back is. safe (m ∷ front) back (ap (λ (l : List Moment). m ∷ l) is)) (λ n why has. none n why (inr has))
-    (λ front back is. ordered (m ∷ front) back (ap (λ (l : List Moment). m ∷ l) is)))
+    (restores_history f size log (after f w m) (es ++ m.entry ∷ []) (follows_step f size w es h m legal.0 (calm [] log m refl) (safe_here f w es (m ∷ log) safe))
+    (restores_step (IsStaleIn w m.entry.who) f size w es r (ordered [] (m ∷ log) refl) h.live m legal.0 (calm [] log m refl) (λ why from is. none m why (inl refl) from is)) legal.1 (calm_then f w m log calm) (safe_then f w es m log safe)
+    (λ n why has. none n why (inr has)) (λ front back is. ordered (m ∷ front) back (ap (λ (l : List Moment). m ∷ l) is)))
 
 smooth_ordered : Laws → (s : Start) (log : List Moment) → IsSmooth s log → AreOrdered (formats_of s) s.world log
 smooth_ordered laws s log smooth = all_ordered laws (formats_of s) s.part_size smooth.image smooth.shelf s.world log smooth.known smooth.kept smooth.opened smooth.legal smooth.told smooth.honest
 
 -- what the whole history tells
-restores_all : Laws → (s : Start) (log : List Moment) → IsSmooth s log → NoneFailed log → NoneUndeleted log → NoneUnrestored log → AreByRule log → RestoresIn (world_of s log) (entries_of log)
+restores_all : Laws → (s : Start) (log : List Moment) → IsSmooth s log → NoneFailed log → NoneUndeleted s log → NoneUnrestored log → AreByRule s log → RestoresIn (world_of s log) (entries_of log)
 restores_all laws s log smooth none undeleted unrestored by_rule =
     restores_history (formats_of s) s.part_size log s.world [] (follows_start (formats_of s) smooth.image s.world smooth.opened) (restores_start (formats_of s) smooth.image s.world smooth.opened) smooth.legal
-    (all_calm log none undeleted by_rule) (all_safe laws s log smooth) unrestored (smooth_ordered laws s log smooth)
+    (all_calm s log none by_rule undeleted) (all_safe laws s log smooth) unrestored (smooth_ordered laws s log smooth)
 
 -- ---- no restore is open at the end
 
@@ -102,7 +103,7 @@ none_open_at laws s log smooth idle o r there =
     (λ k q e out. reader_out (fin.get (world_of s log).readers k) q (idle.no_reader k) e out))
 
 -- so each shard of each restore that was accepted was restored
-pub all_restored : Laws → (s : Start) (log : List Moment) → IsSmooth s log → NoneFailed log → NoneUndeleted log → NoneUnrestored log → AreByRule log → IsIdle s log → (e : Entry) (a : AskedRestore) → Has (entries_of log) e → opens e.reply ≡ Some a
+pub all_restored : Laws → (s : Start) (log : List Moment) → IsSmooth s log → NoneFailed log → NoneUndeleted s log → NoneUnrestored log → AreByRule s log → IsIdle s log → (e : Entry) (a : AskedRestore) → Has (entries_of log) e → opens e.reply ≡ Some a
     → (p : IndexRef × ℕ) → Has (places a.indices) p → IsRestored (entries_of log) (read_shard a.op a.uuid p)
 all_restored laws s log smooth none undeleted unrestored by_rule idle e a has opened p m = elim ((restores_all laws s log smooth none undeleted unrestored by_rule).asked e a has opened p m) [
   | inl stands ↦ absurd (none_open_at laws s log smooth idle a.op stands.r stands.there)

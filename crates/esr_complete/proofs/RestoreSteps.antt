@@ -199,8 +199,9 @@ module _ (f : Formats) (size : ℕ) (w : World) (es : List Entry) (h : RestoresI
   restores_by who step reply image (allowed.Pruning k prune rep im p) un = prunes k prune rep im p
   restores_by who step reply image other un = aside who step reply image tt (λ y. refl) refl refl
 
-pub restores_step : (f : Formats) (size : ℕ) (w : World) (es : List Entry) → RestoresIn w es → IsOrdered w → w.deposed ≡ false → (m : Moment) → Allowed f size w m → IsCalm m.entry.reply m.entry.step → IsUnfailed m.entry.who m.entry.step m.entry.reply → RestoresIn (after f w m) (es ++ m.entry ∷ [])
-restores_step f size w es h t live m a calm un = elim a.answered [
+pub restores_step : (stale : Type 0) (f : Formats) (size : ℕ) (w : World) (es : List Entry) → RestoresIn w es → IsOrdered w → w.deposed ≡ false → (m : Moment) → Allowed f size w m → IsCalm stale m.entry.reply m.entry.step → IsUnfailed m.entry.who m.entry.step m.entry.reply
+    → RestoresIn (after f w m) (es ++ m.entry ∷ [])
+restores_step stale f size w es h t live m a calm un = elim a.answered [
   | inl alive ↦ restores_by f size w es h t m.entry.who m.entry.step m.entry.reply m.image alive.1 un
-  | inr dead ↦ absurd (calm_unblocked w m.entry.who m.entry.step dead.refusal live (subst (λ (r : Reply). IsCalm r m.entry.step) dead.refused calm) dead.blocks)
+  | inr dead ↦ absurd (calm_unblocked stale w m.entry.who m.entry.step dead.refusal live (subst (λ (r : Reply). IsCalm stale r m.entry.step) dead.refused calm) dead.blocks)
 ]

@@ -1,5 +1,5 @@
 -- Each step where nothing fails keeps what the history tells.
-use Rattle.std.proofs.Common.{◌≡◌, ◌⊎◌, ℕ, suc, ◌+◌, ◌<◌, ◌≤◌, Bool, true, false, true≢false, List, [], ◌∷◌, ◌++◌, Option, Some, None, map, refl, sym, ap, ◌∙◌, subst, inl, inr, arith}
+use Rattle.std.proofs.Common.{◌≡◌, ◌⊎◌, ℕ, suc, ◌+◌, ◌<◌, ◌≤◌, Bool, true, false, true≢false, ◌==◌, List, [], ◌∷◌, ◌++◌, Option, Some, None, map, refl, sym, ap, ◌∙◌, subst, inl, inr, arith}
 use Rattle.std.proofs.lemmas.Bool.Decides.{eqb_tells}
 use Rattle.std.specs.FinMap as fin
 use Rattle.esr_model.specs.Names.{BlobName, Latest}
@@ -9,15 +9,15 @@ use Rattle.esr_model.specs.Delete.{PrunedShard, kept_count}
 use Rattle.esr_model.specs.Image.{Image}
 use Rattle.esr_core.specs.World.{World, Op, Deletion, ShardWork, Done, Shard, Finalize, Deleting, Drop, Swap, Ticket, RestoreShard, Restoring, marked, info_of, made_of}
 use Rattle.esr_core.specs.Ready.{ReadyDrop, ReadyDelete, ReadyCleanup}
-use Rattle.esr_core.specs.Steps.{shard_ticket, final_ticket, given, listing}
+use Rattle.esr_core.specs.Steps.{with_ticket, shard_ticket, final_ticket, given, listing}
 use Rattle.esr_core.specs.Turns.{plain_ticket, cleaning_ticket}
 use Rattle.esr_core.specs.Pruning.{planned_work, planned, delete_swap}
 use Rattle.esr_core.specs.Deletes.{first_delete, runs_for, named_uuids, waiting_delete, running_delete, number_by, aborts_op, aborted_ops, with_named, delete_merged, delete_by}
 use Rattle.esr_core.specs.Ids.{Law}
-use Rattle.esr_core.specs.Entry.{AskedIndex, Asked, Snapshot, Clone, CloneOf, DeleteSnapshots, Restore, Cleanup, is_recorded, Given, GivenShard, GivenFinalize, GivenDrop, GivenRestore, GivenClone, GivenDelete, GivenCleanup, Read, ReadBlob, RestoredShard, CheckedAll, DrawTest, BeginTest, CommitTest, RemoveTests, VerifiedAll, ReadFails, Prune, FetchShard, PlanShards, SettlePruned, RemoveDoomed, EndDelete, Step, AskStep, TakeStep, DrawStep, BeginStep, CommitStep, LatestStep, FetchStep, ListStep, RaiseStep, SettleStep, DoneStep, FinishStep, DroppedStep, ElectStep, LookStep, ReadStep, PruneStep, CleanupRunning, NameInUse, TooMany, NoSnapshot, NoIndex, BeingDeleted, CloneRunning, RestoreRunning, BusyOp, BusyTicket, Reply, Accepted, NothingReady, Gave, DrawnFrom, WasBegun, WasDone, WasThere, WasReplaced, WasFetched, WasAbsent, WasListed, RaisedTo, WasSettled, HasEnded, ElectedTerm, Looked, Refused, WasRemoved, AcceptedRestore, Entry, Moment}
-use Rattle.esr_core.specs.After.{asked, cleanup_opened, asked_op, cloned_op, taken_by, taken_shard, taken_restore, taken_restore_shard, read_by, with_given, change, committing, fetching, told_blob, settled_of, done_of, done_by, dropped_of, delete_settled, after}
+use Rattle.esr_core.specs.Entry.{AskedIndex, Asked, Snapshot, Clone, CloneOf, DeleteSnapshots, Restore, Cleanup, is_recorded, Given, GivenShard, GivenFinalize, GivenDrop, GivenRestore, GivenClone, GivenDelete, GivenCleanup, Read, ReadBlob, RestoredShard, CheckedAll, DrawTest, BeginTest, CommitTest, RemoveTests, VerifiedAll, ReadFails, Why, Prune, FetchShard, PlanShards, SettlePruned, RemoveDoomed, EndDelete, DeleteFails, Step, AskStep, TakeStep, DrawStep, BeginStep, CommitStep, LatestStep, FetchStep, ListStep, RaiseStep, SettleStep, DoneStep, FinishStep, DroppedStep, ElectStep, LookStep, ReadStep, PruneStep, CleanupRunning, NameInUse, TooMany, NoSnapshot, NoIndex, BeingDeleted, CloneRunning, RestoreRunning, BusyOp, StaleTerm, Reply, Accepted, NothingReady, Gave, DrawnFrom, WasBegun, WasDone, WasThere, WasReplaced, WasFetched, WasAbsent, WasListed, RaisedTo, WasSettled, HasEnded, ElectedTerm, Looked, Refused, WasRemoved, AcceptedRestore, Entry, Moment}
+use Rattle.esr_core.specs.After.{asked, cleanup_opened, asked_op, cloned_op, taken_by, taken_shard, taken_restore, taken_restore_shard, read_by, with_given, change, committing, fetching, told_blob, settled_of, done_of, done_by, is_stale, dropped_of, delete_settled, delete_failed_by, delete_failed, after}
 use Rattle.esr_core.specs.Allowed as allowed
-use Rattle.esr_core.specs.Allowed.{NoCleanup, Accepts, Gives, GivesShard, GivesFinalize, GivesRestore, Settles, Dones, HasCleaned, Drops, MayPlan, SettlesDeletion, CloneAllows, OpeningClone, CloneUsed, SourceNotListed, SourceDeleted, IndexMissing, FullOfClones, CloneSpent, CloneFault, DeleteAllows, GoingInto, NotNamed, CloneStands, RestoreStands, FullOfOps, CleanupAllows, OpeningCleanup, OpStands, TicketStands, CleanupFault, RestoreAllows, OpeningRestore, NotListed, NamedByDelete, FullOfRestores, ReadAllows, ReadFound, ReadMissing, ReadFault, RestoringShard, ReaderFailing, CheckingAll, CheckFailing, VerifyAllows, DrawingTest, BeginningTest, CommittingTest, RemovingTests, VerifyingAll, VerifyFailing, PruneAllows, FetchingShard, ShardMissing, Planning, SettlingDelete, RemovingDoomed, EndingDelete, Allows, Allowed}
+use Rattle.esr_core.specs.Allowed.{NoCleanup, Accepts, Gives, GivesShard, GivesFinalize, GivesRestore, Settles, Dones, HasCleaned, Drops, MayPlan, SettlesDeletion, FailsDeletion, CloneAllows, OpeningClone, CloneUsed, SourceNotListed, SourceDeleted, IndexMissing, FullOfClones, CloneSpent, CloneFault, DeleteAllows, GoingInto, NotNamed, CloneStands, RestoreStands, FullOfOps, CleanupAllows, OpeningCleanup, OpStands, TicketStands, CleanupFault, RestoreAllows, OpeningRestore, NotListed, NamedByDelete, FullOfRestores, ReadAllows, ReadFound, ReadMissing, ReadFault, RestoringShard, ReaderFailing, CheckingAll, CheckFailing, VerifyAllows, DrawingTest, BeginningTest, CommittingTest, RemovingTests, VerifyingAll, VerifyFailing, PruneAllows, FetchingShard, ShardMissing, Planning, SettlingDelete, SettleDeleteStale, RemovingDoomed, EndingDelete, FailingDelete, Allows, Allowed}
 use Rattle.esr_core.proofs.AskedDeletes.{Waits, waits}
 use Rattle.esr_core.proofs.Besides.{IsNoTest, aside_by}
 use Rattle.esr_core.proofs.Deleting.{bool_told}
@@ -31,15 +31,16 @@ use Rattle.esr_report.specs.Replies as report
 use Rattle.esr_report.specs.Replies.{op_by, is_op, uuid_by, name_by, name_of_op, final_out, has_name, abort_of, aborts_at, is_over}
 use Rattle.esr_complete.proofs.Tickets.{none_some, op_stays, uuid_stays, cleanup_stays, cleanup_of, is_cleanup_op, cleans_stays, cleans_given, name_stays, name_given, IsGiftless, same_op}
 use Rattle.esr_complete.proofs.OpEnds.{IsCalm, calm_unblocked, abort_names}
+use Rattle.esr_complete.proofs.Stale.{IsStaleIn}
 use Rattle.esr_complete.proofs.Following.{IsSaid, snapshot_of, delete_of, IsOpenIn, IsDeleteIn, IsSettledIn, IsPrunedIn, IsCleanedIn, IsAbortedIn, HasName, IsNamedBy, IsNameless, IsToldOp, IsToldDelete, IsFinal, IsOutFinal, IsEndedOr, IsDeletedOr, Follows, FollowsIn, stands_at, stands_on, delete_on, aborted_on, named_on, nameless_on, op_on, delete_told_on, IsKin, kin_same, kin_on, out_same, out_on, IsOne, goes_on, told, gave, given_on, handed_on, follows_aside}
 use Rattle.esr_complete.proofs.AbortedOps as aborts
 use Rattle.esr_complete.proofs.AbortedOps.{was_op, not_out, names_it}
 
--- what holds of each world that the history passes: it is lawful, and its tickets are of the present term
-pub record IsSafe (f : Formats) (w : World) : Type 0 where
+-- what holds of each world that the history passes: it is lawful, and finalizations that are out by the entries are of the present term
+pub record IsSafe (f : Formats) (w : World) (es : List Entry) : Type 0 where
   pub shelf : List Shelved
   pub law : Law f w shelf
-  pub present : (k : ℕ) (t : Ticket) → fin.get w.tickets k ≡ Some t → t.term ≡ w.term
+  pub present : (o k : ℕ) (t : Ticket) → final_out es o ≡ Some k → fin.get w.tickets k ≡ Some t → t.term ≡ w.term
 
 -- ---- what an entry tells
 
@@ -348,21 +349,21 @@ module _ (f : Formats) (size : ℕ) (w : World) (es : List Entry) (h : FollowsIn
   clones : (source name : Bytes) (names : List Bytes) (time o : ℕ) (taken : CloneOf) → o ≡ w.next_op → FollowsIn (asked w (Clone source name names time (Some taken))) (es ++ told 0 (AskStep (Clone source name names time (Some taken))) (Accepted o) ∷ [])
   clones source name names time o taken is = subst (λ (n : ℕ). FollowsIn (asked w (Clone source name names time (Some taken))) (es ++ told 0 (AskStep (Clone source name names time (Some taken))) (Accepted n) ∷ [])) (sym is) (clones_next source name names time taken)
 
-  asks_clone : (source name : Bytes) (names : List Bytes) (time : ℕ) (taken : Option CloneOf) (reply : Reply) (image : Option Image) → CloneAllows f w source name names time taken reply image → IsCalm reply (AskStep (Clone source name names time taken))
+  asks_clone : (stale : Type 0) (source name : Bytes) (names : List Bytes) (time : ℕ) (taken : Option CloneOf) (reply : Reply) (image : Option Image) → CloneAllows f w source name names time taken reply image → IsCalm stale reply (AskStep (Clone source name names time taken))
       → FollowsIn (after f w (moment 0 (AskStep (Clone source name names time taken)) reply image)) (es ++ told 0 (AskStep (Clone source name names time taken)) reply ∷ [])
-  asks_clone source name names time taken reply image (OpeningClone t o im a) calm = clones source name names time o t a.number
-  asks_clone source name names time taken reply image (CloneUsed uuid im clear is) calm = stays (told 0 (AskStep (Clone source name names time None)) (Refused (NameInUse uuid))) tt tt
-  asks_clone source name names time taken reply image (SourceNotListed im may none) calm = stays (told 0 (AskStep (Clone source name names time None)) (Refused (NoSnapshot 0))) tt tt
-  asks_clone source name names time taken reply image (SourceDeleted uuid d im may listed named) calm = stays (told 0 (AskStep (Clone source name names time None)) (Refused (BeingDeleted d))) tt tt
-  asks_clone source name names time taken reply image (IndexMissing uuid place im may first) calm = stays (told 0 (AskStep (Clone source name names time None)) (Refused (NoIndex place))) tt tt
-  asks_clone source name names time taken reply image (FullOfClones uuid im may full) calm = stays (told 0 (AskStep (Clone source name names time None)) (Refused (TooMany 1000))) tt tt
-  asks_clone source name names time taken reply image (CloneSpent uuid im may room spent) calm = absurd calm
-  asks_clone source name names time taken reply image (CloneFault t im acc) calm = absurd calm
+  asks_clone stale source name names time taken reply image (OpeningClone t o im a) calm = clones source name names time o t a.number
+  asks_clone stale source name names time taken reply image (CloneUsed uuid im clear is) calm = stays (told 0 (AskStep (Clone source name names time None)) (Refused (NameInUse uuid))) tt tt
+  asks_clone stale source name names time taken reply image (SourceNotListed im may none) calm = stays (told 0 (AskStep (Clone source name names time None)) (Refused (NoSnapshot 0))) tt tt
+  asks_clone stale source name names time taken reply image (SourceDeleted uuid d im may listed named) calm = stays (told 0 (AskStep (Clone source name names time None)) (Refused (BeingDeleted d))) tt tt
+  asks_clone stale source name names time taken reply image (IndexMissing uuid place im may first) calm = stays (told 0 (AskStep (Clone source name names time None)) (Refused (NoIndex place))) tt tt
+  asks_clone stale source name names time taken reply image (FullOfClones uuid im may full) calm = stays (told 0 (AskStep (Clone source name names time None)) (Refused (TooMany 1000))) tt tt
+  asks_clone stale source name names time taken reply image (CloneSpent uuid im may room spent) calm = absurd calm
+  asks_clone stale source name names time taken reply image (CloneFault t im acc) calm = absurd calm
 
   -- ---- a delete is asked for
 
   -- each open op is as it was, or its abort is told
-  module _ (safe : IsSafe f w) (names : List Bytes) (d more : ℕ) (up : w.next_op ≤ more) where
+  module _ (safe : IsSafe f w es) (names : List Bytes) (d more : ℕ) (up : w.next_op ≤ more) where
     abbrev ask : Entry
     ask = told 0 (AskStep (DeleteSnapshots names)) (Accepted d)
 
@@ -385,7 +386,7 @@ module _ (f : Formats) (size : ℕ) (w : World) (es : List Entry) (h : FollowsIn
       where
         by : (found : Option ℕ) → final_out es o ≡ found → found ≡ None
         by None is = refl
-        by (Some k) is = let t = h.final o k is in absurd (not_out w (named_uuids w names) o old k t.t aborts t.there (safe.present k t.t t.there) t.op_is t.is)
+        by (Some k) is = let t = h.final o k is in absurd (not_out w (named_uuids w names) o old k t.t aborts t.there (safe.present o k t.t is t.there) t.op_is t.is)
 
     abort_is : (o : ℕ) (old : Op) → fin.get w.ops o ≡ Some old → aborts_op w (named_uuids w names) (o, old) ≡ true → aborts_at es o (told 0 (AskStep (DeleteSnapshots names)) (Accepted d)) ≡ Some (report.Aborted d)
     abort_is o old there aborts =
@@ -433,7 +434,7 @@ module _ (f : Formats) (size : ℕ) (w : World) (es : List Entry) (h : FollowsIn
       (λ o e. absurd (none_some o e)) (λ cleans e is. subst (λ (p : Bool × ℕ). IsNameless (es ++ x ∷ []) w.next_op p.0 p.1 × IsDeleteIn w.deletes p.1) (same_delete (false, d) (cleans, e) is) (nameless, stands))
 
   -- it is merged into one that waits
-  merges : IsSafe f w → NoCleanup w → (names : List Bytes) (d : ℕ) → Waits w d → FollowsIn (delete_merged w names d (fin.get w.deletes d)) (es ++ told 0 (AskStep (DeleteSnapshots names)) (Accepted d) ∷ [])
+  merges : IsSafe f w es → NoCleanup w → (names : List Bytes) (d : ℕ) → Waits w d → FollowsIn (delete_merged w names d (fin.get w.deletes d)) (es ++ told 0 (AskStep (DeleteSnapshots names)) (Accepted d) ∷ [])
   merges safe clear names d a =
       let x : Entry = told 0 (AskStep (DeleteSnapshots names)) (Accepted d) in
       let one : IsOne es w.next_op w.next_op x = ask_one safe names d w.next_op (same_up w.next_op) in
@@ -448,7 +449,7 @@ module _ (f : Formats) (size : ℕ) (w : World) (es : List Entry) (h : FollowsIn
       (delete_on w.deletes d y) (subst (λ (b : Bool). IsNameless (es ++ x ∷ []) w.next_op b d) (clear d a.x a.there) old.nameless) (y, same_in w.deletes d y))
 
   -- or it is an op of its own
-  opens : IsSafe f w → (names : List Bytes) → FollowsIn (delete_by w names None None) (es ++ told 0 (AskStep (DeleteSnapshots names)) (Accepted w.next_op) ∷ [])
+  opens : IsSafe f w es → (names : List Bytes) → FollowsIn (delete_by w names None None) (es ++ told 0 (AskStep (DeleteSnapshots names)) (Accepted w.next_op) ∷ [])
   opens safe names =
       let d : ℕ = w.next_op in
       let x : Entry = told 0 (AskStep (DeleteSnapshots names)) (Accepted w.next_op) in
@@ -463,19 +464,19 @@ module _ (f : Formats) (size : ℕ) (w : World) (es : List Entry) (h : FollowsIn
       ])
       (delete_on w.deletes w.next_op y) nameless (y, same_in w.deletes w.next_op y)
 
-  goes_into : IsSafe f w → NoCleanup w → (names : List Bytes) (waiting running : Option ℕ) → waiting_delete w ≡ waiting → running_delete w (named_uuids w names) ≡ running
+  goes_into : IsSafe f w es → NoCleanup w → (names : List Bytes) (waiting running : Option ℕ) → waiting_delete w ≡ waiting → running_delete w (named_uuids w names) ≡ running
       → FollowsIn (delete_by w names waiting running) (es ++ told 0 (AskStep (DeleteSnapshots names)) (Accepted (number_by w.next_op waiting running)) ∷ [])
   goes_into safe clear names (Some d) running is runs = merges safe clear names d (waits w d is)
   goes_into safe clear names None (Some d) is runs = let (x, m) = running_there (runs_for w (named_uuids w names)) (fin.entries w.deletes) d runs in joins clear names d (x, entry_got w.deletes d x m)
   goes_into safe clear names None None is runs = opens safe names
 
-  asks_delete : IsSafe f w → (names : List Bytes) (reply : Reply) (image : Option Image) → DeleteAllows w names reply → IsCalm reply (AskStep (DeleteSnapshots names)) → FollowsIn (after f w (moment 0 (AskStep (DeleteSnapshots names)) reply image)) (es ++ told 0 (AskStep (DeleteSnapshots names)) reply ∷ [])
-  asks_delete safe names reply image (GoingInto acc) calm = goes_into safe acc.may.no_cleanup names (waiting_delete w) (running_delete w (named_uuids w names)) refl refl
-  asks_delete safe names reply image (NotNamed place clear first) calm = stays (told 0 (AskStep (DeleteSnapshots names)) (Refused (NoSnapshot place))) tt tt
-  asks_delete safe names reply image (CloneStands o clear named lowest) calm = stays (told 0 (AskStep (DeleteSnapshots names)) (Refused (CloneRunning o))) tt tt
-  asks_delete safe names reply image (RestoreStands o clear named no_clone lowest) calm = stays (told 0 (AskStep (DeleteSnapshots names)) (Refused (RestoreRunning o))) tt tt
-  asks_delete safe names reply image (FullOfOps may new full) calm = stays (told 0 (AskStep (DeleteSnapshots names)) (Refused (TooMany 1000))) tt tt
-  asks_delete safe names reply image other calm = absurd calm
+  asks_delete : (stale : Type 0) → IsSafe f w es → (names : List Bytes) (reply : Reply) (image : Option Image) → DeleteAllows w names reply → IsCalm stale reply (AskStep (DeleteSnapshots names)) → FollowsIn (after f w (moment 0 (AskStep (DeleteSnapshots names)) reply image)) (es ++ told 0 (AskStep (DeleteSnapshots names)) reply ∷ [])
+  asks_delete stale safe names reply image (GoingInto acc) calm = goes_into safe acc.may.no_cleanup names (waiting_delete w) (running_delete w (named_uuids w names)) refl refl
+  asks_delete stale safe names reply image (NotNamed place clear first) calm = stays (told 0 (AskStep (DeleteSnapshots names)) (Refused (NoSnapshot place))) tt tt
+  asks_delete stale safe names reply image (CloneStands o clear named lowest) calm = stays (told 0 (AskStep (DeleteSnapshots names)) (Refused (CloneRunning o))) tt tt
+  asks_delete stale safe names reply image (RestoreStands o clear named no_clone lowest) calm = stays (told 0 (AskStep (DeleteSnapshots names)) (Refused (RestoreRunning o))) tt tt
+  asks_delete stale safe names reply image (FullOfOps may new full) calm = stays (told 0 (AskStep (DeleteSnapshots names)) (Refused (TooMany 1000))) tt tt
+  asks_delete stale safe names reply image other calm = absurd calm
 
   -- ---- a cleanup is asked for
 
@@ -517,11 +518,11 @@ module _ (f : Formats) (size : ℕ) (w : World) (es : List Entry) (h : FollowsIn
         | inr is ↦ deletes_stay (suc w.next_op) x one d z is.1
       ]
 
-  asks_cleanup : (reply : Reply) (image : Option Image) → CleanupAllows w reply → IsCalm reply (AskStep Cleanup) → FollowsIn (after f w (moment 0 (AskStep Cleanup) reply image)) (es ++ told 0 (AskStep Cleanup) reply ∷ [])
-  asks_cleanup reply image (OpeningCleanup acc) calm = opens_cleanup
-  asks_cleanup reply image (OpStands o clear lowest) calm = stays (told 0 (AskStep Cleanup) (Refused (BusyOp o))) tt tt
-  asks_cleanup reply image (TicketStands k none lowest) calm = stays (told 0 (AskStep Cleanup) (Refused (BusyTicket k))) tt tt
-  asks_cleanup reply image (CleanupFault acc) calm = absurd calm
+  asks_cleanup : (stale : Type 0) (reply : Reply) (image : Option Image) → CleanupAllows w reply → IsCalm stale reply (AskStep Cleanup) → FollowsIn (after f w (moment 0 (AskStep Cleanup) reply image)) (es ++ told 0 (AskStep Cleanup) reply ∷ [])
+  asks_cleanup stale reply image (OpeningCleanup acc) calm = opens_cleanup
+  asks_cleanup stale reply image (OpStands o clear lowest) calm = stays (told 0 (AskStep Cleanup) (Refused (BusyOp o))) tt tt
+  asks_cleanup stale reply image (TicketStands k none lowest) calm = absurd calm
+  asks_cleanup stale reply image (CleanupFault acc) calm = absurd calm
 
   -- a command is asked for while a cleanup is open
   cleaning : (command : Asked) (d : ℕ) → is_recorded command ≡ true → FollowsIn w (es ++ told 0 (AskStep command) (Refused (CleanupRunning d)) ∷ [])
@@ -566,9 +567,9 @@ module _ (f : Formats) (size : ℕ) (w : World) (es : List Entry) (h : FollowsIn
       let all : List Entry = es ++ gave w.next_ticket o (GivenFinalize info results) ∷ [] in
       subst (λ (x : Option Op). FollowsIn (taken_by f w o (GivenFinalize info results) x) all) (sym g.ready.op_there)
       (given_on w.deposed w.ops w.ops w.deletes w.tickets w.next_ticket w.next_op es o (GivenFinalize info results) h (ops_given w.next_ticket o (GivenFinalize info results)) (λ p was. was) (final_ticket f w o g.op results) refl refl
-      (λ e. absurd (final_drop (info_of g.op results) results (made_of f g.op) e)) (λ other rs made e. (g.op.name, (h.ops o g.op g.ready.op_there).named)) (λ uuids plan e. absurd (final_deleting (info_of g.op results) results (made_of f g.op) uuids plan e))
+      (λ e. absurd (final_drop (info_of g.op results) results (made_of f w.blobs g.op) e)) (λ other rs made e. (g.op.name, (h.ops o g.op g.ready.op_there).named)) (λ uuids plan e. absurd (final_deleting (info_of g.op results) results (made_of f w.blobs g.op) uuids plan e))
       (λ final. record { out = refl; unsettled = refl; final = tt })
-      (λ other rs made e. ap (λ (y : SnapInfo). Some y.uuid) (g.info_is ∙ final_info (info_of g.op results) other results rs (made_of f g.op) made e)))
+      (λ other rs made e. ap (λ (y : SnapInfo). Some y.uuid) (g.info_is ∙ final_info (info_of g.op results) other results rs (made_of f w.blobs g.op) made e)))
 
   -- what stops an op is that a delete aborted it
   stopped : (o : ℕ) → ReadyDrop w o → IsAbortedIn es o
@@ -856,13 +857,34 @@ module _ (f : Formats) (size : ℕ) (w : World) (es : List Entry) (h : FollowsIn
         | inr apart ↦ inl (was.0, stays_in w.deletes s.t.op d apart ∙ was.1)
       ]
 
-  prunes : (k : ℕ) (prune : Prune) (reply : Reply) (image : Option Image) → PruneAllows f w k prune reply image → IsCalm reply (PruneStep prune) → FollowsIn (after f w (moment k (PruneStep prune) reply image)) (es ++ told k (PruneStep prune) reply ∷ [])
+  -- what a stale ticket tells as failed ends it alone
+  fails_delete : (k : ℕ) (why : Why) → FailsDeletion w k → IsStaleIn w k → FollowsIn (delete_failed w k (fin.get w.tickets k)) (es ++ told k (PruneStep (DeleteFails why)) HasEnded ∷ [])
+  fails_delete k why c stale =
+      subst (λ (o : Option Ticket). FollowsIn (delete_failed w k o) (es ++ x ∷ [])) (sym there)
+      (subst (λ (v : World). FollowsIn v (es ++ x ∷ [])) (sym (choose_true (is_stale w c.t c.t.work) (with_ticket w k (record c.t { out = false })) (delete_failed_by w k c.t (fin.get w.deletes c.t.op)) older))
+      (ticket_on k c.t (record c.t { out = false }) there (kin_on w.tickets k c.t (record c.t { out = false }) there refl refl refl) refl x (λ out. absurd (subst IsFinal c.deleting.work out.final)) tt tt))
+    where
+      x : Entry
+      x = told k (PruneStep (DeleteFails why)) HasEnded
+
+      there : fin.get w.tickets k ≡ Some c.t
+      there = c.deleting.out.there
+
+      apart : (c.t.term == w.term) ≡ false
+      apart = elim (eqb_tells c.t.term w.term) [ inl same ↦ absurd (stale c.t there same.1) | inr different ↦ different.0 ]
+
+      older : is_stale w c.t c.t.work ≡ true
+      older = ap (is_stale w c.t) c.deleting.work ∙ choose_false (c.t.term == w.term) false true apart
+
+  prunes : (k : ℕ) (prune : Prune) (reply : Reply) (image : Option Image) → PruneAllows f w k prune reply image → IsCalm (IsStaleIn w k) reply (PruneStep prune) → FollowsIn (after f w (moment k (PruneStep prune) reply image)) (es ++ told k (PruneStep prune) reply ∷ [])
   prunes k prune reply image (FetchingShard j name im g found) calm = fetches j g.t g.deleting.out.there name (told_blob f im name) (told j (PruneStep (FetchShard name)) WasFetched) tt tt
   prunes k prune reply image (ShardMissing j name im g found) calm = stays (told j (PruneStep (FetchShard name)) WasAbsent) tt tt
   prunes k prune reply image (Planning j shards im p fits back same) calm = plans j shards im p
   prunes k prune reply image (SettlingDelete j im s present same) calm = settles_delete j s
   prunes k prune reply image (RemovingDoomed j names im r left) calm = stays (told j (PruneStep (RemoveDoomed names)) WasRemoved) tt tt
   prunes k prune reply image (EndingDelete j im e same) calm = changed j e.t e.deleting.out.there (λ t. record t { out = false }) refl refl refl (told j (PruneStep EndDelete) HasEnded) (λ is. absurd (subst IsFinal e.deleting.work is.final)) tt tt
+  prunes k prune reply image (SettleDeleteStale j im s apart same) calm = stays (told j (PruneStep SettlePruned) (Refused (StaleTerm s.t.term w.term))) tt tt
+  prunes k prune reply image (FailingDelete j why im c same) calm = fails_delete j why c calm
   prunes k prune reply image other calm = absurd calm
 
   -- ---- restores, and what is read
@@ -876,27 +898,27 @@ module _ (f : Formats) (size : ℕ) (w : World) (es : List Entry) (h : FollowsIn
   reads_on : (k : ℕ) (read : Read) (reply : Reply) (image : Option Image) → IsNoTest read → IsPlain reply (ReadStep read) → FollowsIn (read_by f w k read reply image) (es ++ told k (ReadStep read) reply ∷ [])
   reads_on k read reply image no_test plain = follows_aside w (read_by f w k read reply image) (es ++ told k (ReadStep read) reply ∷ []) (aside_by f w k read reply image no_test) (stays (told k (ReadStep read) reply) plain tt)
 
-  reads : (k : ℕ) (read : Read) (reply : Reply) (image : Option Image) → ReadAllows f w k read reply image → IsCalm reply (ReadStep read) → FollowsIn (after f w (moment k (ReadStep read) reply image)) (es ++ told k (ReadStep read) reply ∷ [])
-  reads k read reply image (ReadFound j name im stored by found) calm = reads_on j (ReadBlob name) WasFetched im tt tt
-  reads k read reply image (ReadMissing j name im stored by none) calm = reads_on j (ReadBlob name) WasAbsent im tt tt
-  reads k read reply image (ReadFault j name im stored by) calm = absurd calm
-  reads k read reply image (RestoringShard j files bytes im q out done) calm = reads_on j (RestoredShard files bytes) HasEnded im tt tt
-  reads k read reply image (ReaderFailing j why im q out) calm = reads_on j (ReadFails why) HasEnded im tt tt
-  reads k read reply image (CheckingAll snapshots blobs im checks) calm = reads_on 0 (CheckedAll snapshots blobs) HasEnded im tt tt
-  reads k read reply image (CheckFailing why im looked) calm = reads_on 0 (ReadFails why) HasEnded im tt tt
+  reads : (stale : Type 0) (k : ℕ) (read : Read) (reply : Reply) (image : Option Image) → ReadAllows f w k read reply image → IsCalm stale reply (ReadStep read) → FollowsIn (after f w (moment k (ReadStep read) reply image)) (es ++ told k (ReadStep read) reply ∷ [])
+  reads stale k read reply image (ReadFound j name im stored by found) calm = reads_on j (ReadBlob name) WasFetched im tt tt
+  reads stale k read reply image (ReadMissing j name im stored by none) calm = reads_on j (ReadBlob name) WasAbsent im tt tt
+  reads stale k read reply image (ReadFault j name im stored by) calm = absurd calm
+  reads stale k read reply image (RestoringShard j files bytes im q out done) calm = reads_on j (RestoredShard files bytes) HasEnded im tt tt
+  reads stale k read reply image (ReaderFailing j why im q out) calm = reads_on j (ReadFails why) HasEnded im tt tt
+  reads stale k read reply image (CheckingAll snapshots blobs im checks) calm = reads_on 0 (CheckedAll snapshots blobs) HasEnded im tt tt
+  reads stale k read reply image (CheckFailing why im looked) calm = reads_on 0 (ReadFails why) HasEnded im tt tt
 
-  verifies : (read : Read) (reply : Reply) (image : Option Image) → VerifyAllows f w read reply image → IsCalm reply (ReadStep read) → FollowsIn (after f w (moment 0 (ReadStep read) reply image)) (es ++ told 0 (ReadStep read) reply ∷ [])
-  verifies read reply image (DrawingTest im idle fits same) calm = stays (told 0 (ReadStep DrawTest) (DrawnFrom w.next_id)) tt tt
-  verifies read reply image (BeginningTest name im own same) calm = stays (told 0 (ReadStep (BeginTest name)) WasBegun) tt tt
-  verifies read reply image (CommittingTest name bytes im own new adds) calm = stays (told 0 (ReadStep (CommitTest name)) WasDone) tt tt
-  verifies read reply image (RemovingTests names im may left) calm = stays (told 0 (ReadStep (RemoveTests names)) WasRemoved) tt tt
-  verifies read reply image (VerifyingAll im done same) calm = stays (told 0 (ReadStep VerifiedAll) HasEnded) tt tt
-  verifies read reply image (VerifyFailing why im begun same) calm = stays (told 0 (ReadStep (ReadFails why)) HasEnded) tt tt
-  verifies read reply image other calm = absurd calm
+  verifies : (stale : Type 0) (read : Read) (reply : Reply) (image : Option Image) → VerifyAllows f w read reply image → IsCalm stale reply (ReadStep read) → FollowsIn (after f w (moment 0 (ReadStep read) reply image)) (es ++ told 0 (ReadStep read) reply ∷ [])
+  verifies stale read reply image (DrawingTest im idle fits same) calm = stays (told 0 (ReadStep DrawTest) (DrawnFrom w.next_id)) tt tt
+  verifies stale read reply image (BeginningTest name im own same) calm = stays (told 0 (ReadStep (BeginTest name)) WasBegun) tt tt
+  verifies stale read reply image (CommittingTest name bytes im own new adds) calm = stays (told 0 (ReadStep (CommitTest name)) WasDone) tt tt
+  verifies stale read reply image (RemovingTests names im may left) calm = stays (told 0 (ReadStep (RemoveTests names)) WasRemoved) tt tt
+  verifies stale read reply image (VerifyingAll im done same) calm = stays (told 0 (ReadStep VerifiedAll) HasEnded) tt tt
+  verifies stale read reply image (VerifyFailing why im begun same) calm = stays (told 0 (ReadStep (ReadFails why)) HasEnded) tt tt
+  verifies stale read reply image other calm = absurd calm
 
   -- ---- each answer
 
-  follows_by : (who : ℕ) (step : Step) (reply : Reply) (image : Option Image) → Allows f size w who step reply image → IsCalm reply step → IsSafe f w → FollowsIn (after f w (moment who step reply image)) (es ++ told who step reply ∷ [])
+  follows_by : (who : ℕ) (step : Step) (reply : Reply) (image : Option Image) → Allows f size w who step reply image → IsCalm (IsStaleIn w who) reply step → IsSafe f w es → FollowsIn (after f w (moment who step reply image)) (es ++ told who step reply ∷ [])
   follows_by who step reply image (allowed.Accepting name indices time o im acc same) calm safe = asks name indices time o acc
   follows_by who step reply image (allowed.GivingNothing im none same) calm safe = stays (told 0 TakeStep NothingReady) tt tt
   follows_by who step reply image (allowed.Giving k o unit im is lowest g same) calm safe = gives_as k o unit is g
@@ -923,17 +945,21 @@ module _ (f : Formats) (size : ℕ) (w : World) (es : List Entry) (h : FollowsIn
   follows_by who step reply image (allowed.Used name indices time uuid im clear is same) calm safe = stays (told 0 (AskStep (Snapshot name indices time)) (Refused (NameInUse uuid))) tt tt
   follows_by who step reply image (allowed.Full name indices time im clear unused full same) calm safe = stays (told 0 (AskStep (Snapshot name indices time)) (Refused (TooMany 1000))) tt tt
   follows_by who step reply image (allowed.AskingRestore name place rep im a same) calm safe = asks_restore name place rep im a
-  follows_by who step reply image (allowed.AskingClone source name names time taken rep im a same) calm safe = asks_clone source name names time taken rep im a calm
-  follows_by who step reply image (allowed.AskingDelete names rep im a same) calm safe = asks_delete safe names rep im a calm
-  follows_by who step reply image (allowed.AskingCleanup rep im a same) calm safe = asks_cleanup rep im a calm
-  follows_by who step reply image (allowed.Reading k read rep im a same) calm safe = reads k read rep im a calm
-  follows_by who step reply image (allowed.Verifying read rep im a) calm safe = verifies read rep im a calm
+  follows_by who step reply image (allowed.AskingClone source name names time taken rep im a same) calm safe = asks_clone (IsStaleIn w 0) source name names time taken rep im a calm
+  follows_by who step reply image (allowed.AskingDelete names rep im a same) calm safe = asks_delete (IsStaleIn w 0) safe names rep im a calm
+  follows_by who step reply image (allowed.AskingCleanup rep im a same) calm safe = asks_cleanup (IsStaleIn w 0) rep im a calm
+  follows_by who step reply image (allowed.Reading k read rep im a same) calm safe = reads (IsStaleIn w k) k read rep im a calm
+  follows_by who step reply image (allowed.Verifying read rep im a) calm safe = verifies (IsStaleIn w 0) read rep im a calm
   follows_by who step reply image (allowed.Cleaning command d x im recorded there clean same) calm safe = cleaning command d recorded
   follows_by who step reply image (allowed.Pruning k prune rep im p) calm safe = prunes k prune rep im p calm
+  follows_by who step reply image (allowed.RaiseStale k im may apart same) calm safe = stays (told k RaiseStep (Refused (StaleTerm may.t.term w.term))) tt tt
+  follows_by who step reply image (allowed.SettleStale k n t swapped im may apart same) calm safe = stays (told k SettleStep (Refused (StaleTerm t.term w.term))) tt tt
+  follows_by who step reply image (allowed.DropStale k im may apart same) calm safe = stays (told k DroppedStep (Refused (StaleTerm may.t.term w.term))) tt tt
   follows_by who step reply image other calm safe = absurd calm
 
-pub follows_step : (f : Formats) (size : ℕ) (w : World) (es : List Entry) → FollowsIn w es → (m : Moment) → Allowed f size w m → IsCalm m.entry.reply m.entry.step → IsSafe f w → FollowsIn (after f w m) (es ++ m.entry ∷ [])
+pub follows_step : (f : Formats) (size : ℕ) (w : World) (es : List Entry) → FollowsIn w es → (m : Moment) → Allowed f size w m → IsCalm (IsStaleIn w m.entry.who) m.entry.reply m.entry.step → IsSafe f w es → FollowsIn (after f w m) (es ++ m.entry ∷ [])
 follows_step f size w es h m a calm safe = elim a.answered [
   | inl alive ↦ follows_by f size w es h m.entry.who m.entry.step m.entry.reply m.image alive.1 calm safe
-  | inr dead ↦ absurd (calm_unblocked w m.entry.who m.entry.step dead.refusal h.live (subst (λ (r : Reply). IsCalm r m.entry.step) dead.refused calm) dead.blocks)
+  | inr dead ↦
+      absurd (calm_unblocked (IsStaleIn w m.entry.who) w m.entry.who m.entry.step dead.refusal h.live (subst (λ (r : Reply). IsCalm (IsStaleIn w m.entry.who) r m.entry.step) dead.refused calm) dead.blocks)
 ]

@@ -1,3 +1,4 @@
 pub mod Lines
 pub mod InTurn
 pub mod Answers
+pub mod FaultFree

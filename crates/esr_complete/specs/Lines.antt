@@ -1,11 +1,12 @@
 -- What the lines of a script ask for.
-use Rattle.std.specs.Prelude.{ℕ, List, [], ◌∷◌, ◌++◌, map, None}
+use Rattle.std.specs.Prelude.{ℕ, suc, ◌+◌, if◌then◌else◌, List, [], ◌∷◌, ◌++◌, map, None}
 use Rattle.esr_model.specs.Values.{Bytes}
 use Rattle.esr_core.specs.Entry.{AskedIndex, Asked, Snapshot, Clone, DeleteSnapshots, Restore, Cleanup, DrawTest, Step, AskStep, LookStep, ReadStep, Entry, Moment}
 use Rattle.esr_script.specs.declared.item.AskedIndex.{AskedIndex as LineIndex}
 use Rattle.esr_script.specs.declared.item.Item.{Item}
 use Rattle.esr_script.specs.declared.item.Item.TheVariants as items
 use Rattle.esr_script.specs.declared.item.ScriptLine.{ScriptLine}
+use Rattle.esr_report.specs.Replies.{is_election}
 
 abbrev pub index_of_line : LineIndex → AskedIndex
 index_of_line a = record { name = a.name; shards = a.shards; place = a.place }
@@ -33,23 +34,20 @@ abbrev pub steps_of : ℕ → List ScriptLine → List Step
 steps_of moment [] = []
 steps_of moment (line ∷ lines) = steps_of_item moment line.item ++ steps_of moment lines
 
--- any line but a failover
-abbrev pub IsKnown : Item → Type 0
-IsKnown (items.Snapshot name indices) = Unit {0}
-IsKnown (items.Clone source name indices) = Unit {0}
-IsKnown (items.Delete names) = Unit {0}
-IsKnown (items.Restore name place) = Unit {0}
-IsKnown items.Cleanup = Unit {0}
-IsKnown items.Wait = Unit {0}
-IsKnown items.List = Unit {0}
-IsKnown items.Check = Unit {0}
-IsKnown items.Verify = Unit {0}
-IsKnown item = ⊥
+-- whether a line asks for an election: 1, or 0
+abbrev pub failovers_in : Item → ℕ
+failovers_in items.Failover = 1
+failovers_in item = 0
 
-abbrev pub AreKnown : List ScriptLine → Type 0
-AreKnown [] = Unit {0}
-AreKnown (line ∷ lines) = IsKnown line.item × AreKnown lines
+abbrev pub failovers_of : List ScriptLine → ℕ
+failovers_of [] = 0
+failovers_of (line ∷ lines) = failovers_in line.item + failovers_of lines
 
 -- the entries of a history
 abbrev pub entries_of : List Moment → List Entry
 entries_of log = map (λ (m : Moment). m.entry) log
+
+-- how many elections these tell
+abbrev pub elections_of : List Entry → ℕ
+elections_of [] = 0
+elections_of (e ∷ es) = if is_election e then suc (elections_of es) else elections_of es

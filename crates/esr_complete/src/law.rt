@@ -1,22 +1,20 @@
 //! The law of completeness.
-ghost use Rattle.std.specs.Prelude.{◌≡◌, ℕ, List};
+ghost use Rattle.std.specs.Prelude.{ℕ, List};
 ghost use Rattle.esr_core.specs.Entry.{Moment};
 ghost use Rattle.esr_script.specs.declared.item.ScriptLine.{ScriptLine};
 ghost use Rattle.esr_report.specs.Replies.{replies};
 ghost use Rattle.esr_desk.specs.Start.{Start};
-ghost use Rattle.esr_quiet.specs.Asked.{asked_steps};
-ghost use Rattle.esr_quiet.specs.Smooth.{IsSmooth, NoneFailed, NoneUndeleted, NoneUnrestored, NoneUnverified};
-ghost use Rattle.esr_quiet.specs.Refusals.{AreByRule};
-ghost use Rattle.esr_complete.specs.Lines.{steps_of, AreKnown, entries_of};
-ghost use Rattle.esr_complete.specs.InTurn.{IsInTurn, AreChecksInTurn};
-ghost use Rattle.esr_complete.specs.Answers.{IsIdle, AreAnswered, EndsWell};
+ghost use Rattle.esr_complete.specs.Lines.{entries_of};
+ghost use Rattle.esr_complete.specs.Answers.{AreAnswered, EndsWell};
+ghost use Rattle.esr_complete.specs.FaultFree.{IsFaultFreeRun};
 
-/// Over quiet objects that tell, where what was asked is what the lines ask for and the units were worked until none was ready, each snapshot and each clone was made, or aborted by a delete, each delete was carried out, each restore gave back its shards and each cleanup came to its end, or a rule refused it, each wait and list was answered, and each check and verification ended well.
+/// Over quiet objects that tell, where what was asked is what the lines ask for, as many masters were elected as these ask for, and
+/// the units were worked until none was ready, each snapshot and each clone was made, or aborted by a delete, each delete was
+/// carried out, each restore gave back its shards and each cleanup came to its end, or a rule refused it, each failover began a
+/// term, each wait and list was answered, and each check and verification ended well.
 pub fn smooth_runs_are_answered()
-    ensures answered { (s : Start) (log : List Moment) (lines : List ScriptLine) (moment : ℕ) → IsSmooth s log → NoneFailed log → NoneUndeleted log → NoneUnrestored log → NoneUnverified log → AreChecksInTurn moment lines log → AreByRule log → IsInTurn s log → IsIdle s log → AreKnown lines → asked_steps log ≡ steps_of moment lines
-        → AreAnswered lines (replies lines (entries_of log)) }
-    ensures ends { (s : Start) (log : List Moment) (lines : List ScriptLine) (moment : ℕ) → IsSmooth s log → NoneFailed log → NoneUndeleted log → NoneUnrestored log → NoneUnverified log → AreChecksInTurn moment lines log → AreByRule log → IsInTurn s log → IsIdle s log → AreKnown lines → asked_steps log ≡ steps_of moment lines
-        → EndsWell lines (entries_of log) }
+    ensures answered { (s : Start) (log : List Moment) (lines : List ScriptLine) (moment : ℕ) → IsFaultFreeRun s log lines moment → AreAnswered lines (replies lines (entries_of log)) }
+    ensures ends { (s : Start) (log : List Moment) (lines : List ScriptLine) (moment : ℕ) → IsFaultFreeRun s log lines moment → EndsWell lines (entries_of log) }
 {
     esr_core::each_history_is_lawful();
     esr_core::some_unit_is_ready();

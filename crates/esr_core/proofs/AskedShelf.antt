@@ -171,7 +171,7 @@ module _ (f : Formats) (size : ℕ) (m : Moment) (name place : Bytes) (o uuid : 
   from_ask w shelf rest known l r legal told honest reading =
       let a : AcceptedAs f w m name place o uuid indices = accepted_as f size w m name place o uuid indices legal.0 step reply in
       let asked : IsShelvedAs shelf name uuid indices = asked_shelf f w shelf l m name place o uuid indices told.0.0 told.0.1 a in
-      let s : Stepped f w shelf m (after f w m) = step_law f size w shelf known.0 l honest.0 m told.0.0 told.0.1 legal.0 in
+      let s : Stepped f w shelf m (after f w m) = step_law f size w shelf l m told.0.0 told.0.1 legal.0 in
       let none : s.commands ≡ [] = sym (s.counted (after f w m).safe (omega arith) (λ e. refl)) ∙ no_commands w (after f w m).safe in
       let law : Law f (after f w m) shelf = subst (λ cs. Law f (after f w m) (shelf_after shelf cs)) none s.law in
       let read : ReadLaw f (after f w m) = read_step_law f size w shelf l r m (after f w m) s in
@@ -184,7 +184,7 @@ module _ (f : Formats) (size : ℕ) (m : Moment) (name place : Bytes) (o uuid : 
       let last : World = world_from f (after f w m) rest in
       let later : List Shelved = shelf_after shelf (committed f last.safe (after f w m) rest) in
       let on : ReadsShelved last later o asked.shelved = reads_on f size shelf (after f w m) rest o asked.shelved known.1 law read (omega (arith, number, next)) reads legal.1 told.1 honest.1 in
-      let last_law : Law f last later = legal_law f size rest (after f w m) shelf known.1 law legal.1 told.1 honest.1 in
+      let last_law : Law f last later = legal_law f size rest (after f w m) shelf law legal.1 told.1 in
       let last_read : ReadLaw f last = read_legal f size rest (after f w m) shelf known.1 law read legal.1 told.1 honest.1 in
       let h : IsOnShelf f later q files bytes by = on_shelf f last later last_law last_read k q reading files bytes by in
       let t = last_read.tracked.readers k q reading.there reading.out in
@@ -210,8 +210,8 @@ module _ (f : Formats) (size : ℕ) (m : Moment) (name place : Bytes) (o uuid : 
       → IsOnShelf f (shelf_after shelf (committed f (world_from f w before).safe w before)) q files bytes by
   from_start [] rest w shelf known l r legal told honest reading = from_ask w shelf rest known l r legal told honest reading
   from_start (b ∷ before) rest w shelf known l r legal told honest reading =
-      let s : Stepped f w shelf b (after f w b) = step_law f size w shelf known.0 l honest.0 b told.0.0 told.0.1 legal.0 in
-      let lasting = lasts f size before (after f w b) (shelf_after shelf s.commands) (known_front f (after f w b) before (m ∷ rest) known.1) s.law (legal_front f size (after f w b) before (m ∷ rest) legal.1) (told_front before (m ∷ rest) told.1) (honest_front f (after f w b) before (m ∷ rest) honest.1) in
+      let s : Stepped f w shelf b (after f w b) = step_law f size w shelf l b told.0.0 told.0.1 legal.0 in
+      let lasting = lasts f size before (after f w b) (shelf_after shelf s.commands) s.law (legal_front f size (after f w b) before (m ∷ rest) legal.1) (told_front before (m ∷ rest) told.1) in
       let ask : World = world_from f (after f w b) before in
       let mine : commands_at f ask.safe w b.entry.who b.entry.step b.entry.reply ≡ s.commands = s.counted ask.safe lasting.rises lasting.alone in
       let h : IsOnShelf f (shelf_after (shelf_after shelf s.commands) (committed f ask.safe (after f w b) before)) q files bytes by =

@@ -4,7 +4,7 @@ use Rattle.std.specs.FinMap as fin
 use Rattle.esr_model.specs.Names.{BlobName, Snap, ShardIndex}
 use Rattle.esr_model.specs.Values.{Bytes, IndexRef, RootData, SnapList, ShardFiles, Formats}
 use Rattle.esr_model.specs.Shelf.{Shelved}
-use Rattle.esr_model.specs.Image.{Has, At, Reads, RootStands}
+use Rattle.esr_model.specs.Image.{Blobs, Has, At, Reads, RootStands}
 use Rattle.esr_core.specs.World.{World, Op, ShardWork, Out, Deleting, Ticket, Swap, swap_of, AllDone, HeldIn, info_of, made_from, made_of}
 use Rattle.esr_core.specs.Ready.{Stopped}
 use Rattle.esr_core.specs.Steps.{completing}
@@ -197,9 +197,9 @@ module _ (f : Formats) (w : World) (shelf : List Shelved) (l : Lawful f w shelf)
   op_law_to x h = record { places = h.places; done = h.done; copies = h.copies; texts = h.texts; unlisted = h.unlisted; unused = h.unused; one_id = h.one_id; distinct = h.distinct; same_name = h.same_name }
 
   -- an abort leaves what it is to make
-  made_same : (x : Op) (source : Option ℕ) → made_from f x source ≡ made_from f (record x { aborted = Some by }) source
-  made_same x None = refl
-  made_same x (Some u) = refl
+  made_same : (blobs : Blobs) (x : Op) (source : Option ℕ) → made_from f blobs x source ≡ made_from f blobs (record x { aborted = Some by }) source
+  made_same blobs x None = refl
+  made_same blobs x (Some u) = refl
 
   pub carried_aborts : Carried f (HeldIn f w) w.safe w.term w.root now w.tickets
   carried_aborts =
@@ -238,7 +238,7 @@ module _ (f : Formats) (w : World) (shelf : List Shelved) (l : Lawful f w shelf)
               op_there = there;
               done = as_was (λ (y : Op). AllDone y.shards results) (λ y z. z) h.op op how h.done;
               info_is = as_was (λ (y : Op). info ≡ info_of y results) (λ y z. z) h.op op how h.info_is;
-              made_is = as_was (λ (y : Op). made ≡ made_of f y) (λ y z. z ∙ made_same y y.source) h.op op how h.made_is;
+              made_is = as_was (λ (y : Op). (blobs : Blobs) × (made ≡ made_of f blobs y)) (λ y z. (z.0, z.1 ∙ made_same z.0 y y.source)) h.op op how h.made_is;
               root_is = h.root_is;
             };
         held = λ p q z j e m state. let (old, there, how) = a.was p q e in before.held p old z j there (as_is (λ (y : Op). Has y.shards z) (λ y h. h) old q how m) state;

@@ -1,27 +1,24 @@
 -- Each step is one change, and what follows for all.
-use Rattle.std.proofs.Common.{◌≡◌, ◌≢◌, ◌⊎◌, ℕ, zero, suc, ◌+◌, ◌≤◌, List, [], ◌∷◌, ◌++◌, Bool, true, false, Option, Some, None, refl, sym, ap, ◌∙◌, subst, inl, inr, arith, nat_cmp}
+use Rattle.std.proofs.Common.{◌≡◌, ◌⊎◌, ℕ, zero, suc, ◌+◌, ◌≤◌, List, [], Bool, true, false, Option, Some, None, refl, sym, ap, ◌∙◌, inl, inr, arith}
 use Rattle.std.specs.Prelude.{if◌then◌else◌}
-use Rattle.std.specs.Cmp.{nat_cmp_total}
-use Rattle.std.specs.FinMap.{FinMap, nat_cmp-IsAntisymmetric}
 use Rattle.std.specs.FinMap as fin
 use Rattle.esr_model.specs.Names.{BlobName}
-use Rattle.esr_model.specs.Values.{Bytes, Has, ShardResult, Formats}
+use Rattle.esr_model.specs.Values.{Bytes, ShardResult, Formats}
 use Rattle.esr_model.specs.Delete.{PrunedShard, kept_count}
 use Rattle.esr_model.specs.Cleanup.{BlobSize}
 use Rattle.esr_model.specs.Image.{Image}
-use Rattle.esr_core.specs.World.{World, Op, ShardWork, Deletion, Work, Shard, Finalize, Deleting, Drop, Ticket, ReadState, Restored, NotRestored, RestoreShard, Restoring, Reader, Swap, swap, record_of, marked}
+use Rattle.esr_core.specs.World.{World, Op, ShardWork, Deletion, Work, Shard, Finalize, Deleting, Drop, Ticket, ReadState, Restored, NotRestored, RestoreShard, Restoring, Reader, Swap, swap, record_of}
 use Rattle.esr_core.specs.Restores.{restore_of, restore_shard}
-use Rattle.esr_core.specs.Steps.{with_ticket, noting, listing, given, completing, shard_ticket, final_ticket}
-use Rattle.esr_core.specs.Turns.{Aborts, plain_ticket, cleaning_ticket, fails}
+use Rattle.esr_core.specs.Steps.{with_ticket, noting, listing, completing, shard_ticket, final_ticket}
+use Rattle.esr_core.specs.Turns.{Aborts, plain_ticket, cleaning_ticket}
 use Rattle.esr_core.specs.Pruning.{planned_work, planned, dooms}
 use Rattle.esr_core.specs.Deletes.{with_named, named_uuids, waiting_delete, running_delete, aborted_ops, delete_merged, delete_by, asked_delete}
-use Rattle.esr_core.specs.Entry.{CloneOf, Snapshot, Clone, DeleteSnapshots, Restore, Cleanup, Given, GivenShard, GivenClone, GivenFinalize, GivenDrop, GivenRestore, GivenDelete, GivenCleanup, Read, ReadBlob, RestoredShard, CheckedAll, DrawTest, CommitTest, ReadFails, Prune, FetchShard, PlanShards, SettlePruned, RemoveDoomed, EndDelete, DeleteFails, Step, AskStep, TakeStep, DrawStep, BeginStep, CommitStep, LatestStep, FetchStep, ListStep, RaiseStep, SettleStep, DoneStep, FailedStep, FinishStep, DroppedStep, ElectStep, ReadStep, PruneStep, DepotFault, Reply, Gave, DrawnFrom, WasDone, WasThere, WasFetched, WasListed, HasEnded, Refused, AcceptedRestore, Moment}
-use Rattle.esr_core.specs.After.{asked, asked_op, new_names, cloned_op, shard_of, taken_shard, taken_restore_shard, taken_restore, taken_by, with_given, committing, told_blob, fetching, settled_by, settled_of, done_by, done_of, is_stale, failed_by, failed_of, dropped_of, deletes_left, delete_settled_by, delete_settled, delete_failed_by, delete_failed, prune_step, read_told, shard_over, read_over, read_step, read_by, done_step, swaps_record, has_text, fallen, is_latest, tried, test_left, faulted, answered, after}
+use Rattle.esr_core.specs.Entry.{CloneOf, Snapshot, Clone, DeleteSnapshots, Restore, Cleanup, Given, GivenShard, GivenClone, GivenFinalize, GivenDrop, GivenRestore, GivenDelete, GivenCleanup, Read, ReadBlob, RestoredShard, CheckedAll, DrawTest, CommitTest, ReadFails, Prune, FetchShard, PlanShards, SettlePruned, RemoveDoomed, EndDelete, DeleteFails, Step, AskStep, TakeStep, DrawStep, BeginStep, CommitStep, LatestStep, FetchStep, ListStep, RaiseStep, SettleStep, DoneStep, FailedStep, FinishStep, DroppedStep, ElectStep, ReadStep, PruneStep, DepotFault, Reply, Gave, DrawnFrom, WasDone, WasThere, WasFetched, WasListed, HasEnded, Refused, AcceptedRestore}
+use Rattle.esr_core.specs.After.{asked, asked_op, new_names, cloned_op, shard_of, taken_shard, taken_restore_shard, taken_restore, taken_by, with_given, committing, told_blob, fetching, settled_by, settled_of, done_by, done_of, is_stale, failed_by, failed_of, dropped_of, deletes_left, delete_settled_by, delete_settled, delete_failed_by, delete_failed, prune_step, read_told, shard_over, read_over, read_step, read_by, done_step, swaps_record, has_text, fallen, is_latest, tried, test_left, faulted, answered}
 use Rattle.esr_core.specs.History.{is_settle}
-use Rattle.esr_core.specs.Changes.{IsAsk, IsNewTicket, SameUnit, SameOp, SameOps, AsBefore, OneAnew, StepChange, NoChange, NewOp, NewDeletion, MergedDeletion, NewRestore, NewTicket, NewReader, OwnTicket, Settlement, UnitEnd, DeletionFailure, OpDrop, Election, ReaderFetch, ReaderEnd, PlainDraw, TestBlob, SwapFault, TicketsCome, TicketsStay, StepFrame}
+use Rattle.esr_core.specs.Changes.{IsAsk, IsNewTicket, SameUnit, SameOp, AsBefore, OneAnew, StepChange, NoChange, NewOp, NewDeletion, MergedDeletion, NewRestore, NewTicket, NewReader, OwnTicket, Settlement, UnitEnd, DeletionFailure, OpDrop, Election, ReaderFetch, ReaderEnd, PlainDraw, TestBlob, SwapFault}
 use Rattle.esr_core.proofs.AskedDeletes.{aborts}
-use Rattle.esr_core.proofs.Maps.{get_same, get_other, get_was}
-use Rattle.esr_core.proofs.Reading.{some_same, Has-right}
+use Rattle.esr_core.proofs.Reading.{some_same}
 
 same_op : (op : Op) (shards : List ShardWork) → SameOp op (record op { shards = shards })
 same_op op shards = record { name = refl; uuid = refl; moment = refl; indices = refl; source = refl; aborted = refl; failed = λ e. e }

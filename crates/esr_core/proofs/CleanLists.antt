@@ -1,6 +1,5 @@
 -- The indices of shards that a cleanup leaves list listed snapshots alone.
-use Rattle.std.proofs.Common.{◌≡◌, ◌⊎◌, ℕ, Bool, true, false, List, [], ◌∷◌, ◌++◌, Option, Some, None, refl, sym, ap, ◌∙◌, subst, inl, inr}
-use Rattle.std.specs.Prelude.{if◌then◌else◌}
+use Rattle.std.proofs.Common.{◌≡◌, ℕ, Bool, true, false, List, [], ◌∷◌, Option, Some, None, refl, sym, ap, ◌∙◌, subst, inl, inr}
 use Rattle.std.specs.List.{list_any}
 use Rattle.esr_model.specs.Names.{BlobName, ShardIndex}
 use Rattle.esr_model.specs.Values.{Bytes, Has, RootSnap, RootIndex, RootData, SnapList, ShardFiles, IsOneEach, Formats}

@@ -1,18 +1,18 @@
 -- What a cleanup dooms: what it listed and its new root doesn't reach, which is computed by what it read and wrote of the indices of shards.
 use Rattle.std.proofs.Common.{◌≡◌, ◌⊎◌, ℕ, Bool, true, false, List, [], ◌∷◌, ◌++◌, map, Option, Some, None, refl, sym, ap, ◌∙◌, subst, inl, inr}
-use Rattle.std.specs.Prelude.{◌==◌, ◌&&◌, ◌||◌, if◌then◌else◌}
+use Rattle.std.specs.Prelude.{◌==◌, ◌&&◌, ◌||◌}
 use Rattle.std.specs.List.{list_any}
 use Rattle.std.proofs.lemmas.Bool.Decides.{eqb_tells}
 use Rattle.esr_model.specs.Names.{BlobName, Root, Latest, Snap, Meta, IndexMeta, ShardSnap, ShardIndex, File, Part, TestMaster, TestNode}
-use Rattle.esr_model.specs.Values.{Bytes, Has, RootSnap, RootIndex, RootData, FileEntry, SnapList, ShardFiles, ReadsBack, IsOneEach, Formats}
+use Rattle.esr_model.specs.Values.{Bytes, Has, RootSnap, RootIndex, RootData, FileEntry, SnapList, ShardFiles, IsOneEach, Formats}
 use Rattle.esr_model.specs.Shelf.{names_uuid}
 use Rattle.esr_model.specs.Parts.{part_names}
-use Rattle.esr_model.specs.Image.{IsOne, Reads, Generation, index_at, at_shard, at_shard_of}
+use Rattle.esr_model.specs.Image.{IsOne, Reads, Generation, index_at, at_shard_of}
 use Rattle.esr_model.specs.Reach.{Reached, ReachSnap, ReachMeta, ReachIndexMeta, ReachIndex, ReachShardSnap, ReachPart}
 use Rattle.esr_model.specs.Delete.{PrunedShard, left_uuids, uuids_of, surviving, is_index, index_bytes, files_by, files_read, left_text, pruned_blobs, deleted_root}
 use Rattle.esr_model.specs.Cleanup.{BlobSize, names_listed, held_by, held_of, lists_uuid, is_file, is_part, has_piece, is_generation, reaches, unreached, cleaned_names}
 use Rattle.esr_core.specs.Pruning.{is_touched, bare_shard, pruned_shards, AreRead, AreOfRoot, AreWritable}
-use Rattle.esr_core.proofs.Reading.{some_same, none_some, reads_one, generation_index, Has-left, Has-right, Has-either, Has-map, Has-mapped}
+use Rattle.esr_core.proofs.Reading.{none_some, reads_one, generation_index, Has-left, Has-right, Has-either, Has-map, Has-mapped}
 use Rattle.esr_core.proofs.Results.{choose_true, choose_false}
 use Rattle.esr_core.proofs.Pieces.{in_parts}
 use Rattle.esr_core.proofs.Deleting.{bool_told}

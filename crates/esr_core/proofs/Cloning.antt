@@ -74,7 +74,7 @@ module _ (f : Formats) (w : World) (shelf : List Shelved) (l : Law f w shelf) (k
         s = s;
         s_there = s_there;
         state = state;
-        files = subst (λ o. AreFilesOf f (At f w.blobs) o r.index r.shard s files) (sym op_copies) (b.was, was_read, refl);
+        files = subst (λ o. AreFilesOf f (At f w.blobs) o r.index r.shard files) (sym op_copies) (b.was, was_read, refl);
         new_is = e;
       }
 

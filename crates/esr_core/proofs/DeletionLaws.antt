@@ -3,7 +3,7 @@ use Rattle.std.proofs.Common.{◌≡◌, ℕ, suc, ◌≤◌, List, [], ◌∷�
 use Rattle.std.specs.FinMap as fin
 use Rattle.esr_model.specs.Names.{BlobName}
 use Rattle.esr_model.specs.Values.{Bytes, Has, SnapInfo, ShardResult, Formats}
-use Rattle.esr_model.specs.Shelf.{Shelved, Command, Delete}
+use Rattle.esr_model.specs.Shelf.{Shelved, Command}
 use Rattle.esr_model.specs.Image.{Blobs, IsStored}
 use Rattle.esr_model.specs.Delete.{doomed_names}
 use Rattle.esr_model.specs.Cleanup.{cleaned_names}

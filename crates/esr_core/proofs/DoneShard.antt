@@ -5,10 +5,10 @@ use Rattle.std.specs.FinMap.{FinMap, nat_cmp-IsAntisymmetric}
 use Rattle.std.specs.FinMap as fin
 use Rattle.esr_model.specs.Places.{shelf_places}
 use Rattle.esr_model.specs.Names.{BlobName, Snap, ShardSnap, ShardIndex}
-use Rattle.esr_model.specs.Values.{Bytes, IndexRef, RootSnap, RootData, SnapInfo, FileEntry, ShardSnapshot, ShardFiles, ShardResult, Formats}
+use Rattle.esr_model.specs.Values.{Bytes, IndexRef, RootSnap, RootData, SnapInfo, ShardSnapshot, ShardFiles, ShardResult, Formats}
 use Rattle.esr_model.specs.Shelf.{Shelved, ShelfShard}
 use Rattle.esr_model.specs.Image.{Has, AllPairs, Reads, Generation, Lists, ListsAs, IndexStands, ShardStands, RootStands}
-use Rattle.esr_core.specs.World.{World, Op, ShardWork, ShardState, Shard, Ticket, Done, Out, marked, HeldIn}
+use Rattle.esr_core.specs.World.{World, Op, ShardWork, Shard, Ticket, Done, Out, marked, HeldIn}
 use Rattle.esr_core.specs.Steps.{DoneShard, Extends, ExtendsBase}
 use Rattle.esr_core.specs.Generations.{DoneAt, IsLive, IsOfShard, HasShard, IsOwn, Carries, AreFilesOf, DoneStands, OpLaw, Together, Base, BaseBelow, ShardLaw, Carried}
 use Rattle.esr_core.proofs.Maps.{split, get_was, get_same, get_other}
@@ -17,12 +17,6 @@ use Rattle.esr_core.proofs.Results.{done_same, done_out, done_of}
 use Rattle.esr_core.proofs.Marked.{marked_is, marked_ref, marked_number}
 use Rattle.esr_core.proofs.Grows.{info_there}
 use Rattle.esr_core.proofs.Owning.{OnWith, own_on, plan_on}
-
--- the files of a shard, whatever its state
-files_in : (f : Formats) (has : BlobName → Bytes → Type 0) (source : Option ℕ) (index shard : ℕ) (s : ShardWork) (state : ShardState) (files : List FileEntry)
-    → AreFilesOf f has source index shard s files → AreFilesOf f has source index shard (record s { state = state }) files
-files_in f has None index shard s state files h = h
-files_in f has (Some u) index shard s state files h = h
 
 -- a place of a listed snapshot has a generation in the root
 pub place_has : (f : Formats) (has : BlobName → Bytes → Type 0) (root : RootData) (uuid : ℕ) (places : List (IndexRef × ℕ)) (shards : List ShelfShard) → AllPairs (ShardStands f has root uuid) places shards
@@ -275,8 +269,7 @@ module _ (f : Formats) (w : World) (k : ℕ) (r : ShardResult) (new : World) (d 
             shard_is = sym n;
             snap = d.snap;
             snap_reads = subst (λ x. Reads (HeldIn f w) (ShardSnap x d.s.number d.op.uuid) f.shard_snap d.snap) (sym i) (subst (λ x. Reads (HeldIn f w) (ShardSnap r.index x d.op.uuid) f.shard_snap d.snap) (sym n) (subst (λ x. Reads (HeldIn f w) (ShardSnap r.index r.shard x) f.shard_snap d.snap) (sym uuid_is) d.snap_reads));
-            files = files_in f (HeldIn f w) d.op.source d.s.ref.id d.s.number d.s (Done r) d.snap.files
-                (subst (λ x. AreFilesOf f (HeldIn f w) d.op.source x d.s.number d.s d.snap.files) (sym i) (subst (λ x. AreFilesOf f (HeldIn f w) d.op.source r.index x d.s d.snap.files) (sym n) d.files));
+            files = subst (λ x. AreFilesOf f (HeldIn f w) d.op.source x d.s.number d.snap.files) (sym i) (subst (λ x. AreFilesOf f (HeldIn f w) d.op.source r.index x d.snap.files) (sym n) d.files);
           }
 
   abbrev tickets_now : FinMap nat_cmp Ticket

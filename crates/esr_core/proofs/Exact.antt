@@ -1,42 +1,39 @@
 -- A cleanup that comes to its end leaves nothing but what the safe root reaches, and `index.latest`.
-use Rattle.std.proofs.Common.{◌≡◌, ◌≢◌, ◌⊎◌, ℕ, suc, ◌≤◌, ◌<◌, List, [], ◌∷◌, ◌++◌, Bool, true, false, true≢false, Option, Some, None, refl, sym, ap, ◌∙◌, subst, inl, inr, arith, nat_cmp}
-use Rattle.std.specs.Prelude.{if◌then◌else◌, ◌==◌}
+use Rattle.std.proofs.Common.{◌≡◌, ◌≢◌, ◌⊎◌, ℕ, suc, ◌≤◌, ◌<◌, List, [], ◌∷◌, ◌++◌, Bool, true, false, true≢false, Option, Some, None, refl, sym, ap, ◌∙◌, subst, inl, inr, arith}
+use Rattle.std.specs.Prelude.{if◌then◌else◌}
 use Rattle.std.proofs.lemmas.Bool.Decides.{eqb_tells}
-use Rattle.std.specs.FinMap.{FinMap}
 use Rattle.std.specs.FinMap as fin
 use Rattle.std.specs.Cmp.Lexicographic.{nat_list_cmp_total}
 use Rattle.esr_model.specs.Names.{BlobName, Root, Latest, ShardIndex, File, Part}
 use Rattle.esr_model.specs.Values.{Bytes, Has, RootSnap, RootData, SnapInfo, ShardResult, SnapList, ShardFiles, ReadsBack, Formats}
 use Rattle.esr_model.specs.Shelf.{Shelved, Command}
-use Rattle.esr_model.specs.Cleanup.{BlobSize, IsAfter, last_text, is_short, IsListed, IsPageOf, names_listed, reaches}
-use Rattle.esr_model.specs.Delete.{files_read}
+use Rattle.esr_model.specs.Cleanup.{BlobSize, IsAfter, last_text, is_short, IsListed, IsPageOf, reaches}
 use Rattle.esr_model.specs.Image.{Blobs, Image, IsOne, At, Present, Reads, Generation, RootIs}
 use Rattle.esr_model.specs.Kept.{Kept}
 use Rattle.esr_model.specs.Reach.{Reached, ReachSnap, ReachMeta, ReachIndexMeta, ReachIndex, ReachShardSnap, ReachPart}
-use Rattle.esr_core.specs.World.{World, Deletion, Shard, Deleting, Drop, Finalize, Ticket, Swap, swap, HeldIn, record_of, no_record, no_root, Opened, OpenedEmpty, OpenedRecord}
+use Rattle.esr_core.specs.World.{World, Deletion, Deleting, Drop, Finalize, Ticket, Swap, HeldIn, record_of, no_record, no_root, Opened, OpenedEmpty, OpenedRecord}
 use Rattle.esr_core.specs.Ready.{IsMaster, IsShard}
-use Rattle.esr_core.specs.Restores.{IsReading}
 use Rattle.esr_core.specs.Steps.{IsOut, listing, settled, with_ticket, MayCommit, MaySettle, Removes}
-use Rattle.esr_core.specs.Pruning.{bare_shard, planned, dooms}
+use Rattle.esr_core.specs.Pruning.{planned, dooms}
 use Rattle.esr_core.specs.Swaps.{IsUnsettled}
 use Rattle.esr_core.specs.Ids.{Law}
 use Rattle.esr_core.specs.Past.{is_counted, with_entry, begins_anew, entries_by, batch_gone, gone_names}
 use Rattle.esr_core.specs.Tracked.{CleanTracked, Tracked}
 use Rattle.esr_core.specs.ReadTracked.{ReadTracked}
-use Rattle.esr_core.specs.Changes.{SameUnit, StepFrame, BlobsChange, NoBlobChange, NewBlob, NewLatest, Removal, Maker, ClientStep, ReaderStep, UnitStep, IsUnits, IsClients, IsReaders}
-use Rattle.esr_core.specs.Entry.{Given, Read, CommitTest, Prune, FetchShard, PlanShards, SettlePruned, RemoveDoomed, EndDelete, DeleteFails, Step, AskStep, TakeStep, DrawStep, BeginStep, CommitStep, LatestStep, FetchStep, ListStep, RaiseStep, SettleStep, DoneStep, FailedStep, FinishStep, DroppedStep, ElectStep, LookStep, ReadStep, PruneStep, DepotFault, Refusal, Reply, DrawnFrom, WasBegun, WasDone, WasReplaced, WasFetched, WasAbsent, WasListed, RaisedTo, WasSettled, WasRemoved, HasEnded, Refused, Entry, Moment}
-use Rattle.esr_core.specs.After.{with_given, change, committing, fetching, told_blob, deletes_left, delete_settled, delete_failed, delete_failed_by, is_stale, swaps_record, has_text, fallen, is_latest, tried, done_step, faulted, answered, after, dropped_of, raised, blobs_in}
+use Rattle.esr_core.specs.Changes.{SameUnit, BlobsChange, NoBlobChange, NewBlob, NewLatest, Removal, Maker, ClientStep, ReaderStep, UnitStep, IsUnits, IsClients, IsReaders}
+use Rattle.esr_core.specs.Entry.{Prune, SettlePruned, RemoveDoomed, DeleteFails, Step, AskStep, TakeStep, DrawStep, BeginStep, CommitStep, LatestStep, FetchStep, ListStep, RaiseStep, SettleStep, DoneStep, FailedStep, FinishStep, DroppedStep, ElectStep, LookStep, ReadStep, PruneStep, DepotFault, Refusal, Reply, WasListed, WasRemoved, HasEnded, Refused, Entry, Moment}
+use Rattle.esr_core.specs.After.{with_given, committing, fetching, told_blob, delete_settled, delete_failed, delete_failed_by, is_stale, has_text, is_latest, tried, done_step, answered, after, dropped_of, raised, blobs_in}
 use Rattle.esr_core.specs.Allowed as allowed
 use Rattle.esr_core.specs.Allowed.{Told, SameBlobs, Adds, IsUnlisted, IsStale, ListsPage, SettlesDeletion, RemovesDoomed, PruneAllows, Allows, IsBlocked, Allowed, InReach}
 use Rattle.esr_core.specs.History.{world_from, IsLegal, IsHonest, TellsShards, TellsHandedOut, AreTold, AreHonest, is_settle}
 use Rattle.esr_core.specs.Cleaned.{HoldsReachAlone, ListsListedAlone, IsTestCommit, ChangesBlobs, NoneOf, IsFirstPage, IsLastDrop}
-use Rattle.esr_core.proofs.Reading.{some_same, none_some, reads_one, held_one, Has-left, Has-right, Has-either}
+use Rattle.esr_core.proofs.Reading.{some_same, none_some, reads_one, Has-left, Has-right, Has-either}
 use Rattle.esr_core.proofs.Deleting.{bool_told}
 use Rattle.esr_core.proofs.DeletionLaws.{cleans_is}
-use Rattle.esr_core.proofs.Queues.{same_in, split_at}
+use Rattle.esr_core.proofs.Queues.{same_in}
 use Rattle.esr_core.proofs.Maps.{get_was, texts_same}
 use Rattle.esr_core.proofs.Moments.{delete_settled_plain}
-use Rattle.esr_core.proofs.Cleaning.{IsHeldNow, IsReachedBy, reached_by, cleaned_has, same_number}
+use Rattle.esr_core.proofs.Cleaning.{IsHeldNow, reached_by, cleaned_has, same_number}
 use Rattle.esr_core.proofs.Paging.{listed_has}
 use Rattle.esr_core.proofs.PruneTurns.{held_now}
 use Rattle.esr_core.proofs.CleanLists.{lists_now}
@@ -87,7 +84,7 @@ record Step1 (f : Formats) (size : ℕ) (w : World) (m : Moment) : Type 0 where
   legal : Allowed f size w m
 
 step_of : {f : Formats} {size : ℕ} {w : World} {m : Moment} (s : Step1 f size w m) → Stepped f w s.here.shelf m (after f w m)
-step_of {f} {size} {w} {m} s = step_law f size w s.here.shelf s.known s.here.law s.honest m s.image s.told s.legal
+step_of {f} {size} {w} {m} s = step_law f size w s.here.shelf s.here.law m s.image s.told s.legal
 
 here_after : {f : Formats} {size : ℕ} {w : World} {m : Moment} → Step1 f size w m → Here f (after f w m)
 here_after {f} {size} {w} {m} s =

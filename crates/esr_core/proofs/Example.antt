@@ -203,14 +203,14 @@ module _ (f : Formats) (size : ℕ) (name : Bytes) (moment : ℕ) (can : CanWrit
   both_noted t s m n b (inr (inr h)) = absurd h
 
   -- its work is none of a shard
-  not_shard : (i n : ℕ) → Finalize (info_of op []) [] (Create (shelved_of f op)) ≡ Shard i n → ⊥
+  not_shard : (i n : ℕ) → Finalize (info_of op []) [] (Create (shelved_of f fin.empty op)) ≡ Shard i n → ⊥
   not_shard i n e = cc
 
   abbrev commit3 : Commits f size w2 1 (Snap uuid)
-  commit3 = record { t = t2; out = record { there = got fin.empty t2; out = refl }; unsettled = refl; bytes = snap_text; named = can.snap; may = inl (record { root = finalized_root no_root (info_of op []) []; own = metadata f (info_of op []); commands = Create (shelved_of f op) ∷ [] }, refl, inl (inl refl)); numbered = λ i n e. absurd (not_shard i n e); late = λ c. absurd (true≢false (sym c)) }
+  commit3 = record { t = t2; out = record { there = got fin.empty t2; out = refl }; unsettled = refl; bytes = snap_text; named = can.snap; may = inl (record { root = finalized_root no_root (info_of op []) []; own = metadata f (info_of op []); commands = Create (shelved_of f fin.empty op) ∷ [] }, refl, inl (inl refl)); numbered = λ i n e. absurd (not_shard i n e); late = λ c. absurd (true≢false (sym c)) }
 
   abbrev commit4 : Commits f size w3 1 (Meta uuid)
-  commit4 = record { t = t3; out = record { there = got w2.tickets t3; out = refl }; unsettled = refl; bytes = meta_text; named = can.meta; may = inl (record { root = finalized_root no_root (info_of op []) []; own = metadata f (info_of op []); commands = Create (shelved_of f op) ∷ [] }, refl, inl (inr (inl refl))); numbered = λ i n e. absurd (not_shard i n e); late = λ c. absurd (true≢false (sym c)) }
+  commit4 = record { t = t3; out = record { there = got w2.tickets t3; out = refl }; unsettled = refl; bytes = meta_text; named = can.meta; may = inl (record { root = finalized_root no_root (info_of op []) []; own = metadata f (info_of op []); commands = Create (shelved_of f fin.empty op) ∷ [] }, refl, inl (inr (inl refl))); numbered = λ i n e. absurd (not_shard i n e); late = λ c. absurd (true≢false (sym c)) }
 
   abbrev commit6 : Commits f size w5 1 (Root 0)
   commit6 =
@@ -221,7 +221,7 @@ module _ (f : Formats) (size : ℕ) (name : Bytes) (moment : ℕ) (can : CanWrit
         bytes = root_text;
         named = can.root;
         may = inl (
-          record { root = finalized_root no_root (info_of op []) []; own = metadata f (info_of op []); commands = Create (shelved_of f op) ∷ [] },
+          record { root = finalized_root no_root (info_of op []) []; own = metadata f (info_of op []); commands = Create (shelved_of f fin.empty op) ∷ [] },
           refl,
           inr (0, refl, record { unsettled = refl; raised = refl; text = refl; ready = both_noted t5 (inr (inl refl)) (inl refl) }),
         );
@@ -232,29 +232,29 @@ module _ (f : Formats) (size : ℕ) (name : Bytes) (moment : ℕ) (can : CanWrit
   told : (m : Blobs) (n : BlobName) (bytes : Bytes) → fin.get (fin.insert m (f.names.text n) bytes) (f.names.text n) ≡ Some bytes
   told m n bytes = get_same nat_list_cmp_total texts_same m (f.names.text n) bytes
 
-  step8 : Runs f size w7 (Create (shelved_of f op) ∷ [])
+  step8 : Runs f size w7 (Create (shelved_of f fin.empty op) ∷ [])
   step8 = goes f size w7 w8 1 SettleStep WasSettled [] clear (λ r. r, (λ r. r, (λ r. r, (λ r. r, (λ r. r, tt))))) refl
       (allowed.Settling 1 _ (record {
         t = t7;
-        s = record { root = finalized_root no_root (info_of op []) []; own = metadata f (info_of op []); commands = Create (shelved_of f op) ∷ [] };
+        s = record { root = finalized_root no_root (info_of op []) []; own = metadata f (info_of op []); commands = Create (shelved_of f fin.empty op) ∷ [] };
         n = 0;
         may = record { out = record { there = got w6.tickets t7; out = refl }; is = refl; unsettled = refl; raised = refl; written = inl refl; ready = both_noted t7 (inr (inr (inl refl))) (inr (inl refl)); tried = refl };
         present = refl;
         info = info_of op [];
         results = [];
-        made = Create (shelved_of f op);
+        made = Create (shelved_of f fin.empty op);
         work = refl;
       }) refl)
       (λ j. record (settled_of f w7 1 (got w6.tickets t7 j)) { blobs = w7.blobs; entries = e8 ∷ w7.entries })
-      can.settled_record (Create (shelved_of f op) ∷ []) (ap (command_of f 1) (got w6.tickets t7))
+      can.settled_record (Create (shelved_of f fin.empty op) ∷ []) (ap (command_of f 1) (got w6.tickets t7))
       (record { log = []; legal = tt; told = tt; commands = refl })
 
-  step7 : Runs f size w6 (Create (shelved_of f op) ∷ [])
+  step7 : Runs f size w6 (Create (shelved_of f fin.empty op) ∷ [])
   step7 = goes f size w6 w7 1 LatestStep WasReplaced _ clear (λ r. r, (λ r. r, (λ r. r, (λ r. r, tt)))) refl
       (allowed.Replacing 1 _ (record {
         t = t6;
         out = record { there = got w5.tickets t6; out = refl };
-        s = record { root = finalized_root no_root (info_of op []) []; own = metadata f (info_of op []); commands = Create (shelved_of f op) ∷ [] };
+        s = record { root = finalized_root no_root (info_of op []) []; own = metadata f (info_of op []); commands = Create (shelved_of f fin.empty op) ∷ [] };
         is = refl;
         unsettled = refl;
         n = 0;
@@ -264,7 +264,7 @@ module _ (f : Formats) (size : ℕ) (name : Bytes) (moment : ℕ) (can : CanWrit
       (λ j. record (with_given w6 1 (λ (t : Ticket). record t { tried_latest = true }) (got w5.tickets t6 j)) { blobs = w7.blobs; entries = e7 ∷ w6.entries })
       can.raised_record [] refl step8
 
-  step6 : Runs f size w5 (Create (shelved_of f op) ∷ [])
+  step6 : Runs f size w5 (Create (shelved_of f fin.empty op) ∷ [])
   step6 = goes f size w5 w6 1 (CommitStep (Root 0)) WasDone _ clear (λ r. r, (λ r. cc, (λ r. cc, tt))) refl
       (allowed.Committing 1 (Root 0) _ commit6 (
         free (Meta uuid) (Root 0) can.meta can.root (λ e. cc) b3 meta_text (free (Snap uuid) (Root 0) can.snap can.root (λ e. cc) fin.empty snap_text (nothing_there (f.names.text (Root 0)))),
@@ -273,10 +273,10 @@ module _ (f : Formats) (size : ℕ) (name : Bytes) (moment : ℕ) (can : CanWrit
       (λ j. record (with_given w5 1 (committing (Root 0) (told b4 (Root 0) root_text j)) (got w4.tickets t5 j)) { blobs = b6; entries = e6 ∷ w5.entries })
       can.raised_record [] refl step7
 
-  step5 : Runs f size w4 (Create (shelved_of f op) ∷ [])
+  step5 : Runs f size w4 (Create (shelved_of f fin.empty op) ∷ [])
   step5 = goes f size w4 w5 1 RaiseStep (RaisedTo 0) _ clear (λ r. r, (λ r. r, tt)) refl
       (allowed.Raising 1 0 _ (record {
-        may = record { t = t4; out = record { there = got w3.tickets t4; out = refl }; s = record { root = finalized_root no_root (info_of op []) []; own = metadata f (info_of op []); commands = Create (shelved_of f op) ∷ [] }; is = refl; unsettled = refl; once = refl };
+        may = record { t = t4; out = record { there = got w3.tickets t4; out = refl }; s = record { root = finalized_root no_root (info_of op []) []; own = metadata f (info_of op []); commands = Create (shelved_of f fin.empty op) ∷ [] }; is = refl; unsettled = refl; once = refl };
         present = refl;
         n_is = refl;
         room = lit< tt;
@@ -284,19 +284,19 @@ module _ (f : Formats) (size : ℕ) (name : Bytes) (moment : ℕ) (can : CanWrit
       (λ j. record (record (with_given w4 1 (λ (t : Ticket). record t { raised = Some 0 }) (got w3.tickets t4 j)) { pending = 1 }) { blobs = b4; entries = e5 ∷ w4.entries })
       can.raised_record [] refl step6
 
-  step4 : Runs f size w3 (Create (shelved_of f op) ∷ [])
+  step4 : Runs f size w3 (Create (shelved_of f fin.empty op) ∷ [])
   step4 = goes f size w3 w4 1 (CommitStep (Meta uuid)) WasDone _ clear (λ r. cc, tt) refl
       (allowed.Committing 1 (Meta uuid) _ commit4 (free (Snap uuid) (Meta uuid) can.snap can.meta (λ e. cc) fin.empty snap_text (nothing_there (f.names.text (Meta uuid))), refl))
       (λ j. record (with_given w3 1 (committing (Meta uuid) (told b3 (Meta uuid) meta_text j)) (got w2.tickets t3 j)) { blobs = b4; entries = e4 ∷ w3.entries })
       can.open_record [] refl step5
 
-  step3 : Runs f size w2 (Create (shelved_of f op) ∷ [])
+  step3 : Runs f size w2 (Create (shelved_of f fin.empty op) ∷ [])
   step3 = goes f size w2 w3 1 (CommitStep (Snap uuid)) WasDone _ clear tt refl
       (allowed.Committing 1 (Snap uuid) _ commit3 (nothing_there (f.names.text (Snap uuid)), refl))
       (λ j. record (with_given w2 1 (committing (Snap uuid) (told fin.empty (Snap uuid) snap_text j)) (got fin.empty t2 j)) { blobs = b3; entries = e3 ∷ w2.entries })
       can.open_record [] refl step4
 
-  step2 : Runs f size w1 (Create (shelved_of f op) ∷ [])
+  step2 : Runs f size w1 (Create (shelved_of f fin.empty op) ∷ [])
   step2 = goes f size w1 w2 0 TakeStep (Gave 1 1 (GivenFinalize (info_of op []) [])) _ clear tt refl
       (allowed.Giving 1 1 (GivenFinalize (info_of op []) []) _ refl none_before
       (record {
@@ -315,7 +315,7 @@ module _ (f : Formats) (size : ℕ) (name : Bytes) (moment : ℕ) (can : CanWrit
       (λ j. record (taken_by f w1 1 (GivenFinalize (info_of op []) []) (op_there j)) { blobs = w1.blobs; entries = e2 ∷ w1.entries })
       can.open_record [] refl step3
 
-  step1 : Runs f size begun (Create (shelved_of f op) ∷ [])
+  step1 : Runs f size begun (Create (shelved_of f fin.empty op) ∷ [])
   step1 = goes f size begun w1 0 (AskStep (Snapshot name [] moment)) (Accepted 1) _ (λ p q e. absurd (nothing p q e)) tt refl
       (allowed.Accepting name [] moment 1 _ (record {
         number = refl;

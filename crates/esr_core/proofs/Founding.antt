@@ -2,7 +2,7 @@
 use Rattle.std.proofs.Common.{◌≡◌, ◌∙◌, ap, ℕ, List, [], ◌∷◌, Option, Some, None, refl, sym, subst, inl, inr}
 use Rattle.esr_model.specs.Parts.{part_names}
 use Rattle.esr_model.specs.Names.{BlobName, ShardSnap, ShardIndex}
-use Rattle.esr_model.specs.Values.{Bytes, FileEntry, ShardFiles, ShardResult, Formats, files_told}
+use Rattle.esr_model.specs.Values.{Bytes, FileEntry, ShardFiles, ShardResult, Formats}
 use Rattle.esr_model.specs.Shelf.{Shelved}
 use Rattle.esr_model.specs.Image.{Has, AllPairs, At, Reads, FileStands}
 use Rattle.esr_core.specs.World.{World, Op, HeldIn}
@@ -77,14 +77,16 @@ module _ (f : Formats) (w : World) (shelf : List Shelved) (l : Law f w shelf) (k
   source_at : (u : ℕ) → d.op.source ≡ Some u → SourceStands f w d.t r.index r.shard u
   source_at u copies = source_stands f w shelf l k d.t d.out r.index r.shard d.is u (law.source_is ∙ ap (λ (x : Op). x.source) (some_same (sym law.op_there ∙ d.op_there)) ∙ copies)
 
-  files_held : (source : Option ℕ) → d.op.source ≡ source → AreFilesOf f (At f w.blobs) source r.index r.shard d.s d.snap.files → AreFilesOf f (HeldIn f w) source r.index r.shard d.s d.snap.files
-  files_held None copies h =
-      AllPairs-with (λ e file. (e.physical ≡ file.0) × FileStands f (At f w.blobs) r.index r.shard e file.1) (λ e file. (e.physical ≡ file.0) × FileStands f (HeldIn f w) r.index r.shard e file.1) d.snap.files (files_told f d.s.place d.s.ref.name d.s.number)
-      (λ e file m p. (p.0, held_file e m file.1 p.1)) h
+  files_held : (source : Option ℕ) → d.op.source ≡ source → AreFilesOf f (At f w.blobs) source r.index r.shard d.snap.files → AreFilesOf f (HeldIn f w) source r.index r.shard d.snap.files
+  files_held None copies h = (
+    h.0,
+    AllPairs-with (λ (e : FileEntry) (file : Bytes × Bytes). (e.physical ≡ file.0) × FileStands f (At f w.blobs) r.index r.shard e file.1) (λ (e : FileEntry) (file : Bytes × Bytes). (e.physical ≡ file.0) × FileStands f (HeldIn f w) r.index r.shard e file.1) d.snap.files h.0
+        (λ e file m p. (p.0, held_file e m file.1 p.1)) h.1,
+  )
   files_held (Some u) copies (was, reads, same) = (was, source_held f w d.t r.index r.shard u (source_at u copies) was reads, same)
 
-  files_stand : (source : Option ℕ) → d.op.source ≡ source → AreFilesOf f (At f w.blobs) source r.index r.shard d.s d.snap.files → (e : FileEntry) → Has d.snap.files e → (bytes : Bytes) × FileStands f (HeldIn f w) r.index r.shard e bytes
-  files_stand None copies h e m = let (bytes, file) = file_of f (At f w.blobs) r.index r.shard d.snap.files (files_told f d.s.place d.s.ref.name d.s.number) h e m in (bytes, held_file e m bytes file)
+  files_stand : (source : Option ℕ) → d.op.source ≡ source → AreFilesOf f (At f w.blobs) source r.index r.shard d.snap.files → (e : FileEntry) → Has d.snap.files e → (bytes : Bytes) × FileStands f (HeldIn f w) r.index r.shard e bytes
+  files_stand None copies h e m = let (bytes, file) = file_of f (At f w.blobs) r.index r.shard d.snap.files h.0 h.1 e m in (bytes, held_file e m bytes file)
   files_stand (Some u) copies (was, reads, same) e m = source_stand f w d.t r.index r.shard u (source_at u copies) was reads e (subst (λ (xs : List FileEntry). Has xs e) (sym same) m)
 
   pub found : DoneShard f w k r new

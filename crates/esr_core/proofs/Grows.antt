@@ -3,7 +3,7 @@ use Rattle.std.proofs.Common.{◌≡◌, ℕ, zero, suc, List, [], ◌∷◌, Op
 use Rattle.std.specs.FinMap.{FinMap}
 use Rattle.esr_model.specs.Places.{shelf_places}
 use Rattle.esr_model.specs.Names.{BlobName, Root, Snap, ShardIndex}
-use Rattle.esr_model.specs.Values.{Bytes, IndexRef, RootSnap, RootData, SnapInfo, FileEntry, ShardFiles, ShardResult, Formats, files_told}
+use Rattle.esr_model.specs.Values.{Bytes, IndexRef, RootSnap, RootData, SnapInfo, FileEntry, ShardFiles, ShardResult, Formats}
 use Rattle.esr_model.specs.Image.{Has, AllPairs, IsOne, Picked, ListsAs, SnapStands, RootStands}
 use Rattle.esr_model.specs.Shelf.{Shelved}
 use Rattle.esr_core.specs.World.{Op, ShardWork, Ticket}
@@ -47,9 +47,9 @@ module _ (f : Formats) (has now : BlobName → Bytes → Type 0) (func : IsOne n
         listed = λ above snap m is. lists_kept index shard g snap.uuid (c.listed above snap m (of_shard_was root shelf s snap m index shard is));
       }
 
-  files_kept : (source : Option ℕ) (index shard : ℕ) (s : ShardWork) (files : List FileEntry) → AreFilesOf f has source index shard s files → AreFilesOf f now source index shard s files
-  files_kept None index shard s files h = AllPairs-map (λ e file p. (p.0, file_kept f has now keeps index shard e file.1 p.1)) files (files_told f s.place s.ref.name s.number) h
-  files_kept (Some u) index shard s files (was, reads, same) = (was, reads_kept f has now keeps _ _ _ reads, same)
+  files_kept : (source : Option ℕ) (index shard : ℕ) (files : List FileEntry) → AreFilesOf f has source index shard files → AreFilesOf f now source index shard files
+  files_kept None index shard files h = (h.0, AllPairs-map (λ e file p. (p.0, file_kept f has now keeps index shard e file.1 p.1)) files h.0 h.1)
+  files_kept (Some u) index shard files (was, reads, same) = (was, reads_kept f has now keeps _ _ _ reads, same)
 
   done_kept : (source : Option ℕ) (uuid : ℕ) (s : ShardWork) (r : ShardResult) → DoneStands f has source uuid s r → DoneStands f now source uuid s r
   done_kept source uuid s r d =
@@ -58,7 +58,7 @@ module _ (f : Formats) (has now : BlobName → Bytes → Type 0) (func : IsOne n
         shard_is = d.shard_is;
         snap = d.snap;
         snap_reads = reads_kept f has now keeps _ _ _ d.snap_reads;
-        files = files_kept source s.ref.id s.number s d.snap.files d.files;
+        files = files_kept source s.ref.id s.number d.snap.files d.files;
       }
 
   indices_kept : (u : ℕ) (indices : List IndexRef) → AreIndicesBy f has u indices → AreIndicesBy f now u indices

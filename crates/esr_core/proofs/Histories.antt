@@ -86,8 +86,8 @@ pub record Stepped (f : Formats) (w : World) (shelf : List Shelved) (m : Moment)
   pub made : ((w.deposed ≡ false) × ((t : Turn f w new) × (commands ≡ commands_of f w new t))) ⊎ ((new ≡ w) × (commands ≡ []))
 
 -- each step in a world that isn't deposed is a turn
-step_turn : (f : Formats) (size : ℕ) (w : World) (shelf : List Shelved) → TellsShards f w → Law f w shelf → IsHonest f w.blobs → (m : Moment) (i : Image) → m.image ≡ Some i → Allows f size w m.entry.who m.entry.step m.entry.reply m.image → Turned f w m.entry.who m.entry.step m.entry.reply (after f w m)
-step_turn f size w shelf known l honest m i told alive = turn_by f size w shelf l i doing (accepted f w shelf l) (prune_turn f w shelf l i) m.entry.who m.entry.step m.entry.reply m.image told alive
+step_turn : (f : Formats) (size : ℕ) (w : World) (shelf : List Shelved) → Law f w shelf → (m : Moment) (i : Image) → m.image ≡ Some i → Allows f size w m.entry.who m.entry.step m.entry.reply m.image → Turned f w m.entry.who m.entry.step m.entry.reply (after f w m)
+step_turn f size w shelf l m i told alive = turn_by f size w shelf l i doing (accepted f w shelf l) (prune_turn f w shelf l i) m.entry.who m.entry.step m.entry.reply m.image told alive
   where
     doing : (k : ℕ) (r : ShardResult) → DonesBy f size w k r (Some i) → i.blobs ≡ w.blobs → Turned f w k (DoneStep r) HasEnded (stepped f w (record { entry = record { who = k; step = DoneStep r; reply = HasEnded }; image = Some i }))
     doing k r d same =
@@ -96,7 +96,7 @@ step_turn f size w shelf known l honest m i told alive = turn_by f size w shelf 
       where
         by_source : (o : Option ℕ) → d.t.source ≡ o → DoneAs f size d.t r o → (new : World) → new ≡ record w { ops = fin.insert w.ops d.t.op (record d.op { shards = map (marked k (Done r)) d.op.shards }); tickets = fin.insert w.tickets k (record d.t { out = false }); completed = completing w.completed d.t.op (map (marked k (Done r)) d.op.shards) }
             → DoneFound f w k r new
-        by_source None at b = done_found f size w shelf l honest k d.t d.out r d.is d.op d.op_there d.s d.s_there d.state d.place_is d.name_is (d.source_is ∙ at) b (b.told (known k d.t r.index r.shard d.out.there d.out.out d.is at))
+        by_source None at b = done_found f size w shelf l k d.t d.out r d.is d.op d.op_there d.s d.s_there d.state (d.source_is ∙ at) b
         by_source (Some source) at b = cloned_found f w shelf l k d.t d.out r d.is source at b d.op d.op_there (d.source_is ∙ at) d.s d.s_there d.state
 
 pub turned_law : (f : Formats) (w : World) (shelf : List Shelved) → Law f w shelf → w.deposed ≡ false → (m : Moment) → Turned f w m.entry.who m.entry.step m.entry.reply (after f w m) → Stepped f w shelf m (after f w m)
@@ -134,33 +134,33 @@ blocked_law f w shelf l m b = by b.refusal b.blocks b.refused
           early = λ safe below. blocked_none f w safe m b;
         })
 
-pub step_law : (f : Formats) (size : ℕ) (w : World) (shelf : List Shelved) → TellsShards f w → Law f w shelf → IsHonest f w.blobs → (m : Moment) (i : Image) → m.image ≡ Some i → Allowed f size w m → Stepped f w shelf m (after f w m)
-step_law f size w shelf known l honest m i told a = elim a.answered [
-  | inl alive ↦ turned_law f w shelf l alive.0 m (step_turn f size w shelf known l honest m i told alive.1)
+pub step_law : (f : Formats) (size : ℕ) (w : World) (shelf : List Shelved) → Law f w shelf → (m : Moment) (i : Image) → m.image ≡ Some i → Allowed f size w m → Stepped f w shelf m (after f w m)
+step_law f size w shelf l m i told a = elim a.answered [
+  | inl alive ↦ turned_law f w shelf l alive.0 m (step_turn f size w shelf l m i told alive.1)
   | inr dead ↦ blocked_law f w shelf l m dead
 ]
 
 -- what a list of moments leaves
-pub lasts : (f : Formats) (size : ℕ) (log : List Moment) (w : World) (shelf : List Shelved) → TellsHandedOut f w log → Law f w shelf → IsLegal f size w log → AreTold log → AreHonest f w log → Lasts f w (world_from f w log)
-lasts f size [] w shelf known l legal told honest = record { rises = omega arith; alone = λ e. refl }
-lasts f size (m ∷ log) w shelf known l legal told honest =
-    let s = step_law f size w shelf known.0 l honest.0 m told.0.0 told.0.1 legal.0 in
-    let rest = lasts f size log (after f w m) (shelf_after shelf s.commands) known.1 s.law legal.1 told.1 honest.1 in
+pub lasts : (f : Formats) (size : ℕ) (log : List Moment) (w : World) (shelf : List Shelved) → Law f w shelf → IsLegal f size w log → AreTold log → Lasts f w (world_from f w log)
+lasts f size [] w shelf l legal told = record { rises = omega arith; alone = λ e. refl }
+lasts f size (m ∷ log) w shelf l legal told =
+    let s = step_law f size w shelf l m told.0.0 told.0.1 legal.0 in
+    let rest = lasts f size log (after f w m) (shelf_after shelf s.commands) s.law legal.1 told.1 in
     record {
       rises = omega (arith, s.rises, rest.rises);
       alone = λ e. let h = s.alone e in rest.alone h.0 ∙ h.1;
     }
 
 -- the law over a legal history
-pub legal_law : (f : Formats) (size : ℕ) (log : List Moment) (w : World) (shelf : List Shelved) → TellsHandedOut f w log → Law f w shelf → IsLegal f size w log → AreTold log → AreHonest f w log
+pub legal_law : (f : Formats) (size : ℕ) (log : List Moment) (w : World) (shelf : List Shelved) → Law f w shelf → IsLegal f size w log → AreTold log
     → Law f (world_from f w log) (shelf_after shelf (committed f (world_from f w log).safe w log))
-legal_law f size [] w shelf known l legal told honest = l
-legal_law f size (m ∷ log) w shelf known l legal told honest =
-    let s = step_law f size w shelf known.0 l honest.0 m told.0.0 told.0.1 legal.0 in
-    let rest = lasts f size log (after f w m) (shelf_after shelf s.commands) known.1 s.law legal.1 told.1 honest.1 in
+legal_law f size [] w shelf l legal told = l
+legal_law f size (m ∷ log) w shelf l legal told =
+    let s = step_law f size w shelf l m told.0.0 told.0.1 legal.0 in
+    let rest = lasts f size log (after f w m) (shelf_after shelf s.commands) s.law legal.1 told.1 in
     let last : World = world_from f (after f w m) log in
     let mine : commands_at f last.safe w m.entry.who m.entry.step m.entry.reply ≡ s.commands = s.counted last.safe rest.rises rest.alone in
-    let law : Law f last (shelf_after (shelf_after shelf s.commands) (committed f last.safe (after f w m) log)) = legal_law f size log (after f w m) (shelf_after shelf s.commands) known.1 s.law legal.1 told.1 honest.1 in
+    let law : Law f last (shelf_after (shelf_after shelf s.commands) (committed f last.safe (after f w m) log)) = legal_law f size log (after f w m) (shelf_after shelf s.commands) s.law legal.1 told.1 in
     subst (Law f last) (sym (shelf_after-append shelf s.commands (committed f last.safe (after f w m) log)) ∙ ap (λ cs. shelf_after shelf (cs ++ committed f last.safe (after f w m) log)) (sym mine)) law
 
 -- the image after a moment is that of the world
@@ -180,16 +180,16 @@ last_allowed f size [] w m legal = legal.0
 last_allowed f size (x ∷ log) w m legal = last_allowed f size log (after f w x) m legal.1
 
 -- the image after the last moment is kept for the commands that count in it
-pub image_kept : (f : Formats) (size : ℕ) (log : List Moment) (w : World) (shelf : List Shelved) (m : Moment) (i : Image) → TellsHandedOut f w (log ++ m ∷ []) → Law f w shelf → m.image ≡ Some i → IsLegal f size w (log ++ m ∷ []) → AreTold (log ++ m ∷ []) → AreHonest f w (log ++ m ∷ [])
+pub image_kept : (f : Formats) (size : ℕ) (log : List Moment) (w : World) (shelf : List Shelved) (m : Moment) (i : Image) → Law f w shelf → m.image ≡ Some i → IsLegal f size w (log ++ m ∷ []) → AreTold (log ++ m ∷ [])
     → Kept f i (shelf_after shelf (committed f (world_from f w (log ++ m ∷ [])).safe w (log ++ m ∷ [])))
-image_kept f size log w shelf m i known l image legal told honest =
+image_kept f size log w shelf m i l image legal told =
     let all : List Moment = log ++ m ∷ [] in
     let a = last_allowed f size log w m legal in
     let last : World = world_from f w all in
     let same : last ≡ after f (world_from f w log) m = world_append f log w m in
     let back : ReadsBack f.cluster (record_of last) = subst (λ x. ReadsBack f.cluster (record_of x)) (sym same) a.record_back in
     subst (λ x. Kept f x (shelf_after shelf (committed f last.safe w all))) (ap (image_of f) same ∙ sym (image_is f size (world_from f w log) m i image a))
-    (kept_of f last _ (legal_law f size all w shelf known l legal told honest) back)
+    (kept_of f last _ (legal_law f size all w shelf l legal told) back)
 
 -- ---- a history in two parts
 
@@ -226,30 +226,28 @@ committed_parts f safe (x ∷ xs) ys w = ap (λ cs. commands_at f safe w x.entry
     append_assoc (x ∷ xs) ys zs = ap (λ ds. x ∷ ds) (append_assoc xs ys zs)
 
 -- no later command counts in an image
-pub later_none : (f : Formats) (size : ℕ) (log : List Moment) (w : World) (shelf : List Shelved) (safe : ℕ) → TellsHandedOut f w log → Law f w shelf → safe ≤ w.safe → IsLegal f size w log → AreTold log → AreHonest f w log → committed f safe w log ≡ []
-later_none f size [] w shelf safe known l below legal told honest = refl
-later_none f size (m ∷ log) w shelf safe known l below legal told honest =
-    let s = step_law f size w shelf known.0 l honest.0 m told.0.0 told.0.1 legal.0 in
-    (λ j. s.early safe below j ++ later_none f size log (after f w m) (shelf_after shelf s.commands) safe known.1 s.law (omega (arith, below, s.rises)) legal.1 told.1 honest.1 j)
+pub later_none : (f : Formats) (size : ℕ) (log : List Moment) (w : World) (shelf : List Shelved) (safe : ℕ) → Law f w shelf → safe ≤ w.safe → IsLegal f size w log → AreTold log → committed f safe w log ≡ []
+later_none f size [] w shelf safe l below legal told = refl
+later_none f size (m ∷ log) w shelf safe l below legal told =
+    let s = step_law f size w shelf l m told.0.0 told.0.1 legal.0 in
+    (λ j. s.early safe below j ++ later_none f size log (after f w m) (shelf_after shelf s.commands) safe s.law (omega (arith, below, s.rises)) legal.1 told.1 j)
 
 append_one : (log : List Moment) (m : Moment) (rest : List Moment) → (log ++ m ∷ []) ++ rest ≡ log ++ m ∷ rest
 append_one [] m rest = refl
 append_one (x ∷ log) m rest = ap (λ ms. x ∷ ms) (append_one log m rest)
 
 -- each image of a history is kept for the commands of all of it that count in the image
-pub each_image : (f : Formats) (size : ℕ) (log rest : List Moment) (w : World) (shelf : List Shelved) (m : Moment) (i : Image) → TellsHandedOut f w (log ++ m ∷ rest) → Law f w shelf → m.image ≡ Some i → IsLegal f size w (log ++ m ∷ rest) → AreTold (log ++ m ∷ rest) → AreHonest f w (log ++ m ∷ rest)
+pub each_image : (f : Formats) (size : ℕ) (log rest : List Moment) (w : World) (shelf : List Shelved) (m : Moment) (i : Image) → Law f w shelf → m.image ≡ Some i → IsLegal f size w (log ++ m ∷ rest) → AreTold (log ++ m ∷ rest)
     → Kept f i (shelf_after shelf (committed f (world_from f w (log ++ m ∷ [])).safe w (log ++ m ∷ rest)))
-each_image f size log rest w shelf m i known l image legal told honest =
+each_image f size log rest w shelf m i l image legal told =
     let all : List Moment = log ++ m ∷ [] in
     let same : (log ++ m ∷ []) ++ rest ≡ log ++ m ∷ rest = append_one log m rest in
     let legals = legal_parts f size all rest w (subst (IsLegal f size w) (sym same) legal) in
     let tolds = told_parts all rest (subst AreTold (sym same) told) in
-    let honests = honest_parts f all rest w (subst (AreHonest f w) (sym same) honest) in
     let safe : ℕ = (world_from f w all).safe in
-    let knowns = known_parts f all rest w (subst (TellsHandedOut f w) (sym same) known) in
-    let kept = image_kept f size log w shelf m i knowns.0 l image legals.0 tolds.0 honests.0 in
-    let law = legal_law f size all w shelf knowns.0 l legals.0 tolds.0 honests.0 in
-    let none : committed f safe (world_from f w all) rest ≡ [] = later_none f size rest (world_from f w all) _ safe knowns.1 law (omega arith) legals.1 tolds.1 honests.1 in
+    let kept = image_kept f size log w shelf m i l image legals.0 tolds.0 in
+    let law = legal_law f size all w shelf l legals.0 tolds.0 in
+    let none : committed f safe (world_from f w all) rest ≡ [] = later_none f size rest (world_from f w all) _ safe law (omega arith) legals.1 tolds.1 in
     let mine : committed f safe w (log ++ m ∷ rest) ≡ committed f safe w all = ap (committed f safe w) (sym same) ∙ committed_parts f safe all rest w ∙ ap (λ cs. committed f safe w all ++ cs) none ∙ nil (committed f safe w all) in
     subst (λ cs. Kept f i (shelf_after shelf cs)) (sym mine) kept
   where

@@ -14,7 +14,7 @@ use Rattle.esr_core.specs.After.{asked, raised, with_given, settled_of, dropped_
 use Rattle.esr_core.specs.Entry as entry
 use Rattle.esr_core.specs.Allowed as allowed
 use Rattle.esr_core.specs.Allowed.{Settles, SettlesDeletion, PruneAllows, Allows, Blocks, ByFailedSwap, ByDelete, IsBlocked, Allowed}
-use Rattle.esr_core.specs.History.{world_from, IsLegal, TellsHandedOut, AreTold, AreHonest, counts, is_settle, command_of, commands_at, committed}
+use Rattle.esr_core.specs.History.{world_from, IsLegal, AreTold, counts, is_settle, command_of, commands_at, committed}
 use Rattle.esr_core.specs.Left.{cut_off, Leaves, safe_of, safe_by, safe_in}
 use Rattle.esr_core.proofs.Reading.{some_same}
 use Rattle.esr_core.proofs.AskedDeletes.{delete_leaves}
@@ -177,16 +177,16 @@ pub record LeftLasts (f : Formats) (w : World) (i : Image) : Type 0 where
 lasts_now : (f : Formats) (w : World) (i : Image) → safe_in f i ≡ w.safe → LeftLasts f w i
 lasts_now f w i e = record { rises = omega (arith, e); alone = λ d. e }
 
-pub left_lasts : (f : Formats) (size : ℕ) (log : List Moment) (w : World) (shelf : List Shelved) (i : Image) → TellsHandedOut f w log → Law f w shelf → ReadsBack f.cluster (record_of w) → IsLegal f size w log → AreTold log → AreHonest f w log → Leaves f size w log i → LeftLasts f w i
-left_lasts f size [] w shelf i known l back legal told honest now = lasts_now f w i (safe_now f w i back now)
-left_lasts f size (m ∷ log) w shelf i known l back legal told honest (inl now) = lasts_now f w i (safe_now f w i back now)
-left_lasts f size (m ∷ log) w shelf i known l back legal told honest (inr (inl cut)) =
-    let s = step_law f size w shelf known.0 l honest.0 (cut_off m i) i refl cut in
+pub left_lasts : (f : Formats) (size : ℕ) (log : List Moment) (w : World) (shelf : List Shelved) (i : Image) → Law f w shelf → ReadsBack f.cluster (record_of w) → IsLegal f size w log → AreTold log → Leaves f size w log i → LeftLasts f w i
+left_lasts f size [] w shelf i l back legal told now = lasts_now f w i (safe_now f w i back now)
+left_lasts f size (m ∷ log) w shelf i l back legal told (inl now) = lasts_now f w i (safe_now f w i back now)
+left_lasts f size (m ∷ log) w shelf i l back legal told (inr (inl cut)) =
+    let s = step_law f size w shelf l (cut_off m i) i refl cut in
     let e : safe_in f i ≡ (after f w (cut_off m i)).safe = safe_cut f size w m i cut in
     record { rises = omega (arith, s.rises, e); alone = λ d. e ∙ (s.alone d).1 }
-left_lasts f size (m ∷ log) w shelf i known l back legal told honest (inr (inr later)) =
-    let s = step_law f size w shelf known.0 l honest.0 m told.0.0 told.0.1 legal.0 in
-    let rest = left_lasts f size log (after f w m) (shelf_after shelf s.commands) i known.1 s.law legal.0.record_back legal.1 told.1 honest.1 later in
+left_lasts f size (m ∷ log) w shelf i l back legal told (inr (inr later)) =
+    let s = step_law f size w shelf l m told.0.0 told.0.1 legal.0 in
+    let rest = left_lasts f size log (after f w m) (shelf_after shelf s.commands) i s.law legal.0.record_back legal.1 told.1 later in
     record { rises = omega (arith, s.rises, rest.rises); alone = λ d. let h = s.alone d in rest.alone h.0 ∙ h.1 }
 
 -- ---- what is left is kept
@@ -204,43 +204,43 @@ deposed_none f size (m ∷ log) w safe d legal =
     let rest : committed f safe (after f w m) log ≡ [] = deposed_none f size log (after f w m) safe (ap (λ (x : World). x.deposed) (blocked_stays f w m dead) ∙ d) legal.1 in
     λ j. mine j ++ rest j
 
-now_kept : (f : Formats) (size : ℕ) (log : List Moment) (w : World) (shelf : List Shelved) (i : Image) → TellsHandedOut f w log → Law f w shelf → ReadsBack f.cluster (record_of w) → IsLegal f size w log → AreTold log → AreHonest f w log → i ≡ image_of f w
+now_kept : (f : Formats) (size : ℕ) (log : List Moment) (w : World) (shelf : List Shelved) (i : Image) → Law f w shelf → ReadsBack f.cluster (record_of w) → IsLegal f size w log → AreTold log → i ≡ image_of f w
     → Kept f i (shelf_after shelf (committed f (safe_in f i) w log))
-now_kept f size log w shelf i known l back legal told honest now =
+now_kept f size log w shelf i l back legal told now =
     let e : safe_in f i ≡ w.safe = safe_now f w i back now in
-    let none : committed f (safe_in f i) w log ≡ [] = later_none f size log w shelf (safe_in f i) known l (omega (arith, e)) legal told honest in
+    let none : committed f (safe_in f i) w log ≡ [] = later_none f size log w shelf (safe_in f i) l (omega (arith, e)) legal told in
     subst (λ x. Kept f x (shelf_after shelf (committed f (safe_in f i) w log))) (sym now) (subst (λ cs. Kept f (image_of f w) (shelf_after shelf cs)) (sym none) (kept_of f w shelf l back))
 
-cut_kept : (f : Formats) (size : ℕ) (m : Moment) (log : List Moment) (w : World) (shelf : List Shelved) (i : Image) → TellsHandedOut f w (m ∷ log) → Law f w shelf → IsLegal f size w (m ∷ log) → AreTold (m ∷ log) → AreHonest f w (m ∷ log) → Allowed f size w (cut_off m i)
+cut_kept : (f : Formats) (size : ℕ) (m : Moment) (log : List Moment) (w : World) (shelf : List Shelved) (i : Image) → Law f w shelf → IsLegal f size w (m ∷ log) → AreTold (m ∷ log) → Allowed f size w (cut_off m i)
     → Kept f i (shelf_after shelf (committed f (safe_in f i) w (m ∷ log)))
-cut_kept f size m log w shelf i known l legal told honest cut =
+cut_kept f size m log w shelf i l legal told cut =
     let safe : ℕ = safe_in f i in
     let fallen : World = after f w (cut_off m i) in
     let e : safe ≡ fallen.safe = safe_cut f size w m i cut in
-    let c = step_law f size w shelf known.0 l honest.0 (cut_off m i) i refl cut in
-    let s = step_law f size w shelf known.0 l honest.0 m told.0.0 told.0.1 legal.0 in
+    let c = step_law f size w shelf l (cut_off m i) i refl cut in
+    let s = step_law f size w shelf l m told.0.0 told.0.1 legal.0 in
     let alive = cut_alive f size w m i cut in
     let a = alike_by f size w shelf l m.entry.who m.entry.step m.entry.reply m.image (Some i) s.rises (allows_alive f size w m i alive.0 cut legal.0) alive.1 in
     let mine : commands_at f safe w m.entry.who m.entry.step m.entry.reply ≡ c.commands = a.counted safe ∙ c.counted safe (omega (arith, e)) (λ d. e) in
     let rest : committed f safe (after f w m) log ≡ [] = elim a.ends [
       | inl d ↦ deposed_none f size log (after f w m) safe d legal.1
-      | inr below ↦ let b : fallen.safe ≤ (after f w m).safe = below in later_none f size log (after f w m) (shelf_after shelf s.commands) safe known.1 s.law (omega (arith, e, b)) legal.1 told.1 honest.1
+      | inr below ↦ let b : fallen.safe ≤ (after f w m).safe = below in later_none f size log (after f w m) (shelf_after shelf s.commands) safe s.law (omega (arith, e, b)) legal.1 told.1
     ] in
     let all : committed f safe w (m ∷ log) ≡ c.commands = (λ j. mine j ++ rest j) ∙ nil c.commands in
     subst (λ x. Kept f x (shelf_after shelf (committed f safe w (m ∷ log)))) (sym (image_is f size w (cut_off m i) i refl cut))
     (subst (λ cs. Kept f (image_of f fallen) (shelf_after shelf cs)) (sym all) (kept_of f fallen (shelf_after shelf c.commands) c.law cut.record_back))
 
-pub left_kept : (f : Formats) (size : ℕ) (log : List Moment) (w : World) (shelf : List Shelved) (i : Image) → TellsHandedOut f w log → Law f w shelf → ReadsBack f.cluster (record_of w) → IsLegal f size w log → AreTold log → AreHonest f w log → Leaves f size w log i
+pub left_kept : (f : Formats) (size : ℕ) (log : List Moment) (w : World) (shelf : List Shelved) (i : Image) → Law f w shelf → ReadsBack f.cluster (record_of w) → IsLegal f size w log → AreTold log → Leaves f size w log i
     → Kept f i (shelf_after shelf (committed f (safe_in f i) w log))
-left_kept f size [] w shelf i known l back legal told honest now = now_kept f size [] w shelf i known l back legal told honest now
-left_kept f size (m ∷ log) w shelf i known l back legal told honest (inl now) = now_kept f size (m ∷ log) w shelf i known l back legal told honest now
-left_kept f size (m ∷ log) w shelf i known l back legal told honest (inr (inl cut)) = cut_kept f size m log w shelf i known l legal told honest cut
-left_kept f size (m ∷ log) w shelf i known l back legal told honest (inr (inr later)) =
-    let s = step_law f size w shelf known.0 l honest.0 m told.0.0 told.0.1 legal.0 in
-    let lasts = left_lasts f size log (after f w m) (shelf_after shelf s.commands) i known.1 s.law legal.0.record_back legal.1 told.1 honest.1 later in
+left_kept f size [] w shelf i l back legal told now = now_kept f size [] w shelf i l back legal told now
+left_kept f size (m ∷ log) w shelf i l back legal told (inl now) = now_kept f size (m ∷ log) w shelf i l back legal told now
+left_kept f size (m ∷ log) w shelf i l back legal told (inr (inl cut)) = cut_kept f size m log w shelf i l legal told cut
+left_kept f size (m ∷ log) w shelf i l back legal told (inr (inr later)) =
+    let s = step_law f size w shelf l m told.0.0 told.0.1 legal.0 in
+    let lasts = left_lasts f size log (after f w m) (shelf_after shelf s.commands) i s.law legal.0.record_back legal.1 told.1 later in
     let cs : List Command = committed f (safe_in f i) (after f w m) log in
     let mine : commands_at f (safe_in f i) w m.entry.who m.entry.step m.entry.reply ≡ s.commands = s.counted (safe_in f i) lasts.rises lasts.alone in
-    let kept : Kept f i (shelf_after (shelf_after shelf s.commands) cs) = left_kept f size log (after f w m) (shelf_after shelf s.commands) i known.1 s.law legal.0.record_back legal.1 told.1 honest.1 later in
+    let kept : Kept f i (shelf_after (shelf_after shelf s.commands) cs) = left_kept f size log (after f w m) (shelf_after shelf s.commands) i s.law legal.0.record_back legal.1 told.1 later in
     subst (Kept f i) (sym (shelf_after-append shelf s.commands cs) ∙ ap (λ ds. shelf_after shelf (ds ++ cs)) (sym mine)) kept
 
 -- ---- a settle that was answered

@@ -7,6 +7,7 @@ pub mod Results
 pub mod Ordered
 pub mod Pieces
 pub mod Owning
+pub mod Stored
 pub mod Staging
 pub mod Finalizing
 pub mod Marked
@@ -80,6 +81,7 @@ pub mod Histories
 pub mod TidyTurns
 pub mod TidyHistories
 pub mod Left
+pub mod Sources
 pub mod Example
 pub mod Naming
 pub mod Tracking

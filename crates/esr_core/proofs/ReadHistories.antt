@@ -20,5 +20,5 @@ read_step_law f size w shelf l r m new s = elim s.made [
 pub read_legal : (f : Formats) (size : ℕ) (log : List Moment) (w : World) (shelf : List Shelved) → TellsHandedOut f w log → Law f w shelf → ReadLaw f w → IsLegal f size w log → AreTold log → AreHonest f w log → ReadLaw f (world_from f w log)
 read_legal f size [] w shelf known l r legal told honest = r
 read_legal f size (m ∷ log) w shelf known l r legal told honest =
-    let s = step_law f size w shelf known.0 l honest.0 m told.0.0 told.0.1 legal.0 in
+    let s = step_law f size w shelf l m told.0.0 told.0.1 legal.0 in
     read_legal f size log (after f w m) (shelf_after shelf s.commands) known.1 s.law (read_step_law f size w shelf l r m (after f w m) s) legal.1 told.1 honest.1

@@ -147,11 +147,11 @@ pub follows_legal : (f : Formats) (size : ℕ) (o : ℕ) (x : Shelved) (log : Li
     → Follows f o x (world_from f w log) (shelf_after shelf (committed f (world_from f w log).safe w log))
 follows_legal f size o x [] w shelf known l r h legal told honest = h
 follows_legal f size o x (m ∷ log) w shelf known l r h legal told honest =
-    let s = step_law f size w shelf known.0 l honest.0 m told.0.0 told.0.1 legal.0 in
+    let s = step_law f size w shelf l m told.0.0 told.0.1 legal.0 in
     let now : World = after f w m in
     let read : ReadLaw f now = read_step_law f size w shelf l r m now s in
     let next : Follows f o x now (shelf_after shelf s.commands) = stepped m now s l r h in
-    let rest = lasts f size log now (shelf_after shelf s.commands) known.1 s.law legal.1 told.1 honest.1 in
+    let rest = lasts f size log now (shelf_after shelf s.commands) s.law legal.1 told.1 in
     let last : World = world_from f now log in
     let mine : commands_at f last.safe w m.entry.who m.entry.step m.entry.reply ≡ s.commands = s.counted last.safe rest.rises rest.alone in
     let later : Follows f o x last (shelf_after (shelf_after shelf s.commands) (committed f last.safe now log)) = follows_legal f size o x log now (shelf_after shelf s.commands) known.1 s.law read next legal.1 told.1 honest.1 in

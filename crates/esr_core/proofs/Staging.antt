@@ -9,10 +9,11 @@ use Rattle.esr_model.specs.Names.{BlobName, Snap, Meta, IndexMeta, ShardSnap}
 use Rattle.esr_model.specs.Values.{Bytes, IndexRef, RootSnap, RootData, SnapInfo, FileEntry, ShardSnapshot, ShardResult, Kind, ReadsBack, Formats}
 use Rattle.esr_model.specs.Shelf.{Shelved, ShelfShard, is_of_one, shelved_at}
 use Rattle.esr_model.specs.Uploads.{same_bytes}
-use Rattle.esr_model.specs.Image.{Has, AllPairs, IsOne, Reads, index_at, at_shard_of, ListsAs, FileStands, ShardStands, SnapStands, RootStands, global_of}
+use Rattle.esr_model.specs.Image.{Blobs, Has, AllPairs, IsOne, Reads, index_at, at_shard_of, ListsAs, FileStands, ShardStands, SnapStands, RootStands, global_of}
 use Rattle.esr_model.specs.Finalize.{Finalizes, larger, done_at}
 use Rattle.std.specs.Prelude.{sum_by, min, filter, ◌-◌, ◌^◌, ◌≤◌, ◌==◌}
 use Rattle.esr_model.specs.Places.{comes_first, sorted_by}
+use Rattle.esr_core.specs.Stored.{stored_files}
 use Rattle.esr_core.specs.World.{Op, ShardWork, Done, AllDone, info_of, comes_first_of, shelved_shard, shelved_of, index_names, metadata}
 use Rattle.esr_core.specs.Generations.{DoneAt, IsLive, Carries, AreFilesOf, DoneStands, AreIndicesBy, OpTexts, OpLaw}
 use Rattle.esr_core.specs.Swaps.{OrOwn}
@@ -21,6 +22,7 @@ use Rattle.esr_core.proofs.Results.{choose_true, choose_false, done_of}
 use Rattle.esr_core.proofs.Owning.{stands_on}
 use Rattle.esr_core.proofs.Ordered.{Has-sorted, map-sorted, in_shelf_places}
 use Rattle.esr_core.proofs.Reading.{some_same, reads_one, AllPairs-snoc, AllPairs-with, Has-map, Has-mapped}
+use Rattle.esr_core.proofs.Stored.{stored_is}
 use Rattle.esr_core.proofs.Chosen.{apart-once, chosen_places, filter_pairs}
 
 -- the larger of two is one of them, and not below either
@@ -196,13 +198,20 @@ module _ (f : Formats) (has : BlobName → Bytes → Type 0) (func : IsOne has) 
       (record { number = o; op = op; there = there; uuid_is = refl; s = s; s_there = m; r = r; state = state; index_is = refl; shard_is = refl; generation_is = refl })
       (at_results s r m state) d shard index_is number_is (files r d)
 
-  -- its shards, of files that the sources tell
-  pub told_shards : op.source ≡ None → AllPairs (ShardStands f (OrOwn has own) new op.uuid) (shelf_places op.indices) (shelved_of f op).shards
-  told_shards none =
-      subst (λ list. AllPairs (ShardStands f (OrOwn has own) new op.uuid) list (shelved_of f op).shards) (map-sorted place_of comes_first op.shards ∙ ap (sorted_by comes_first) law.places)
-      (AllPairs-maps (ShardStands f (OrOwn has own) new op.uuid) place_of (shelved_shard f) (sorted_by comes_first_of op.shards)
-      (λ s in_order. its_shard s (Has-sorted comes_first_of op.shards s in_order) (shelved_shard f s) refl refl
-      (λ r d. subst (λ source. AreFilesOf f has source s.ref.id s.number s d.snap.files) none d.files)))
+  -- its shards, of the files that are stored
+  pub stored_shards : (blobs : Blobs) → ((name : BlobName) (bytes : Bytes) → has name bytes → fin.get blobs (f.names.text name) ≡ Some bytes) → op.source ≡ None
+      → AllPairs (ShardStands f (OrOwn has own) new op.uuid) (shelf_places op.indices) (shelved_of f blobs op).shards
+  stored_shards blobs at none =
+      subst (λ list. AllPairs (ShardStands f (OrOwn has own) new op.uuid) list (shelved_of f blobs op).shards) (map-sorted place_of comes_first op.shards ∙ ap (sorted_by comes_first) law.places)
+      (AllPairs-maps (ShardStands f (OrOwn has own) new op.uuid) place_of (shelved_shard f blobs op.uuid) (sorted_by comes_first_of op.shards)
+      (λ s in_order. its_shard s (Has-sorted comes_first_of op.shards s in_order) (shelved_shard f blobs op.uuid s) refl refl (are_stored s)))
+    where
+      are_stored : (s : ShardWork) (r : ShardResult) (d : DoneStands f has op.source op.uuid s r)
+          → AllPairs (λ e file. (e.physical ≡ file.0) × FileStands f has s.ref.id s.number e file.1) d.snap.files (stored_files f blobs s.ref.id s.number op.uuid)
+      are_stored s r d =
+          let its : AreFilesOf f has None s.ref.id s.number d.snap.files = subst (λ source. AreFilesOf f has source s.ref.id s.number d.snap.files) none d.files in
+          subst (λ (files : List (Bytes × Bytes)). AllPairs (λ (e : FileEntry) (file : Bytes × Bytes). (e.physical ≡ file.0) × FileStands f has s.ref.id s.number e file.1) d.snap.files files)
+          (sym (stored_is f blobs has at s.ref.id s.number op.uuid d.snap d.snap_reads its.0 its.1)) its.1
 
   -- and of a clone, of what a listed snapshot has of its indices
   pub copied_shards : (u : ℕ) → op.source ≡ Some u → (snap : RootSnap) → snap.uuid ≡ u → (x : Shelved) → SnapStands f has root snap x
@@ -230,7 +239,7 @@ module _ (f : Formats) (has : BlobName → Bytes → Type 0) (func : IsOne has) 
           let g : ShardStands f has root u (s.ref, s.number) shard = subst (λ n. ShardStands f has root n (s.ref, s.number) shard) uuid (subst (λ (p : IndexRef × ℕ). ShardStands f has root snap.uuid p shard) (sym e) h) in
           subst (λ (p : IndexRef × ℕ). ShardStands f (OrOwn has own) new op.uuid p shard) e
           (its_shard s s_there shard g.name_is g.number_is (λ r d.
-          let q : (was : ShardSnapshot) × Reads has (ShardSnap s.ref.id s.number u) f.shard_snap was × (was.files ≡ d.snap.files) = subst (λ source. AreFilesOf f has source s.ref.id s.number s d.snap.files) copies d.files in
+          let q : (was : ShardSnapshot) × Reads has (ShardSnap s.ref.id s.number u) f.shard_snap was × (was.files ≡ d.snap.files) = subst (λ source. AreFilesOf f has source s.ref.id s.number d.snap.files) copies d.files in
           let it : q.0 ≡ g.snap = reads_one has func (ShardSnap s.ref.id s.number u) f.shard_snap q.0 g.snap q.1 g.snap_reads in
           subst (λ (es : List FileEntry). AllPairs (λ e file. (e.physical ≡ file.0) × FileStands f has s.ref.id s.number e file.1) es shard.files) (ap (λ (v : ShardSnapshot). v.files) (sym it) ∙ q.2) g.files))
 

@@ -7,7 +7,7 @@ use Rattle.std.proofs.lemmas.List.{take-append-drop, length-take-le, length-drop
 use Rattle.std.proofs.Math.Nat.{div-mul-le_self, le-div_iff_mul-le}
 use Rattle.std.specs.Cmp.Lexicographic.{nat_list_cmp_total}
 use Rattle.std.specs.FinMap as fin
-use Rattle.esr_model.specs.Names.{BlobName, ShardIndex}
+use Rattle.esr_model.specs.Names.{BlobName, ShardSnap, ShardIndex}
 use Rattle.esr_model.specs.Values.{Bytes, Has, FileEntry, SnapList, ShardFiles, ShardResult, Formats, or_no_files, files_told}
 use Rattle.esr_model.specs.Shelf.{Shelved}
 use Rattle.esr_model.specs.Parts.{part_count, parts_from, part_names, AreFull}
@@ -28,6 +28,7 @@ use Rattle.esr_core.proofs.Maps.{split, texts_same}
 use Rattle.esr_core.proofs.Ordered.{put_by-Has, Has-put_by}
 use Rattle.esr_core.proofs.Reading.{some_same, none_some, Has-left, Has-right, Has-either}
 use Rattle.esr_core.proofs.Results.{choose_true, choose_false}
+use Rattle.esr_core.proofs.Stored.{StandsAs}
 
 bool_told : (b : Bool) → (b ≡ true) ⊎ (b ≡ false)
 bool_told true = inl refl
@@ -293,26 +294,38 @@ files_stand f has i k size some base (file ∷ files) old next there =
         let (m, physical, len, digest) = reused_is base.files file.0 (length file.1) (f.digest file.1) e is in
         subst (λ o. ((entry_by f size next file o).physical ≡ file.0) × FileStands f has i k (entry_by f size next file o) file.1) (sym is) (physical, old e file (inl refl) m len digest)
 
-module _ (f : Formats) (size : ℕ) (w : World) (shelf : List Shelved) (l : Law f w shelf) (honest : IsHonest f w.blobs) (k : ℕ) (t : Ticket) (out : IsOut w k t) (r : ShardResult) (is : t.work ≡ Shard r.index r.shard)
-    (op : Op) (op_there : fin.get w.ops t.op ≡ Some op) (s : ShardWork) (s_there : Has op.shards s) (state : s.state ≡ Out k) (place_is : s.place ≡ t.place) (name_is : s.ref.name ≡ t.name) (no_source : op.source ≡ None) (b : DoneBy f size t r) (told_is : f.told t.place t.name r.shard ≡ Some b.files) where
+-- the entry of a file stands, with some bytes
+abbrev EntryStands : Formats → (BlobName → Bytes → Type 0) → ℕ → ℕ → ℕ → ℕ → Bytes × Bytes → Option FileEntry → Type 0
+EntryStands f has i k size next file o = (content : Bytes × Bytes) × (((entry_by f size next file o).physical ≡ content.0) × FileStands f has i k (entry_by f size next file o) content.1)
+
+-- each file stands with some bytes: a new one with its own, a reused one with those that stand in the base
+pub files_found : (f : Formats) (has : BlobName → Bytes → Type 0) (i k size : ℕ) → 0 < size → (base : ShardFiles) → ((e : FileEntry) → Has base.files e → (bytes : Bytes) × FileStands f has i k e bytes)
+    → (files : List (Bytes × Bytes)) (next : ℕ) → ((name : BlobName) (b : Bytes) → Has (new_blobs f size base i k next files) (name, b) → has name b)
+    → (stored : List (Bytes × Bytes)) × AllPairs (λ (e : FileEntry) (file : Bytes × Bytes). (e.physical ≡ file.0) × FileStands f has i k e file.1) (entries_from f size base next files) stored
+files_found f has i k size some base old [] next there = ([], tt)
+files_found f has i k size some base old (file ∷ files) next there =
+    let first : EntryStands f has i k size next file (reused_file f base file) = one (reused_file f base file) refl in
+    let rest = files_found f has i k size some base old files (next_by (reused_file f base file) next) (λ name b m. there name b (Has-right (blobs_by i k (entry_by f size next file (reused_file f base file)) file.1 (reused_file f base file)) _ (name, b) m)) in
+    (first.0 ∷ rest.0, (first.1, rest.1))
+  where
+    one : (o : Option FileEntry) → reused_file f base file ≡ o → EntryStands f has i k size next file (reused_file f base file)
+    one None is =
+        subst (EntryStands f has i k size next file) (sym is) (
+          file,
+          (
+            refl,
+            new_stands f has i k size next file some (λ name b m. there name b (Has-left (blobs_by i k (entry_by f size next file (reused_file f base file)) file.1 (reused_file f base file)) _ (name, b)
+                (subst (λ o. Has (blobs_by i k (entry_by f size next file o) file.1 o) (name, b)) (sym is) m))),
+          ),
+        )
+    one (Some e) is =
+        let (bytes, stands) = old e (reused_is base.files file.0 (length file.1) (f.digest file.1) e is).0 in
+        subst (EntryStands f has i k size next file) (sym is) ((e.physical, bytes), (refl, stands))
+
+module _ (f : Formats) (size : ℕ) (w : World) (shelf : List Shelved) (l : Law f w shelf) (k : ℕ) (t : Ticket) (out : IsOut w k t) (r : ShardResult) (is : t.work ≡ Shard r.index r.shard)
+    (op : Op) (op_there : fin.get w.ops t.op ≡ Some op) (s : ShardWork) (s_there : Has op.shards s) (state : s.state ≡ Out k) (no_source : op.source ≡ None) (b : DoneBy f size t r) where
   abbrev files : List (Bytes × Bytes)
   files = b.files
-
-  number_is : s.number ≡ r.shard
-  number_is =
-      let held = l.lawful.sound.carried.held t.op op s k op_there s_there state in
-      let same : held.t ≡ t = some_same _ _ (sym held.there ∙ out.there) in
-      number_same _ _ _ _ (sym held.work ∙ ap (λ (x : Ticket). x.work) same ∙ is)
-    where
-      number_same : (a b c d : ℕ) → Shard a b ≡ Shard c d → b ≡ d
-      number_same a b c d e = cc
-
-  -- they are those that the source tells
-  of_place : files ≡ files_told f t.place t.name r.shard
-  of_place = λ j. or_no_files (sym told_is j)
-
-  are_told : files ≡ files_told f s.place s.ref.name s.number
-  are_told = of_place ∙ (λ j. files_told f (sym place_is j) (sym name_is j) (sym number_is j))
 
   abbrev entries : List FileEntry
   entries = entries_from f size b.base t.first files
@@ -355,14 +368,15 @@ module _ (f : Formats) (size : ℕ) (w : World) (shelf : List Shelved) (l : Law 
       let (bytes, file) = stands.files e (subst (λ (h : ShardFiles). Has h.files e) same m) in
       (bytes, file_kept f (HeldIn f w) (At f w.blobs) (λ n c h. h.0) r.index r.shard e bytes file)
 
-  old_file : (e : FileEntry) (file : Bytes × Bytes) → Has files file → Has b.base.files e → e.len ≡ length file.1 → e.digest ≡ f.digest file.1 → FileStands f (At f w.blobs) r.index r.shard e file.1
-  old_file e file fm m len digest = elim (told t.base) [
+  old_file : (e : FileEntry) → Has b.base.files e → (bytes : Bytes) × FileStands f (At f w.blobs) r.index r.shard e bytes
+  old_file e m = elim (told t.base) [
     | inl none ↦ absurd (subst (λ (h : ShardFiles). Has h.files e) (none_base none) m)
-    | inr g ↦
-        let (bytes, stands) = base_file g.0 g.1 e m in
-        let same : bytes ≡ file.1 = honest t.place t.name r.shard file r.index r.shard e bytes (subst (λ fs. Has fs file) of_place fm) stands (stands.len ∙ len) (stands.digest ∙ digest) in
-        subst (FileStands f (At f w.blobs) r.index r.shard e) same stands
+    | inr g ↦ base_file g.0 g.1 e m
   ]
+
+  -- the new ones are there
+  new_there : (name : BlobName) (bytes : Bytes) → Has (new_blobs f size b.base r.index r.shard t.first files) (name, bytes) → At f w.blobs name bytes
+  new_there name bytes m = there name bytes (Has-left (new_blobs f size b.base r.index r.shard t.first files) _ (name, bytes) m)
 
   extends : (o : Option ℕ) → t.base ≡ o → ExtendsBase f (At f w.blobs) r.index r.shard o (with_snap b.base t.uuid entries) t.uuid entries
   extends None e = subst (λ (h : ShardFiles). Extends h (with_snap b.base t.uuid entries) t.uuid entries) (none_base e) (extended f size b.base t.uuid t.first files below_first)
@@ -372,10 +386,12 @@ module _ (f : Formats) (size : ℕ) (w : World) (shelf : List Shelved) (l : Law 
   in_base None at e m = subst (λ (h : ShardFiles). Has h.files e) (none_base at) m
   in_base (Some g) at e m = (b.base, base_read g at, m)
 
+  snap_there : Reads (At f w.blobs) (ShardSnap r.index r.shard t.uuid) f.shard_snap (record { uuid = t.uuid; files = entries })
+  snap_there = record { bytes = f.shard_snap.text (record { uuid = t.uuid; files = entries }); there = there _ _ (Has-right (new_blobs f size b.base r.index r.shard t.first files) _ _ (inl refl)); reads = b.snap_back }
+
   pub done_found : (new : World) → new ≡ record w { ops = fin.insert w.ops t.op (record op { shards = map (marked k (Done r)) op.shards }); tickets = fin.insert w.tickets k (record t { out = false }); completed = completing w.completed t.op (map (marked k (Done r)) op.shards) }
       → DoneFound f w k r new
   done_found new e =
-      let blobs : List (BlobName × Bytes) = new_blobs f size b.base r.index r.shard t.first files in
       record {
         t = t;
         out = out;
@@ -384,11 +400,12 @@ module _ (f : Formats) (size : ℕ) (w : World) (shelf : List Shelved) (l : Law 
         op_there = op_there;
         drew = drew;
         snap = record { uuid = t.uuid; files = entries };
-        snap_reads = record { bytes = f.shard_snap.text (record { uuid = t.uuid; files = entries }); there = there _ _ (Has-right blobs _ _ (inl refl)); reads = b.snap_back };
+        snap_reads = snap_there;
         held = with_snap b.base t.uuid entries;
         held_reads = record {
           bytes = f.shard_index.text (with_snap b.base t.uuid entries);
-          there = subst (λ g. At f w.blobs (ShardIndex r.index r.shard g) (f.shard_index.text (with_snap b.base t.uuid entries))) (sym b.generation) (there _ _ (Has-right blobs _ _ (inr (inl refl))));
+          there = subst (λ g. At f w.blobs (ShardIndex r.index r.shard g) (f.shard_index.text (with_snap b.base t.uuid entries))) (sym b.generation)
+              (there _ _ (Has-right (new_blobs f size b.base r.index r.shard t.first files) _ _ (inr (inl refl))));
           reads = b.index_back;
         };
         extends = extends t.base refl;
@@ -399,8 +416,35 @@ module _ (f : Formats) (size : ℕ) (w : World) (shelf : List Shelved) (l : Law 
         s = s;
         s_there = s_there;
         state = state;
-        files = subst (λ o. AreFilesOf f (At f w.blobs) o r.index r.shard s entries) (sym no_source)
-            (subst (λ fs. AllPairs (λ (e : FileEntry) (file : Bytes × Bytes). (e.physical ≡ file.0) × FileStands f (At f w.blobs) r.index r.shard e file.1) entries fs) are_told
-            (files_stand f (At f w.blobs) r.index r.shard size b.size b.base files old_file t.first (λ name bytes m. there name bytes (Has-left blobs _ (name, bytes) m))));
+        files = subst (λ o. AreFilesOf f (At f w.blobs) o r.index r.shard entries) (sym no_source) (files_found f (At f w.blobs) r.index r.shard size b.size b.base old_file files t.first new_there);
         new_is = e;
       }
+
+  number_is : s.number ≡ r.shard
+  number_is =
+      let held = l.lawful.sound.carried.held t.op op s k op_there s_there state in
+      let same : held.t ≡ t = some_same _ _ (sym held.there ∙ out.there) in
+      number_same _ _ _ _ (sym held.work ∙ ap (λ (x : Ticket). x.work) same ∙ is)
+    where
+      number_same : (a b c d : ℕ) → Shard a b ≡ Shard c d → b ≡ d
+      number_same a b c d e = cc
+
+  -- where digests are honest it stands with the files that the source tells
+  pub done_told : IsHonest f w.blobs → s.place ≡ t.place → s.ref.name ≡ t.name → f.told t.place t.name r.shard ≡ Some b.files → StandsAs f (At f w.blobs) r.index r.shard t.uuid (files_told f s.place s.ref.name s.number)
+  done_told honest place_is name_is told_is =
+      record {
+        snap = record { uuid = t.uuid; files = entries };
+        reads = snap_there;
+        stand = subst (λ (fs : List (Bytes × Bytes)). AllPairs (λ (e : FileEntry) (file : Bytes × Bytes). (e.physical ≡ file.0) × FileStands f (At f w.blobs) r.index r.shard e file.1) entries fs)
+            (of_place ∙ (λ j. files_told f (sym place_is j) (sym name_is j) (sym number_is j)))
+            (files_stand f (At f w.blobs) r.index r.shard size b.size b.base files same_file t.first new_there);
+      }
+    where
+      of_place : files ≡ files_told f t.place t.name r.shard
+      of_place = λ j. or_no_files (sym told_is j)
+
+      same_file : (e : FileEntry) (file : Bytes × Bytes) → Has files file → Has b.base.files e → e.len ≡ length file.1 → e.digest ≡ f.digest file.1 → FileStands f (At f w.blobs) r.index r.shard e file.1
+      same_file e file fm m len digest =
+          let (bytes, stands) = old_file e m in
+          let same : bytes ≡ file.1 = honest t.place t.name r.shard file r.index r.shard e bytes (subst (λ fs. Has fs file) of_place fm) stands (stands.len ∙ len) (stands.digest ∙ digest) in
+          subst (FileStands f (At f w.blobs) r.index r.shard e) same stands

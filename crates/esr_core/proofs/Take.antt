@@ -17,7 +17,7 @@ use Rattle.esr_core.specs.Generations.{DoneAt, OpLaw, Carried}
 use Rattle.esr_core.proofs.Maps.{get_was, get_other}
 use Rattle.esr_core.proofs.Reading.{some_same, held_one, safe_root_stands, Has-mapped}
 use Rattle.esr_core.proofs.Results.{found_done, done_found}
-use Rattle.esr_core.proofs.Staging.{listed_shelved, told_shards, copied_shards, stage}
+use Rattle.esr_core.proofs.Staging.{listed_shelved, stored_shards, copied_shards, stage}
 use Rattle.esr_core.proofs.Finalizing.{finalizes, root_one_each}
 use Rattle.esr_core.proofs.Tickets.{each_ticket, swapping_new}
 
@@ -82,7 +82,7 @@ module _ (f : Formats) (w : World) (shelf : List Shelved) (o : ℕ) (op : Op) (r
   v = final_ticket f w o op results
 
   abbrev its : Swap
-  its = record { root = finalized_root w.root (info_of op results) results; own = metadata f (info_of op results); commands = made_of f op ∷ [] }
+  its = record { root = finalized_root w.root (info_of op results) results; own = metadata f (info_of op results); commands = made_of f w.blobs op ∷ [] }
 
   abbrev root_now : RootData
   root_now = finalized_root w.root (info_of op results) results
@@ -113,9 +113,9 @@ module _ (f : Formats) (w : World) (shelf : List Shelved) (o : ℕ) (op : Op) (r
   staged_as : (made : Shelved) → made.name ≡ op.name → made.uuid ≡ op.uuid → AllPairs (ShardStands f Then root_now op.uuid) (shelf_places op.indices) made.shards → RootStands f Then root_now (shelf ++ made ∷ [])
   staged_as = stage f (HeldIn f w) (held_one f w) w.root root_now w.ops o op results d.op_there law c.carries d.done at_results fins shelf result_done stands
 
-  -- of the files that the sources tell, or of what a clone copies
-  staged_by : (source : Option ℕ) → op.source ≡ source → RootStands f Then root_now (apply shelf (made_from f op source))
-  staged_by None none = staged_as (shelved_of f op) refl refl (told_shards f (HeldIn f w) (held_one f w) w.root root_now w.ops o op results d.op_there law c.carries d.done at_results fins none)
+  -- of the files that are stored, or of what a clone copies
+  staged_by : (source : Option ℕ) → op.source ≡ source → RootStands f Then root_now (apply shelf (made_from f w.blobs op source))
+  staged_by None none = staged_as (shelved_of f w.blobs op) refl refl (stored_shards f (HeldIn f w) (held_one f w) w.root root_now w.ops o op results d.op_there law c.carries d.done at_results fins w.blobs (λ name bytes held. held.0.0) none)
   staged_by (Some u) copies =
       let (z, m, is) = (law.copies u copies).listed in
       let x = listed_shelved f (HeldIn f w) w.root w.root.snapshots shelf stands.snapshots z m u is in
@@ -123,7 +123,7 @@ module _ (f : Formats) (w : World) (shelf : List Shelved) (o : ℕ) (op : Op) (r
       (staged_as (record { name = op.name; uuid = op.uuid; shards = filter (is_of_one (index_names op.indices)) x.shelved.shards }) refl refl
       (copied_shards f (HeldIn f w) (held_one f w) w.root root_now w.ops o op results d.op_there law c.carries d.done at_results fins u copies x.snap x.uuid_is x.shelved x.stands))
 
-  staged : RootStands f Then root_now (shelf_after shelf (made_of f op ∷ []))
+  staged : RootStands f Then root_now (shelf_after shelf (made_of f w.blobs op ∷ []))
   staged = staged_by op.source refl
 
   idle : (j : ℕ) → IsSwapping f w.tickets w.term j → ⊥
@@ -138,7 +138,7 @@ module _ (f : Formats) (w : World) (shelf : List Shelved) (o : ℕ) (op : Op) (r
         clean = λ s i c name b own. d.clean name b (subst (λ (x : Swap). Has x.own (name, b)) (sym (some_same _ _ i.is)) own);
         clean_root = λ n e le. absurd (cc);
         listed = λ n m. absurd m;
-        shape = λ s e. subst (SwapShape f) (some_same _ _ e) (metadata_shape f (info_of op results) (c.ops o op d.op_there).one_id its.root (made_of f op) d.root_back);
+        shape = λ s e. subst (SwapShape f) (some_same _ _ e) (metadata_shape f (info_of op results) (c.ops o op d.op_there).one_id its.root (made_of f w.blobs op) d.root_back);
         swaps = λ s i counts. subst (SwapLaw f (HeldIn f w) shelf []) (some_same _ _ i.is) (record { staged = staged; noted = λ name b m h. absurd h; root_noted = λ n h. absurd h });
       }
 
@@ -180,7 +180,7 @@ module _ (f : Formats) (w : World) (shelf : List Shelved) (o : ℕ) (op : Op) (r
         finals = λ j u e out uns pres info rs made is. elim (get_was nat_cmp_total nat_cmp-IsAntisymmetric w.tickets w.next_ticket v j u e) [
           | inl h ↦
               let same = parts _ _ _ _ _ _ (ap (λ (x : Ticket). x.work) h.1 ∙ is) in
-              record { op = op; op_there = ap (λ (x : Ticket). fin.get w.ops x.op) (sym h.1) ∙ d.op_there; done = subst (AllDone op.shards) same.1 d.done; info_is = sym same.0 ∙ ap (info_of op) same.1; made_is = sym same.2; root_is = ap (λ (x : Ticket). x.root) (sym h.1) }
+              record { op = op; op_there = ap (λ (x : Ticket). fin.get w.ops x.op) (sym h.1) ∙ d.op_there; done = subst (AllDone op.shards) same.1 d.done; info_is = sym same.0 ∙ ap (info_of op) same.1; made_is = (w.blobs, sym same.2); root_is = ap (λ (x : Ticket). x.root) (sym h.1) }
           | inr h ↦ c.finals j u h.1 out uns pres info rs made is
         ];
         plans = λ j u e out uns pres uuids s is. elim (get_was nat_cmp_total nat_cmp-IsAntisymmetric w.tickets w.next_ticket v j u e) [

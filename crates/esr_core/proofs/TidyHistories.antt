@@ -1,18 +1,15 @@
 -- Over a legal history from a tidy image the world stays tidy, and so do the images; so each delete dooms exactly what it leaves behind.
-use Rattle.std.proofs.Common.{◌≡◌, ℕ, zero, suc, ◌<◌, true, false, true≢false, List, [], ◌∷◌, ◌++◌, Option, Some, None, refl, sym, ap, ◌∙◌, subst, inl, inr, arith}
-use Rattle.std.specs.FinMap as fin
+use Rattle.std.proofs.Common.{◌≡◌, ℕ, zero, suc, true, false, true≢false, List, [], ◌∷◌, ◌++◌, Option, None, refl, sym, ap, ◌∙◌, subst, inl, inr}
 use Rattle.esr_model.specs.Names.{BlobName, Root}
-use Rattle.esr_model.specs.Values.{Bytes, RootData, SnapInfo, ClusterRecord, ShardResult, ReadsBack, Formats}
-use Rattle.esr_model.specs.Shelf.{Shelved, Command, Delete, shelf_after}
+use Rattle.esr_model.specs.Values.{Bytes, RootData, ClusterRecord, ReadsBack, Formats}
+use Rattle.esr_model.specs.Shelf.{Shelved, shelf_after}
 use Rattle.esr_model.specs.Kept.{Kept}
 use Rattle.esr_model.specs.Image.{Blobs, Image, Has, At, IsOne, RootIs}
-use Rattle.esr_core.specs.World.{World, Finalize, Deleting, Ticket, Swap, HeldIn, record_of, image_of, Opened, OpenedEmpty, OpenedRecord}
-use Rattle.esr_core.specs.Ready.{IsMaster}
-use Rattle.esr_core.specs.Steps.{MaySettle}
+use Rattle.esr_core.specs.World.{World, HeldIn, record_of, image_of, Opened, OpenedEmpty, OpenedRecord}
 use Rattle.esr_core.specs.Pruning.{dooms}
 use Rattle.esr_core.specs.Ids.{Law}
-use Rattle.esr_core.specs.Entry.{SettleStep, SettlePruned, PruneStep, Reply, Moment}
-use Rattle.esr_core.specs.After.{swaps_record, after}
+use Rattle.esr_core.specs.Entry.{SettlePruned, PruneStep, Reply, Moment}
+use Rattle.esr_core.specs.After.{after}
 use Rattle.esr_core.specs.Allowed as allowed
 use Rattle.esr_core.specs.Allowed.{Settles, SettlesDeletion, PruneAllows, Allows, Allowed}
 use Rattle.esr_core.specs.History.{world_from, IsLegal, TellsHandedOut, AreTold, AreHonest, committed, counts}
@@ -22,12 +19,9 @@ use Rattle.esr_core.proofs.Reading.{some_same, none_some, reads_one, held_one}
 use Rattle.esr_core.proofs.Grows.{root_is_kept}
 use Rattle.esr_core.proofs.Opening.{nothing}
 use Rattle.esr_core.proofs.Lists.{opening_law}
-use Rattle.esr_core.proofs.Settling.{swap_master}
-use Rattle.esr_core.proofs.Moments.{moment}
-use Rattle.esr_core.proofs.Blocked.{blocked_stays, block_uncounted}
+use Rattle.esr_core.proofs.Blocked.{block_uncounted}
 use Rattle.esr_core.proofs.Histories.{Stepped, step_law, legal_law, image_is, legal_parts, told_parts, honest_parts, known_parts}
-use Rattle.esr_core.proofs.Left.{which, allows_pruned}
-use Rattle.esr_core.proofs.SafeRoots.{by_record}
+use Rattle.esr_core.proofs.Left.{allows_pruned}
 use Rattle.esr_core.proofs.PruneTurns.{was_reached, is_left}
 use Rattle.esr_core.proofs.DoomsAll.{dooms_all, dooms_root}
 use Rattle.esr_core.proofs.TidyTurns.{listed_kept, root_less, turn_tidy}
@@ -42,7 +36,7 @@ module _ (f : Formats) (w : World) (shelf : List Shelved) (l : Law f w shelf) wh
 pub legal_tidy : (f : Formats) (size : ℕ) (log : List Moment) (w : World) (shelf : List Shelved) → TellsHandedOut f w log → Law f w shelf → TidyIn f w → IsLegal f size w log → AreTold log → AreHonest f w log → TidyIn f (world_from f w log)
 legal_tidy f size [] w shelf known l tidy legal told honest = tidy
 legal_tidy f size (m ∷ log) w shelf known l tidy legal told honest =
-    let s = step_law f size w shelf known.0 l honest.0 m told.0.0 told.0.1 legal.0 in
+    let s = step_law f size w shelf l m told.0.0 told.0.1 legal.0 in
     legal_tidy f size log (after f w m) (shelf_after shelf s.commands) known.1 s.law (step_tidy f w shelf l size tidy m legal.0 s) legal.1 told.1 honest.1
 
 -- ---- images
@@ -90,10 +84,10 @@ pub left_tidy_image : (f : Formats) (size : ℕ) (log : List Moment) (w : World)
 left_tidy_image f size [] w shelf i known l tidy back legal told honest now = now_tidy f w shelf i l tidy back now
 left_tidy_image f size (m ∷ log) w shelf i known l tidy back legal told honest (inl now) = now_tidy f w shelf i l tidy back now
 left_tidy_image f size (m ∷ log) w shelf i known l tidy back legal told honest (inr (inl cut)) =
-    let s = step_law f size w shelf known.0 l honest.0 (cut_off m i) i refl cut in
+    let s = step_law f size w shelf l (cut_off m i) i refl cut in
     now_tidy f (after f w (cut_off m i)) (shelf_after shelf s.commands) i s.law (step_tidy f w shelf l size tidy (cut_off m i) cut s) cut.record_back (image_is f size w (cut_off m i) i refl cut)
 left_tidy_image f size (m ∷ log) w shelf i known l tidy back legal told honest (inr (inr later)) =
-    let s = step_law f size w shelf known.0 l honest.0 m told.0.0 told.0.1 legal.0 in
+    let s = step_law f size w shelf l m told.0.0 told.0.1 legal.0 in
     left_tidy_image f size log (after f w m) (shelf_after shelf s.commands) i known.1 s.law (step_tidy f w shelf l size tidy m legal.0 s) legal.0.record_back legal.1 told.1 honest.1 later
 
 -- ---- deletes
@@ -113,7 +107,7 @@ pub exact_over : (f : Formats) (size : ℕ) (image : Image) (shelf : List Shelve
 exact_over f size image shelf w log k known kept tidy opened legal told honest s present deletes =
     let l : Law f w shelf = opening_law f image shelf w kept opened in
     let last : World = world_from f w log in
-    exact f (world_from f w log) (shelf_after shelf (committed f last.safe w log)) k s (legal_law f size log w shelf known l legal told honest) present deletes (legal_tidy f size log w shelf known l (opened_tidy f image w tidy opened) legal told honest).rooted
+    exact f (world_from f w log) (shelf_after shelf (committed f last.safe w log)) k s (legal_law f size log w shelf l legal told) present deletes (legal_tidy f size log w shelf known l (opened_tidy f image w tidy opened) legal told honest).rooted
 
 settles_delete : {f : Formats} {w : World} {who : ℕ} {reply : Reply} {image : Option Image} → PruneAllows f w who SettlePruned reply image → counts reply ≡ true → (s : SettlesDeletion f w who) × (s.t.term ≡ w.term)
 settles_delete (allowed.SettlingDelete k im s present same) e = (s, present)

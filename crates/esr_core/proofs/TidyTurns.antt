@@ -1,10 +1,10 @@
 -- From a tidy world each turn leads to a tidy one.
-use Rattle.std.proofs.Common.{◌≡◌, ℕ, suc, ◌==◌, ◌&&◌, ◌<◌, ◌≤◌, true, false, true≢false, List, [], ◌∷◌, ◌++◌, map, Option, Some, None, refl, sym, ap, ◌∙◌, subst, inl, inr, arith, nat_cmp}
+use Rattle.std.proofs.Common.{◌≡◌, ℕ, suc, ◌==◌, ◌&&◌, true, false, true≢false, List, [], ◌∷◌, ◌++◌, map, Option, Some, None, refl, sym, ap, ◌∙◌, subst, inl, inr, nat_cmp}
 use Rattle.std.specs.FinMap.{FinMap}
 use Rattle.std.specs.FinMap as fin
 use Rattle.esr_model.specs.Names.{BlobName, ShardIndex}
 use Rattle.esr_model.specs.Values.{Bytes, IndexRef, RootSnap, RootIndex, RootData, SnapList, SnapInfo, ShardResult, IsOneEach, Formats}
-use Rattle.esr_model.specs.Shelf.{Shelved, Command, Delete}
+use Rattle.esr_model.specs.Shelf.{Shelved, Command}
 use Rattle.esr_model.specs.Places.{places}
 use Rattle.esr_model.specs.Image.{Blobs, Has, IsOne, IsStored, Generation, IndexStands, RootStands}
 use Rattle.esr_model.specs.Finalize.{Finalizes, finalized_root, done_at}
@@ -35,7 +35,6 @@ use Rattle.esr_core.proofs.DoneShard.{done_was}
 use Rattle.esr_core.proofs.Settling.{done_left, no_shard}
 use Rattle.esr_core.proofs.Besides.{aside_of, kept_aside}
 use Rattle.esr_core.proofs.DoomsAll.{left_tidy}
-use Rattle.esr_core.proofs.Histories.{settled_above}
 
 -- ---- over other blobs
 

@@ -180,7 +180,7 @@ module _ (f : Formats) (size : ℕ) (w : World) (l : Tracked w) where
       subst (λ x. Tracked (taken_by f w o (GivenFinalize info results) x)) (sym g.ready.op_there)
       (tracked_new w l (final_ticket f w o g.op results) (omega arith) (omega arith) (l.numbers o g.op g.ready.op_there) (λ h. h)
       (λ b rs made e.
-      let same = final_same (info_of g.op results) b results rs (made_of f g.op) made e in
+      let same = final_same (info_of g.op results) b results rs (made_of f w.blobs g.op) made e in
       record {
         op = g.op;
         op_there = g.ready.op_there;
@@ -190,10 +190,10 @@ module _ (f : Formats) (size : ℕ) (w : World) (l : Tracked w) where
         info_is = sym same.0 ∙ ap (info_of g.op) same.1;
         root_is = refl;
       })
-      (λ e. absurd (final_drop (info_of g.op results) results (made_of f g.op) e))
+      (λ e. absurd (final_drop (info_of g.op results) results (made_of f w.blobs g.op) e))
       (λ h k s. g.ready.no_swap k s)
-      (λ uuids plan e. absurd (final_delete (info_of g.op results) results (made_of f g.op) uuids plan e))
-      (λ uuids plan e. absurd (final_delete (info_of g.op results) results (made_of f g.op) uuids plan e))
+      (λ uuids plan e. absurd (final_delete (info_of g.op results) results (made_of f w.blobs g.op) uuids plan e))
+      (λ uuids plan e. absurd (final_delete (info_of g.op results) results (made_of f w.blobs g.op) uuids plan e))
       (λ c. absurd (true≢false (sym c))))
   gives o GivenDrop g = dropping (fin.get w.ops o)
     where

@@ -4,7 +4,7 @@ use Rattle.std.specs.FinMap as fin
 use Rattle.esr_model.specs.Names.{BlobName, Root, Latest, Snap, ShardSnap, ShardIndex, File, Part, TestMaster, TestNode}
 use Rattle.esr_model.specs.Parts.{part_count}
 use Rattle.esr_model.specs.Values.{Bytes, Has, IndexRef, RootSnap, RootIndex, RootData, SnapInfo, FileEntry, ShardSnapshot, ShardFiles, ShardResult, ReadsBack, IsOneEach, Formats, files_told}
-use Rattle.esr_model.specs.Shelf.{Command, Delete, names_uuid}
+use Rattle.esr_model.specs.Shelf.{Command, names_uuid}
 use Rattle.esr_model.specs.Delete.{PrunedShard, kept_count, deleted_root}
 use Rattle.esr_model.specs.Kept.{first_id}
 use Rattle.esr_model.specs.Cleanup.{BlobSize, last_text, IsPage, IsPageOf}
@@ -633,7 +633,8 @@ pub record Checks (f : Formats) (w : World) (snapshots blobs : ℕ) (image : Opt
 
 -- Who may answer a step that reads so. Each leaves the blobs.
 pub data ReadAllows (f : Formats) (w : World) : ℕ → Read → Reply → Option Image → Type 0 where
-  ReadFound : (k : ℕ) (name : BlobName) (image : Option Image) → IsStored f name → Fetcher f w name image k → Told image (λ blobs. (bytes : Bytes) × (fin.get w.blobs (f.names.text name) ≡ Some bytes)) → ReadAllows f w k (ReadBlob name) WasFetched image
+  ReadFound : (k : ℕ) (name : BlobName) (image : Option Image) → IsStored f name → Fetcher f w name image k → Told image (λ blobs. (bytes : Bytes) × (fin.get w.blobs (f.names.text name) ≡ Some bytes))
+      → ReadAllows f w k (ReadBlob name) WasFetched image
   ReadMissing : (k : ℕ) (name : BlobName) (image : Option Image) → IsStored f name → Fetcher f w name image k → Told image (λ blobs. fin.get w.blobs (f.names.text name) ≡ None) → ReadAllows f w k (ReadBlob name) WasAbsent image
   ReadFault : (k : ℕ) (name : BlobName) (image : Option Image) → IsStored f name → Fetcher f w name image k → ReadAllows f w k (ReadBlob name) (Refused DepotFault) image
   RestoringShard : (k files bytes : ℕ) (image : Option Image) (q : Reader) → IsReading w k q → Told image (λ blobs. RestoredBy f q files bytes) → ReadAllows f w k (RestoredShard files bytes) HasEnded image
@@ -692,7 +693,8 @@ pub data VerifyAllows (f : Formats) (w : World) : Read → Reply → Option Imag
   CommittingTest : (name : BlobName) (bytes : Bytes) (image : Option Image) → IsOwnTest f w name → (Has w.caller.committed name → ⊥) → Told image (Adds f w name bytes) → VerifyAllows f w (CommitTest name) WasDone image
   TestTaken : (name : BlobName) (image : Option Image) → IsOwnTest f w name → Told image (λ blobs. Present f w.blobs name × (blobs ≡ w.blobs)) → VerifyAllows f w (CommitTest name) (Refused (NameTaken name)) image
   CommitTestFails : (name : BlobName) (bytes : Bytes) (image : Option Image) → IsOwnTest f w name → Told image (λ blobs. (blobs ≡ w.blobs) ⊎ Adds f w name bytes blobs) → VerifyAllows f w (CommitTest name) (Refused DepotFault) image
-  RemovingTests : (names : List BlobName) (image : Option Image) → MayRemoveTests w names → Told image (λ blobs. Removes f w.blobs blobs names × ((name : BlobName) → Has names name → fin.get blobs (f.names.text name) ≡ None)) → VerifyAllows f w (RemoveTests names) WasRemoved image
+  RemovingTests : (names : List BlobName) (image : Option Image) → MayRemoveTests w names → Told image (λ blobs. Removes f w.blobs blobs names × ((name : BlobName) → Has names name → fin.get blobs (f.names.text name) ≡ None))
+      → VerifyAllows f w (RemoveTests names) WasRemoved image
   RemoveTestsFails : (names : List BlobName) (image : Option Image) → MayRemoveTests w names → Told image (λ blobs. Removes f w.blobs blobs names) → VerifyAllows f w (RemoveTests names) (Refused DepotFault) image
   VerifyingAll : (image : Option Image) → Verifies w → SameBlobs w image → VerifyAllows f w VerifiedAll HasEnded image
   VerifyFailing : (why : Why) (image : Option Image) → IsVerifying w → SameBlobs w image → VerifyAllows f w (ReadFails why) HasEnded image
@@ -776,12 +778,14 @@ pub record FailsDeletion (w : World) (k : ℕ) : Type 0 where
 
 -- How a step of the ticket of a delete or cleanup may be answered.
 pub data PruneAllows (f : Formats) (w : World) : ℕ → Prune → Reply → Option Image → Type 0 where
-  FetchingShard : (k : ℕ) (name : BlobName) (image : Option Image) → FetchesShard f w k name → Told image (λ blobs. (bytes : Bytes) × (fin.get w.blobs (f.names.text name) ≡ Some bytes) × (blobs ≡ w.blobs)) → PruneAllows f w k (FetchShard name) WasFetched image
+  FetchingShard : (k : ℕ) (name : BlobName) (image : Option Image) → FetchesShard f w k name → Told image (λ blobs. (bytes : Bytes) × (fin.get w.blobs (f.names.text name) ≡ Some bytes) × (blobs ≡ w.blobs))
+      → PruneAllows f w k (FetchShard name) WasFetched image
   ShardMissing : (k : ℕ) (name : BlobName) (image : Option Image) → FetchesShard f w k name → Told image (λ blobs. (fin.get w.blobs (f.names.text name) ≡ None) × (blobs ≡ w.blobs)) → PruneAllows f w k (FetchShard name) WasAbsent image
   FetchShardFails : (k : ℕ) (name : BlobName) (image : Option Image) → FetchesShard f w k name → SameBlobs w image → PruneAllows f w k (FetchShard name) (Refused DepotFault) image
   Planning : (k : ℕ) (shards : List PrunedShard) (image : Option Image) (p : MayPlan f w k shards image) → w.next_id + kept_count shards < first_id (suc w.term) → ReadsBack f.root (deleted_root p.t.root p.uuids shards w.next_id) → SameBlobs w image
       → PruneAllows f w k (PlanShards shards) (DrawnFrom w.next_id) image
-  PlanSpent : (k : ℕ) (shards : List PrunedShard) (image : Option Image) → MayPlan f w k shards image → first_id (suc w.term) ≤ w.next_id + kept_count shards → SameBlobs w image → PruneAllows f w k (PlanShards shards) (Refused (IdsSpent w.next_id)) image
+  PlanSpent : (k : ℕ) (shards : List PrunedShard) (image : Option Image) → MayPlan f w k shards image → first_id (suc w.term) ≤ w.next_id + kept_count shards → SameBlobs w image
+      → PruneAllows f w k (PlanShards shards) (Refused (IdsSpent w.next_id)) image
   SettlingDelete : (k : ℕ) (image : Option Image) (s : SettlesDeletion f w k) → s.t.term ≡ w.term → SameBlobs w image → PruneAllows f w k SettlePruned WasSettled image
   SettleDeleteStale : (k : ℕ) (image : Option Image) (s : SettlesDeletion f w k) → s.t.term ≢ w.term → SameBlobs w image → PruneAllows f w k SettlePruned (Refused (StaleTerm s.t.term w.term)) image
   SettleDeleteFails : (k : ℕ) (image : Option Image) (s : SettlesDeletion f w k) → s.t.term ≡ w.term → SameBlobs w image → PruneAllows f w k SettlePruned (Refused DepotFault) image
@@ -804,9 +808,11 @@ pub data Allows (f : Formats) (part_size : ℕ) (w : World) : ℕ → Step → R
   Committing : (k : ℕ) (name : BlobName) (image : Option Image) (c : Commits f part_size w k name) → Told image (Adds f w name c.bytes) → Allows f part_size w k (CommitStep name) WasDone image
   Finding : (k : ℕ) (name : BlobName) (image : Option Image) → Refinds f w k name → Told image (λ blobs. Present f w.blobs name × (blobs ≡ w.blobs)) → Allows f part_size w k (CommitStep name) WasThere image
   Replacing : (k : ℕ) (image : Option Image) (p : Puts f w k) → ReadsBack f.names Latest → Told image (λ blobs. blobs ≡ fin.insert w.blobs (f.names.text Latest) (latest_text p.n)) → Allows f part_size w k LatestStep WasReplaced image
-  Fetching : (k : ℕ) (name : BlobName) (image : Option Image) → Fetches f w k name → Told image (λ blobs. (bytes : Bytes) × (fin.get w.blobs (f.names.text name) ≡ Some bytes) × (blobs ≡ w.blobs)) → Allows f part_size w k (FetchStep name) WasFetched image
+  Fetching : (k : ℕ) (name : BlobName) (image : Option Image) → Fetches f w k name → Told image (λ blobs. (bytes : Bytes) × (fin.get w.blobs (f.names.text name) ≡ Some bytes) × (blobs ≡ w.blobs))
+      → Allows f part_size w k (FetchStep name) WasFetched image
   Missing : (k : ℕ) (name : BlobName) (image : Option Image) → Fetches f w k name → Told image (λ blobs. (fin.get w.blobs (f.names.text name) ≡ None) × (blobs ≡ w.blobs)) → Allows f part_size w k (FetchStep name) WasAbsent image
-  Listing : (k : ℕ) (from : Option Bytes) (page : List BlobSize) (image : Option Image) → ListsPage w k from → IsPage from page → Told image (λ blobs. IsPageOf w.blobs from page × (blobs ≡ w.blobs)) → Allows f part_size w k (ListStep from) (WasListed page) image
+  Listing : (k : ℕ) (from : Option Bytes) (page : List BlobSize) (image : Option Image) → ListsPage w k from → IsPage from page → Told image (λ blobs. IsPageOf w.blobs from page × (blobs ≡ w.blobs))
+      → Allows f part_size w k (ListStep from) (WasListed page) image
   Raising : (k n : ℕ) (image : Option Image) → Raises f w k n → SameBlobs w image → Allows f part_size w k RaiseStep (RaisedTo n) image
   Settling : (k : ℕ) (image : Option Image) → Settles f w k → SameBlobs w image → Allows f part_size w k SettleStep WasSettled image
   Doing : (k : ℕ) (r : ShardResult) (image : Option Image) → Dones f part_size w k r image → SameBlobs w image → Allows f part_size w k (DoneStep r) HasEnded image
@@ -816,16 +822,19 @@ pub data Allows (f : Formats) (part_size : ℕ) (w : World) : ℕ → Step → R
   Electing : (image : Option Image) → suc w.term < 2 ^ 63 → SameBlobs w image → Allows f part_size w 0 ElectStep (ElectedTerm (suc w.term)) image
   Looking : (image : Option Image) → SameBlobs w image → Allows f part_size w 0 LookStep (Looked w.root.snapshots w.safe) image
   AskingRestore : (name place : Bytes) (reply : Reply) (image : Option Image) → RestoreAllows f w name reply image → SameBlobs w image → Allows f part_size w 0 (AskStep (Restore name place)) reply image
-  AskingClone : (source name : Bytes) (names : List Bytes) (moment : ℕ) (taken : Option CloneOf) (reply : Reply) (image : Option Image) → CloneAllows f w source name names moment taken reply image → SameBlobs w image → Allows f part_size w 0 (AskStep (Clone source name names moment taken)) reply image
+  AskingClone : (source name : Bytes) (names : List Bytes) (moment : ℕ) (taken : Option CloneOf) (reply : Reply) (image : Option Image) → CloneAllows f w source name names moment taken reply image → SameBlobs w image
+      → Allows f part_size w 0 (AskStep (Clone source name names moment taken)) reply image
   AskingDelete : (names : List Bytes) (reply : Reply) (image : Option Image) → DeleteAllows w names reply → SameBlobs w image → Allows f part_size w 0 (AskStep (DeleteSnapshots names)) reply image
   AskingCleanup : (reply : Reply) (image : Option Image) → CleanupAllows w reply → SameBlobs w image → Allows f part_size w 0 (AskStep Cleanup) reply image
   Verifying : (read : Read) (reply : Reply) (image : Option Image) → VerifyAllows f w read reply image → Allows f part_size w 0 (ReadStep read) reply image
   Reading : (k : ℕ) (read : Read) (reply : Reply) (image : Option Image) → ReadAllows f w k read reply image → SameBlobs w image → Allows f part_size w k (ReadStep read) reply image
   Pruning : (k : ℕ) (prune : Prune) (reply : Reply) (image : Option Image) → PruneAllows f w k prune reply image → Allows f part_size w k (PruneStep prune) reply image
   -- refusals by rule; no command that is recorded is accepted while a cleanup is open
-  Cleaning : (command : Asked) (d : ℕ) (x : Deletion) (image : Option Image) → is_recorded command ≡ true → fin.get w.deletes d ≡ Some x → x.clean ≡ true → SameBlobs w image → Allows f part_size w 0 (AskStep command) (Refused (CleanupRunning d)) image
+  Cleaning : (command : Asked) (d : ℕ) (x : Deletion) (image : Option Image) → is_recorded command ≡ true → fin.get w.deletes d ≡ Some x → x.clean ≡ true → SameBlobs w image
+      → Allows f part_size w 0 (AskStep command) (Refused (CleanupRunning d)) image
   Used : (name : Bytes) (indices : List AskedIndex) (moment uuid : ℕ) (image : Option Image) → NoCleanup w → IsNameOf w name uuid → SameBlobs w image → Allows f part_size w 0 (AskStep (Snapshot name indices moment)) (Refused (NameInUse uuid)) image
-  Full : (name : Bytes) (indices : List AskedIndex) (moment : ℕ) (image : Option Image) → NoCleanup w → IsUnused w name → 1000 ≤ open_count w → SameBlobs w image → Allows f part_size w 0 (AskStep (Snapshot name indices moment)) (Refused (TooMany 1000)) image
+  Full : (name : Bytes) (indices : List AskedIndex) (moment : ℕ) (image : Option Image) → NoCleanup w → IsUnused w name → 1000 ≤ open_count w → SameBlobs w image
+      → Allows f part_size w 0 (AskStep (Snapshot name indices moment)) (Refused (TooMany 1000)) image
   AskSpent : (name : Bytes) (indices : List AskedIndex) (moment : ℕ) (image : Option Image) → NoCleanup w → IsUnused w name → open_count w < 1000 → first_id (suc w.term) ≤ w.next_id + suc (new_names w indices) → SameBlobs w image
       → Allows f part_size w 0 (AskStep (Snapshot name indices moment)) (Refused (IdsSpent w.next_id)) image
   DrawSpent : (k n : ℕ) (image : Option Image) → MayDraw f w k n → first_id (suc w.term) ≤ w.next_id + n → SameBlobs w image → Allows f part_size w k (DrawStep n) (Refused (IdsSpent w.next_id)) image
@@ -834,12 +843,14 @@ pub data Allows (f : Formats) (part_size : ℕ) (w : World) : ℕ → Step → R
   DropStale : (k : ℕ) (image : Option Image) (may : MayDrop f w k image) → may.t.term ≢ w.term → SameBlobs w image → Allows f part_size w k DroppedStep (Refused (StaleTerm may.t.term w.term)) image
   RaiseSpent : (k : ℕ) (image : Option Image) (may : MayRaise f w k) → may.t.term ≡ w.term → 2 ^ 63 ≤ w.pending → SameBlobs w image → Allows f part_size w k RaiseStep (Refused (GenerationsSpent w.pending)) image
   ElectSpent : (image : Option Image) → 2 ^ 63 ≤ suc w.term → SameBlobs w image → Allows f part_size w 0 ElectStep (Refused (TermsSpent w.term)) image
-  Taken : (k : ℕ) (name : BlobName) (image : Option Image) → Commits f part_size w k name → (IsMetadata name → ⊥) → Told image (λ blobs. Present f w.blobs name × (blobs ≡ w.blobs)) → Allows f part_size w k (CommitStep name) (Refused (NameTaken name)) image
+  Taken : (k : ℕ) (name : BlobName) (image : Option Image) → Commits f part_size w k name → (IsMetadata name → ⊥) → Told image (λ blobs. Present f w.blobs name × (blobs ≡ w.blobs))
+      → Allows f part_size w k (CommitStep name) (Refused (NameTaken name)) image
   -- calls that fail: of a commit nothing or the whole blob is left, of a replacement nothing or the blob, of a record swap the old record or the new one
   BeginFails : (k : ℕ) (name : BlobName) (image : Option Image) → Commits f part_size w k name → SameBlobs w image → Allows f part_size w k (BeginStep name) (Refused DepotFault) image
   BeginLatestFails : (k : ℕ) (image : Option Image) → Puts f w k → SameBlobs w image → Allows f part_size w k (BeginStep Latest) (Refused DepotFault) image
   CommitFails : (k : ℕ) (name : BlobName) (image : Option Image) (c : Commits f part_size w k name) → Told image (λ blobs. (blobs ≡ w.blobs) ⊎ Adds f w name c.bytes blobs) → Allows f part_size w k (CommitStep name) (Refused DepotFault) image
-  ReplaceFails : (k : ℕ) (image : Option Image) (p : Puts f w k) → ReadsBack f.names Latest → Told image (λ blobs. (blobs ≡ w.blobs) ⊎ (blobs ≡ fin.insert w.blobs (f.names.text Latest) (latest_text p.n))) → Allows f part_size w k LatestStep (Refused DepotFault) image
+  ReplaceFails : (k : ℕ) (image : Option Image) (p : Puts f w k) → ReadsBack f.names Latest → Told image (λ blobs. (blobs ≡ w.blobs) ⊎ (blobs ≡ fin.insert w.blobs (f.names.text Latest) (latest_text p.n)))
+      → Allows f part_size w k LatestStep (Refused DepotFault) image
   FetchFails : (k : ℕ) (name : BlobName) (image : Option Image) → Fetches f w k name → SameBlobs w image → Allows f part_size w k (FetchStep name) (Refused DepotFault) image
   ListFails : (k : ℕ) (from : Option Bytes) (image : Option Image) → ListsPage w k from → SameBlobs w image → Allows f part_size w k (ListStep from) (Refused DepotFault) image
   AskFails : (name : Bytes) (indices : List AskedIndex) (moment : ℕ) (image : Option Image) → Accepts f w name indices moment w.next_op → SameBlobs w image → Allows f part_size w 0 (AskStep (Snapshot name indices moment)) (Refused DepotFault) image

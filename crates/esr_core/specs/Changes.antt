@@ -1,6 +1,6 @@
 -- What a step changes, whoever makes it and whatever it is answered: one case for each kind of change, so that a fact over all steps goes
 -- over these alone.
-use Rattle.std.specs.Prelude.{◌≡◌, ◌≢◌, ℕ, suc, ◌≤◌, ◌⊎◌, Bool, true, false, List, [], ◌∷◌, ◌++◌, Option, Some, None}
+use Rattle.std.specs.Prelude.{◌≡◌, ◌≢◌, ℕ, suc, ◌≤◌, ◌⊎◌, true, false, List, [], ◌∷◌, ◌++◌, Option, Some, None}
 use Rattle.std.specs.Ordering.{nat_cmp}
 use Rattle.std.specs.FinMap.{FinMap}
 use Rattle.std.specs.FinMap as fin
@@ -76,7 +76,8 @@ pub data StepChange (f : Formats) (w : World) (who : ℕ) (step : Step) : World 
   -- it is asked for: a snapshot or a clone, a cleanup or a delete of its own, one that goes into another, a restore
   NewOp : IsAsk step → (op : Op) (completed : List ℕ) (next_id : ℕ) → op.uuid ≡ w.next_id → w.next_id ≤ next_id
       → StepChange f w who step (record w { ops = fin.insert w.ops w.next_op op; next_op = suc w.next_op; completed = completed; next_id = next_id })
-  NewDeletion : IsAsk step → (ops : FinMap nat_cmp Op) (x : Deletion) → Aborts w.ops ops w.next_op → (x.clean ≡ false) ⊎ (step ≡ AskStep Cleanup) → StepChange f w who step (record w { ops = ops; deletes = fin.insert w.deletes w.next_op x; next_op = suc w.next_op })
+  NewDeletion : IsAsk step → (ops : FinMap nat_cmp Op) (x : Deletion) → Aborts w.ops ops w.next_op → (x.clean ≡ false) ⊎ (step ≡ AskStep Cleanup)
+      → StepChange f w who step (record w { ops = ops; deletes = fin.insert w.deletes w.next_op x; next_op = suc w.next_op })
   MergedDeletion : IsAsk step → (ops : FinMap nat_cmp Op) (d : ℕ) (x v : Deletion) → Aborts w.ops ops d → fin.get w.deletes d ≡ Some x → v.clean ≡ x.clean → v.failed ≡ x.failed
       → StepChange f w who step (record w { ops = ops; deletes = fin.insert w.deletes d v })
   NewRestore : IsAsk step → (r : Restoring) → StepChange f w who step (record w { restores = put_restore w.restores w.next_op r; next_op = suc w.next_op })
@@ -138,7 +139,8 @@ pub record StepFrame (w new : World) (who : ℕ) (step : Step) : Type 0 where
 pub data BlobsChange (f : Formats) (w : World) (step : Step) (now : Blobs) : Type 0 where
   NoBlobChange : now ≡ w.blobs → BlobsChange f w step now
   -- a commit adds a blob under a name that was free
-  NewBlob : (name : BlobName) (bytes : Bytes) → (step ≡ CommitStep name) ⊎ (step ≡ ReadStep (CommitTest name)) → IsStored f name → fin.get w.blobs (f.names.text name) ≡ None → now ≡ fin.insert w.blobs (f.names.text name) bytes → BlobsChange f w step now
+  NewBlob : (name : BlobName) (bytes : Bytes) → (step ≡ CommitStep name) ⊎ (step ≡ ReadStep (CommitTest name)) → IsStored f name → fin.get w.blobs (f.names.text name) ≡ None → now ≡ fin.insert w.blobs (f.names.text name) bytes
+      → BlobsChange f w step now
   NewLatest : (bytes : Bytes) → step ≡ LatestStep → ReadsBack f.names Latest → now ≡ fin.insert w.blobs (f.names.text Latest) bytes → BlobsChange f w step now
   Removal : (names : List BlobName) → (step ≡ PruneStep (RemoveDoomed names)) ⊎ (step ≡ ReadStep (RemoveTests names)) → Removes f w.blobs now names → BlobsChange f w step now
 

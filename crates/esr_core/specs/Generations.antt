@@ -4,10 +4,10 @@ use Rattle.std.specs.Ordering.{nat_cmp}
 use Rattle.std.specs.FinMap.{FinMap}
 use Rattle.std.specs.FinMap as fin
 use Rattle.esr_model.specs.Names.{BlobName, Snap, ShardSnap, ShardIndex}
-use Rattle.esr_model.specs.Values.{Bytes, IndexRef, RootSnap, RootIndex, RootData, SnapInfo, FileEntry, ShardSnapshot, SnapList, ShardFiles, ShardResult, ReadsBack, Formats, files_told}
+use Rattle.esr_model.specs.Values.{Bytes, IndexRef, RootSnap, RootIndex, RootData, SnapInfo, FileEntry, ShardSnapshot, SnapList, ShardFiles, ShardResult, ReadsBack, Formats}
 use Rattle.esr_model.specs.Shelf.{Command}
 use Rattle.esr_model.specs.Places.{places, shelf_places}
-use Rattle.esr_model.specs.Image.{Has, AllPairs, RootIs, Reads, Generation, ListsAs, IndexStands, FileStands}
+use Rattle.esr_model.specs.Image.{Blobs, Has, AllPairs, RootIs, Reads, Generation, ListsAs, IndexStands, FileStands}
 use Rattle.esr_core.specs.World.{Op, ShardWork, Ticket, Swap, Shard, Finalize, Deleting, Done, Out, AllDone, info_of, made_of}
 use Rattle.esr_core.specs.Restores.{AreOnce, AreApart}
 
@@ -58,10 +58,10 @@ pub record Carries (f : Formats) (has : BlobName → Bytes → Type 0) (root : R
   pub listed : ((g : ℕ) → Generation root index shard g → g ≤ generation) → (snap : RootSnap) → Has root.snapshots snap → IsOfShard f has snap.uuid index shard
       → ListsAs f has index shard generation snap.uuid
 
--- the files of a shard: those that the sources tell, or of a clone those that another snapshot has of it
-abbrev pub AreFilesOf : Formats → (BlobName → Bytes → Type 0) → Option ℕ → ℕ → ℕ → ShardWork → List FileEntry → Type 0
-AreFilesOf f has None index shard s files = AllPairs (λ e file. (e.physical ≡ file.0) × FileStands f has index shard e file.1) files (files_told f s.place s.ref.name s.number)
-AreFilesOf f has (Some source) index shard s files = (was : ShardSnapshot) × Reads has (ShardSnap index shard source) f.shard_snap was × (was.files ≡ files)
+-- the files of a shard: each stands, or of a clone they are those that another snapshot has of it
+abbrev pub AreFilesOf : Formats → (BlobName → Bytes → Type 0) → Option ℕ → ℕ → ℕ → List FileEntry → Type 0
+AreFilesOf f has None index shard files = (stored : List (Bytes × Bytes)) × AllPairs (λ (e : FileEntry) (file : Bytes × Bytes). (e.physical ≡ file.0) × FileStands f has index shard e file.1) files stored
+AreFilesOf f has (Some source) index shard files = (was : ShardSnapshot) × Reads has (ShardSnap index shard source) f.shard_snap was × (was.files ≡ files)
 
 -- a done shard of an op that copies this snapshot, or none
 pub record DoneStands (f : Formats) (has : BlobName → Bytes → Type 0) (source : Option ℕ) (uuid : ℕ) (s : ShardWork) (r : ShardResult) : Type 0 where
@@ -69,7 +69,7 @@ pub record DoneStands (f : Formats) (has : BlobName → Bytes → Type 0) (sourc
   pub shard_is : r.shard ≡ s.number
   pub snap : ShardSnapshot
   pub snap_reads : Reads has (ShardSnap s.ref.id s.number uuid) f.shard_snap snap
-  pub files : AreFilesOf f has source s.ref.id s.number s snap.files
+  pub files : AreFilesOf f has source s.ref.id s.number snap.files
 
 -- what a finalization of the op writes beside the root reads back, whatever its sums
 pub record WritesBack (f : Formats) (name : Bytes) (uuid moment : ℕ) (indices : List IndexRef) : Type 0 where
@@ -148,7 +148,8 @@ pub record FinalLaw (f : Formats) (root : RootData) (ops : FinMap nat_cmp Op) (t
   pub op_there : fin.get ops t.op ≡ Some op
   pub done : AllDone op.shards results
   pub info_is : info ≡ info_of op results
-  pub made_is : made ≡ made_of f op
+  -- of what was stored when it was given
+  pub made_is : (blobs : Blobs) × (made ≡ made_of f blobs op)
   pub root_is : t.root ≡ root
 
 -- one of the indices of shards that a delete or cleanup writes

@@ -1,3 +1,4 @@
+pub mod Stored
 pub mod World
 pub mod Past
 pub mod Restores
@@ -23,6 +24,7 @@ pub mod Allowed
 pub mod ReadLaw
 pub mod Restored
 pub mod History
+pub mod Sources
 pub mod Changes
 pub mod ReadEnds
 pub mod Left

@@ -79,7 +79,7 @@ pub record CommitExists (f : Formats) (w : World) (k : ℕ) (name : BlobName) (n
 abbrev pub final_ticket : Formats → World → ℕ → Op → List ShardResult → Ticket
 final_ticket f w o op results =
     record {
-      work = Finalize (info_of op results) results (made_of f op);
+      work = Finalize (info_of op results) results (made_of f w.blobs op);
       op = o;
       uuid = op.uuid;
       place = [];
@@ -189,9 +189,13 @@ pub record DoneShard (f : Formats) (w : World) (k : ℕ) (r : ShardResult) (new 
   pub s : ShardWork
   pub s_there : Has op.shards s
   pub state : s.state ≡ Out k
-  pub files : AreFilesOf f (HeldIn f w) op.source r.index r.shard s snap.files
+  pub files : AreFilesOf f (HeldIn f w) op.source r.index r.shard snap.files
   pub stand : (e : FileEntry) → Has snap.files e → (bytes : Bytes) × FileStands f (HeldIn f w) r.index r.shard e bytes
-  pub new_is : new ≡ record w { ops = fin.insert w.ops t.op (record op { shards = map (marked k (Done r)) op.shards }); tickets = fin.insert w.tickets k (record t { out = false }); completed = completing w.completed t.op (map (marked k (Done r)) op.shards) }
+  pub new_is : new ≡ record w {
+    ops = fin.insert w.ops t.op (record op { shards = map (marked k (Done r)) op.shards });
+    tickets = fin.insert w.tickets k (record t { out = false });
+    completed = completing w.completed t.op (map (marked k (Done r)) op.shards);
+  }
 
 -- a finalization: all shards of the op are done, and no swap of the present term is out
 pub record TakeFinalize (f : Formats) (w : World) (o : ℕ) (op : Op) (results : List ShardResult) (new : World) : Type 0 where

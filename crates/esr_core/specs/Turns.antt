@@ -6,7 +6,7 @@ use Rattle.std.specs.FinMap as fin
 use Rattle.esr_model.specs.Names.{BlobName, Root, Snap, ShardIndex, ShardSnap}
 use Rattle.esr_model.specs.Values.{Bytes, IndexRef, RootSnap, RootIndex, RootData, SnapInfo, FileEntry, ShardFiles, ShardSnapshot, ShardResult, ReadsBack, Formats}
 use Rattle.esr_model.specs.Shelf.{Command, Delete}
-use Rattle.esr_model.specs.Image.{Blobs, IsStored, Has, At, Generation, Present, Reads}
+use Rattle.esr_model.specs.Image.{Blobs, IsStored, Has, At, Generation, Reads}
 use Rattle.esr_model.specs.Delete.{Deletes, left_snaps}
 use Rattle.esr_model.specs.Shelf.{names_uuid}
 use Rattle.esr_model.specs.Kept.{first_id, IdsBelow}
@@ -144,8 +144,12 @@ pub record DoneFound (f : Formats) (w : World) (k : ℕ) (r : ShardResult) (new 
   pub s : ShardWork
   pub s_there : Has op.shards s
   pub state : s.state ≡ Out k
-  pub files : AreFilesOf f (At f w.blobs) op.source r.index r.shard s snap.files
-  pub new_is : new ≡ record w { ops = fin.insert w.ops t.op (record op { shards = map (marked k (Done r)) op.shards }); tickets = fin.insert w.tickets k (record t { out = false }); completed = completing w.completed t.op (map (marked k (Done r)) op.shards) }
+  pub files : AreFilesOf f (At f w.blobs) op.source r.index r.shard snap.files
+  pub new_is : new ≡ record w {
+    ops = fin.insert w.ops t.op (record op { shards = map (marked k (Done r)) op.shards });
+    tickets = fin.insert w.tickets k (record t { out = false });
+    completed = completing w.completed t.op (map (marked k (Done r)) op.shards);
+  }
 
 -- its ids lie below the next one, and a root of this name was begun
 pub record IsOfPast (w : World) (name : BlobName) : Type 0 where

@@ -4,7 +4,7 @@ use Rattle.std.specs.Ordering.{nat_cmp}
 use Rattle.std.specs.FinMap.{FinMap}
 use Rattle.std.specs.FinMap as fin
 use Rattle.esr_model.specs.Names.{BlobName, Snap, Meta, IndexMeta}
-use Rattle.esr_model.specs.Values.{Bytes, IndexRef, RootData, SnapInfo, RecordWork, Creating, Cloning, DeletingOf, Cleaning, Ledger, ClusterRecord, ShardResult, Formats, files_told}
+use Rattle.esr_model.specs.Values.{Bytes, IndexRef, RootData, SnapInfo, RecordWork, Creating, Cloning, DeletingOf, Cleaning, Ledger, ClusterRecord, ShardResult, Formats}
 use Rattle.esr_model.specs.Shelf.{ShelfShard, Shelved, Command, Create, Clone}
 use Rattle.esr_model.specs.Places.{comes_first, sorted_by}
 use Rattle.esr_model.specs.Kept.{first_id}
@@ -12,6 +12,7 @@ use Rattle.esr_model.specs.Finalize.{finalized_root}
 use Rattle.esr_model.specs.Cleanup.{BlobSize}
 use Rattle.esr_model.specs.Image.{Blobs, Image, Has, AllPairs, RootIs, At, global_of}
 use Rattle.esr_core.specs.Entry.{Why, Entry}
+use Rattle.esr_core.specs.Stored.{stored_files}
 
 pub data ShardState : Type 0 where
   Pending : ShardState
@@ -229,23 +230,23 @@ info_of op results = info_with op (min (sum_by (λ (r : ShardResult). r.files) r
 abbrev pub comes_first_of : ShardWork → ShardWork → Bool
 comes_first_of s z = comes_first (s.ref, s.number) (z.ref, z.number)
 
-abbrev pub shelved_shard : Formats → ShardWork → ShelfShard
-shelved_shard f s = record { index = s.ref.name; number = s.number; files = files_told f s.place s.ref.name s.number }
+abbrev pub shelved_shard : Formats → Blobs → ℕ → ShardWork → ShelfShard
+shelved_shard f blobs uuid s = record { index = s.ref.name; number = s.number; files = stored_files f blobs s.ref.id s.number uuid }
 
--- what the op puts on the shelf: the files that the sources tell
-abbrev pub shelved_of : Formats → Op → Shelved
-shelved_of f op = record { name = op.name; uuid = op.uuid; shards = map (shelved_shard f) (sorted_by comes_first_of op.shards) }
+-- what the op puts on the shelf: the files that are stored
+abbrev pub shelved_of : Formats → Blobs → Op → Shelved
+shelved_of f blobs op = record { name = op.name; uuid = op.uuid; shards = map (shelved_shard f blobs op.uuid) (sorted_by comes_first_of op.shards) }
 
 abbrev pub index_names : List IndexRef → List Bytes
 index_names indices = map (λ (r : IndexRef). r.name) indices
 
--- what its settle makes of the shelf: a snapshot of the files that the sources tell, or of what another one has of its indices
-abbrev pub made_from : Formats → Op → Option ℕ → Command
-made_from f op None = Create (shelved_of f op)
-made_from f op (Some source) = Clone source op.name op.uuid (index_names op.indices)
+-- what its settle makes of the shelf: a snapshot of the files that are stored, or of what another one has of its indices
+abbrev pub made_from : Formats → Blobs → Op → Option ℕ → Command
+made_from f blobs op None = Create (shelved_of f blobs op)
+made_from f blobs op (Some source) = Clone source op.name op.uuid (index_names op.indices)
 
-abbrev pub made_of : Formats → Op → Command
-made_of f op = made_from f op op.source
+abbrev pub made_of : Formats → Blobs → Op → Command
+made_of f blobs op = made_from f blobs op op.source
 
 abbrev pub metadata : Formats → SnapInfo → List (BlobName × Bytes)
 metadata f info =

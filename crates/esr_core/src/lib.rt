@@ -42,6 +42,7 @@ ghost use Rattle.esr_core.specs.Causes.{RefusalCause, TakeGave, SettleDid};
 ghost use Rattle.esr_core.specs.History.{world_from, IsLegal, TellsHandedOut, AreTold, AreHonest, committed, counts, Lasts};
 ghost use Rattle.esr_core.specs.Cleaned.{HoldsReachAlone, ListsListedAlone, IsTestCommit, ChangesBlobs, NoneOf, IsFirstPage, IsLastDrop};
 ghost use Rattle.esr_core.specs.Left.{cut_off, Leaves, safe_in};
+ghost use Rattle.esr_core.specs.Sources.{AreOfSources, HonestUploads};
 ghost use Rattle.esr_core.specs.Refusing.{RefusedSo, SwapFailed};
 
 /// A raise keeps the law, and the generation that it begins is that of no root that is there.
@@ -135,15 +136,35 @@ pub fn safe_never_falls()
 
 /// Each image of a legal history is kept for the commands of the whole history that count in it: also one that a failed call leaves, and so one that a crash in that call leaves.
 pub fn each_image_is_kept()
-    ensures { (f : Formats) (part_size : ℕ) (image : Image) (shelf : List Shelved) (w : World) (log rest : List Moment) (m : Moment) (i : Image) → TellsHandedOut f w (log ++ m ∷ rest) → Kept f image shelf → Opened f image w → m.image ≡ Some i → IsLegal f part_size w (log ++ m ∷ rest)
+    ensures { (f : Formats) (part_size : ℕ) (image : Image) (shelf : List Shelved) (w : World) (log rest : List Moment) (m : Moment) (i : Image) → TellsHandedOut f w (log ++ m ∷ rest) → Kept f image shelf → Opened f image w → m.image ≡ Some i
+        → IsLegal f part_size w (log ++ m ∷ rest)
         → AreTold (log ++ m ∷ rest) → AreHonest f w (log ++ m ∷ rest) → Kept f i (shelf_after shelf (committed f (world_from f w (log ++ m ∷ [])).safe w (log ++ m ∷ rest))) }
 {}
 
 /// Each image that a crash might leave over a legal history is kept for the commands of the whole history that count in it, also one that stands nowhere in the history:
 /// what a call would have left that failed, where it was answered Ok or failed otherwise. The record of the opened world can be written, as opening writes it.
 pub fn each_left_image_is_kept()
-    ensures { (f : Formats) (part_size : ℕ) (image : Image) (shelf : List Shelved) (w : World) (log : List Moment) (i : Image) → TellsHandedOut f w log → Kept f image shelf → Opened f image w → ReadsBack f.cluster (record_of w) → IsLegal f part_size w log
+    ensures { (f : Formats) (part_size : ℕ) (image : Image) (shelf : List Shelved) (w : World) (log : List Moment) (i : Image) → TellsHandedOut f w log → Kept f image shelf → Opened f image w → ReadsBack f.cluster (record_of w)
+        → IsLegal f part_size w log
         → AreTold log → AreHonest f w log → Leaves f part_size w log i → Kept f i (shelf_after shelf (committed f (safe_in f i) w log)) }
+{}
+
+/// Over each legal history the law holds, whatever the sources tell and whatever the digests are: the commands that count have the files as they are stored.
+pub fn each_history_is_lawful_over_any_sources()
+    ensures { (f : Formats) (part_size : ℕ) (image : Image) (shelf : List Shelved) (w : World) (log : List Moment) → Kept f image shelf → Opened f image w → IsLegal f part_size w log → AreTold log
+        → Law f (world_from f w log) (shelf_after shelf (committed f (world_from f w log).safe w log)) }
+{}
+
+/// Each image that a crash might leave over a legal history is kept for the commands that count in it, whatever the sources tell and whatever the digests are.
+pub fn each_left_image_is_kept_over_any_sources()
+    ensures { (f : Formats) (part_size : ℕ) (image : Image) (shelf : List Shelved) (w : World) (log : List Moment) (i : Image) → Kept f image shelf → Opened f image w → ReadsBack f.cluster (record_of w) → IsLegal f part_size w log
+        → AreTold log → Leaves f part_size w log i → Kept f i (shelf_after shelf (committed f (safe_in f i) w log)) }
+{}
+
+/// Where the sources tell each shard that a legal history hands out, and digests are honest while one is out whose files come from a source, each finalization that is given makes a snapshot of the files that the sources tell.
+pub fn snapshots_are_of_their_sources()
+    ensures { (f : Formats) (part_size : ℕ) (image : Image) (shelf : List Shelved) (w : World) (log : List Moment) → TellsHandedOut f w log → HonestUploads f w log → Kept f image shelf → Opened f image w → IsLegal f part_size w log → AreTold log
+        → AreOfSources f w log }
 {}
 
 /// From any lawful world of a history on, whose record can be written, no image that a crash might leave has an older safe root.
@@ -155,7 +176,8 @@ pub fn left_images_are_no_older()
 /// A settle that was answered, of a finalization or of a delete, stays: in each image that a crash might leave after it its root
 /// is the safe one or lies below it, whatever the container and the sources tell.
 pub fn answered_settles_stay()
-    ensures { (f : Formats) (part_size : ℕ) (w : World) (before rest : List Moment) (m : Moment) (t : Ticket) (n : ℕ) (i : Image) → Tracked w → Ranked w → IsLegal f part_size w (before ++ m ∷ rest) → (m.entry.step ≡ SettleStep) ⊎ (m.entry.step ≡ PruneStep SettlePruned)
+    ensures { (f : Formats) (part_size : ℕ) (w : World) (before rest : List Moment) (m : Moment) (t : Ticket) (n : ℕ) (i : Image) → Tracked w → Ranked w → IsLegal f part_size w (before ++ m ∷ rest) → (m.entry.step ≡ SettleStep)
+        ⊎ (m.entry.step ≡ PruneStep SettlePruned)
         → m.entry.reply ≡ WasSettled → fin.get (world_from f w before).tickets m.entry.who ≡ Some t → t.raised ≡ Some n → Leaves f part_size (after f (world_from f w before) m) rest i → suc n ≤ safe_in f i }
 {}
 
@@ -185,7 +207,8 @@ pub fn generations_stay()
 
 /// What an unsettled ticket has committed is there while it counts.
 pub fn committed_blobs_stay()
-    ensures { (f : Formats) (w new : World) (shelf : List Shelved) → Law f w shelf → w.deposed ≡ false → (turn : Turn f w new) → (k : ℕ) (t : Ticket) → fin.get new.tickets k ≡ Some t → TicketLaw f (HeldIn f new) new.doomed (ledger_of new) (shelf_after shelf (commands_of f w new turn)) t }
+    ensures { (f : Formats) (w new : World) (shelf : List Shelved) → Law f w shelf → w.deposed ≡ false → (turn : Turn f w new) → (k : ℕ) (t : Ticket) → fin.get new.tickets k ≡ Some t
+        → TicketLaw f (HeldIn f new) new.doomed (ledger_of new) (shelf_after shelf (commands_of f w new turn)) t }
 {}
 
 /// So is what the ticket of a shard has committed, and its base.
@@ -206,7 +229,8 @@ pub fn doomed_stay_apart()
 /// What a delete dooms with its settle the safe root reached, or it is that root's name; and the new root doesn't reach it.
 /// What a cleanup dooms it had to list alone, and no new root reaches it.
 pub fn a_delete_dooms_what_it_leaves()
-    ensures was { (f : Formats) (w : World) (shelf : List Shelved) (k : ℕ) (s : SettlesDeletion f w k) → Law f w shelf → s.t.term ≡ w.term → s.t.clean ≡ false → (name : BlobName) → Has (dooms f s.t) name → Reached f (HeldIn f w) w.root name ⊎ ((m : ℕ) × (name ≡ Root m) × (w.safe ≡ suc m)) }
+    ensures was { (f : Formats) (w : World) (shelf : List Shelved) (k : ℕ) (s : SettlesDeletion f w k) → Law f w shelf → s.t.term ≡ w.term → s.t.clean ≡ false → (name : BlobName) → Has (dooms f s.t) name → Reached f (HeldIn f w) w.root name
+        ⊎ ((m : ℕ) × (name ≡ Root m) × (w.safe ≡ suc m)) }
     ensures left { (f : Formats) (w : World) (shelf : List Shelved) (k : ℕ) (s : SettlesDeletion f w k) → Law f w shelf → s.t.term ≡ w.term → (name : BlobName) → Has (dooms f s.t) name → Reached f (HeldIn f w) s.s.root name → ⊥ }
 {}
 
@@ -257,13 +281,16 @@ pub fn each_delete_dooms_exactly_what_it_leaves()
 /// So it stays until a blob is committed, replaced or removed.
 pub fn a_cleanup_leaves_the_reach_alone()
     ensures { (f : Formats) (part_size : ℕ) (image : Image) (shelf : List Shelved) (w : World) (before between rest : List Moment) (first last : Moment) (k : ℕ) → Kept f image shelf → Opened f image w → Tracked w
-        → TellsHandedOut f w (before ++ first ∷ (between ++ last ∷ rest)) → IsLegal f part_size w (before ++ first ∷ (between ++ last ∷ rest)) → AreTold (before ++ first ∷ (between ++ last ∷ rest)) → AreHonest f w (before ++ first ∷ (between ++ last ∷ rest))
-        → IsFirstPage first k → IsLastDrop last k → NoneOf IsTestCommit between → NoneOf ChangesBlobs rest → HoldsReachAlone f (world_from f w (before ++ first ∷ (between ++ last ∷ rest))) × ListsListedAlone f (world_from f w (before ++ first ∷ (between ++ last ∷ rest))) }
+        → TellsHandedOut f w (before ++ first ∷ (between ++ last ∷ rest)) → IsLegal f part_size w (before ++ first ∷ (between ++ last ∷ rest)) → AreTold (before ++ first ∷ (between ++ last ∷ rest))
+        → AreHonest f w (before ++ first ∷ (between ++ last ∷ rest))
+        → IsFirstPage first k → IsLastDrop last k → NoneOf IsTestCommit between → NoneOf ChangesBlobs rest → HoldsReachAlone f (world_from f w (before ++ first ∷ (between ++ last ∷ rest)))
+        × ListsListedAlone f (world_from f w (before ++ first ∷ (between ++ last ∷ rest))) }
 {}
 
 /// What a delete's settled ticket doomed stays doomed.
 pub fn what_a_delete_dooms_stays_doomed()
-    ensures { (f : Formats) (w : World) (shelf : List Shelved) (k : ℕ) (t : Ticket) (uuids : List ℕ) (s : Swap) → Law f w shelf → fin.get w.tickets k ≡ Some t → t.settled ≡ true → t.work ≡ Deleting uuids (Some s) → (name : BlobName) → Has (dooms f t) name → Has w.doomed name }
+    ensures { (f : Formats) (w : World) (shelf : List Shelved) (k : ℕ) (t : Ticket) (uuids : List ℕ) (s : Swap) → Law f w shelf → fin.get w.tickets k ≡ Some t → t.settled ≡ true → t.work ≡ Deleting uuids (Some s) → (name : BlobName)
+        → Has (dooms f t) name → Has w.doomed name }
 {}
 
 /// At most one ticket of the present term has a swap that it has not settled.
@@ -331,13 +358,15 @@ pub fn each_restored_shard_is_on_the_shelf()
 
 /// While a restore is open the snapshot of the shelf that it reads stays there as it was when it was asked.
 pub fn each_restored_snapshot_stays()
-    ensures { (f : Formats) (part_size : ℕ) (shelf : List Shelved) (w : World) (log : List Moment) (o : ℕ) (x : Shelved) → TellsHandedOut f w log → Law f w shelf → ReadLaw f w → o < w.next_op → ReadsShelved w shelf o x → IsLegal f part_size w log → AreTold log
+    ensures { (f : Formats) (part_size : ℕ) (shelf : List Shelved) (w : World) (log : List Moment) (o : ℕ) (x : Shelved) → TellsHandedOut f w log → Law f w shelf → ReadLaw f w → o < w.next_op → ReadsShelved w shelf o x → IsLegal f part_size w log
+        → AreTold log
         → AreHonest f w log → ReadsShelved (world_from f w log) (shelf_after shelf (committed f (world_from f w log).safe w log)) o x }
 {}
 
 /// In a lawful world each ticket of a restore that is out, and of which no fetch has failed, can read its whole shard and end it: the conditions of its steps can be met.
 pub fn each_reader_can_end()
-    ensures { (f : Formats) (part_size : ℕ) (w : World) (shelf : List Shelved) (k : ℕ) (q : Reader) → Law f w shelf → ReadLaw f w → ReadTracked w → w.deposed ≡ false → ReadsBack f.cluster (record_of w) → IsReading w k q → NoFetchFailed w k q → CanEnd f part_size w k }
+    ensures { (f : Formats) (part_size : ℕ) (w : World) (shelf : List Shelved) (k : ℕ) (q : Reader) → Law f w shelf → ReadLaw f w → ReadTracked w → w.deposed ≡ false → ReadsBack f.cluster (record_of w) → IsReading w k q → NoFetchFailed w k q
+        → CanEnd f part_size w k }
 {}
 
 /// Where a restore is open and none of its tickets is out, some unit is ready.
@@ -378,8 +407,10 @@ pub fn each_history_is_ranked()
 /// What a ticket has read of its whole shard are the files of that shard on the shelf as it was when its restore was asked,
 /// whatever has counted since then.
 pub fn restores_give_the_shelf_of_their_ask()
-    ensures { (f : Formats) (part_size : ℕ) (shelf : List Shelved) (w : World) (before rest : List Moment) (m : Moment) (name place : Bytes) (o uuid : ℕ) (indices : List IndexRef) (k : ℕ) (q : Reader) (files bytes : ℕ) → TellsHandedOut f w (before ++ m ∷ rest) → Law f w shelf → ReadLaw f w
-        → IsLegal f part_size w (before ++ m ∷ rest) → AreTold (before ++ m ∷ rest) → AreHonest f w (before ++ m ∷ rest) → m.entry.step ≡ AskStep (Restore name place) → m.entry.reply ≡ AcceptedRestore o uuid indices → IsReading (world_from f w (before ++ m ∷ rest)) k q → q.op ≡ o
+    ensures { (f : Formats) (part_size : ℕ) (shelf : List Shelved) (w : World) (before rest : List Moment) (m : Moment) (name place : Bytes) (o uuid : ℕ) (indices : List IndexRef) (k : ℕ) (q : Reader) (files bytes : ℕ)
+        → TellsHandedOut f w (before ++ m ∷ rest) → Law f w shelf → ReadLaw f w
+        → IsLegal f part_size w (before ++ m ∷ rest) → AreTold (before ++ m ∷ rest) → AreHonest f w (before ++ m ∷ rest) → m.entry.step ≡ AskStep (Restore name place) → m.entry.reply ≡ AcceptedRestore o uuid indices
+        → IsReading (world_from f w (before ++ m ∷ rest)) k q → q.op ≡ o
         → (by : RestoredBy f q files bytes) → IsOnShelf f (shelf_after shelf (committed f (world_from f w before).safe w before)) q files bytes by }
 {}
 
@@ -402,7 +433,8 @@ pub fn clones_are_of_shelved()
 
 /// A shard of a clone is done with files that its base has, and with two texts.
 pub fn clones_upload_nothing()
-    ensures based { (f : Formats) (w : World) (shelf : List Shelved) (k : ℕ) (t : Ticket) (r : ShardResult) (source : ℕ) → Law f w shelf → IsOut w k t → t.work ≡ Shard r.index r.shard → t.source ≡ Some source → (b : ClonedBy f t source r) → (e : FileEntry) → Has b.was.files e → Has b.base.files e }
+    ensures based { (f : Formats) (w : World) (shelf : List Shelved) (k : ℕ) (t : Ticket) (r : ShardResult) (source : ℕ) → Law f w shelf → IsOut w k t → t.work ≡ Shard r.index r.shard → t.source ≡ Some source → (b : ClonedBy f t source r)
+        → (e : FileEntry) → Has b.was.files e → Has b.base.files e }
     ensures wrote { (f : Formats) (t : Ticket) (r : ShardResult) (source : ℕ) → ClonedBy f t source r → (name : BlobName) (bytes : Bytes) → Has t.wrote (name, bytes)
         → (name ≡ ShardSnap r.index r.shard t.uuid) ⊎ (name ≡ ShardIndex r.index r.shard r.generation) }
 {}

@@ -1,72 +1,40 @@
 -- The ends of a delete or cleanup that aren't Ok.
-use Rattle.std.proofs.Common.{◌≡◌, ◌⊎◌, inl, inr, ℕ, Bool, true, false, List, Some, Err, refl, sym, ap, ◌∙◌, subst}
+use Rattle.std.proofs.Common.{◌≡◌, inl, inr, ℕ, Bool, true, false, List, Some, Err, sym, ap, ◌∙◌, subst}
 use Rattle.esr_core.specs.World.{Ticket}
-use Rattle.esr_core.specs.Past.{WasStale}
 use Rattle.esr_core.specs.Entry.{PruneStep, SettlePruned, DroppedStep, Moment}
 use Rattle.esr_model.specs.Values.{RootData}
 use Rattle.esr_desk.specs.declared.hand.Hand.TheVariants as hands
-use Rattle.esr_desk.specs.declared.entry.Why.{Why}
 use Rattle.esr_desk.specs.declared.refusal.StepRefusal.{StepRefusal}
 use Rattle.esr_desk.specs.declared.unit.UnitRefusal.{UnitRefusal}
 use Rattle.esr_desk.specs.declared.unit.UnitRefusal.TheVariants as units
-use Rattle.esr_desk.specs.Start.{Start, world_of, ticket_of}
-use Rattle.esr_desk.specs.Own.{Own}
-use Rattle.esr_desk.specs.Conditions.{CanFinish, HasSettled as SettledSwap}
+use Rattle.esr_desk.specs.Start.{Start, ticket_of}
 use Rattle.esr_desk.specs.Taken.{LeftBy, IsSettled, HasEndedAs}
-use Rattle.esr_desk.specs.Halts.{Halts}
 use Rattle.esr_desk.specs.Evidence.{Evidence}
 use Rattle.esr_desk.specs.Delete.Conditions.{CanSettleDelete, CanFailDelete}
-use Rattle.esr_unit.specs.declared.ending.Ending.{Ending}
-use Rattle.esr_unit.specs.declared.ending.Ending.TheVariants as endings
-use Rattle.esr_unit.specs.Shown.{EndingShown}
-use Rattle.esr_unit.specs.Fail.{GivenUp}
 use Rattle.esr_unit.specs.Fetch.{IsRefusedBy}
+use Rattle.esr_finish.specs.Refused.{IsGivenUp, IsSwapRefused}
 use Rattle.esr_finish.proofs.Ends.{unsettled_same}
-use Rattle.esr_delete.specs.Refused.{Stops, IsGivenUp, IsSwapRefused, IsStillOrEnded, IsCleanRefused, IsLateRefused, IsLeftAt, IsHalted}
+use Rattle.esr_delete.specs.Refused.{Stops, IsStillOrEnded, IsCleanRefused, IsLateRefused, IsLeftAt, IsHalted}
 use Rattle.esr_delete.specs.Removed.{IsSettledPlan}
 use Rattle.esr_delete.proofs.Passing.{halts_stops, settle_stops, drop_stops}
-
--- it was given up
-pub given_up : {S F H T : Type 0} (e : Evidence S F H T) (s : Start) (old new : List Moment) (who : ℕ) (ending : Ending S F H T) (result : UnitRefusal) → EndingShown hands.Delete e ⊥ s old who ending
-    → GivenUp hands.Delete e s old new who ending result → IsGivenUp e s old new who result
-given_up {S} {F} {H} {T} e s old new who (endings.Failed why b) (units.Failed told) shown given =
-    subst (λ (w : Why). IsGivenUp {S = S} {F = F} {H = H} {T = T} e s old new who (units.Failed w)) (sym given.0) (ap (λ (own : Own). own.ticket) given.1, given.2)
-given_up e s old new who (endings.Failed why b) (units.Stopped refusal) shown given = (ap (λ (own : Own). own.ticket) given.same, given.halts)
-given_up e s old new who (endings.Stopped refusal) (units.Stopped told) shown given = (
-  ap (λ (log : List Moment). ticket_of s log who) given.1,
-  subst (λ (r : StepRefusal). Halts s new who r) (sym given.0) (subst (λ (log : List Moment). Halts s log who refusal) (sym given.1) shown),
-)
-given_up e s old new who ending result shown given = absurd given
-
--- it was stopped
-pub stopped_up : {S F H T : Type 0} (e : Evidence S F H T) (s : Start) (log : List Moment) (who : ℕ) (refusal : StepRefusal) → Halts s log who refusal → IsGivenUp e s log log who (units.Stopped refusal)
-stopped_up e s log who refusal halts = (refl, halts)
-
--- its term is over, which it was told before its settle
-pub was_stale : (s : Start) (log : List Moment) (who : ℕ) → CanFailDelete (ticket_of s log who) → CanFinish s log who → WasStale (world_of s log) who
-was_stale s log who may can = stale can.done
-  where
-    stale : SettledSwap (ticket_of s log who) ⊎ WasStale (world_of s log) who → WasStale (world_of s log) who
-    stale (inl has) = absurd (has.unpruned may.uuids may.plan may.work)
-    stale (inr was) = was
 
 -- ---- a record swap that was refused
 
 -- an early end is one at the settle
-given_halted : {S F H T : Type 0} (clean : Bool) (e : Evidence S F H T) (s : Start) (old mid new : List Moment) (who : ℕ) (result : UnitRefusal) → ticket_of s mid who ≡ ticket_of s old who → IsGivenUp e s mid new who result → IsHalted clean e s old new who result
+given_halted : {S F H T : Type 0} (clean : Bool) (e : Evidence S F H T) (s : Start) (old mid new : List Moment) (who : ℕ) (result : UnitRefusal) → ticket_of s mid who ≡ ticket_of s old who → IsGivenUp hands.Delete e s mid new who result → IsHalted clean e s old new who result
 given_halted clean e s old mid new who (units.Failed why) same given = (inl (given.0 ∙ ap (λ (t : Ticket). record t { out = false }) same), given.1)
 given_halted clean e s old mid new who units.Stale same given = (inl (given.0 ∙ ap (λ (t : Ticket). record t { out = false }) same), given.1)
 given_halted clean e s old mid new who (units.Stopped refusal) same given = (inl (inl (given.0 ∙ same)), halts_stops clean s new who refusal given.1)
 
 -- or one after it
-pub given_late : {S F H T : Type 0} (e : Evidence S F H T) (s : Start) (old mid new : List Moment) (who : ℕ) (result : UnitRefusal) → ticket_of s mid who ≡ ticket_of s old who → IsGivenUp e s mid new who result → IsCleanRefused e s old new who result
+pub given_late : {S F H T : Type 0} (e : Evidence S F H T) (s : Start) (old mid new : List Moment) (who : ℕ) (result : UnitRefusal) → ticket_of s mid who ≡ ticket_of s old who → IsGivenUp hands.Delete e s mid new who result → IsCleanRefused e s old new who result
 given_late e s old mid new who (units.Failed why) same given = (given.0 ∙ ap (λ (t : Ticket). record t { out = false }) same, given.1)
 given_late e s old mid new who units.Stale same given = (given.0 ∙ ap (λ (t : Ticket). record t { out = false }) same, given.1)
 given_late e s old mid new who (units.Stopped refusal) same given = (inl (given.0 ∙ same), halts_stops true s new who refusal given.1)
 
 -- that of the settle
 pub settle_halted : {S F H T : Type 0} (clean : Bool) (e : Evidence S F H T) (s : Start) (old mid new : List Moment) (who : ℕ) (refusal : StepRefusal) (result : UnitRefusal)
-    → LeftBy {X = Unit {0}} (IsSettled (ticket_of s old who)) (Err refusal) (ticket_of s old who) (ticket_of s mid who) → IsRefusedBy s old mid who (PruneStep SettlePruned) refusal → IsSwapRefused e s mid new who refusal result → IsHalted clean e s old new who result
+    → LeftBy {X = Unit {0}} (IsSettled (ticket_of s old who)) (Err refusal) (ticket_of s old who) (ticket_of s mid who) → IsRefusedBy s old mid who (PruneStep SettlePruned) refusal → IsSwapRefused hands.Delete e s mid new who refusal result → IsHalted clean e s old new who result
 settle_halted {S} {F} {H} {T} clean e s old mid new who refusal result left refused (inl (fault, is, same)) =
     subst (λ (log : List Moment). IsHalted {S = S} {F = F} {H = H} {T = T} clean e s old log who result) (sym same)
     (subst (IsHalted {S = S} {F = F} {H = H} {T = T} clean e s old mid who) (sym is) (settle_stops clean s old mid who refusal fault left refused.0))
@@ -75,7 +43,7 @@ settle_halted clean e s old mid new who refusal result left refused (inr (other,
 
 -- that by which the op of a cleanup leaves
 pub drop_refused : {S F H T : Type 0} (e : Evidence S F H T) (s : Start) (old mid new : List Moment) (who : ℕ) (refusal : StepRefusal) (result : UnitRefusal)
-    → LeftBy {X = Unit {0}} (HasEndedAs (ticket_of s old who)) (Err refusal) (ticket_of s old who) (ticket_of s mid who) → IsRefusedBy s old mid who DroppedStep refusal → IsSwapRefused e s mid new who refusal result → IsCleanRefused e s old new who result
+    → LeftBy {X = Unit {0}} (HasEndedAs (ticket_of s old who)) (Err refusal) (ticket_of s old who) (ticket_of s mid who) → IsRefusedBy s old mid who DroppedStep refusal → IsSwapRefused hands.Delete e s mid new who refusal result → IsCleanRefused e s old new who result
 drop_refused {S} {F} {H} {T} e s old mid new who refusal result left refused (inl (fault, is, same)) =
     subst (λ (log : List Moment). IsCleanRefused {S = S} {F = F} {H = H} {T = T} e s old log who result) (sym same)
     (subst (IsCleanRefused {S = S} {F = F} {H = H} {T = T} e s old mid who) (sym is) (drop_stops s old mid who refusal fault left refused.0))
@@ -86,20 +54,20 @@ drop_refused e s old mid new who refusal result left refused (inr (other, given)
 pub clean_refused_on : {S F H T : Type 0} (e : Evidence S F H T) (s : Start) (old mid new : List Moment) (who : ℕ) (result : UnitRefusal) → ticket_of s mid who ≡ ticket_of s old who → IsCleanRefused e s mid new who result → IsCleanRefused e s old new who result
 clean_refused_on e s old mid new who (units.Failed why) same h = (h.0 ∙ ap (λ (t : Ticket). record t { out = false }) same, h.1)
 clean_refused_on e s old mid new who units.Stale same h = (h.0 ∙ ap (λ (t : Ticket). record t { out = false }) same, h.1)
-clean_refused_on e s old mid new who (units.Stopped refusal) same h = (subst (λ (t : Ticket). IsStillOrEnded t (ticket_of s new who)) same h.0, h.1)
+clean_refused_on e s old mid new who (units.Stopped refusal) same h = (subst (λ (t : Ticket). IsStillOrEnded new who refusal t (ticket_of s new who)) same h.0, h.1)
 
 -- ---- after the settle
 
-left_late : (clean : Bool) (old mid new : Ticket) → clean ≡ true → mid ≡ record old { settled = true } → IsStillOrEnded mid new → IsLeftAt clean old new
-left_late clean old mid new cleans settled (inl same) = inl (inr (same ∙ settled))
-left_late clean old mid new cleans settled (inr ended) = inr (cleans, ended ∙ ap (λ (t : Ticket). record t { out = false }) settled)
+left_late : (clean : Bool) (log : List Moment) (who : ℕ) (refusal : StepRefusal) (old mid new : Ticket) → clean ≡ true → mid ≡ record old { settled = true } → IsStillOrEnded log who refusal mid new → IsLeftAt clean log who refusal old new
+left_late clean log who refusal old mid new cleans settled (inl same) = inl (inr (same ∙ settled))
+left_late clean log who refusal old mid new cleans settled (inr (ended, fell)) = inr (cleans, ended ∙ ap (λ (t : Ticket). record t { out = false }) settled, fell)
 
 clean_halted : {S F H T : Type 0} (clean : Bool) (e : Evidence S F H T) (s : Start) (old mid new : List Moment) (who : ℕ) (result : UnitRefusal) → clean ≡ true → ticket_of s mid who ≡ record (ticket_of s old who) { settled = true }
     → IsCleanRefused e s mid new who result → IsHalted clean e s old new who result
 clean_halted clean e s old mid new who (units.Failed why) cleans settled h = (inr (cleans, h.0 ∙ ap (λ (t : Ticket). record t { out = false }) settled), h.1)
 clean_halted clean e s old mid new who units.Stale cleans settled h = (inr (cleans, h.0 ∙ ap (λ (t : Ticket). record t { out = false }) settled), h.1)
 clean_halted clean e s old mid new who (units.Stopped refusal) cleans settled h = (
-  left_late clean (ticket_of s old who) (ticket_of s mid who) (ticket_of s new who) cleans settled h.0,
+  left_late clean new who refusal (ticket_of s old who) (ticket_of s mid who) (ticket_of s new who) cleans settled h.0,
   subst (λ (c : Bool). Stops c s new who refusal) (sym cleans) h.1,
 )
 

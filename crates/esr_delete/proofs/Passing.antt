@@ -1,10 +1,10 @@
 -- What a removal, the settle and the end of a ticket were answered, and where the unit stops then.
-use Rattle.std.proofs.Common.{◌≡◌, ◌≤◌, inl, inr, ⊎_elim, ℕ, Bool, true, false, List, ◌++◌, Option, Some, Result, Ok, Err, IfErr, OnErr, refl, sym, ap, ◌∙◌, subst, true≢false}
+use Rattle.std.proofs.Common.{◌≡◌, ◌⊎◌, ◌≤◌, inl, inr, ⊎_elim, ℕ, Bool, true, false, List, ◌++◌, Option, Some, Result, Ok, Err, IfErr, OnErr, refl, sym, ap, ◌∙◌, subst, true≢false}
 use Rattle.esr_model.specs.Names.{BlobName}
 use Rattle.esr_model.specs.Values.{Has}
 use Rattle.esr_core.specs.World.{World, Ticket, Deleting, Swap}
 use Rattle.esr_core.specs.Past.{is_counted, removal_names}
-use Rattle.esr_core.specs.Entry.{SettlePruned, RemoveDoomed, EndDelete, FinishStep, DroppedStep, Step, PruneStep, Reply, WasRemoved, HasEnded, Refusal, DepotFault, Refused, Moment}
+use Rattle.esr_core.specs.Entry.{SettlePruned, RemoveDoomed, EndDelete, DroppedStep, Step, PruneStep, Reply, WasRemoved, HasEnded, Refusal, DepotFault, Refused, Moment}
 use Rattle.esr_core.specs.Allowed.{ByFailedSwap, ByDelete}
 use Rattle.esr_core.specs.Refusing.{MayRefuse, RemoveDoomedFault, RefusedSo}
 use Rattle.esr_reach.specs.Members.{has_either}
@@ -18,6 +18,7 @@ use Rattle.esr_desk.specs.Start.{Start, world_of, ticket_of}
 use Rattle.esr_desk.specs.Own.{made_of}
 use Rattle.esr_desk.specs.Outcome.{Stepped, Refusing, Outcome, Grounds}
 use Rattle.esr_desk.specs.Taken.{LeftBy, IsSettled, HasEndedAs}
+use Rattle.esr_desk.specs.Last.{IsLast}
 use Rattle.esr_desk.specs.Halts.{Halts}
 use Rattle.esr_desk.specs.Evidence.{Evidence}
 use Rattle.esr_desk.specs.Delete.Named.{AreNamed, removal_named, still_named}
@@ -57,20 +58,11 @@ step_halts s old new who step x law never deletes h grounds =
 none_end : (refusal : Refusal) → MayRefuse (PruneStep EndDelete) refusal → ⊥
 none_end refusal may = elim may [ ]
 
-none_finish : (refusal : Refusal) → MayRefuse FinishStep refusal → ⊥
-none_finish refusal may = elim may [ ]
-
 -- the end
 end_halts : (s : Start) (old new : List Moment) (who : ℕ) (refusal : StepRefusal) → RefusesSo → IsDeletes (ticket_of s new who) → IsRefusedBy s old new who (PruneStep EndDelete) refusal → Halts s new who refusal
 end_halts s old new who steps.Memory law deletes h = tt
 end_halts s old new who steps.TurnsSpent law deletes h = h.1
 end_halts s old new who (steps.Refused x) law deletes h = step_halts s old new who (PruneStep EndDelete) x law (none_end (refusal_of x)) deletes h.0 h.1
-
--- that of a ticket whose term is over
-pub finish_halts : (s : Start) (old new : List Moment) (who : ℕ) (refusal : StepRefusal) → RefusesSo → IsDeletes (ticket_of s new who) → IsRefusedBy s old new who FinishStep refusal → Halts s new who refusal
-finish_halts s old new who steps.Memory law deletes h = tt
-finish_halts s old new who steps.TurnsSpent law deletes h = h.1
-finish_halts s old new who (steps.Refused x) law deletes h = step_halts s old new who FinishStep x law (none_finish (refusal_of x)) deletes h.0 h.1
 
 -- by its answer; the ticket stays where it was refused
 pub ended_halts : (s : Start) (old new : List Moment) (who : ℕ) (result : Result (Unit {0}) StepRefusal) → RefusesSo → IsDeletes (ticket_of s old who) → OnErr result (ticket_of s new who ≡ ticket_of s old who)
@@ -87,14 +79,20 @@ halts_stops clean s log who refusal h = h
 
 -- the record swap of the settle failed; the ticket may have settled
 pub settle_stops : (clean : Bool) (s : Start) (old new : List Moment) (who : ℕ) (refusal : StepRefusal) → is_fault refusal ≡ true → LeftBy {X = Unit {0}} (IsSettled (ticket_of s old who)) (Err refusal) (ticket_of s old who) (ticket_of s new who)
-    → Refusing s old new who (PruneStep SettlePruned) (told_refusal refusal) → IsLeftAt clean (ticket_of s old who) (ticket_of s new who) × Stops clean s new who refusal
+    → Refusing s old new who (PruneStep SettlePruned) (told_refusal refusal) → IsLeftAt clean new who refusal (ticket_of s old who) (ticket_of s new who) × Stops clean s new who refusal
 settle_stops clean s old new who (steps.Refused refusals.DepotFault) fault left h = (inl left, inl (record { front = h.front; image = h.image; is = h.is }))
 settle_stops clean s old new who refusal fault left h = absurd (true≢false (sym fault))
 
 -- that of the drop; the ticket may have ended
+left_by_drop : (log : List Moment) (who : ℕ) (old new : Ticket) → IsLast log who DroppedStep (Refused DepotFault) → (new ≡ old) ⊎ HasEndedAs old new → IsStillOrEnded log who (steps.Refused refusals.DepotFault) old new
+left_by_drop log who old new last (inl same) = inl same
+left_by_drop log who old new last (inr ended) = inr (ended, last)
+
 pub drop_stops : (s : Start) (old new : List Moment) (who : ℕ) (refusal : StepRefusal) → is_fault refusal ≡ true → LeftBy {X = Unit {0}} (HasEndedAs (ticket_of s old who)) (Err refusal) (ticket_of s old who) (ticket_of s new who)
-    → Refusing s old new who DroppedStep (told_refusal refusal) → IsStillOrEnded (ticket_of s old who) (ticket_of s new who) × Stops true s new who refusal
-drop_stops s old new who (steps.Refused refusals.DepotFault) fault left h = (left, inr (refl, record { front = h.front; image = h.image; is = h.is }))
+    → Refusing s old new who DroppedStep (told_refusal refusal) → IsStillOrEnded new who refusal (ticket_of s old who) (ticket_of s new who) × Stops true s new who refusal
+drop_stops s old new who (steps.Refused refusals.DepotFault) fault left h =
+    let last : IsLast new who DroppedStep (Refused DepotFault) = record { front = h.front; image = h.image; is = h.is } in
+    (left_by_drop new who (ticket_of s old who) (ticket_of s new who) last left, inr (refl, last))
 drop_stops s old new who refusal fault left h = absurd (true≢false (sym fault))
 
 -- ---- a removal, in which the container may have failed

@@ -11,6 +11,8 @@ use Rattle.esr_progress.specs.declared.unit.Copied.{Copied}
 use Rattle.esr_formats.specs.Ids.{number_of}
 use Rattle.esr_formats.specs.Clusters.{count_of}
 use Rattle.esr_formats.specs.Roots.{root_of}
+use Rattle.esr_desk.specs.declared.hand.Hand.TheVariants as hands
+use Rattle.esr_desk.specs.declared.refusal.StepRefusal.{StepRefusal}
 use Rattle.esr_desk.specs.declared.unit.UnitRefusal.{UnitRefusal}
 use Rattle.esr_desk.specs.declared.unit.UnitRefusal.TheVariants as units
 use Rattle.esr_desk.specs.Start.{Start, ticket_of}
@@ -18,11 +20,12 @@ use Rattle.esr_desk.specs.Taken.{fresh, TookWork, HasEndedAs}
 use Rattle.esr_desk.specs.Evidence.{Evidence}
 use Rattle.esr_desk.specs.Delete.Conditions.{CanFailDelete}
 use Rattle.esr_dooming.specs.Pieces.{root_count}
+use Rattle.esr_finish.specs.Refused.{IsGivenUp}
 use Rattle.esr_delete.specs.Work.{last_root}
 use Rattle.esr_delete.specs.Gathered.{IsUnplanned}
 use Rattle.esr_delete.specs.Ticket.{HasWritten, HasDone, IsOver, Deleted}
 use Rattle.esr_delete.specs.Went.{Worked}
-use Rattle.esr_delete.specs.Refused.{Stops, HasEndedUnsettled, HasEnded, HasStopped, IsUnitRefused, IsEndedAt, IsLeftAt, IsHalted, IsGivenUp}
+use Rattle.esr_delete.specs.Refused.{Stops, HasEndedUnsettled, HasEnded, HasStopped, IsUnitRefused, IsEndedAt, IsLeftAt, IsHalted}
 use Rattle.esr_delete.proofs.Passing.{halts_stops}
 
 -- ---- the ticket as it was taken
@@ -87,7 +90,7 @@ ended_unsettled old mid new unsettled worked ended = record {
 }
 
 pub given_refused : {S F H T : Type 0} (e : Evidence S F H T) (s : Start) (old mid new : List Moment) (who : ℕ) (result : UnitRefusal) → (ticket_of s old who).out ≡ true → (ticket_of s old who).settled ≡ false → Worked (ticket_of s old who) (ticket_of s mid who)
-    → IsGivenUp e s mid new who result → IsUnitRefused e s old new who result
+    → IsGivenUp hands.Delete e s mid new who result → IsUnitRefused e s old new who result
 given_refused e s old mid new who (units.Failed why) out unsettled worked h = (inl (ended_unsettled (ticket_of s old who) (ticket_of s mid who) (ticket_of s new who) unsettled worked h.0), h.1)
 given_refused e s old mid new who units.Stale out unsettled worked h = (inl (ended_unsettled (ticket_of s old who) (ticket_of s mid who) (ticket_of s new who) unsettled worked h.0), h.1)
 given_refused e s old mid new who (units.Stopped refusal) out unsettled worked h = (
@@ -115,18 +118,18 @@ ended_at : (s : Start) (old mid new : Ticket) (clean : Bool) → IsDone s old mi
 ended_at s old mid new clean is (inl ended) = inl (ended_unsettled old mid new is.unsettled is.worked ended)
 ended_at s old mid new clean is (inr (cleans, ended)) = inr (is.mode ∙ cleans, record { written = mid; is_written = is.written; is = ended })
 
-left_at : (s : Start) (old mid new : Ticket) (clean : Bool) → IsDone s old mid clean → IsLeftAt clean mid new → HasStopped s old new
-left_at s old mid new clean is (inl (inl same)) = inl (ap (λ (t : Ticket). t.out) (same ∙ is.worked.is) ∙ is.out, inl (subst (λ (t : Ticket). Worked old t) (sym same) is.worked))
-left_at s old mid new clean is (inl (inr settled)) =
+left_at : (s : Start) (log : List Moment) (who : ℕ) (refusal : StepRefusal) (old mid new : Ticket) (clean : Bool) → IsDone s old mid clean → IsLeftAt clean log who refusal mid new → HasStopped s log who refusal old new
+left_at s log who refusal old mid new clean is (inl (inl same)) = inl (ap (λ (t : Ticket). t.out) (same ∙ is.worked.is) ∙ is.out, inl (subst (λ (t : Ticket). Worked old t) (sym same) is.worked))
+left_at s log who refusal old mid new clean is (inl (inr settled)) =
     let out : mid.out ≡ true = ap (λ (t : Ticket). t.out) is.worked.is ∙ is.out in
     inl (ap (λ (t : Ticket). t.out) settled ∙ out, inr (record { written = mid; is_written = is.written; is = settled ∙ ap (λ (o : Bool). record mid { settled = true; out = o }) out }))
-left_at s old mid new clean is (inr (cleans, ended)) = inr (is.mode ∙ cleans, record { written = mid; is_written = is.written; is = ended })
+left_at s log who refusal old mid new clean is (inr (cleans, ended, fell)) = inr (is.mode ∙ cleans, record { written = mid; is_written = is.written; is = ended }, fell)
 
 halted_as : {S F H T : Type 0} (e : Evidence S F H T) (s : Start) (old mid new : List Moment) (who : ℕ) (clean : Bool) (result : UnitRefusal) → IsDone s (ticket_of s old who) (ticket_of s mid who) clean → IsHalted clean e s mid new who result → IsUnitRefused e s old new who result
 halted_as e s old mid new who clean (units.Failed why) is h = (ended_at s (ticket_of s old who) (ticket_of s mid who) (ticket_of s new who) clean is h.0, h.1)
 halted_as e s old mid new who clean units.Stale is h = (ended_at s (ticket_of s old who) (ticket_of s mid who) (ticket_of s new who) clean is h.0, h.1)
 halted_as e s old mid new who clean (units.Stopped refusal) is h = (
-  left_at s (ticket_of s old who) (ticket_of s mid who) (ticket_of s new who) clean is h.0,
+  left_at s new who refusal (ticket_of s old who) (ticket_of s mid who) (ticket_of s new who) clean is h.0,
   subst (λ (c : Bool). Stops c s new who refusal) (sym is.mode) h.1,
 )
 

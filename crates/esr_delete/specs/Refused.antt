@@ -17,7 +17,7 @@ use Rattle.esr_desk.specs.Halts.{Halts}
 use Rattle.esr_desk.specs.Evidence.{Evidence}
 use Rattle.esr_unit.specs.Fail.{HasFailed}
 use Rattle.esr_unit.specs.Fetch.{IsRefusedBy}
-use Rattle.esr_finish.specs.Refused.{IsStale, is_fault}
+use Rattle.esr_finish.specs.Refused.{IsStale, IsGivenUp}
 use Rattle.esr_delete.specs.Ticket.{HasSettled}
 use Rattle.esr_delete.specs.Went.{Worked}
 
@@ -27,23 +27,17 @@ abbrev pub Stops : Bool → Start → List Moment → ℕ → StepRefusal → Ty
 Stops clean s log who (steps.Refused refusals.DepotFault) = IsLast log who (PruneStep SettlePruned) (Refused DepotFault) ⊎ ((clean ≡ true) × IsLast log who DroppedStep (Refused DepotFault))
 Stops clean s log who refusal = Halts s log who refusal
 
+-- the record swap failed by which the op of a cleanup leaves, and nobody knows whether it was made
+abbrev pub HasDropFault : List Moment → ℕ → StepRefusal → Type 0
+HasDropFault log who (steps.Refused refusals.DepotFault) = IsLast log who DroppedStep (Refused DepotFault)
+HasDropFault log who refusal = ⊥
+
 -- the ticket has ended, unsettled
 pub record HasEndedUnsettled (old new : Ticket) : Type 0 where
   pub worked : Ticket
   pub is_worked : Worked old worked
   pub is : new ≡ record worked { out = false }
   pub unsettled : new.settled ≡ false
-
--- It has failed, with its cause, or has ended as stale; or it stopped, and nothing of the ticket changed.
-abbrev pub IsGivenUp : {S F H T : Type 0} → Evidence S F H T → Start → List Moment → List Moment → ℕ → UnitRefusal → Type 0
-IsGivenUp e s old new who (units.Failed why) = HasEndedAs (ticket_of s old who) (ticket_of s new who) × HasFailed hands.Delete e s new who why
-IsGivenUp e s old new who units.Stale = HasEndedAs (ticket_of s old who) (ticket_of s new who) × IsStale s new who
-IsGivenUp e s old new who (units.Stopped refusal) = (ticket_of s new who ≡ ticket_of s old who) × Halts s new who refusal
-
--- a record swap was refused so: where the container failed in it the unit stopped, else it was given up
-abbrev pub IsSwapRefused : {S F H T : Type 0} → Evidence S F H T → Start → List Moment → List Moment → ℕ → StepRefusal → UnitRefusal → Type 0
-IsSwapRefused e s old new who refusal result =
-    ((is_fault refusal ≡ true) × (result ≡ units.Stopped refusal) × (new ≡ old)) ⊎ ((is_fault refusal ≡ false) × IsGivenUp e s old new who result)
 
 -- ---- removals
 
@@ -57,14 +51,14 @@ IsRemovalRefused clean s log who (steps.Refused x) =
 
 -- ---- at its settle or later
 
--- a ticket that has settled stayed so, or has ended
-abbrev pub IsStillOrEnded : Ticket → Ticket → Type 0
-IsStillOrEnded old new = (new ≡ old) ⊎ HasEndedAs old new
+-- a ticket that has settled stayed so, or has ended as the drop of its op failed
+abbrev pub IsStillOrEnded : List Moment → ℕ → StepRefusal → Ticket → Ticket → Type 0
+IsStillOrEnded log who refusal old new = (new ≡ old) ⊎ (HasEndedAs old new × HasDropFault log who refusal)
 
 -- after the settle a cleanup was given up; or it stopped, with its ticket settled, or ended where the last record swap failed
 abbrev pub IsCleanRefused : {S F H T : Type 0} → Evidence S F H T → Start → List Moment → List Moment → ℕ → UnitRefusal → Type 0
-IsCleanRefused e s old new who (units.Stopped refusal) = IsStillOrEnded (ticket_of s old who) (ticket_of s new who) × Stops true s new who refusal
-IsCleanRefused e s old new who refusal = IsGivenUp e s old new who refusal
+IsCleanRefused e s old new who (units.Stopped refusal) = IsStillOrEnded new who refusal (ticket_of s old who) (ticket_of s new who) × Stops true s new who refusal
+IsCleanRefused e s old new who refusal = IsGivenUp hands.Delete e s old new who refusal
 
 -- so it is of either: the unit of a delete stopped, and nothing of the ticket changed
 abbrev pub IsLateRefused : {S F H T : Type 0} → Bool → Evidence S F H T → Start → List Moment → List Moment → ℕ → UnitRefusal → Type 0
@@ -72,9 +66,9 @@ IsLateRefused clean e s old new who result =
     ((clean ≡ false) × ((refusal : StepRefusal) × (result ≡ units.Stopped refusal) × (ticket_of s new who ≡ ticket_of s old who) × Halts s new who refusal))
     ⊎ ((clean ≡ true) × IsCleanRefused e s old new who result)
 
--- where the ticket is that was stopped: as it was, or settled, or, of a cleanup, ended after that
-abbrev pub IsLeftAt : Bool → Ticket → Ticket → Type 0
-IsLeftAt clean old new = ((new ≡ old) ⊎ IsSettled old new) ⊎ ((clean ≡ true) × (new ≡ record old { settled = true; out = false }))
+-- where the ticket is that was stopped: as it was, or settled, or, of a cleanup, ended after that as the drop of its op failed
+abbrev pub IsLeftAt : Bool → List Moment → ℕ → StepRefusal → Ticket → Ticket → Type 0
+IsLeftAt clean log who refusal old new = ((new ≡ old) ⊎ IsSettled old new) ⊎ ((clean ≡ true) × (new ≡ record old { settled = true; out = false }) × HasDropFault log who refusal)
 
 -- where it is that has ended: as it was, or, of a cleanup, settled
 abbrev pub IsEndedAt : Bool → Ticket → Ticket → Type 0
@@ -84,7 +78,7 @@ IsEndedAt clean old new = HasEndedAs old new ⊎ ((clean ≡ true) × (new ≡ r
 abbrev pub IsHalted : {S F H T : Type 0} → Bool → Evidence S F H T → Start → List Moment → List Moment → ℕ → UnitRefusal → Type 0
 IsHalted clean e s old new who (units.Failed why) = IsEndedAt clean (ticket_of s old who) (ticket_of s new who) × HasFailed hands.Delete e s new who why
 IsHalted clean e s old new who units.Stale = IsEndedAt clean (ticket_of s old who) (ticket_of s new who) × IsStale s new who
-IsHalted clean e s old new who (units.Stopped refusal) = IsLeftAt clean (ticket_of s old who) (ticket_of s new who) × Stops clean s new who refusal
+IsHalted clean e s old new who (units.Stopped refusal) = IsLeftAt clean new who refusal (ticket_of s old who) (ticket_of s new who) × Stops clean s new who refusal
 
 -- ---- of the whole unit
 
@@ -92,13 +86,14 @@ IsHalted clean e s old new who (units.Stopped refusal) = IsLeftAt clean (ticket_
 abbrev pub HasEnded : Start → Ticket → Ticket → Type 0
 HasEnded s old new = HasEndedUnsettled old new ⊎ ((old.clean ≡ true) × HasSettled s old false new)
 
--- it is still out: unsettled, or settled with all that goes before; or it has settled, and has ended by a record swap that failed, which
--- a cleanup's may
-abbrev pub HasStopped : Start → Ticket → Ticket → Type 0
-HasStopped s old new = ((new.out ≡ true) × (Worked old new ⊎ HasSettled s old true new)) ⊎ ((old.clean ≡ true) × HasSettled s old false new)
+-- it is still out: unsettled, or settled with all that goes before; or, of a cleanup, it has settled, and has ended as the drop of its op
+-- failed
+abbrev pub HasStopped : Start → List Moment → ℕ → StepRefusal → Ticket → Ticket → Type 0
+HasStopped s log who refusal old new =
+    ((new.out ≡ true) × (Worked old new ⊎ HasSettled s old true new)) ⊎ ((old.clean ≡ true) × HasSettled s old false new × HasDropFault log who refusal)
 
 -- it has failed, with its cause, or has ended as stale, or stopped
 abbrev pub IsUnitRefused : {S F H T : Type 0} → Evidence S F H T → Start → List Moment → List Moment → ℕ → UnitRefusal → Type 0
 IsUnitRefused e s old new who (units.Failed why) = HasEnded s (ticket_of s old who) (ticket_of s new who) × HasFailed hands.Delete e s new who why
 IsUnitRefused e s old new who units.Stale = HasEnded s (ticket_of s old who) (ticket_of s new who) × IsStale s new who
-IsUnitRefused e s old new who (units.Stopped refusal) = HasStopped s (ticket_of s old who) (ticket_of s new who) × Stops (ticket_of s old who).clean s new who refusal
+IsUnitRefused e s old new who (units.Stopped refusal) = HasStopped s new who refusal (ticket_of s old who) (ticket_of s new who) × Stops (ticket_of s old who).clean s new who refusal

@@ -3,7 +3,6 @@
 #![tactic(auto)]
 
 mod doom;
-mod end;
 mod gather;
 mod indices;
 mod list;

@@ -16,10 +16,10 @@ ghost use Rattle.esr_delete.specs.Ticket.{IsOver};
 ghost use Rattle.esr_delete.specs.Removed.{IsSettledPlan, NoneRemoved, HasRemoved, IsCleared};
 ghost use Rattle.esr_delete.specs.Refused.{IsRemovalRefused, IsCleanRefused, IsLateRefused, IsHalted};
 
-use crate::end::{end_early, end_swap};
 use crate::remove::{distinct, remove_all};
-use esr_desk::{Desk, StepRefusal, UnitRefusal};
+use esr_desk::{Desk, Hand, StepRefusal, UnitRefusal};
 use esr_dooming::DoomedNames;
+use esr_finish::{end_early, end_swap};
 use esr_root::RootData;
 use esr_unit::{Trouble, ending_of};
 use std::alloc::Global;
@@ -97,7 +97,7 @@ fn clean_up<Q: Desk>(
         Ok(()) => end_cleanup(alloc, desk, ticket),
         Err(refusal) => {
             let trouble = Trouble::Step(refusal);
-            Err(end_early(alloc, desk, ticket, ending_of(trouble)))
+            Err(end_early(alloc, desk, Hand::Delete, ticket, ending_of(trouble)))
         }
     }
 }
@@ -117,7 +117,7 @@ fn end_cleanup<Q: Desk>(alloc: Global, desk: &mut Q, ticket: u64) -> Result<(), 
     esr_core::refusals_are_of_their_steps();
     match desk.end_cleanup(alloc, ticket) {
         Ok(()) => Ok(()),
-        Err(refusal) => Err(end_swap(alloc, desk, ticket, refusal)),
+        Err(refusal) => Err(end_swap(alloc, desk, Hand::Delete, ticket, refusal)),
     }
 }
 
@@ -176,6 +176,6 @@ pub fn settle<Q: Desk>(
     esr_core::refusals_are_of_their_steps();
     match desk.settle_delete(alloc, ticket, root) {
         Ok(()) => finish(alloc, desk, ticket, clean, names),
-        Err(refusal) => Err(end_swap(alloc, desk, ticket, refusal)),
+        Err(refusal) => Err(end_swap(alloc, desk, Hand::Delete, ticket, refusal)),
     }
 }

@@ -23,12 +23,12 @@ ghost use Rattle.esr_delete.specs.Went.{Went};
 ghost use Rattle.esr_delete.specs.Refused.{IsUnitRefused};
 
 use crate::doom::{Written, write_cleanup, write_delete};
-use crate::end::end_early;
 use crate::gather::gather;
 use crate::indices::write_indices;
 use crate::plan::plan;
 use crate::settle::settle;
-use esr_desk::{Desk, Unit, UnitRefusal};
+use esr_desk::{Desk, Hand, Unit, UnitRefusal};
+use esr_finish::end_early;
 use esr_names::Ids;
 use esr_progress::{Copied, Work};
 use esr_seq::Seq;
@@ -92,7 +92,7 @@ fn run<Q: Desk>(
 {
     match prepare(alloc, desk, ticket, clean, uuids, copy) {
         Ok(written) => settle(alloc, desk, ticket, clean, &written.root, &written.names),
-        Err(trouble) => Err(end_early(alloc, desk, ticket, ending_of(trouble))),
+        Err(trouble) => Err(end_early(alloc, desk, Hand::Delete, ticket, ending_of(trouble))),
     }
 }
 

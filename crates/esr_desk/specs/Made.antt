@@ -75,7 +75,8 @@ stepped_world s old new who step reply h =
     ap (λ (log : List Moment). world_of s log) h.is
     ∙ world_more (formats_of s) s.world h.front (record { entry = record { who = who; step = step; reply = reply }; image = h.image } ∷ [])
 
-last_or_before : (s : Start) (old new : List Moment) (who : ℕ) (step : Step) (reply : Reply) (h : Stepped s old new who step reply) (e : Entry) → Has (made_of s new who) e → (e ≡ record { who = who; step = step; reply = reply }) ⊎ Has (made_of s h.front who) e
+last_or_before : (s : Start) (old new : List Moment) (who : ℕ) (step : Step) (reply : Reply) (h : Stepped s old new who step reply) (e : Entry) → Has (made_of s new who) e → (e ≡ record { who = who; step = step; reply = reply })
+    ⊎ Has (made_of s h.front who) e
 last_or_before s old new who step reply h e has =
     let last : Entry = record { who = who; step = step; reply = reply } in
     ⊎_elim
@@ -99,7 +100,8 @@ stepped_made s old new who step reply ticket h e has = ⊎_elim
     (own_or_before s old new who step reply h e has)
 
 -- each entry of a ticket was there before, or is this one
-pub stepped_entry : (s : Start) (old new : List Moment) (who : ℕ) (step : Step) (reply : Reply) → 1 ≤ who → Stepped s old new who step reply → (e : Entry) → Has (made_of s new who) e → Has (made_of s old who) e ⊎ (e ≡ record { who = who; step = step; reply = reply })
+pub stepped_entry : (s : Start) (old new : List Moment) (who : ℕ) (step : Step) (reply : Reply) → 1 ≤ who → Stepped s old new who step reply → (e : Entry) → Has (made_of s new who) e → Has (made_of s old who) e
+    ⊎ (e ≡ record { who = who; step = step; reply = reply })
 stepped_entry s old new who step reply ticket h e has =
     let last : Entry = record { who = who; step = step; reply = reply } in
     ⊎_elim

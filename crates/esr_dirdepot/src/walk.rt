@@ -1,22 +1,31 @@
-//! A walk over the folder of blobs.
+//! A walk over the folder of blobs, in the byte order of names.
 use esr_depot::{PAGE, is_after};
 use esr_seq::Text;
-use std::alloc::{AllocError, Global};
+use std::alloc::Global;
 use std::collections::{BTreeMap, BTreeSet};
-use std::fs::{self, DirEntry, File};
+use std::fs::{self, File};
 use std::io::{self, ErrorKind};
 use std::rt::Files;
 
-/// The first files of a page that a walk found, and the folders that it hasn't looked into.
+/// What a name that waits stands for.
+#[derive(Drop)]
+enum Waiting {
+    /// The entry of that name, a file or a folder.
+    Entry,
+    /// The entries of its folder from that name on.
+    Rest,
+}
+
+/// The files of a page that a walk found, and what it is to look at, by names from the top on.
 #[derive(Drop)]
 struct Walk<'a> {
     after: Option<&'a str>,
     lengths: BTreeMap<Text, u64>,
-    waiting: BTreeSet<Text>,
+    waiting: BTreeMap<Text, Waiting>,
 }
 
 /// The lengths of the files below a folder by their names from there on: of those after this name, or of all, the first ones
-/// that a page takes. A folder or a file of which no name can be of the page is passed over.
+/// that a page takes. No other file is looked at, and no folder of which no name can be of the page.
 pub fn first_below<R: Files<File = File>>(
     files: &R,
     alloc: Global,
@@ -26,87 +35,102 @@ pub fn first_below<R: Files<File = File>>(
     let mut walk = Walk {
         after,
         lengths: BTreeMap::new(alloc),
-        waiting: BTreeSet::new(alloc),
+        waiting: BTreeMap::new(alloc),
     };
     walk.look_into(files, alloc, top, "")?;
     for _ in 0..u64::MAX {
-        let Some(folder) = walk.waiting.pop_first() else {
-            return Ok(walk.lengths);
-        };
-        if walk.may_have(folder.as_str()) {
-            walk.look_into(files, alloc, top, folder.as_str())?;
+        match walk.next() {
+            None => return Ok(walk.lengths),
+            Some((name, Waiting::Entry)) => walk.look_at(files, alloc, top, name)?,
+            Some((name, Waiting::Rest)) => walk.look_into(files, alloc, top, name.as_str())?,
         }
     }
     Err(ErrorKind::InvalidData.into())
 }
 
+/// The folder that has an entry of that name, with a slash at its end, or nothing for the top.
+fn folder_of(name: &str) -> &str {
+    match name.rsplit_once('/') {
+        Some((folder, _)) => name.get(..folder.len().saturating_add(1)).unwrap_or(name),
+        None => "",
+    }
+}
+
 impl Walk<'_> {
-    /// Looks into the folder whose name from the top on is `folder`, with a slash at its end, or into the top.
+    /// What comes next in the order of names, unless the page is full.
+    fn next(&mut self) -> Option<(Text, Waiting)> {
+        if self.lengths.len() < PAGE {
+            self.waiting.pop_first()
+        } else {
+            None
+        }
+    }
+
+    /// Lets the entries wait that stand from this name on in its folder: as many as a page takes, and from where on the
+    /// others stand.
     fn look_into<R: Files<File = File>>(
         &mut self,
         files: &R,
         alloc: Global,
         top: &str,
-        folder: &str,
+        from: &str,
     ) -> io::Result<()> {
+        let folder = folder_of(from);
         let path = format!(in alloc; "{top}/{folder}")?;
+        let mut entries = BTreeSet::new(alloc);
         for entry in fs::read_dir(&(files, alloc), path.as_str())? {
-            self.meet(alloc, folder, &entry?)?;
+            let entry = entry?;
+            let entry_name = entry.file_name();
+            let name = Text::from_string(format!(in alloc; "{folder}{entry_name}")?);
+            if from <= name.as_str() && self.may_have(name.as_str()) {
+                entries.insert(name)?;
+                if entries.len() > PAGE + 1 {
+                    entries.pop_last();
+                }
+            }
+        }
+        if entries.len() > PAGE
+            && let Some(rest) = entries.pop_last()
+        {
+            self.waiting.insert(rest, Waiting::Rest)?;
+        }
+        for name in entries {
+            self.waiting.insert(name, Waiting::Entry)?;
         }
         Ok(())
     }
 
-    /// Keeps a file, or a folder to be looked into, where the page may take a name of it.
-    fn meet<R: Files<File = File>>(
+    /// Keeps a file that comes after the page's beginning, and lets a folder's entries wait.
+    fn look_at<R: Files<File = File>>(
         &mut self,
+        files: &R,
         alloc: Global,
-        folder: &str,
-        entry: &DirEntry<(&R, Global)>,
+        top: &str,
+        name: Text,
     ) -> io::Result<()> {
-        let entry_name = entry.file_name();
-        let name = Text::from_string(format!(in alloc; "{folder}{entry_name}")?);
-        if !self.may_have(name.as_str()) {
-            return Ok(());
-        }
-        let found = entry.metadata()?;
+        let entry = name.as_str();
+        let path = format!(in alloc; "{top}/{entry}")?;
+        let found = fs::symlink_metadata(files, path.as_str())?;
         if found.is_file() {
-            self.keep(name, found.len())?;
+            if is_after(self.after, entry) {
+                self.lengths.insert(name, found.len())?;
+            }
         } else if found.is_dir() {
-            let name = format!(in alloc; "{folder}{entry_name}/")?;
-            self.waiting.insert(Text::from_string(name))?;
+            let inside = Text::from_string(format!(in alloc; "{entry}/")?);
+            if self.may_have(inside.as_str()) {
+                self.waiting.insert(inside, Waiting::Rest)?;
+            }
         } else {
             return Err(ErrorKind::InvalidData.into());
         }
         Ok(())
     }
 
-    /// Whether the page may take a name that begins so.
+    /// Whether a name that begins so may come after the page's beginning.
     fn may_have(&self, start: &str) -> bool {
-        if self.lengths.len() >= PAGE && self.is_past(start) {
-            return false;
-        }
         match self.after {
             None => true,
             Some(after) => after < start || after.starts_with(start),
         }
-    }
-
-    /// Whether that comes after all names that were found.
-    fn is_past(&self, start: &str) -> bool {
-        match self.lengths.last_key_value() {
-            None => true,
-            Some((last, _)) => last.as_str() < start,
-        }
-    }
-
-    /// Keeps a file that comes after the page's beginning. Of more than a page takes the last one goes.
-    fn keep(&mut self, name: Text, length: u64) -> Result<(), AllocError> {
-        if is_after(self.after, name.as_str()) {
-            self.lengths.insert(name, length)?;
-            if self.lengths.len() > PAGE {
-                self.lengths.pop_last();
-            }
-        }
-        Ok(())
     }
 }

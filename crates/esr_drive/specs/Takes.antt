@@ -71,7 +71,8 @@ unit_takes s who old new alone some g =
     omega (arith, whole, none)
 
 -- a unit is taken and worked
-pub round_takes : (s : Start) (old mid took new : List Moment) (ticket op : ℕ) (given : Given) → s.alone ≡ true → ticket ≢ 0 → idle_takes mid ≡ idle_takes old → Stepped s mid took 0 TakeStep (Gave ticket op given) → GrewBy s ticket took new → idle_takes new ≡ idle_takes old
+pub round_takes : (s : Start) (old mid took new : List Moment) (ticket op : ℕ) (given : Given) → s.alone ≡ true → ticket ≢ 0 → idle_takes mid ≡ idle_takes old → Stepped s mid took 0 TakeStep (Gave ticket op given) → GrewBy s ticket took new
+    → idle_takes new ≡ idle_takes old
 round_takes s old mid took new ticket op given alone some was gave g =
     let one : idle_takes took ≡ idle_takes mid + 0 = stepped_takes s mid took TakeStep (Gave ticket op given) alone gave in
     let unit : idle_takes new ≡ idle_takes took = unit_takes s ticket took new alone some g in

@@ -6,6 +6,7 @@ use Rattle.esr_core.specs.Entry.{Step, BeginStep, CommitStep, LatestStep, RaiseS
 use Rattle.esr_core.specs.After.{is_latest}
 use Rattle.esr_core.specs.Allowed.{ByFailedSwap, ByDelete}
 use Rattle.esr_core.specs.Refusing.{MayRefuse, BeginFault, CommitFault, CommitTaken, LatestFault, RaiseFault, RaiseStale, RaiseSpent, SettleFault, SettleStale, RefusedSo}
+use Rattle.esr_desk.specs.declared.hand.Hand.{Hand}
 use Rattle.esr_desk.specs.declared.hand.Hand.TheVariants as hands
 use Rattle.esr_desk.specs.declared.refusal.EntryRefusal.{EntryRefusal}
 use Rattle.esr_desk.specs.declared.refusal.EntryRefusal.TheVariants as refusals
@@ -13,7 +14,7 @@ use Rattle.esr_desk.specs.declared.refusal.StepRefusal.{StepRefusal}
 use Rattle.esr_desk.specs.declared.refusal.StepRefusal.TheVariants as steps
 use Rattle.esr_desk.specs.Refusals.{refusal_of}
 use Rattle.esr_desk.specs.Start.{Start, world_of, ticket_of}
-use Rattle.esr_desk.specs.Outcome.{Stepped, Grounds}
+use Rattle.esr_desk.specs.Outcome.{Stepped, Grounds, IsOfOp}
 use Rattle.esr_desk.specs.Halts.{Halts}
 use Rattle.esr_desk.specs.Evidence.{Evidence}
 use Rattle.esr_desk.specs.Unit.Shown.{Matters, is_of_latest}
@@ -26,7 +27,7 @@ use Rattle.esr_unit.specs.Fetch.{IsRefusedBy}
 use Rattle.esr_unit.specs.Shown.{Shown}
 use Rattle.esr_unit.specs.Refusals.{RefusesSo, IsWork, IsMasterOut, last_refused, stepped_had, unit_refused_in}
 use Rattle.esr_finish.specs.Ticket.{IsUnsettledMaster}
-use Rattle.esr_finish.specs.Refused.{IsWriting, IsPutRefused, EndsAsMaster, Stops, is_fault}
+use Rattle.esr_finish.specs.Refused.{IsWriting, IsPutRefused, EndsAsMaster, CanGiveUp, Stops, is_fault}
 use Rattle.esr_finish.proofs.Swaps.{no_master_shard}
 
 -- ---- a step that writes
@@ -141,18 +142,25 @@ finish_block w who refusal (inr may) = elim may [ ]
 pub finish_refused : RefusesSo → (s : Start) (old new : List Moment) (who : ℕ) (refusal : Refusal) → Stepped s old new who FinishStep (Refused refusal) → IsBlock refusal
 finish_refused law s old new who refusal h = finish_block (world_of s h.front) who refusal (last_refused law s old new who FinishStep refusal h)
 
--- that ends a unit whose term is over
-finish_entry : {S F H T : Type 0} (e : Evidence S F H T) (s : Start) (old new : List Moment) (who : ℕ) (x : EntryRefusal) → IsBlock (refusal_of x) → Stepped s old new who FinishStep (Refused (refusal_of x))
-    → Shown {S = S} {F = F} {H = H} {T = T} hands.Unit e ⊥ s new who (troubles.Step (steps.Refused x))
-finish_entry e s old new who (refusals.Deposed entry) block h = (FinishStep, record { front = h.front; image = h.image; is = h.is })
-finish_entry e s old new who (refusals.Aborted op) block h = (FinishStep, stepped_had s old new who FinishStep (Refused (AbortedBy op)) h)
-finish_entry e s old new who x block h = absurd block
+-- a delete has aborted the op; it aborts none of a delete or cleanup
+finish_aborted : {S F H T : Type 0} (hand : Hand) (e : Evidence S F H T) (s : Start) (old new : List Moment) (who op : ℕ) → CanGiveUp hand (ticket_of s new who) → Stepped s old new who FinishStep (Refused (AbortedBy op)) → IsOfOp s new who
+    → Shown {S = S} {F = F} {H = H} {T = T} hand e ⊥ s new who (troubles.Step (steps.Refused (refusals.Aborted op)))
+finish_aborted hands.Unit e s old new who op may h of = (FinishStep, stepped_had s old new who FinishStep (Refused (AbortedBy op)) h)
+finish_aborted hands.Delete e s old new who op may h of = absurd (of.no_delete may.uuids may.plan may.work)
+finish_aborted hand e s old new who op may h of = absurd may
 
-pub finish_shown : {S F H T : Type 0} (e : Evidence S F H T) (s : Start) (old new : List Moment) (who : ℕ) (refusal : StepRefusal) → RefusesSo → IsRefusedBy s old new who FinishStep refusal
-    → Shown {S = S} {F = F} {H = H} {T = T} hands.Unit e ⊥ s new who (troubles.Step refusal)
-finish_shown e s old new who steps.Memory law h = tt
-finish_shown e s old new who steps.TurnsSpent law h = h.1
-finish_shown {S} {F} {H} {T} e s old new who (steps.Refused x) law h = finish_entry {S = S} {F = F} {H = H} {T = T} e s old new who x (finish_refused law s old new who (refusal_of x) h.0) h.0
+-- that ends a unit whose term is over
+finish_entry : {S F H T : Type 0} (hand : Hand) (e : Evidence S F H T) (s : Start) (old new : List Moment) (who : ℕ) (x : EntryRefusal) → CanGiveUp hand (ticket_of s new who) → IsBlock (refusal_of x) → Stepped s old new who FinishStep (Refused (refusal_of x)) → Grounds s new who (steps.Refused x)
+    → Shown {S = S} {F = F} {H = H} {T = T} hand e ⊥ s new who (troubles.Step (steps.Refused x))
+finish_entry hand e s old new who (refusals.Deposed entry) may block h grounds = (FinishStep, record { front = h.front; image = h.image; is = h.is })
+finish_entry {S} {F} {H} {T} hand e s old new who (refusals.Aborted op) may block h grounds = finish_aborted {S = S} {F = F} {H = H} {T = T} hand e s old new who op may h grounds
+finish_entry hand e s old new who x may block h grounds = absurd block
+
+pub finish_shown : {S F H T : Type 0} (hand : Hand) (e : Evidence S F H T) (s : Start) (old new : List Moment) (who : ℕ) (refusal : StepRefusal) → RefusesSo → CanGiveUp hand (ticket_of s new who) → IsRefusedBy s old new who FinishStep refusal
+    → Shown {S = S} {F = F} {H = H} {T = T} hand e ⊥ s new who (troubles.Step refusal)
+finish_shown hand e s old new who steps.Memory law may h = tt
+finish_shown hand e s old new who steps.TurnsSpent law may h = h.1
+finish_shown {S} {F} {H} {T} hand e s old new who (steps.Refused x) law may h = finish_entry {S = S} {F = F} {H = H} {T = T} hand e s old new who x may (finish_refused law s old new who (refusal_of x) h.0) h.0 h.1
 
 -- no finish is refused as its term is over, and it fails as a finalization may
 finish_entry_ends : {S F H T : Type 0} (x : EntryRefusal) → IsBlock (refusal_of x) → (◌≡◌ {A = Ending S F H T} (ending_at (steps.Refused x)) endings.Stale → ⊥) × EndsAsMaster {S = S} {F = F} {H = H} {T = T} (ending_at (steps.Refused x))

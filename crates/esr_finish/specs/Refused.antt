@@ -4,6 +4,7 @@ use Rattle.esr_core.specs.World.{Ticket}
 use Rattle.esr_core.specs.Allowed.{HasPutLatest}
 use Rattle.esr_core.specs.Past.{WasStale}
 use Rattle.esr_core.specs.Entry.{Step, BeginStep, CommitStep, LatestStep, RaiseStep, SettleStep, FinishStep, HasEnded, Refused, Refusal, DepotFault, Moment}
+use Rattle.esr_desk.specs.declared.hand.Hand.{Hand}
 use Rattle.esr_desk.specs.declared.hand.Hand.TheVariants as hands
 use Rattle.esr_desk.specs.declared.entry.Why.{Why}
 use Rattle.esr_desk.specs.declared.entry.Why.TheVariants as whys
@@ -20,12 +21,14 @@ use Rattle.esr_desk.specs.Halts.{Halts}
 use Rattle.esr_desk.specs.Taken.{IsSettled, HasEndedAs}
 use Rattle.esr_desk.specs.Unit.Shown.{is_of_latest}
 use Rattle.esr_desk.specs.Evidence.{Evidence, Faulty}
+use Rattle.esr_desk.specs.Delete.Conditions.{CanFailDelete}
 use Rattle.esr_unit.specs.declared.trouble.Trouble.{Trouble}
 use Rattle.esr_unit.specs.declared.trouble.Trouble.TheVariants as troubles
 use Rattle.esr_unit.specs.declared.ending.Ending.{Ending}
 use Rattle.esr_unit.specs.declared.ending.Ending.TheVariants as endings
+use Rattle.esr_unit.specs.Ending.{ending_at}
 use Rattle.esr_unit.specs.Fail.{HasFailed}
-use Rattle.esr_finish.specs.Ticket.{HasSettled}
+use Rattle.esr_finish.specs.Ticket.{HasSettled, IsUnsettledMaster}
 use Rattle.esr_finish.specs.Went.{Worked}
 
 -- ---- a blob that isn't put
@@ -82,6 +85,21 @@ abbrev pub EndsAsMaster : {S F H T : Type 0} → Ending S F H T → Type 0
 EndsAsMaster (endings.Failed why b) = IsCause why
 EndsAsMaster ending = Unit {0}
 
+-- where the unit of this hand ends as failed, a finalization does for one of these, and a delete or cleanup for any cause
+abbrev pub EndsAs : {S F H T : Type 0} → Hand → Ending S F H T → Type 0
+EndsAs hands.Unit ending = EndsAsMaster ending
+EndsAs hand ending = Unit {0}
+
+-- the end by a step that was refused so
+abbrev pub EndsAsRefused : {S F H T : Type 0} → Hand → Evidence S F H T → StepRefusal → Type 0
+EndsAsRefused {S} {F} {H} {T} hand e refusal = EndsAs {S = S} {F = F} {H = H} {T = T} hand (ending_at refusal)
+
+-- a finalization may be given up before it has settled, and a delete or cleanup while it may fail
+abbrev pub CanGiveUp : Hand → Ticket → Type 0
+CanGiveUp hands.Unit t = IsUnsettledMaster t
+CanGiveUp hands.Delete t = CanFailDelete t
+CanGiveUp hand t = ⊥
+
 -- It had to stop; or the record swap of its settle failed, after which nobody knows whether the root is the safe one. For nothing
 -- else it stops with its ticket out.
 abbrev pub Stops : Start → List Moment → ℕ → StepRefusal → Type 0
@@ -101,16 +119,26 @@ pub record IsStale (s : Start) (log : List Moment) (who : ℕ) : Type 0 where
   pub refused : WasStale (world_of s before) who
   pub step : Stepped s before log who FinishStep HasEnded
 
+-- its last entry tells that it failed, a finalization for one of its causes
+abbrev pub HasFailedAs : {S F H T : Type 0} → Hand → Evidence S F H T → Start → List Moment → ℕ → Why → Type 0
+HasFailedAs hands.Unit e s log who why = IsCause why × HasFailed hands.Unit e s log who why
+HasFailedAs hand e s log who why = HasFailed hand e s log who why
+
 -- It has failed, with its cause, or has ended as stale; or it stopped, and nothing of the ticket changed.
-abbrev pub IsGivenUp : {S F H T : Type 0} → Evidence S F H T → Start → List Moment → List Moment → ℕ → UnitRefusal → Type 0
-IsGivenUp e s old new who (units.Failed why) = HasEndedAs (ticket_of s old who) (ticket_of s new who) × IsCause why × HasFailed hands.Unit e s new who why
-IsGivenUp e s old new who units.Stale = HasEndedAs (ticket_of s old who) (ticket_of s new who) × IsStale s new who
-IsGivenUp e s old new who (units.Stopped refusal) = (ticket_of s new who ≡ ticket_of s old who) × Halts s new who refusal
+abbrev pub IsGivenUp : {S F H T : Type 0} → Hand → Evidence S F H T → Start → List Moment → List Moment → ℕ → UnitRefusal → Type 0
+IsGivenUp hand e s old new who (units.Failed why) = HasEndedAs (ticket_of s old who) (ticket_of s new who) × HasFailedAs hand e s new who why
+IsGivenUp hand e s old new who units.Stale = HasEndedAs (ticket_of s old who) (ticket_of s new who) × IsStale s new who
+IsGivenUp hand e s old new who (units.Stopped refusal) = (ticket_of s new who ≡ ticket_of s old who) × Halts s new who refusal
+
+-- a record swap was refused so: where the container failed in it the unit stopped, else it was given up
+abbrev pub IsSwapRefused : {S F H T : Type 0} → Hand → Evidence S F H T → Start → List Moment → List Moment → ℕ → StepRefusal → UnitRefusal → Type 0
+IsSwapRefused hand e s old new who refusal result =
+    ((is_fault refusal ≡ true) × (result ≡ units.Stopped refusal) × (new ≡ old)) ⊎ ((is_fault refusal ≡ false) × IsGivenUp hand e s old new who result)
 
 -- so it ended at its settle, where all was written; or it stopped there or after it, with its ticket out
 abbrev pub IsHalted : {S F H T : Type 0} → Evidence S F H T → Start → List Moment → List Moment → ℕ → UnitRefusal → Type 0
 IsHalted e s old new who (units.Stopped refusal) = ((ticket_of s new who ≡ ticket_of s old who) ⊎ IsSettled (ticket_of s old who) (ticket_of s new who)) × Stops s new who refusal
-IsHalted e s old new who refusal = IsGivenUp e s old new who refusal
+IsHalted e s old new who refusal = IsGivenUp hands.Unit e s old new who refusal
 
 -- it has failed, with its cause, or has ended as stale, or stopped with its ticket out: unsettled, or settled with all that goes before
 abbrev pub IsUnitRefused : {S F H T : Type 0} → Evidence S F H T → Start → List Moment → List Moment → ℕ → UnitRefusal → Type 0

@@ -11,9 +11,9 @@ ghost use Rattle.esr_finish.specs.Ticket.{MayWrite, MayPutRoot, PutsRoot, IsWrit
 ghost use Rattle.esr_finish.specs.Went.{Went};
 ghost use Rattle.esr_finish.specs.Refused.{IsPutRefused, IsLatestPut};
 
+use crate::end::is_fault;
 use crate::metadata::put_metadata;
 use crate::one_blob::put;
-use crate::unit::is_fault;
 use esr_depot::Stage;
 use esr_desk::{Desk, EntryRefusal, Named, StepRefusal};
 use esr_formats::write_root;

@@ -6,19 +6,19 @@ ghost use Rattle.esr_desk.specs.Own.{made_of};
 ghost use Rattle.esr_desk.specs.Calls.{HasTaken};
 ghost use Rattle.esr_desk.specs.Start.{ticket_of};
 ghost use Rattle.esr_desk.specs.Told.{TellsAll};
-ghost use Rattle.esr_desk.specs.Conditions.{CanFinish, CanSettle};
+ghost use Rattle.esr_desk.specs.Conditions.{CanSettle};
 ghost use Rattle.esr_desk.specs.Taken.{Took};
 ghost use Rattle.esr_desk.specs.Grew.{GrewBy};
-ghost use Rattle.esr_unit.specs.Shown.{EndingShown};
 ghost use Rattle.esr_finish.specs.Work.{IsFinalize};
 ghost use Rattle.esr_finish.specs.Ticket.{Finalized, HasEndedSettled, IsUnsettledMaster};
-ghost use Rattle.esr_finish.specs.Refused.{EndsAsMaster, IsGivenUp, IsHalted, IsUnitRefused, is_fault};
+ghost use Rattle.esr_finish.specs.Refused.{IsHalted, IsUnitRefused};
 
+use crate::end::{end_early, end_swap};
 use crate::root::write_swap;
-use esr_desk::{Desk, EntryRefusal, Hand, StepRefusal, Unit, UnitRefusal};
+use esr_desk::{Desk, Hand, Unit, UnitRefusal};
 use esr_progress::Work;
 use esr_root::RootData;
-use esr_unit::{Ending, Trouble, ending_of, give_up};
+use esr_unit::ending_of;
 use std::alloc::Global;
 
 /// Writes the metadata of the unit's snapshot and the new root, settles on it, and ends the ticket. Where the container
@@ -46,17 +46,7 @@ pub fn run_unit<Q: Desk>(alloc: Global, desk: &mut Q, unit: &Unit) -> Result<(),
     esr_core::refusals_are_of_their_steps();
     match write_swap(alloc, desk, ticket, info, root) {
         Ok(()) => settle(alloc, desk, ticket, root),
-        Err(trouble) => Err(end_early(alloc, desk, ticket, ending_of(trouble))),
-    }
-}
-
-/// Whether the container failed in a step that was refused so.
-pub fn is_fault(refusal: StepRefusal) -> bool
-    ensures { result ≡ is_fault refusal }
-{
-    match refusal {
-        StepRefusal::Refused(EntryRefusal::DepotFault) => true,
-        _ => false,
+        Err(trouble) => Err(end_early(alloc, desk, Hand::Unit, ticket, ending_of(trouble))),
     }
 }
 
@@ -85,62 +75,6 @@ fn settle<Q: Desk>(
             desk.finish(alloc, ticket)?;
             Ok(())
         }
-        Err(refusal) => {
-            if is_fault(refusal) {
-                return Err(UnitRefusal::Stopped(refusal));
-            }
-            let trouble = Trouble::Step(refusal);
-            Err(end_early(alloc, desk, ticket, ending_of(trouble)))
-        }
-    }
-}
-
-/// Ends the ticket before its settle: as failed, or as stale; or stops.
-fn end_early<Q: Desk>(
-    alloc: Global,
-    desk: &mut Q,
-    ticket: u64,
-    ending: Ending<Q::Stage, Q::Fetch, Q::Shard, Q::Target>,
-) -> UnitRefusal
-    requires mine { HasTaken (Q.calls desk.old) ticket }
-    requires masters { IsUnsettledMaster (ticket_of Q.start (Q.seen desk.old) ticket) }
-    requires shown { EndingShown Hand.Unit
-        (evidence Q.Stage.faults Q.Fetch.faults Q.Shard.faults Q.Target.faults Q.Shard.told Q.Target.told)
-        ⊥ Q.start (Q.seen desk.old) ticket ending }
-    requires cause { EndsAsMaster ending }
-    ensures given_up { IsGivenUp
-        (evidence Q.Stage.faults Q.Fetch.faults Q.Shard.faults Q.Target.faults Q.Shard.told Q.Target.told)
-        Q.start (Q.seen desk.old) (Q.seen desk.new) ticket result }
-    ensures grew { GrewBy Q.start ticket (Q.seen desk.old) (Q.seen desk.new) }
-    ensures calls { Q.calls desk.new ≡ Q.calls desk.old }
-{
-    match ending {
-        Ending::Failed { why, by } => {
-            give_up(alloc, desk, Hand::Unit, ticket, Ending::Failed { why, by })
-        }
-        Ending::Own => unreachable!(),
-        Ending::Stale => end_stale(alloc, desk, ticket),
-        Ending::Stopped(refusal) => UnitRefusal::Stopped(refusal),
-    }
-}
-
-/// Ends the ticket, whose term is over. Where a delete has aborted its op meanwhile, it fails.
-fn end_stale<Q: Desk>(alloc: Global, desk: &mut Q, ticket: u64) -> UnitRefusal
-    requires mine { HasTaken (Q.calls desk.old) ticket }
-    requires masters { IsUnsettledMaster (ticket_of Q.start (Q.seen desk.old) ticket) }
-    requires over { CanFinish Q.start (Q.seen desk.old) ticket }
-    ensures given_up { IsGivenUp
-        (evidence Q.Stage.faults Q.Fetch.faults Q.Shard.faults Q.Target.faults Q.Shard.told Q.Target.told)
-        Q.start (Q.seen desk.old) (Q.seen desk.new) ticket result }
-    ensures grew { GrewBy Q.start ticket (Q.seen desk.old) (Q.seen desk.new) }
-    ensures calls { Q.calls desk.new ≡ Q.calls desk.old }
-{
-    esr_core::refusals_are_of_their_steps();
-    match desk.finish(alloc, ticket) {
-        Ok(()) => UnitRefusal::Stale,
-        Err(refusal) => {
-            let trouble = Trouble::Step(refusal);
-            give_up(alloc, desk, Hand::Unit, ticket, ending_of(trouble))
-        }
+        Err(refusal) => Err(end_swap(alloc, desk, Hand::Unit, ticket, refusal)),
     }
 }

@@ -77,7 +77,8 @@ refused_none model (Err why) reason is = refl
 no_reason : (reason : Reason) → ◌≡◌ {A = Option Reason} None (Some reason) → ⊥
 no_reason reason is = cc
 
-pub unreadable_reads_not : (known : Bytes → Bytes → ℕ → Bool) (told : Bytes → Bytes → ℕ → Option (List (Bytes × Bytes))) (name : BlobName) (bytes : Bytes) (reason : Reason) → unreadable name bytes ≡ Some reason → IsUnreadable (formats known told) name bytes
+pub unreadable_reads_not : (known : Bytes → Bytes → ℕ → Bool) (told : Bytes → Bytes → ℕ → Option (List (Bytes × Bytes))) (name : BlobName) (bytes : Bytes) (reason : Reason) → unreadable name bytes ≡ Some reason
+    → IsUnreadable (formats known told) name bytes
 unfolding unreadable formats root_kind info_kind global_kind index_meta_kind shard_snap_kind shard_index_kind
 unreadable_reads_not known told (Root n) bytes reason is = refused_none root_of (root_from bytes) reason is
 unreadable_reads_not known told Latest bytes reason is = no_reason reason is

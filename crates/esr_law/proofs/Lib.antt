@@ -1,4 +1,3 @@
-pub mod Digests
 pub mod NoSnapshots
 pub mod Sourceless
 pub mod Whole

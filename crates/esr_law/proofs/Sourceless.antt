@@ -9,9 +9,10 @@ use Rattle.esr_core.specs.After.{after}
 use Rattle.esr_core.specs.Allowed as allowed
 use Rattle.esr_core.specs.Allowed.{Allows, Allowed}
 use Rattle.esr_core.specs.History.{IsLegal, TellsHandedOut}
+use Rattle.esr_core.specs.Sources.{HonestUploads}
 use Rattle.esr_core.specs.Tracked.{Tracked}
 use Rattle.esr_core.proofs.Blocked.{blocked_stays}
-use Rattle.esr_law.specs.Digests.{HonestUploads, AsksNoSnapshot, AskNoSnapshot, AreClones}
+use Rattle.esr_law.specs.Digests.{AsksNoSnapshot, AskNoSnapshot, AreClones}
 use Rattle.esr_law.proofs.NoSnapshots.{after_clones}
 
 -- an ask is the caller's

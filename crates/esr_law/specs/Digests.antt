@@ -1,37 +1,14 @@
--- What the images of a history ask of the sources and of digests, and where.
-use Rattle.std.specs.Prelude.{◌≡◌, ◌≢◌, ℕ, Bool, true, List, [], ◌∷◌, Option, Some, None}
+-- Histories that ask nothing of sources and digests, and images that are whole by their digests.
+use Rattle.std.specs.Prelude.{◌≡◌, ◌≢◌, ℕ, Bool, List, Option, Some, None}
 use Rattle.std.specs.Ordering.{nat_cmp}
 use Rattle.std.specs.FinMap.{FinMap}
 use Rattle.std.specs.FinMap as fin
 use Rattle.esr_model.specs.Values.{Bytes, Has, Formats}
 use Rattle.esr_model.specs.Image.{Image}
-use Rattle.esr_core.specs.World.{World, Op, Ticket, Shard}
+use Rattle.esr_core.specs.World.{Op}
 use Rattle.esr_core.specs.Entry.{AskedIndex, Snapshot, Step, AskStep, Moment}
-use Rattle.esr_core.specs.After.{after}
 use Rattle.esr_core.specs.Allowed.{IsWhole}
-use Rattle.esr_core.specs.History.{IsHonest, AreHonest}
 use Rattle.esr_core.specs.Left.{safe_in}
-
--- a ticket is out for a shard whose files come from a source
-pub record HasUpload (w : World) : Type 0 where
-  pub number : ℕ
-  pub ticket : Ticket
-  pub index : ℕ
-  pub shard : ℕ
-  pub there : fin.get w.tickets number ≡ Some ticket
-  pub out : ticket.out ≡ true
-  pub work : ticket.work ≡ Shard index shard
-  pub uploads : ticket.source ≡ None
-
--- digests are honest in each world from which a step is made while such a ticket is out
-abbrev pub HonestUploads : Formats → World → List Moment → Type 0
-HonestUploads f w [] = Unit {0}
-HonestUploads f w (m ∷ log) = (HasUpload w → IsHonest f w.blobs) × HonestUploads f (after f w m) log
-
--- so it is where they are honest in each world
-pub honest_uploads : (f : Formats) (w : World) (log : List Moment) → AreHonest f w log → HonestUploads f w log
-honest_uploads f w [] honest = tt
-honest_uploads f w (m ∷ log) honest = (λ upload. honest.0, honest_uploads f (after f w m) log honest.1)
 
 -- it asks for no snapshot
 abbrev pub AsksNoSnapshot : Step → Type 0

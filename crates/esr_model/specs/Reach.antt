@@ -11,5 +11,6 @@ pub data Reached (f : Formats) (has : BlobName → Bytes → Type 0) (root : Roo
   ReachMeta : (s : RootSnap) → Has root.snapshots s → Reached f has root (Meta s.uuid)
   ReachIndexMeta : (x : RootIndex) (u : ℕ) → Has root.indices x → Has x.snapshots u → Reached f has root (IndexMeta x.id u)
   ReachIndex : (i k g : ℕ) → Generation root i k g → Reached f has root (ShardIndex i k g)
-  ReachShardSnap : (i k g : ℕ) (s : RootSnap) (held : ShardFiles) (l : SnapList) → Generation root i k g → Reads has (ShardIndex i k g) f.shard_index held → Has held.snapshots l → Has root.snapshots s → l.uuid ≡ s.uuid → Reached f has root (ShardSnap i k s.uuid)
+  ReachShardSnap : (i k g : ℕ) (s : RootSnap) (held : ShardFiles) (l : SnapList) → Generation root i k g → Reads has (ShardIndex i k g) f.shard_index held → Has held.snapshots l → Has root.snapshots s → l.uuid ≡ s.uuid
+      → Reached f has root (ShardSnap i k s.uuid)
   ReachPart : (i k g : ℕ) (held : ShardFiles) (e : FileEntry) (name : BlobName) → Generation root i k g → Reads has (ShardIndex i k g) f.shard_index held → Has held.files e → Has (part_names i k e) name → Reached f has root name

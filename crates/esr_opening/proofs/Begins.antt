@@ -1,5 +1,5 @@
 -- The next term begins, or its swap fails.
-use Rattle.std.proofs.Common.{◌≡◌, inl, inr, ℕ, suc, ◌-◌, ◌^◌, ◌≤◌, Option, Some, None, option_map, Result, Ok, Err, refl, sym, ap, ◌∙◌, subst, ⊎_elim, arith, nat_cmp, List}
+use Rattle.std.proofs.Common.{◌≡◌, inl, inr, ℕ, suc, ◌+◌, ◌-◌, ◌^◌, ◌≤◌, length, Option, Some, None, option_map, Result, Ok, Err, refl, sym, ap, ◌∙◌, subst, ⊎_elim, arith, nat_cmp, List}
 use Rattle.std.specs.Prelude.{IfErr}
 use Rattle.std.specs.FinMap as fin
 use Rattle.esr_model.specs.Values.{Bytes, ClusterRecord}
@@ -71,9 +71,9 @@ left_by before mid after cluster next root is as_before left =
 -- ---- the answers
 
 pub begun : (before mid after : Look) (x y : ℕ) (cluster next : Record) (root : Root) (infos : List Info) (plan : Plan) → Looked before mid x y → ((i : Held) → now before ≡ Some i → found i ≡ Ok (cluster, root)) → IsFit cluster root
-    → AreInfosIn (now before) root root.snapshots infos → IsInOrder (world_in (now before) cluster root) → next ≡ next_term cluster → plan ≡ plan_of cluster → now after ≡ swap_known (now mid) (text_of next) → after.clock ≤ 2 ^ 64 - 1 → LeavesOnly mid after (MayHave (now mid) (text_of next))
+    → AreInfosIn (now before) root root.snapshots infos → IsInOrder (world_in (now before) cluster root) → next ≡ next_term cluster → plan ≡ plan_of cluster → now after ≡ swap_known (now mid) (text_of next) → after.clock ≤ 2 ^ 64 - 1 → mid.clock ≤ before.clock + (3 + length root.snapshots) → after.clock ≤ mid.clock + 1 → LeavesOnly mid after (MayHave (now mid) (text_of next))
     → IsOpening before after (record { cluster = next; root = root; infos = infos; plan = plan; next = first_id next.term })
-begun before mid after x y cluster next root infos plan looked finds fit listed order is list swapped bounded left =
+begun before mid after x y cluster next root infos plan looked finds fit listed order is list swapped bounded reads swap left =
     let put : now after ≡ swap_known (now before) (opened_text cluster root) = swapped ∙ ap (λ (o : Option Held). swap_known o (text_of next)) looked.kept.same ∙ ap (swap_known (now before)) (ap text_of is ∙ text_is cluster root) in
     record {
       cluster = cluster;
@@ -86,6 +86,7 @@ begun before mid after x y cluster next root infos plan looked finds fit listed 
       untold = λ none. put ∙ ap (λ (o : Option Held). swap_known o (opened_text cluster root)) none;
       swapped = λ i here. put ∙ ap (λ (o : Option Held). swap_known o (opened_text cluster root)) here;
       bounded = bounded;
+      calls = omega (arith, reads, swap);
       left = left_by before mid after cluster next root is looked.kept left;
     }
 

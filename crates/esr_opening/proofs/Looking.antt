@@ -1,5 +1,5 @@
 -- Looks into a container, one after another.
-use Rattle.std.proofs.Common.{◌≡◌, ◌⊎◌, inl, inr, List, ℕ, ◌≤◌, true, false, Option, Some, None, Result, Ok, Err, refl, sym, ap, ◌∙◌, subst, arith}
+use Rattle.std.proofs.Common.{◌≡◌, ◌⊎◌, inl, inr, List, ℕ, ◌+◌, ◌-◌, ◌^◌, ◌≤◌, min, true, false, Option, Some, None, Result, Ok, Err, refl, sym, ap, ◌∙◌, subst, arith}
 use Rattle.esr_depot.specs.Image.{Image as Held, with_text, swap_known}
 use Rattle.esr_depot.specs.Changes.{Swapped, SwapMay}
 use Rattle.esr_depot.specs.Look.{Look, now}
@@ -37,6 +37,12 @@ looked_call old new old_faults new_faults result only called cause =
       kept = record { same = same_now old new result called; left = goes_on old old new P (λ _. SameImage) SameImage result (started old P only) called (λ i m. sym m) };
       later = cause.later;
     }
+
+-- it counts as one, or as none
+pub call_counts : {T : Type 0} (old new : Look) (ok : T → Change) (may : Change) (result : Result T CallError) → Called old new ok may result → new.clock ≤ old.clock + 1
+call_counts old new ok may (Ok x) called = let one : new.clock ≡ min (old.clock + 1) (2 ^ 64 - 1) = (called.passed refl).ticked in omega (arith, one)
+call_counts old new ok may (Err Memory) called = let none : new.clock ≡ old.clock = (called.stays refl).clock in omega (arith, none)
+call_counts old new ok may (Err Failed) called = let one : new.clock ≡ min (old.clock + 1) (2 ^ 64 - 1) = (called.passed refl).ticked in omega (arith, one)
 
 -- two looks, one after the other
 pub looked_on : (a b c : Look) (x y z : ℕ) → Looked a b x y → Looked b c y z → Looked a c x z

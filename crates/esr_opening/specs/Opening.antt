@@ -1,5 +1,5 @@
 -- What the opening of a container does.
-use Rattle.std.specs.Prelude.{◌≡◌, ◌⊎◌, ℕ, ◌-◌, ◌^◌, ◌<◌, ◌≤◌, Bool, true, false, List, Option, Some, None, Ok, Err}
+use Rattle.std.specs.Prelude.{◌≡◌, ◌⊎◌, ℕ, ◌+◌, ◌-◌, ◌^◌, ◌<◌, ◌≤◌, Bool, true, false, List, length, Option, Some, None, Ok, Err}
 use Rattle.std.specs.FinMap as fin
 use Rattle.esr_model.specs.Values.{Bytes, ReadsBack}
 use Rattle.esr_model.specs.Shelf.{Shelved}
@@ -93,6 +93,8 @@ pub record IsOpening (before after : Look) (k : Kept) : Type 0 where
   pub untold : now before ≡ None → now after ≡ None
   pub swapped : (i : Held) → now before ≡ Some i → now after ≡ Some (with_text i (opened_text cluster root))
   pub bounded : after.clock ≤ 2 ^ 64 - 1
+  -- it asks for the record, or for the record and all names, for the root, for the info of each listed snapshot, and swaps the record
+  pub calls : after.clock ≤ before.clock + (4 + length root.snapshots)
   pub left : LeavesOnly before after (IsLeftOf (now before) cluster root)
 
 -- the container is as it was

@@ -1,5 +1,5 @@
 //! A blob of the container, read whole.
-ghost use Rattle.std.specs.Prelude.{◌≡◌, Ok};
+ghost use Rattle.std.specs.Prelude.{◌≡◌, ◌+◌, ◌≤◌, Ok};
 ghost use Rattle.std.specs.FinMap as fin;
 ghost use Rattle.esr_depot.specs.Look.{now};
 ghost use Rattle.esr_opening.specs.Looked.{Looked, Answers};
@@ -13,6 +13,7 @@ use esr_seq::{Bytes, Text};
 use std::alloc::Global;
 
 /// The bytes of the blob of that name, if it is there.
+#[tactic(auto, using(crate::proofs::Looking::call_counts))]
 pub(crate) fn fetch_blob<D: Depot>(
     alloc: Global,
     depot: &mut D,
@@ -22,6 +23,7 @@ pub(crate) fn fetch_blob<D: Depot>(
     ensures answer { Answers D.Fetch.faults (now (D.look depot.old)) (D.faults depot.old) (D.faults depot.new)
         (λ i. Ok (fin.get i.blobs name.now)) result }
     ensures spends { Spends (D.look depot.old).sure (D.look depot.new).sure 1 (has_fault result) }
+    ensures calls { (D.look depot.new).clock ≤ (D.look depot.old).clock + 1 }
 {
     let Some(mut fetch) = depot.fetch(alloc, name.as_str())? else {
         return Ok(None);

@@ -1,5 +1,5 @@
 //! The infos of the snapshots that the safe root lists.
-ghost use Rattle.std.specs.Prelude.{◌<◌, ◌^◌, length, map, IfOk};
+ghost use Rattle.std.specs.Prelude.{◌+◌, ◌<◌, ◌≤◌, ◌^◌, length, map, IfOk};
 ghost use Rattle.esr_meta.specs.Info.{info_from};
 ghost use Rattle.esr_core.specs.Restores.{AreApart};
 ghost use Rattle.esr_depot.specs.Look.{now};
@@ -84,6 +84,7 @@ fn check_info<D: Depot>(
         (λ i. info_in i.blobs root.now number snap.now) (part (λ _. tt) result) }
     ensures info { IfOk result (IsInfoOf (now (D.look depot.old)) root.now snap.now) }
     ensures spends { Spends (D.look depot.old).sure (D.look depot.new).sure 1 (has_fault result) }
+    ensures calls { (D.look depot.new).clock ≤ (D.look depot.old).clock + 1 }
 {
     let name = write_name(alloc, &BlobName::Snap(snap.uuid))?;
     let bytes = fetch_blob(alloc, depot, &name)?;
@@ -106,6 +107,7 @@ pub(crate) fn check_infos<D: Depot>(
     ensures infos { IfOk result (AreInfosIn (now (D.look depot.old)) root.now snaps.now) }
     ensures spends { Spends (D.look depot.old).sure (D.look depot.new).sure (length snaps.now) (has_fault result) }
     ensures few { length snaps.now < 2 ^ 60 }
+    ensures calls { (D.look depot.new).clock ≤ (D.look depot.old).clock + length snaps.now }
 {
     let mut infos = SnapInfos::new(alloc);
     for snap in snaps {

@@ -1,5 +1,5 @@
 //! A container is opened.
-ghost use Rattle.std.specs.Prelude.{◌≡◌, ◌+◌, ◌^◌, ◌≤◌, Option, IfOk, IfErr};
+ghost use Rattle.std.specs.Prelude.{◌≡◌, ◌+◌, ◌^◌, ◌≤◌, length, Option, IfOk, IfErr};
 ghost use Rattle.esr_model.specs.Kept.{first_id};
 ghost use Rattle.esr_depot.specs.Look.{now};
 ghost use Rattle.esr_formats.specs.Roots.{root_of};
@@ -79,6 +79,7 @@ fn find<D: Depot>(
     ensures fit { IfOk result (λ o. IsFit o.0 o.1) }
     ensures infos { IfOk result (λ o. AreInfosIn (now (D.look depot.old)) o.1 o.1.snapshots o.2) }
     ensures spends { Spends (D.look depot.old).sure (D.look depot.new).sure (2 + 2 ^ 60) (has_fault result) }
+    ensures calls { IfOk result (λ o. (D.look depot.new).clock ≤ (D.look depot.old).clock + (3 + length o.1.snapshots)) }
 {
     let cluster = find_record(alloc, depot)?;
     let (root, infos) = find_whole_root(alloc, depot, cluster.safe)?;

@@ -1,5 +1,5 @@
 //! The record is read.
-ghost use Rattle.std.specs.Prelude.{codes, map};
+ghost use Rattle.std.specs.Prelude.{◌+◌, ◌≤◌, codes, map};
 ghost use Rattle.esr_record.specs.Reading.{record_from};
 ghost use Rattle.esr_depot.specs.Look.{now};
 ghost use Rattle.esr_depot.specs.Listing.{size_of};
@@ -45,6 +45,7 @@ fn absent_record<F>(alloc: Global, page: &[Listed]) -> Result<ClusterRecord, Ope
 }
 
 /// The record, or what stands for it where nothing was written.
+#[tactic(auto, using(crate::proofs::Looking::call_counts))]
 pub(crate) fn find_record<D: Depot>(
     alloc: Global,
     depot: &mut D,
@@ -53,6 +54,7 @@ pub(crate) fn find_record<D: Depot>(
     ensures answer { Answers D.Fetch.faults (now (D.look depot.old)) (D.faults depot.old) (D.faults depot.new)
         (λ i. record_in i.blobs i.text) result }
     ensures spends { Spends (D.look depot.old).sure (D.look depot.new).sure 2 (has_fault result) }
+    ensures calls { (D.look depot.new).clock ≤ (D.look depot.old).clock + 2 }
 {
     match depot.read_record(alloc)? {
         Some(text) => parse_record(alloc, &text),

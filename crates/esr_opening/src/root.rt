@@ -1,5 +1,5 @@
 //! The safe root is read.
-ghost use Rattle.std.specs.Prelude.{◌≡◌, ◌<◌, ◌^◌, Ok, IfOk, IfSome};
+ghost use Rattle.std.specs.Prelude.{◌≡◌, ◌+◌, ◌<◌, ◌≤◌, ◌^◌, length, Ok, IfOk, IfSome};
 ghost use Rattle.esr_root.specs.Reading.{root_from};
 ghost use Rattle.esr_depot.specs.Look.{now};
 ghost use Rattle.esr_opening.specs.Found.{read_as, root_in};
@@ -58,6 +58,7 @@ fn find_root<D: Depot>(
     ensures answer { Answers D.Fetch.faults (now (D.look depot.old)) (D.faults depot.old) (D.faults depot.new)
         (λ i. root_in i.blobs safe) result }
     ensures spends { Spends (D.look depot.old).sure (D.look depot.new).sure 1 (has_fault result) }
+    ensures calls { (D.look depot.new).clock ≤ (D.look depot.old).clock + 1 }
 {
     let Some(number) = safe_place(safe) else {
         return Ok(RootData::new(alloc));
@@ -78,6 +79,7 @@ pub(crate) fn find_whole_root<D: Depot>(
         (λ i. whole_root_in i.blobs safe) (part (λ o. o.0) result) }
     ensures infos { IfOk result (λ o. AreInfosIn (now (D.look depot.old)) o.0 o.0.snapshots o.1) }
     ensures spends { Spends (D.look depot.old).sure (D.look depot.new).sure (2 ^ 60) (has_fault result) }
+    ensures calls { IfOk result (λ o. (D.look depot.new).clock ≤ (D.look depot.old).clock + (1 + length o.0.snapshots)) }
 {
     let root = find_root(alloc, depot, safe)?;
     let number = safe_place(safe).unwrap_or(0);

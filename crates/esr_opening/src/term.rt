@@ -1,5 +1,5 @@
 //! The next term begins.
-ghost use Rattle.std.specs.Prelude.{◌≡◌, ◌-◌, ◌<◌, ◌≤◌, ◌^◌, IfOk, IfErr, OnOk};
+ghost use Rattle.std.specs.Prelude.{◌≡◌, ◌+◌, ◌-◌, ◌<◌, ◌≤◌, ◌^◌, IfOk, IfErr, OnOk};
 ghost use Rattle.esr_model.specs.Values.{ReadsBack};
 ghost use Rattle.esr_depot.specs.Image.{swap_known};
 ghost use Rattle.esr_depot.specs.Look.{now};
@@ -74,6 +74,7 @@ pub(crate) fn next_of(
 }
 
 /// Writes the record with which a term begins.
+#[tactic(auto, using(crate::proofs::Looking::call_counts))]
 pub(crate) fn begin_term<D: Depot>(
     alloc: Global,
     depot: &mut D,
@@ -86,6 +87,7 @@ pub(crate) fn begin_term<D: Depot>(
     ensures refused { IfErr result (λ e. NotBegun (D.look depot.old) (D.look depot.new) (D.faults depot.old) (D.faults depot.new) e) }
     ensures counted { D.faults depot.old ≤ D.faults depot.new }
     ensures spends { Spends (D.look depot.old).sure (D.look depot.new).sure 1 (has_fault result) }
+    ensures calls { (D.look depot.new).clock ≤ (D.look depot.old).clock + 1 }
 {
     let text = write_cluster(alloc, next)?;
     depot.swap_record(alloc, text.as_slice())?;

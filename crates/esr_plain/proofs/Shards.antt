@@ -1,22 +1,12 @@
 -- When the shard of a snapshot stands.
 use Rattle.std.proofs.Common.{◌≡◌, ℕ, List, Option, Some, None, refl, subst}
 use Rattle.esr_model.specs.Names.{BlobName, ShardSnap, ShardIndex}
-use Rattle.esr_model.specs.Values.{Bytes, Has, IndexRef, RootData, FileEntry, ShardSnapshot, SnapList, ShardFiles, Formats}
+use Rattle.esr_model.specs.Values.{Bytes, IndexRef, RootData, ShardSnapshot, ShardFiles, Formats}
 use Rattle.esr_model.specs.Shelf.{ShelfShard}
 use Rattle.esr_model.specs.Image.{AllPairs, IsOne, Reads, Lists, ShardStands, index_at, at_shard_of}
 use Rattle.esr_plain.specs.Exactly.{IsExactly}
-use Rattle.esr_plain.specs.Joined.{IsStored, Names, HasFiles}
+use Rattle.esr_plain.specs.Joined.{IsStored, HasFiles}
 use Rattle.esr_plain.proofs.Blobs.{reads_one}
-
--- the list is that of the snapshot, with these files
-abbrev pub IsListOf : List FileEntry → ℕ → List FileEntry → SnapList → Type 0
-IsListOf entries uuid files l = (l.uuid ≡ uuid) × AllPairs (Names entries) l.files files
-
-pub listed_by : (held : ShardFiles) (uuid : ℕ) (files : List FileEntry) (l : SnapList) → Has held.snapshots l → IsListOf held.files uuid files l → Lists held uuid files
-listed_by held uuid files l has is = record { list = l; there = has; uuid_is = is.0; entries = is.1 }
-
-pub listed_none : (held : ShardFiles) (uuid : ℕ) (files : List FileEntry) → ((l : SnapList) → Has held.snapshots l → IsListOf held.files uuid files l → ⊥) → Lists held uuid files → ⊥
-listed_none held uuid files none lists = none lists.list lists.there (lists.uuid_is, lists.entries)
 
 module _ (f : Formats) (has : BlobName → Bytes → Type 0) (index shard generation uuid : ℕ) where
   pub no_snap : ((s : ShardSnapshot) → Reads has (ShardSnap index shard uuid) f.shard_snap s → ⊥) → (files : List (Bytes × Bytes)) → HasFiles f has index shard generation uuid files → ⊥

@@ -1,7 +1,7 @@
 -- The files of a shard, from their parts.
 use Rattle.std.specs.Prelude.{◌≡◌, ℕ, List}
 use Rattle.esr_model.specs.Names.{BlobName, ShardSnap, ShardIndex}
-use Rattle.esr_model.specs.Values.{Bytes, Has, FileEntry, ShardSnapshot, ShardFiles, Formats}
+use Rattle.esr_model.specs.Values.{Bytes, FileEntry, ShardSnapshot, ShardFiles, Formats}
 use Rattle.esr_model.specs.Parts.{part_names, AreFull}
 use Rattle.esr_model.specs.Image.{AllPairs, concat, Reads, FileStands, Lists}
 
@@ -15,10 +15,6 @@ pub record IsJoined (has : BlobName → Bytes → Type 0) (index shard : ℕ) (e
 -- the file of an entry, with its name and its bytes
 abbrev pub IsStored : (f : Formats) → (BlobName → Bytes → Type 0) → ℕ → ℕ → FileEntry → Bytes × Bytes → Type 0
 IsStored f has index shard e file = (e.physical ≡ file.0) × FileStands f has index shard e file.1
-
--- the id is that of the entry, which is one of these
-abbrev pub Names : List FileEntry → ℕ → FileEntry → Type 0
-Names entries id e = (e.name ≡ id) × Has entries e
 
 -- the files that a snapshot has of a shard, by the index of the shard under a generation
 pub record HasFiles (f : Formats) (has : BlobName → Bytes → Type 0) (index shard generation uuid : ℕ) (files : List (Bytes × Bytes)) : Type 0 where

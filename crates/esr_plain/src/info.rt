@@ -1,8 +1,6 @@
 //! The info of a listed snapshot, with what has to agree with it.
 ghost use Rattle.std.specs.Prelude.{◌≡◌, ◌↔◌, IfOk, IsTrue, map, option_map};
 ghost use Rattle.esr_formats.specs.Ids.{number_of};
-ghost use Rattle.esr_formats.specs.Globals.{global_of_code};
-ghost use Rattle.esr_formats.specs.IndexMetas.{index_meta_of};
 ghost use Rattle.esr_formats.specs.Infos.{info_of_code};
 ghost use Rattle.esr_formats.specs.Refs.{ref_of_code};
 ghost use Rattle.esr_formats.specs.Roots.{root_of, root_index_of, root_snap_of};
@@ -13,7 +11,8 @@ ghost use Rattle.esr_plain.specs.Infos.{IsOf, IsListedIn, IsReferred, AreListed,
 
 use crate::Image;
 use crate::reading::{global_at, index_meta_at, info_at};
-use esr_meta::{GlobalMeta, IndexMeta, SnapInfo};
+use esr_agreement::{is_global_of, is_meta_of};
+use esr_meta::SnapInfo;
 use esr_names::{Id, IndexRef};
 use esr_root::{RootData, RootIndex, RootSnap};
 use std::alloc::{AllocError, Global};
@@ -39,15 +38,6 @@ fn is_of(info: &SnapInfo, snap: &RootSnap) -> bool
         && info.state == snap.state
 }
 
-/// Whether the global metadata are those of the info.
-fn is_global_of(meta: &GlobalMeta, info: &SnapInfo) -> bool
-    ensures { IsTrue result ↔ (global_of_code meta.now ≡ global_of (info_of_code info.now)) }
-{
-    meta.name.as_str() == info.name.as_str()
-        && meta.uuid.number == info.uuid.number
-        && meta.moment == info.moment
-}
-
 /// Whether the global metadata of the snapshot are those of the info.
 fn has_global(alloc: Global, image: &Image, uuid: Id, info: &SnapInfo) -> Result<bool, AllocError>
     ensures { IfOk result (λ b. Always (λ f. IsTrue b ↔ Reads (At f image.now) (Meta uuid.number) f.global (global_of (info_of_code info.now)))) }
@@ -56,16 +46,6 @@ fn has_global(alloc: Global, image: &Image, uuid: Id, info: &SnapInfo) -> Result
         Some(meta) => Ok(is_global_of(&meta, info)),
         None => Ok(false),
     }
-}
-
-/// Whether the metadata are those of the index in the snapshot.
-fn is_meta_of(meta: &IndexMeta, uuid: Id, index: &IndexRef) -> bool
-    ensures { IsTrue result ↔ (index_meta_of meta.now ≡ record { index = ref_of_code index.now; uuid = uuid.number }) }
-{
-    meta.id.number == index.id.number
-        && meta.name.as_str() == index.name.as_str()
-        && meta.shards == index.shards
-        && meta.uuid.number == uuid.number
 }
 
 /// Whether the metadata of the index in the snapshot are there.

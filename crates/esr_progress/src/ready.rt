@@ -123,7 +123,11 @@ impl Progress {
         shard: ShardId,
     ) -> Result<Progress, AllocError>
         requires { numbers_of restores.items ≡ numbers_of (fin.entries self.now.restores) }
-        ensures { IfOk result (λ p. p ≡ record self.now { restores = fin.from_entries restores.items; readers = fin.insert self.now.readers self.now.next_ticket (reader_of_code (record { op = op; shard = shard; out = true })); next_ticket = suc self.now.next_ticket }) }
+        ensures { IfOk result (λ p. p ≡ record self.now {
+          restores = fin.from_entries restores.items;
+          readers = fin.insert self.now.readers self.now.next_ticket (reader_of_code (record { op = op; shard = shard; out = true }));
+          next_ticket = suc self.now.next_ticket;
+        }) }
     {
         let mut seats = Vec::from_slice(alloc, self.seats.as_slice())?;
         seats.push(Slot::Reader(ReaderSeat {
@@ -194,7 +198,11 @@ impl Progress {
         clean: bool,
     ) -> Result<Progress, AllocError>
         requires { numbers_of ops.items ≡ numbers_of (fin.entries self.now.ops) }
-        ensures { IfOk result (λ p. p ≡ record self.now { ops = fin.from_entries ops.items; seats = fin.insert self.now.seats self.now.next_ticket (seat_of_code (record { kind = kind; clean = clean; op = op; term = term; raised = None; settled = false; out = true })); next_ticket = suc self.now.next_ticket }) }
+        ensures { IfOk result (λ p. p ≡ record self.now {
+          ops = fin.from_entries ops.items;
+          seats = fin.insert self.now.seats self.now.next_ticket (seat_of_code (record { kind = kind; clean = clean; op = op; term = term; raised = None; settled = false; out = true }));
+          next_ticket = suc self.now.next_ticket;
+        }) }
     {
         let mut seats = Vec::from_slice(alloc, self.seats.as_slice())?;
         seats.push(Slot::Ticket(Seat {

@@ -11,12 +11,12 @@ use Rattle.esr_quiet.proofs.Prefixes.{legal_rest, legal_front, told_front, hones
 use Rattle.esr_quiet.proofs.Quiet.{IsQuiet, quiet_history, quiet_opened}
 
 module _ (s : Start) (log : List Moment) (smooth : IsSmooth s log) where
-  pub quiet_at : (front back : List Moment) → log ≡ front ++ back → IsQuiet s (HasAskedCleanup log) (world_of s front)
+  pub quiet_at : (front back : List Moment) → log ≡ front ++ back → IsQuiet s (HasAskedCleanup front) (world_of s front)
   quiet_at front back is =
       let within : (m : Moment) → Has front m → Has log m = λ m h. subst (λ (l : List Moment). Has l m) (sym is) (has_front front back m h) in
-      quiet_history s (HasAskedCleanup log) (formats_of s) s.part_size front s.world (quiet_opened s (HasAskedCleanup log) (formats_of s) smooth.image s.world smooth.opened)
+      quiet_history s (HasAskedCleanup front) (formats_of s) s.part_size front s.world (quiet_opened s (HasAskedCleanup front) (formats_of s) smooth.image s.world smooth.opened)
       (legal_front (formats_of s) s.part_size front back s.world (subst (IsLegal (formats_of s) s.part_size s.world) is smooth.legal))
-      (λ m name indices moment h. smooth.steady m name indices moment (within m h)) (λ m h who asks. (m, within m h, who, asks)) (λ m h. smooth.calm m (within m h)) (λ m h. smooth.unelected m (within m h))
+      (λ m name indices moment h. smooth.steady m name indices moment (within m h)) (λ m h who asks. (m, h, who, asks)) (λ m h. smooth.calm m (within m h))
 
   pub legal_at : (front back : List Moment) (m : Moment) → log ≡ front ++ m ∷ back → Allowed (formats_of s) s.part_size (world_of s front) m
   legal_at front back m is = (legal_rest (formats_of s) s.part_size front (m ∷ back) s.world (subst (IsLegal (formats_of s) s.part_size s.world) is smooth.legal)).0
@@ -41,7 +41,6 @@ module _ (s : Start) (log : List Moment) (smooth : IsSmooth s log) where
         steady = λ m name indices moment h. smooth.steady m name indices moment (within m h);
         calm = λ m h. smooth.calm m (within m h);
         unspent = λ m h. smooth.unspent m (within m h);
-        unelected = λ m h. smooth.unelected m (within m h);
         apart = λ a b m command e. smooth.apart a (b ++ back) m command (is ∙ ap (λ (l : List Moment). l ++ back) e ∙ append_assoc a (m ∷ b) back);
         tests_apart = record {
           given = λ a b m ticket op e. smooth.tests_apart.given a (b ++ back) m ticket op (is ∙ ap (λ (l : List Moment). l ++ back) e ∙ append_assoc a (m ∷ b) back);

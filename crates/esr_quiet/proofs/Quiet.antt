@@ -1,5 +1,5 @@
--- What no step breaks where no call fails and nobody is elected: no record swap has failed, a cleanup is open only where one was asked,
--- each ticket is of the present term, and the shards of open ops and of tickets are steady, those of clones aside.
+-- What no step breaks where no call fails: no record swap has failed, a cleanup is open only where one was asked, and the shards of open
+-- ops and of tickets are steady, those of clones aside.
 use Rattle.std.proofs.Common.{◌≡◌, ◌≢◌, ◌⊎◌, ℕ, zero, suc, ◌+◌, ◌<◌, Bool, true, false, true≢false, List, [], ◌∷◌, ◌++◌, Option, Some, None, map, refl, sym, ap, ◌∙◌, subst, inl, inr, arith, nat_cmp}
 use Rattle.std.specs.Prelude.{if◌then◌else◌, ◌==◌, ◌&&◌}
 use Rattle.std.specs.FinMap.{FinMap}
@@ -24,7 +24,7 @@ use Rattle.esr_core.proofs.Blocked.{blocked_stays}
 use Rattle.esr_core.proofs.Makers.{maker}
 use Rattle.esr_desk.specs.Start.{Start}
 use Rattle.esr_quiet.specs.Asked.{IsSteady, AreSteady}
-use Rattle.esr_quiet.specs.Smooth.{AreCalm, AreUnelected}
+use Rattle.esr_quiet.specs.Smooth.{AreCalm}
 use Rattle.esr_quiet.proofs.Askers.{AsksOrElects, made_zero}
 use Rattle.esr_quiet.proofs.FreeParts.{was_shards}
 use Rattle.esr_quiet.proofs.Maps.{some_same, some_none, get_was, get_left, nothing}
@@ -47,16 +47,15 @@ IsSteadyAt s (Some source) place name number = Unit {0}
 abbrev pub IsOfSteady : Start → Option ℕ → ShardWork → Type 0
 IsOfSteady s source z = IsSteadyAt s source z.place z.ref.name z.number
 
--- what a ticket is for: in this term, and no shard that fails
-pub record Fine (s : Start) (now term : ℕ) (work : Work) (source : Option ℕ) (place name : Bytes) : Type 0 where
-  pub present : term ≡ now
+-- what a ticket is for: no shard that fails
+pub record Fine (s : Start) (work : Work) (source : Option ℕ) (place name : Bytes) : Type 0 where
   pub steady : (index number : ℕ) → work ≡ Shard index number → IsSteadyAt s source place name number
 
-abbrev pub IsFine : Start → ℕ → Ticket → Type 0
-IsFine s now t = Fine s now t.term t.work t.source t.place t.name
+abbrev pub IsFine : Start → Ticket → Type 0
+IsFine s t = Fine s t.work t.source t.place t.name
 
-abbrev pub AreFine : Start → ℕ → Tickets → Type 0
-AreFine s now tickets = (k : ℕ) (t : Ticket) → fin.get tickets k ≡ Some t → IsFine s now t
+abbrev pub AreFine : Start → Tickets → Type 0
+AreFine s tickets = (k : ℕ) (t : Ticket) → fin.get tickets k ≡ Some t → IsFine s t
 
 abbrev pub AreSteadyOps : Start → Ops → Type 0
 AreSteadyOps s ops = (o : ℕ) (op : Op) (z : ShardWork) → fin.get ops o ≡ Some op → Has op.shards z → IsOfSteady s op.source z
@@ -70,7 +69,7 @@ pub record IsQuiet (s : Start) (asks : Type 0) (w : World) : Type 0 where
   pub present : w.deposed ≡ false
   pub cleanups : AreCleanups asks w.deletes
   pub ops : AreSteadyOps s w.ops
-  pub tickets : AreFine s w.term w.tickets
+  pub tickets : AreFine s w.tickets
 
 -- ---- deletes
 
@@ -149,8 +148,8 @@ mapped_steady s source shards g same steady z h = let (x, m, e) = has_mapped g s
 put_steady : (s : Start) (ops : Ops) (o : ℕ) (op : Op) → ((z : ShardWork) → Has op.shards z → IsOfSteady s op.source z) → AreSteadyOps s ops → AreSteadyOps s (fin.insert ops o op)
 put_steady s ops o op mine steady p q z there h = elim (get_was ops o op p q there) [ inl e ↦ subst (λ (x : Op). (y : ShardWork) → Has x.shards y → IsOfSteady s x.source y) e.1 mine z h | inr e ↦ steady p q z e.1 h ]
 
-put_fine : (s : Start) (now : ℕ) (tickets : Tickets) (k : ℕ) (v : Ticket) → IsFine s now v → AreFine s now tickets → AreFine s now (fin.insert tickets k v)
-put_fine s now tickets k v mine fine p t there = elim (get_was tickets k v p t there) [ inl e ↦ subst (IsFine s now) e.1 mine | inr e ↦ fine p t e.1 ]
+put_fine : (s : Start) (tickets : Tickets) (k : ℕ) (v : Ticket) → IsFine s v → AreFine s tickets → AreFine s (fin.insert tickets k v)
+put_fine s tickets k v mine fine p t there = elim (get_was tickets k v p t there) [ inl e ↦ subst (IsFine s) e.1 mine | inr e ↦ fine p t e.1 ]
 
 -- ---- shards that are asked
 
@@ -196,9 +195,9 @@ asked_steady s w next (a ∷ indices) steady z h =
 -- ---- each step
 
 module _ (s : Start) (asks : Type 0) where
-  quiet_change : (w : World) → IsQuiet s asks w → (k : ℕ) (g : Ticket → Ticket) → ((t : Ticket) → IsFine s w.term t → IsFine s w.term (g t)) → (o : Option Ticket) → fin.get w.tickets k ≡ o → IsQuiet s asks (with_given w k g o)
+  quiet_change : (w : World) → IsQuiet s asks w → (k : ℕ) (g : Ticket → Ticket) → ((t : Ticket) → IsFine s t → IsFine s (g t)) → (o : Option Ticket) → fin.get w.tickets k ≡ o → IsQuiet s asks (with_given w k g o)
   quiet_change w q k g like None there = q
-  quiet_change w q k g like (Some t) there = record { present = q.present; cleanups = q.cleanups; ops = q.ops; tickets = put_fine s w.term w.tickets k (g t) (like t (q.tickets k t there)) q.tickets }
+  quiet_change w q k g like (Some t) there = record { present = q.present; cleanups = q.cleanups; ops = q.ops; tickets = put_fine s w.tickets k (g t) (like t (q.tickets k t there)) q.tickets }
 
   quiet_asked : (w : World) → IsQuiet s asks w → (name : Bytes) (indices : List AskedIndex) (moment : ℕ) → IsSteady s indices → IsQuiet s asks (asked w (Snapshot name indices moment))
   quiet_asked w q name indices moment steady =
@@ -220,13 +219,13 @@ module _ (s : Start) (asks : Type 0) where
       }
 
   -- restores, their tickets and numbers aside
-  quiet_same : (w v : World) → IsQuiet s asks w → v.deposed ≡ w.deposed → v.deletes ≡ w.deletes → v.ops ≡ w.ops → v.term ≡ w.term → v.tickets ≡ w.tickets → IsQuiet s asks v
-  quiet_same w v q deposed deletes ops term tickets =
+  quiet_same : (w v : World) → IsQuiet s asks w → v.deposed ≡ w.deposed → v.deletes ≡ w.deletes → v.ops ≡ w.ops → v.tickets ≡ w.tickets → IsQuiet s asks v
+  quiet_same w v q deposed deletes ops tickets =
       record {
         present = deposed ∙ q.present;
         cleanups = subst (AreCleanups asks) (sym deletes) q.cleanups;
         ops = subst (AreSteadyOps s) (sym ops) q.ops;
-        tickets = subst (λ (x : Tickets). AreFine s v.term x) (sym tickets) (subst (λ (now : ℕ). AreFine s now w.tickets) (sym term) q.tickets);
+        tickets = subst (AreFine s) (sym tickets) q.tickets;
       }
 
   found_in : (shards : List ShardWork) (index number : ℕ) (z : ShardWork) → shard_of shards index number ≡ Some z → Has shards z
@@ -257,15 +256,14 @@ module _ (s : Start) (asks : Type 0) where
         present = q.present;
         cleanups = q.cleanups;
         ops = put_steady s w.ops o (record op { shards = map (given w.next_ticket z.ref.id z.number) op.shards }) (mapped_steady s op.source op.shards (given w.next_ticket z.ref.id z.number) (same_given w.next_ticket z.ref.id z.number) steady) q.ops;
-        tickets = put_fine s w.term w.tickets w.next_ticket (shard_ticket w o op z base) (record {
-          present = refl;
+        tickets = put_fine s w.tickets w.next_ticket (shard_ticket w o op z base) (record {
           steady = λ index number e. subst (IsSteadyAt s op.source z.place z.ref.name) (one_number z.ref.id z.number index number e) (steady z (has z refl));
         }) q.tickets;
       }
 
   quiet_restore_shard : (w : World) → IsQuiet s asks w → (o : ℕ) (r : Restoring) (found : Option RestoreShard) → IsQuiet s asks (taken_restore_shard w o r found)
   quiet_restore_shard w q o r None = q
-  quiet_restore_shard w q o r (Some z) = quiet_same w _ q refl refl refl refl refl
+  quiet_restore_shard w q o r (Some z) = quiet_same w _ q refl refl refl refl
 
   quiet_restore : (w : World) → IsQuiet s asks w → (o index number : ℕ) (found : Option Restoring) → IsQuiet s asks (taken_restore w o index number found)
   quiet_restore w q o index number None = q
@@ -281,16 +279,16 @@ module _ (s : Start) (asks : Type 0) where
         present = q.present;
         cleanups = q.cleanups;
         ops = q.ops;
-        tickets = put_fine s w.term w.tickets w.next_ticket (final_ticket f w o op results) (record { present = refl; steady = λ i n e. absurd (final_shard _ _ _ i n e) }) q.tickets;
+        tickets = put_fine s w.tickets w.next_ticket (final_ticket f w o op results) (record { steady = λ i n e. absurd (final_shard _ _ _ i n e) }) q.tickets;
       }
   quiet_taken f w q o (GivenFinalize info results) None there = q
   quiet_taken f w q o GivenDrop op there =
-      record { present = q.present; cleanups = q.cleanups; ops = q.ops; tickets = put_fine s w.term w.tickets w.next_ticket _ (record { present = refl; steady = λ i n e. absurd (drop_shard i n e) }) q.tickets }
+      record { present = q.present; cleanups = q.cleanups; ops = q.ops; tickets = put_fine s w.tickets w.next_ticket _ (record { steady = λ i n e. absurd (drop_shard i n e) }) q.tickets }
   quiet_taken f w q o (GivenRestore index number uuid) op there = quiet_restore w q o index number (fin.get w.restores o)
   quiet_taken f w q o (GivenDelete uuids) op there =
-      record { present = q.present; cleanups = q.cleanups; ops = q.ops; tickets = put_fine s w.term w.tickets w.next_ticket (plain_ticket w o (Deleting uuids None)) (record { present = refl; steady = λ i n e. absurd (delete_shard uuids None i n e) }) q.tickets }
+      record { present = q.present; cleanups = q.cleanups; ops = q.ops; tickets = put_fine s w.tickets w.next_ticket (plain_ticket w o (Deleting uuids None)) (record { steady = λ i n e. absurd (delete_shard uuids None i n e) }) q.tickets }
   quiet_taken f w q o GivenCleanup op there =
-      record { present = q.present; cleanups = q.cleanups; ops = q.ops; tickets = put_fine s w.term w.tickets w.next_ticket (cleaning_ticket w o) (record { present = refl; steady = λ i n e. absurd (delete_shard [] None i n e) }) q.tickets }
+      record { present = q.present; cleanups = q.cleanups; ops = q.ops; tickets = put_fine s w.tickets w.next_ticket (cleaning_ticket w o) (record { steady = λ i n e. absurd (delete_shard [] None i n e) }) q.tickets }
 
   quiet_drawn : (w : World) → IsQuiet s asks w → (k n : ℕ) (o : Option Ticket) → fin.get w.tickets k ≡ o → IsQuiet s asks (record (with_given w k (λ t. record t { first = w.next_id; drawn = n }) o) { next_id = w.next_id + n })
   quiet_drawn w q k n o there = let x = quiet_change w q k (λ t. record t { first = w.next_id; drawn = n }) (λ t h. h) o there in record { present = x.present; cleanups = x.cleanups; ops = x.ops; tickets = x.tickets }
@@ -303,7 +301,7 @@ module _ (s : Start) (asks : Type 0) where
 
   quiet_settled_by : (f : Formats) (w : World) → IsQuiet s asks w → (k : ℕ) (t : Ticket) → fin.get w.tickets k ≡ Some t → (change : Option Swap) (n : Option ℕ) → IsQuiet s asks (settled_by f w k t change n)
   quiet_settled_by f w q k t there (Some change) (Some n) =
-      record { present = q.present; cleanups = left_cleanups asks w.deletes t.op q.cleanups; ops = removed_steady w.ops t.op q.ops; tickets = put_fine s w.term w.tickets k (record t { settled = true }) (q.tickets k t there) q.tickets }
+      record { present = q.present; cleanups = left_cleanups asks w.deletes t.op q.cleanups; ops = removed_steady w.ops t.op q.ops; tickets = put_fine s w.tickets k (record t { settled = true }) (q.tickets k t there) q.tickets }
   quiet_settled_by f w q k t there (Some change) None = q
   quiet_settled_by f w q k t there None n = q
 
@@ -318,7 +316,7 @@ module _ (s : Start) (asks : Type 0) where
         present = q.present;
         cleanups = q.cleanups;
         ops = put_steady s w.ops t.op (record op { shards = map (marked k (Done r)) op.shards }) (mapped_steady s op.source op.shards (marked k (Done r)) (same_marked k (Done r)) (λ z h. q.ops t.op op z op_there h)) q.ops;
-        tickets = put_fine s w.term w.tickets k (record t { out = false }) (q.tickets k t there) q.tickets;
+        tickets = put_fine s w.tickets k (record t { out = false }) (q.tickets k t there) q.tickets;
       }
 
   quiet_done : (w : World) → IsQuiet s asks w → (k : ℕ) (r : ShardResult) (o : Option Ticket) → fin.get w.tickets k ≡ o → IsQuiet s asks (done_of w k r o)
@@ -332,7 +330,7 @@ module _ (s : Start) (asks : Type 0) where
         present = q.present;
         cleanups = q.cleanups;
         ops = put_steady s w.ops t.op (record op { shards = map (fails k) op.shards; failed = true }) (mapped_steady s op.source op.shards (fails k) (same_fails k) (λ z h. q.ops t.op op z op_there h)) q.ops;
-        tickets = put_fine s w.term w.tickets k (record t { out = false }) (q.tickets k t there) q.tickets;
+        tickets = put_fine s w.tickets k (record t { out = false }) (q.tickets k t there) q.tickets;
       }
 
   quiet_either : (a b : World) (first : Bool) → IsQuiet s asks a → IsQuiet s asks b → IsQuiet s asks (if first then a else b)
@@ -343,31 +341,31 @@ module _ (s : Start) (asks : Type 0) where
   quiet_failed w q k None there = q
   quiet_failed w q k (Some t) there =
       quiet_either _ (failed_by w k t (fin.get w.ops t.op)) (is_stale w t t.work)
-      (record { present = q.present; cleanups = q.cleanups; ops = q.ops; tickets = put_fine s w.term w.tickets k (record t { out = false }) (q.tickets k t there) q.tickets })
+      (record { present = q.present; cleanups = q.cleanups; ops = q.ops; tickets = put_fine s w.tickets k (record t { out = false }) (q.tickets k t there) q.tickets })
       (quiet_failed_by w q k t there (fin.get w.ops t.op) refl)
 
   quiet_dropped : (w : World) → IsQuiet s asks w → (k : ℕ) (o : Option Ticket) → fin.get w.tickets k ≡ o → IsQuiet s asks (dropped_of w k o)
   quiet_dropped w q k None there = q
   quiet_dropped w q k (Some t) there =
-      record { present = q.present; cleanups = left_cleanups asks w.deletes t.op q.cleanups; ops = removed_steady w.ops t.op q.ops; tickets = put_fine s w.term w.tickets k (record t { out = false }) (q.tickets k t there) q.tickets }
+      record { present = q.present; cleanups = left_cleanups asks w.deletes t.op q.cleanups; ops = removed_steady w.ops t.op q.ops; tickets = put_fine s w.tickets k (record t { out = false }) (q.tickets k t there) q.tickets }
 
-  fine_committing : (now : ℕ) (name : BlobName) (o : Option Bytes) (t : Ticket) → IsFine s now t → IsFine s now (committing name o t)
-  fine_committing now name None t h = h
-  fine_committing now name (Some bytes) t h = h
+  fine_committing : (name : BlobName) (o : Option Bytes) (t : Ticket) → IsFine s t → IsFine s (committing name o t)
+  fine_committing name None t h = h
+  fine_committing name (Some bytes) t h = h
 
-  fine_fetching : (now : ℕ) (name : BlobName) (o : Option Bytes) (t : Ticket) → IsFine s now t → IsFine s now (fetching name o t)
-  fine_fetching now name None t h = h
-  fine_fetching now name (Some bytes) t h = h
+  fine_fetching : (name : BlobName) (o : Option Bytes) (t : Ticket) → IsFine s t → IsFine s (fetching name o t)
+  fine_fetching name None t h = h
+  fine_fetching name (Some bytes) t h = h
 
   -- steps that read leave ops and tickets
   quiet_told : (w : World) → IsQuiet s asks w → (k : ℕ) (name : BlobName) (bytes : Option Bytes) (reader : Option Reader) → IsQuiet s asks (read_told w k name bytes reader)
   quiet_told w q k name bytes None = q
   quiet_told w q k name None (Some reader) = q
-  quiet_told w q k name (Some b) (Some reader) = quiet_same w _ q refl refl refl refl refl
+  quiet_told w q k name (Some b) (Some reader) = quiet_same w _ q refl refl refl refl
 
   quiet_over_shard : (w : World) → IsQuiet s asks w → (k : ℕ) (state : ReadState) (reader : Reader) (r : Option Restoring) → IsQuiet s asks (shard_over w k state reader r)
   quiet_over_shard w q k state reader None = q
-  quiet_over_shard w q k state reader (Some r) = quiet_same w _ q refl refl refl refl refl
+  quiet_over_shard w q k state reader (Some r) = quiet_same w _ q refl refl refl refl
 
   quiet_over : (w : World) → IsQuiet s asks w → (k : ℕ) (state : ReadState) (reader : Option Reader) → IsQuiet s asks (read_over w k state reader)
   quiet_over w q k state None = q
@@ -382,8 +380,8 @@ module _ (s : Start) (asks : Type 0) where
   quiet_read f w q k read reply image = q
 
   quiet_read_by : (f : Formats) (w : World) → IsQuiet s asks w → (k : ℕ) (read : Read) (reply : Reply) (image : Option Image) → IsQuiet s asks (read_by f w k read reply image)
-  quiet_read_by f w q zero DrawTest (DrawnFrom first) image = quiet_same w _ q refl refl refl refl refl
-  quiet_read_by f w q zero (CommitTest name) WasDone image = quiet_same w _ q refl refl refl refl refl
+  quiet_read_by f w q zero DrawTest (DrawnFrom first) image = quiet_same w _ q refl refl refl refl
+  quiet_read_by f w q zero (CommitTest name) WasDone image = quiet_same w _ q refl refl refl refl
   quiet_read_by f w q zero read reply image = q
   quiet_read_by f w q (suc k) read reply image = quiet_read f w q (suc k) read reply image
 
@@ -424,12 +422,12 @@ module _ (s : Start) (asks : Type 0) where
   planned_shard f t shards first (Finalize info results made) index number e = e
   planned_shard f t shards first Drop index number e = e
 
-  fine_planned : (now : ℕ) (f : Formats) (shards : List PrunedShard) (first : ℕ) (t : Ticket) → IsFine s now t → IsFine s now (planned f shards first t)
-  fine_planned now f shards first t h = record { present = h.present; steady = λ index number e. h.steady index number (planned_shard f t shards first t.work index number e) }
+  fine_planned : (f : Formats) (shards : List PrunedShard) (first : ℕ) (t : Ticket) → IsFine s t → IsFine s (planned f shards first t)
+  fine_planned f shards first t h = record { steady = λ index number e. h.steady index number (planned_shard f t shards first t.work index number e) }
 
   quiet_deleted_by : (f : Formats) (w : World) → IsQuiet s asks w → (k : ℕ) (t : Ticket) → fin.get w.tickets k ≡ Some t → (change : Option Swap) (n : Option ℕ) → IsQuiet s asks (delete_settled_by f w k t change n)
   quiet_deleted_by f w q k t there (Some change) (Some n) =
-      record { present = q.present; cleanups = settled_cleanups asks w.deletes t.op t.clean q.cleanups; ops = removed_steady w.ops t.op q.ops; tickets = put_fine s w.term w.tickets k (record t { settled = true }) (q.tickets k t there) q.tickets }
+      record { present = q.present; cleanups = settled_cleanups asks w.deletes t.op t.clean q.cleanups; ops = removed_steady w.ops t.op q.ops; tickets = put_fine s w.tickets k (record t { settled = true }) (q.tickets k t there) q.tickets }
   quiet_deleted_by f w q k t there (Some change) None = q
   quiet_deleted_by f w q k t there None n = q
 
@@ -440,46 +438,45 @@ module _ (s : Start) (asks : Type 0) where
   quiet_undeleted_by : (w : World) → IsQuiet s asks w → (k : ℕ) (t : Ticket) → fin.get w.tickets k ≡ Some t → (x : Option Deletion) → fin.get w.deletes t.op ≡ x → IsQuiet s asks (delete_failed_by w k t x)
   quiet_undeleted_by w q k t there None x_there = q
   quiet_undeleted_by w q k t there (Some x) x_there =
-      record { present = q.present; cleanups = put_cleanups asks w.deletes t.op (record x { failed = true }) (q.cleanups t.op x x_there) q.cleanups; ops = q.ops; tickets = put_fine s w.term w.tickets k (record t { out = false }) (q.tickets k t there) q.tickets }
+      record { present = q.present; cleanups = put_cleanups asks w.deletes t.op (record x { failed = true }) (q.cleanups t.op x x_there) q.cleanups; ops = q.ops; tickets = put_fine s w.tickets k (record t { out = false }) (q.tickets k t there) q.tickets }
 
   quiet_undeleted : (w : World) → IsQuiet s asks w → (k : ℕ) (o : Option Ticket) → fin.get w.tickets k ≡ o → IsQuiet s asks (delete_failed w k o)
   quiet_undeleted w q k None there = q
   quiet_undeleted w q k (Some t) there =
       quiet_either _ (delete_failed_by w k t (fin.get w.deletes t.op)) (is_stale w t t.work)
-      (record { present = q.present; cleanups = q.cleanups; ops = q.ops; tickets = put_fine s w.term w.tickets k (record t { out = false }) (q.tickets k t there) q.tickets })
+      (record { present = q.present; cleanups = q.cleanups; ops = q.ops; tickets = put_fine s w.tickets k (record t { out = false }) (q.tickets k t there) q.tickets })
       (quiet_undeleted_by w q k t there (fin.get w.deletes t.op) refl)
 
   quiet_pruned : (f : Formats) (w : World) → IsQuiet s asks w → (k : ℕ) (prune : Prune) (reply : Reply) (image : Option Image) → IsQuiet s asks (prune_step f w k prune reply image)
-  quiet_pruned f w q k (FetchShard name) WasFetched image = quiet_change w q k (fetching name (told_blob f image name)) (fine_fetching w.term name (told_blob f image name)) (fin.get w.tickets k) refl
+  quiet_pruned f w q k (FetchShard name) WasFetched image = quiet_change w q k (fetching name (told_blob f image name)) (fine_fetching name (told_blob f image name)) (fin.get w.tickets k) refl
   quiet_pruned f w q k (FetchShard name) reply image = q
   quiet_pruned f w q k (PlanShards shards) reply image =
-      let x = quiet_change w q k (planned f shards w.next_id) (fine_planned w.term f shards w.next_id) (fin.get w.tickets k) refl in
+      let x = quiet_change w q k (planned f shards w.next_id) (fine_planned f shards w.next_id) (fin.get w.tickets k) refl in
       record { present = x.present; cleanups = x.cleanups; ops = x.ops; tickets = x.tickets }
   quiet_pruned f w q k SettlePruned reply image = quiet_deleted f w q k (fin.get w.tickets k) refl
-  quiet_pruned f w q k (RemoveDoomed names) reply image = quiet_same w _ q refl refl refl refl refl
+  quiet_pruned f w q k (RemoveDoomed names) reply image = quiet_same w _ q refl refl refl refl
   quiet_pruned f w q k EndDelete reply image = quiet_change w q k (λ t. record t { out = false }) (λ t x. x) (fin.get w.tickets k) refl
   quiet_pruned f w q k (DeleteFails why) reply image = quiet_undeleted w q k (fin.get w.tickets k) refl
 
   -- ---- all steps
 
-  -- what is asked is steady, and nobody is elected
+  -- what is asked is steady
   record Suits (step : Step) : Type 0 where
     steady : (name : Bytes) (indices : List AskedIndex) (moment : ℕ) → step ≡ AskStep (Snapshot name indices moment) → IsSteady s indices
     cleans : step ≡ AskStep Cleanup → asks
-    unelected : step ≢ ElectStep
 
   quiet_step : (f : Formats) (w : World) → IsQuiet s asks w → (k : ℕ) (step : Step) (reply : Reply) (image : Option Image) → Suits step → IsQuiet s asks (done_step f w k step reply image)
   quiet_step f w q k (AskStep (Snapshot name indices moment)) reply image h = quiet_asked w q name indices moment (h.steady name indices moment refl)
   quiet_step f w q k (AskStep (Clone source name names moment taken)) reply image h = quiet_cloned w q source name names moment taken
   quiet_step f w q k (AskStep (DeleteSnapshots names)) reply image h = quiet_delete w q names (waiting_delete w) (running_delete w (named_uuids w names))
-  quiet_step f w q k (AskStep (Restore name place)) (AcceptedRestore o uuid indices) image h = quiet_same w _ q refl refl refl refl refl
+  quiet_step f w q k (AskStep (Restore name place)) (AcceptedRestore o uuid indices) image h = quiet_same w _ q refl refl refl refl
   quiet_step f w q k (AskStep Cleanup) reply image h = quiet_opened_cleanup w q (h.cleans refl)
   quiet_step f w q k TakeStep (Gave ticket op unit) image h = quiet_taken f w q op unit (fin.get w.ops op) refl
   quiet_step f w q k (DrawStep n) reply image h = quiet_drawn w q k n (fin.get w.tickets k) refl
-  quiet_step f w q k (CommitStep name) WasDone image h = quiet_change w q k (committing name (told_blob f image name)) (fine_committing w.term name (told_blob f image name)) (fin.get w.tickets k) refl
+  quiet_step f w q k (CommitStep name) WasDone image h = quiet_change w q k (committing name (told_blob f image name)) (fine_committing name (told_blob f image name)) (fin.get w.tickets k) refl
   quiet_step f w q k (CommitStep name) WasThere image h = quiet_change w q k (λ t. noting t name) (λ t x. x) (fin.get w.tickets k) refl
   quiet_step f w q k LatestStep reply image h = quiet_change w q k (λ t. record t { tried_latest = true }) (λ t x. x) (fin.get w.tickets k) refl
-  quiet_step f w q k (FetchStep name) WasFetched image h = quiet_change w q k (fetching name (told_blob f image name)) (fine_fetching w.term name (told_blob f image name)) (fin.get w.tickets k) refl
+  quiet_step f w q k (FetchStep name) WasFetched image h = quiet_change w q k (fetching name (told_blob f image name)) (fine_fetching name (told_blob f image name)) (fin.get w.tickets k) refl
   quiet_step f w q k (ListStep from) (WasListed page) image h = quiet_change w q k (λ t. listing t page) (λ t x. x) (fin.get w.tickets k) refl
   quiet_step f w q k RaiseStep reply image h = quiet_raised w q k (fin.get w.tickets k) refl
   quiet_step f w q k SettleStep reply image h = quiet_settled f w q k (fin.get w.tickets k) refl
@@ -487,7 +484,7 @@ module _ (s : Start) (asks : Type 0) where
   quiet_step f w q k (FailedStep why) reply image h = quiet_failed w q k (fin.get w.tickets k) refl
   quiet_step f w q k FinishStep reply image h = quiet_change w q k (λ t. record t { out = false }) (λ t x. x) (fin.get w.tickets k) refl
   quiet_step f w q k DroppedStep reply image h = quiet_dropped w q k (fin.get w.tickets k) refl
-  quiet_step f w q k ElectStep reply image h = absurd (h.unelected refl)
+  quiet_step f w q k ElectStep reply image h = quiet_same w _ q refl refl refl refl
   quiet_step f w q k (ReadStep read) reply image h = quiet_read_by f w q k read reply image
   quiet_step f w q k (PruneStep prune) reply image h = quiet_pruned f w q k prune reply image
   quiet_step f w q k step reply image h = q
@@ -500,35 +497,34 @@ module _ (s : Start) (asks : Type 0) where
   quiet_after : (f : Formats) (w : World) → IsQuiet s asks w → (m : Moment) → Suits m.entry.step → m.entry.reply ≢ Refused DepotFault → IsQuiet s asks (after f w m)
   quiet_after f w q m h calm = let x = quiet_answered f w q m.entry.who m.entry.step m.entry.reply m.image h calm in record { present = x.present; cleanups = x.cleanups; ops = x.ops; tickets = x.tickets }
 
-  -- what who 0 asks is steady, and it elects nobody
+  -- what who 0 asks is steady
   quiet_one : (f : Formats) (size : ℕ) (w : World) → IsQuiet s asks w → (m : Moment) → Allowed f size w m
       → ((name : Bytes) (indices : List AskedIndex) (moment : ℕ) → m.entry.who ≡ 0 → m.entry.step ≡ AskStep (Snapshot name indices moment) → IsSteady s indices) → (m.entry.who ≡ 0 → m.entry.step ≡ AskStep Cleanup → asks)
-      → (m.entry.who ≡ 0 → m.entry.step ≢ ElectStep) → m.entry.reply ≢ Refused DepotFault → IsQuiet s asks (after f w m)
-  quiet_one f size w q m a steady cleans unelected calm = elim (maker f size w m a) [
+      → m.entry.reply ≢ Refused DepotFault → IsQuiet s asks (after f w m)
+  quiet_one f size w q m a steady cleans calm = elim (maker f size w m a) [
     | inl made ↦ quiet_after f w q m (record {
       steady = λ name indices moment e. steady name indices moment (made_zero w m.entry.who m.entry.step made (subst AsksOrElects (sym e) tt)) e;
       cleans = λ e. cleans (made_zero w m.entry.who m.entry.step made (subst AsksOrElects (sym e) tt)) e;
-      unelected = λ e. unelected (made_zero w m.entry.who m.entry.step made (subst AsksOrElects (sym e) tt)) e;
     }) calm
     | inr blocked ↦ subst (IsQuiet s asks) (sym (blocked_stays f w m blocked)) (record { present = q.present; cleanups = q.cleanups; ops = q.ops; tickets = q.tickets })
   ]
 
   -- ---- histories
 
-  pub quiet_history : (f : Formats) (size : ℕ) (log : List Moment) (w : World) → IsQuiet s asks w → IsLegal f size w log → AreSteady s log → ((m : Moment) → Has log m → m.entry.who ≡ 0 → m.entry.step ≡ AskStep Cleanup → asks) → AreCalm log → AreUnelected log
+  pub quiet_history : (f : Formats) (size : ℕ) (log : List Moment) (w : World) → IsQuiet s asks w → IsLegal f size w log → AreSteady s log → ((m : Moment) → Has log m → m.entry.who ≡ 0 → m.entry.step ≡ AskStep Cleanup → asks) → AreCalm log
       → IsQuiet s asks (world_from f w log)
-  quiet_history f size [] w q legal steady cleans calm unelected = q
-  quiet_history f size (m ∷ log) w q legal steady cleans calm unelected =
+  quiet_history f size [] w q legal steady cleans calm = q
+  quiet_history f size (m ∷ log) w q legal steady cleans calm =
       quiet_history f size log (after f w m)
-      (quiet_one f size w q m legal.0 (λ name indices moment who e. steady m name indices moment (inl refl) who e) (cleans m (inl refl)) (unelected m (inl refl)) (calm m (inl refl))) legal.1
-      (λ n name indices moment h. steady n name indices moment (inr h)) (λ n h. cleans n (inr h)) (λ n h. calm n (inr h)) (λ n h. unelected n (inr h))
+      (quiet_one f size w q m legal.0 (λ name indices moment who e. steady m name indices moment (inl refl) who e) (cleans m (inl refl)) (calm m (inl refl))) legal.1
+      (λ n name indices moment h. steady n name indices moment (inr h)) (λ n h. cleans n (inr h)) (λ n h. calm n (inr h))
 
   none_open : AreSteadyOps s fin.empty
   none_open o op z there h = absurd (nothing fin.empty o op refl there)
 
-  none_given : (now : ℕ) → AreFine s now fin.empty
-  none_given now k t there = absurd (nothing fin.empty k t refl there)
+  none_given : AreFine s fin.empty
+  none_given k t there = absurd (nothing fin.empty k t refl there)
 
   pub quiet_opened : (f : Formats) (image : Image) (w : World) → Opened f image w → IsQuiet s asks w
-  quiet_opened f image w (OpenedEmpty none) = record { present = refl; cleanups = numbered_cleanups asks 1 []; ops = none_open; tickets = none_given _ }
-  quiet_opened f image w (OpenedRecord cluster text root there reads is) = record { present = refl; cleanups = numbered_cleanups asks 1 (kept_deletes cluster.ops); ops = none_open; tickets = none_given _ }
+  quiet_opened f image w (OpenedEmpty none) = record { present = refl; cleanups = numbered_cleanups asks 1 []; ops = none_open; tickets = none_given }
+  quiet_opened f image w (OpenedRecord cluster text root there reads is) = record { present = refl; cleanups = numbered_cleanups asks 1 (kept_deletes cluster.ops); ops = none_open; tickets = none_given }

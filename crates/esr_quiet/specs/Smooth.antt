@@ -7,7 +7,7 @@ use Rattle.esr_model.specs.Kept.{Kept}
 use Rattle.esr_core.specs.World.{Opened}
 use Rattle.esr_core.specs.Entry.{Asked, Restore, GivenCleanup, AskStep, FailedStep, Why, ElectStep, ReadStep, PruneStep, DeleteFails, CheckedAll, DrawTest, ReadFails, Reply, Gave, HasEnded, Refused, DepotFault, IdsSpent, GenerationsSpent, TermsSpent, Moment}
 use Rattle.esr_core.specs.History.{AllKnown, AreTold, AreHonest}
-use Rattle.esr_desk.specs.Start.{Start, formats_of, Legal, ticket_of}
+use Rattle.esr_desk.specs.Start.{Start, formats_of, world_of, Legal, ticket_of}
 use Rattle.esr_desk.specs.Once.{AreOnce}
 use Rattle.esr_desk.specs.Grew.{NoneOut}
 use Rattle.esr_desk.specs.Own.{caller_of}
@@ -28,9 +28,14 @@ IsSpent reply = ⊥
 abbrev pub AreUnspent : List Moment → Type 0
 AreUnspent log = (m : Moment) → Has log m → IsSpent m.entry.reply → ⊥
 
--- who 0 elected no master
-abbrev pub AreUnelected : List Moment → Type 0
-AreUnelected log = (m : Moment) → Has log m → m.entry.who ≡ 0 → m.entry.step ≢ ElectStep
+-- who 0 was to elect a master
+abbrev pub HasElection : List Moment → Type 0
+HasElection log = (m : Moment) × Has log m × (m.entry.who ≡ 0) × (m.entry.step ≡ ElectStep)
+
+-- the ticket is of an older term: a master was elected since it was given
+pub record IsStaleTicket (s : Start) (log : List Moment) (who : ℕ) : Type 0 where
+  pub elected : HasElection log
+  pub apart : (ticket_of s log who).term ≢ (world_of s log).term
 
 -- who 0 asks for nothing while a ticket is out
 abbrev pub AreApart : Start → List Moment → Type 0
@@ -64,7 +69,6 @@ pub record IsSmooth (s : Start) (log : List Moment) : Type 0 where
   pub steady : AreSteady s log
   pub calm : AreCalm log
   pub unspent : AreUnspent log
-  pub unelected : AreUnelected log
   pub apart : AreApart s log
   pub tests_apart : AreTestsApart s log
 
@@ -72,9 +76,9 @@ pub record IsSmooth (s : Start) (log : List Moment) : Type 0 where
 abbrev pub NoneFailed : List Moment → Type 0
 NoneFailed log = (m : Moment) (why : Why) → Has log m → m.entry.step ≡ FailedStep why → m.entry.reply ≢ HasEnded
 
--- no delete failed, nor a cleanup
-abbrev pub NoneUndeleted : List Moment → Type 0
-NoneUndeleted log = (m : Moment) (why : Why) → Has log m → m.entry.step ≡ PruneStep (DeleteFails why) → m.entry.reply ≢ HasEnded
+-- no delete failed, nor a cleanup: only a stale ticket told so, which ends that ticket alone
+abbrev pub NoneUndeleted : Start → List Moment → Type 0
+NoneUndeleted s log = (front back : List Moment) (m : Moment) (why : Why) → log ≡ front ++ m ∷ back → m.entry.step ≡ PruneStep (DeleteFails why) → m.entry.reply ≡ HasEnded → IsStaleTicket s front m.entry.who
 
 -- no ticket of a restore failed
 abbrev pub NoneUnrestored : List Moment → Type 0

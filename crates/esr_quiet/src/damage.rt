@@ -28,9 +28,9 @@ pub fn no_restore_finds_damage<S, F, H, T>()
     esr_core::each_reader_is_served();
 }
 
-/// No delete or cleanup does before a master was elected: each index that it reads is there, and reads.
+/// No delete or cleanup does, unless its ticket is stale: each index that it reads is there, and reads.
 pub fn no_delete_finds_damage<S, F, H, T>()
-    ensures { (e : Evidence S F H T) (s : Start) (log : List Moment) (faults : List (Fault S F H T)) → OverKept s log → AreCaused hands.Delete e s log faults → NoDeleteFindsDamage log }
+    ensures { (e : Evidence S F H T) (s : Start) (log : List Moment) (faults : List (Fault S F H T)) → OverKept s log → AreCaused hands.Delete e s log faults → NoDeleteFindsDamage s log }
 {
     each_world_is_lawful();
 }

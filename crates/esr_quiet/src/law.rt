@@ -42,9 +42,9 @@ pub fn no_unasked_restore_fails()
     each_world_is_free();
 }
 
-/// No delete or cleanup fails: each index that it reads is there, and reads.
+/// No delete or cleanup fails, unless its ticket is stale: each index that it reads is there, and reads.
 pub fn no_delete_fails<S, F, H, T>()
-    ensures { (e : Evidence S F H T) (s : Start) (log : List Moment) (faults : List (Fault S F H T)) → IsSmooth s log → AreCaused hands.Delete e s log faults → NoneUndeleted log }
+    ensures { (e : Evidence S F H T) (s : Start) (log : List Moment) (faults : List (Fault S F H T)) → IsSmooth s log → AreCaused hands.Delete e s log faults → NoneUndeleted s log }
 {
     each_world_is_free();
 }
@@ -66,9 +66,9 @@ pub fn no_check_fails<S, F, H, T>()
     esr_core::each_reader_is_served();
 }
 
-/// And no step is refused but that of a command, by a rule: so no name is ever taken.
+/// And no step is refused but that of a command, by a rule, or the swap of a stale ticket: so no name is ever taken.
 pub fn only_rules_refuse()
-    ensures { (s : Start) (log : List Moment) → IsSmooth s log → NoneFailed log → AreByRule log }
+    ensures { (s : Start) (log : List Moment) → IsSmooth s log → NoneFailed log → AreByRule s log }
 {
     each_world_is_free();
     rules_refuse_where_free();
@@ -77,7 +77,8 @@ pub fn only_rules_refuse()
 /// Steps of a ticket leave all other tickets; so does the giving of a unit, but for the ticket that it gives; and what else is asked leaves all.
 pub fn other_tickets_stay()
     ensures steps { (s : Start) (log more : List Moment) (who k : ℕ) → Legal s (log ++ more) → AllOf who more → who ≢ 0 → k ≢ who → ticket_of s (log ++ more) k ≡ ticket_of s log k }
-    ensures gives { (s : Start) (log : List Moment) (m : Moment) (ticket op : ℕ) (unit : Given) (k : ℕ) → Legal s (log ++ m ∷ []) → m.entry.step ≡ TakeStep → m.entry.reply ≡ Gave ticket op unit → k ≢ ticket → ticket_of s (log ++ m ∷ []) k ≡ ticket_of s log k }
+    ensures gives { (s : Start) (log : List Moment) (m : Moment) (ticket op : ℕ) (unit : Given) (k : ℕ) → Legal s (log ++ m ∷ []) → m.entry.step ≡ TakeStep → m.entry.reply ≡ Gave ticket op unit → k ≢ ticket
+        → ticket_of s (log ++ m ∷ []) k ≡ ticket_of s log k }
     ensures nothing { (s : Start) (log : List Moment) (m : Moment) (k : ℕ) → Legal s (log ++ m ∷ []) → m.entry.who ≡ 0 → ((ticket op : ℕ) (unit : Given) → m.entry.reply ≢ Gave ticket op unit) → k ≢ 0
         → ticket_of s (log ++ m ∷ []) k ≡ ticket_of s log k }
     ensures checks { (s : Start) (log : List Moment) (m : Moment) (read : Read) (k : ℕ) → Legal s (log ++ m ∷ []) → m.entry.who ≡ 0 → m.entry.step ≡ ReadStep read → k ≢ 0 → ticket_of s (log ++ m ∷ []) k ≡ ticket_of s log k }
@@ -100,7 +101,7 @@ pub(crate) fn none_fail_where_free<S, F, H, T>()
 
 /// And only rules refuse.
 pub(crate) fn rules_refuse_where_free()
-    ensures { (s : Start) (log : List Moment) → IsSmooth s log → Prefixes s log → AreByRule log }
+    ensures { (s : Start) (log : List Moment) → IsSmooth s log → Prefixes s log → AreByRule s log }
 {}
 
 /// Each world of a history over quiet objects is lawful, and what is still to be written in it is free.

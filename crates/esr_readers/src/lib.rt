@@ -23,7 +23,8 @@ pub fn readers_stay_as_given()
 /// While a restore is open its tickets read the shards of the indices that its answer told, of the snapshot that it told, for
 /// the place that was asked. Indices of one name are one, and so are those of one id; the number of the op is the next one, and those never fall.
 pub fn readers_are_of_their_ask()
-    ensures of { (f : Formats) (part_size : ℕ) (w : World) (before rest : List Moment) (m : Moment) (name place : Bytes) (o uuid : ℕ) (indices : List IndexRef) (k : ℕ) (q : Reader) → Tracked w → ReadTracked w → IsLegal f part_size w (before ++ m ∷ rest)
+    ensures of { (f : Formats) (part_size : ℕ) (w : World) (before rest : List Moment) (m : Moment) (name place : Bytes) (o uuid : ℕ) (indices : List IndexRef) (k : ℕ) (q : Reader) → Tracked w → ReadTracked w
+        → IsLegal f part_size w (before ++ m ∷ rest)
         → m.entry.step ≡ AskStep (Restore name place) → m.entry.reply ≡ AcceptedRestore o uuid indices → IsReading (world_from f w (before ++ m ∷ rest)) k q → q.op ≡ o → IsReaderOf q uuid place indices }
     ensures apart { (f : Formats) (part_size : ℕ) (w : World) (m : Moment) (o uuid : ℕ) (indices : List IndexRef) (r q : IndexRef) → Tracked w → Allowed f part_size w m → m.entry.reply ≡ AcceptedRestore o uuid indices
         → Has indices r → Has indices q → r.name ≡ q.name → r ≡ q }

@@ -265,9 +265,9 @@ module _ (s : Start) (old new : List Moment) (u : ReadyUnit) (made : Option Root
     whole = false;
   }
 
-  final_is : (op : Op) (info : SnapInfo) (results : List ShardResult) → info ≡ info_of op results → None ≡ option_map number_of u.copy.base → final_ticket f w u.op op results ≡ fresh (Finalize info results (made_of f op)) u.op info.uuid [] [] w.term u.copy
+  final_is : (op : Op) (info : SnapInfo) (results : List ShardResult) → info ≡ info_of op results → None ≡ option_map number_of u.copy.base → final_ticket f w u.op op results ≡ fresh (Finalize info results (made_of f w.blobs op)) u.op info.uuid [] [] w.term u.copy
   final_is op info results info_is base_is = λ i. record {
-    work = Finalize (sym info_is i) results (made_of f op);
+    work = Finalize (sym info_is i) results (made_of f w.blobs op);
     op = u.op;
     uuid = (sym info_is i).uuid;
     place = [];
@@ -356,7 +356,7 @@ module _ (s : Start) (old new : List Moment) (u : ReadyUnit) (made : Option Root
   took_by (works.Finalize info shards) t q is h base t_is q_is =
       let root = has info shards is in (
         w.term,
-        made_of f h.0,
+        made_of f w.blobs h.0,
         t_is
             ∙ ap (ticket_by (GivenFinalize (info_of_code info) (map result_of shards))) h.1.op_there
             ∙ put (final_ticket f w u.op h.0 (map result_of shards))

@@ -1,23 +1,28 @@
 -- What a cleanup took away, as far as the entries were read.
-use Rattle.std.proofs.Common.{◌≡◌, ℕ, ◌+◌, ◌<◌, ◌≤◌, min, Bool, true, false, ◌||◌, List, [], ◌∷◌, ◌++◌, map, length, take, drop, get_or, sum_by, refl, sym, ap, ◌∙◌, arith}
-use Rattle.std.proofs.lemmas.List.{drop_more, at_drop_all, take_more, take_all}
+use Rattle.std.proofs.Common.{◌≡◌, ℕ, ◌+◌, ◌<◌, ◌≤◌, min, Bool, true, false, ◌||◌, List, [], ◌∷◌, ◌++◌, map, length, take, drop, get_or, sum_by, Some, refl, sym, ap, ◌∙◌, arith}
+use Rattle.std.proofs.lemmas.List.{drop_more, at_drop_all, take_more, take_all, length-map}
+use Rattle.std.proofs.lemmas.List.Folds.{list_any-append}
 use Rattle.std.proofs.lemmas.List.Sums.{sum_by_push}
+use Rattle.std.proofs.lemmas.Map.Keys.{IsDistinct-from_sorted}
 use Rattle.std.proofs.lemmas.Map.Lookups.{exact_bytes}
-use Rattle.std.specs.List.{list_any}
+use Rattle.std.proofs.lemmas.Map.Made.{length-from_keys}
+use Rattle.std.specs.List.{list_any, AllByRecursion, IsDistinct}
 use Rattle.std.specs.declared.alloc.Global.{Global}
 use Rattle.std.specs.declared.cmp.Ordering.{Ordering}
 use Rattle.std.specs.declared.cmp.Ordering.TheVariants.{Less, Equal, Greater}
 use Rattle.std.specs.declared.vec.Vec.{Vec}
-use Rattle.std.specs.Ordering.{nat_cmp, match_ordering}
-use Rattle.std.specs.Cmp.Lexicographic.{slice_cmp}
-use Rattle.std.specs.BTreeSet.{BTreeSet, insert_key}
+use Rattle.std.specs.Ordering.{nat_cmp, match_ordering, eq_by_cmp}
+use Rattle.std.specs.Cmp.{eq_by_cmp_equiv}
+use Rattle.std.specs.Cmp.Lexicographic.{slice_cmp, nat_list_cmp_total}
+use Rattle.std.specs.BTreeSet.{BTreeSet, insert_key, IsOrdered}
 use Rattle.esr_names.specs.declared.blob.BlobName.{BlobName as CodeName}
 use Rattle.esr_model.specs.Names.{BlobName}
 use Rattle.esr_model.specs.Values.{Bytes}
 use Rattle.esr_model.specs.Uploads.{same_bytes}
 use Rattle.esr_core.specs.Entry.{Entry}
 use Rattle.esr_formats.specs.Names.{name_of, name_kind}
-use Rattle.esr_report.specs.Cleaned.{gone_at, page_at, has_text, is_gone, sizes_where}
+use Rattle.esr_report.specs.Cleaned.{is_cleanup_ticket, gone_at, page_at, has_text, is_gone, sizes_where, texts_gone, blobs_gone, bytes_gone}
+use Rattle.esr_report.specs.Replies.{Cleaned, cleaned_by}
 use Rattle.esr_report.specs.Ends.{holds_text}
 
 -- ---- answers of two tests, of which one holds
@@ -77,6 +82,44 @@ texts_read names i d old now new key none written text less empty appended moved
 pub texts_all : (names : List CodeName) (i : ℕ) (old now : BTreeSet (Vec ℕ Global)) (text : Bytes) → length names ≤ i → (holds_text old text || has_text (map name_of names) text) ≡ (holds_text now text || has_text (map name_of (drop i names)) text)
     → holds_text now text ≡ (holds_text old text || has_text (map name_of names) text)
 texts_all names i old now text past read = sym (read ∙ at_drop_all (λ (ns : List CodeName). holds_text now text || has_text (map name_of ns) text) names i past ∙ or_none (holds_text now text))
+
+-- ---- how many texts a set has
+
+texts_apart : (x : Vec ℕ Global) (keys : List (Vec ℕ Global)) → AllByRecursion (λ (y : Vec ℕ Global). eq_by_cmp vec_cmp x y ≡ false) keys
+    → AllByRecursion (λ (text : Bytes). same_bytes x.items text ≡ false) (map (λ (key : Vec ℕ Global). key.items) keys)
+texts_apart x [] apart = tt
+texts_apart x (y ∷ keys) apart = (apart.0, texts_apart x keys apart.1)
+
+texts_distinct : (keys : List (Vec ℕ Global)) → IsDistinct (eq_by_cmp vec_cmp) keys → IsDistinct same_bytes (map (λ (key : Vec ℕ Global). key.items) keys)
+unfolding IsDistinct
+texts_distinct [] distinct = tt
+texts_distinct (x ∷ keys) distinct = (texts_apart x keys distinct.0, texts_distinct keys distinct.1)
+
+text_held : (keys : List (Vec ℕ Global)) (text : Bytes) → list_any (same_bytes text) (map (λ (key : Vec ℕ Global). key.items) keys) ≡ list_any (is_key text) keys
+text_held [] text = refl
+text_held (x ∷ keys) text = ap (λ (b : Bool). same_bytes text x.items || b) (text_held keys text)
+
+text_named : (names : List BlobName) (text : Bytes) → list_any (same_bytes text) (map (λ (name : BlobName). name_kind.text name) names) ≡ has_text names text
+text_named [] text = refl
+text_named (x ∷ names) text = ap (λ (b : Bool). same_bytes text (name_kind.text x) || b) (text_named names text)
+
+text_gone : (all : List Entry) (k : ℕ) (text : Bytes) → list_any (same_bytes text) (texts_gone all k) ≡ is_gone all k text
+text_gone [] k text = refl
+text_gone (e ∷ all) k text =
+    list_any-append (same_bytes text) (map (λ (name : BlobName). name_kind.text name) (gone_at k e)) (texts_gone all k)
+    ∙ ap (λ (b : Bool). b || list_any (same_bytes text) (texts_gone all k)) (text_named (gone_at k e) text) ∙ ap (λ (b : Bool). has_text (gone_at k e) text || b) (text_gone all k text)
+
+-- as many as names were taken away, each counted once
+pub texts_count : (all : List Entry) (k : ℕ) (texts : BTreeSet (Vec ℕ Global)) → IsOrdered vec_cmp texts → holds_text texts ≡ is_gone all k → length texts.keys ≡ blobs_gone all k
+texts_count all k texts ordered same =
+    let items : List Bytes = map (λ (key : Vec ℕ Global). key.items) texts.keys in
+    sym (length-map texts.keys (λ (key : Vec ℕ Global). key.items))
+    ∙ length-from_keys (eq_by_cmp_equiv nat_list_cmp_total) items (texts_gone all k) (texts_distinct texts.keys (IsDistinct-from_sorted vec_cmp texts.keys ordered))
+    (λ (text : Bytes). text_held texts.keys text ∙ ap (λ (passes : Bytes → Bool). passes text) same ∙ sym (text_gone all k text))
+
+-- so the drop of the op is answered
+pub cleaned_as : (all : List Entry) (k blobs bytes : ℕ) → is_cleanup_ticket all k ≡ true → blobs ≡ blobs_gone all k → bytes ≡ bytes_gone all k → Some (Cleaned blobs bytes) ≡ cleaned_by all k (is_cleanup_ticket all k)
+cleaned_as all k blobs bytes cleanup counted summed = ap (λ (n : ℕ). Some (Cleaned n bytes)) counted ∙ ap (λ (n : ℕ). Some (Cleaned (blobs_gone all k) n)) summed ∙ ap (cleaned_by all k) (sym cleanup)
 
 -- ---- the entries of a ticket
 

@@ -1,6 +1,7 @@
 -- What the ticket of a cleanup took away, by the history alone.
-use Rattle.std.specs.Prelude.{ℕ, ◌-◌, ◌^◌, min, Bool, true, false, ◌==◌, ◌&&◌, ◌||◌, if◌then◌else◌, List, [], ◌∷◌, length, sum_by}
+use Rattle.std.specs.Prelude.{ℕ, ◌-◌, ◌^◌, min, Bool, true, false, ◌==◌, ◌&&◌, ◌||◌, if◌then◌else◌, List, [], ◌∷◌, flat_map, map, sum_by}
 use Rattle.std.specs.List.{list_any}
+use Rattle.std.specs.Set.{distinct_count}
 use Rattle.esr_model.specs.Names.{BlobName}
 use Rattle.esr_model.specs.Values.{Bytes}
 use Rattle.esr_model.specs.Uploads.{same_bytes}
@@ -59,9 +60,14 @@ size_where passes b = if passes b.text then b.size else 0
 abbrev pub sizes_where : (Bytes → Bool) → List BlobSize → ℕ
 sizes_where passes page = sum_by (size_where passes) page
 
--- how many names the removals of the ticket took away, and the listed lengths of these; the sums stop at 2^64 - 1
-abbrev pub blobs_gone : List Entry → ℕ → ℕ
-blobs_gone all k = min (sum_by (λ (e : Entry). length (gone_at k e)) all) (2 ^ 64 - 1)
+-- the texts of the names that the ticket took away
+abbrev pub texts_gone : List Entry → ℕ → List Bytes
+texts_gone all k = flat_map (λ (e : Entry). map (λ (name : BlobName). name_kind.text name) (gone_at k e)) all
 
+-- how many names these are, each counted once
+abbrev pub blobs_gone : List Entry → ℕ → ℕ
+blobs_gone all k = distinct_count same_bytes (texts_gone all k)
+
+-- the listed lengths of these names together; the sum stops at 2^64 - 1
 abbrev pub bytes_gone : List Entry → ℕ → ℕ
 bytes_gone all k = min (sum_by (λ (e : Entry). sizes_where (is_gone all k) (page_at k e)) all) (2 ^ 64 - 1)

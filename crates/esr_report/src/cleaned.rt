@@ -1,10 +1,10 @@
 //! What the ticket of a cleanup took away.
-ghost use Rattle.std.specs.Prelude.{◌≡◌, ◌-◌, ◌^◌, ◌||◌, min, map, length, option_map, IfOk, OnOk};
+ghost use Rattle.std.specs.Prelude.{◌≡◌, ◌-◌, ◌^◌, ◌||◌, min, map, option_map, IfOk, OnOk};
 ghost use Rattle.esr_model.specs.Values.{Bytes as Text};
 ghost use Rattle.esr_formats.specs.Names.{name_of};
 ghost use Rattle.esr_desk.specs.Listing.{blob_size_of, page_of};
 ghost use Rattle.esr_desk.specs.Entries.{unit_of};
-ghost use Rattle.esr_report.specs.Cleaned.{is_cleanup, cleanup_by, is_cleanup_ticket, gone_at, page_at, has_text, is_gone, size_where, sizes_where, blobs_gone, bytes_gone};
+ghost use Rattle.esr_report.specs.Cleaned.{is_cleanup, cleanup_by, is_cleanup_ticket, gone_at, page_at, has_text, is_gone, size_where, sizes_where, bytes_gone};
 ghost use Rattle.esr_report.specs.Replies.{cleaned_by};
 ghost use Rattle.esr_report.specs.Ends.{reply_of_end, holds_text};
 
@@ -51,8 +51,7 @@ pub fn is_cleanup_ticket(entries: &[Entry], ticket: u64) -> bool
 
 /// The names that an entry of the ticket took away.
 fn gone_at(entry: &Entry, ticket: u64) -> &[BlobName]
-    ensures names { map name_of result.now ≡ gone_at ticket entry.now }
-    ensures count { length result.now ≡ length (gone_at ticket entry.now) }
+    ensures { map name_of result.now ≡ gone_at ticket entry.now }
 {
     if entry.who != ticket {
         return &[];
@@ -79,17 +78,6 @@ fn page_at(entry: &Entry, ticket: u64) -> &[Listed]
         (Step::List { .. }, Answer::Listed { page }) => page.as_slice(),
         _ => &[],
     }
-}
-
-/// How many names the removals of the ticket took away.
-fn blobs_gone(entries: &[Entry], ticket: u64) -> u64
-    ensures { result ≡ blobs_gone entries.now ticket }
-{
-    let mut blobs: u64 = 0;
-    for entry in entries {
-        blobs = blobs.saturating_add(gone_at(entry, ticket).len() as u64);
-    }
-    blobs
 }
 
 /// Adds the texts of these names.
@@ -145,16 +133,16 @@ fn page_sizes(texts: &BTreeSet<Vec<u8>>, page: &[Listed]) -> u64
     sum
 }
 
-/// The listed lengths of the blobs that the ticket took away.
-fn bytes_gone(alloc: Global, entries: &[Entry], ticket: u64) -> Result<u64, AllocError>
-    ensures { IfOk result (λ bytes. bytes ≡ bytes_gone entries.now ticket) }
+/// The listed lengths of the blobs that the ticket took away, which have these texts.
+fn bytes_gone(texts: &BTreeSet<Vec<u8>>, entries: &[Entry], ticket: u64) -> u64
+    requires { holds_text texts.now ≡ is_gone entries.now ticket }
+    ensures { result ≡ bytes_gone entries.now ticket }
 {
-    let texts = texts_gone(alloc, entries, ticket)?;
     let mut bytes: u64 = 0;
     for entry in entries {
-        bytes = bytes.saturating_add(page_sizes(&texts, page_at(entry, ticket)));
+        bytes = bytes.saturating_add(page_sizes(texts, page_at(entry, ticket)));
     }
-    Ok(bytes)
+    bytes
 }
 
 /// How the drop of a ticket's op ends it: a cleanup has come to its end, or the drop is of another op.
@@ -164,7 +152,8 @@ pub fn cleaned_by(alloc: Global, entries: &[Entry], ticket: u64) -> Result<Optio
     if !is_cleanup_ticket(entries, ticket) {
         return Ok(None);
     }
-    let blobs = blobs_gone(entries, ticket);
-    let bytes = bytes_gone(alloc, entries, ticket)?;
+    let texts = texts_gone(alloc, entries, ticket)?;
+    let blobs = texts.len() as u64;
+    let bytes = bytes_gone(&texts, entries, ticket);
     Ok(Some(End::Cleaned { blobs, bytes }))
 }

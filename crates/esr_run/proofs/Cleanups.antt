@@ -8,7 +8,6 @@ use Rattle.esr_depot.specs.Look.{Look}
 use Rattle.esr_opening.specs.Opening.{image_of, Kept, IsOpening}
 use Rattle.esr_repo.specs.Log.{log_of}
 use Rattle.esr_repo.specs.Past.{IsPast}
-use Rattle.esr_law.specs.Digests.{honest_uploads}
 use Rattle.esr_law.specs.Exact.{HoldsExactly}
 use Rattle.esr_run.specs.Start.{Telling, formats_by, LegalRun}
 use Rattle.esr_run.specs.Cleaned.{IsCleaned, CleanupsLeaveReach}
@@ -24,7 +23,7 @@ pub cleanups_leave_reach : (laws : Laws) (files : Telling) (size : ℕ) (quiet :
     → LegalRun (start_at files size quiet before mid k o) mid.clock after history → IsPast (start_at files size quiet before mid k o) mid.clock mid.since after history
     → CleanupsLeaveReach (formats_by files) (world_at before mid k o) (log_of after mid.clock history) before
 cleanups_leave_reach laws files size quiet before mid after k history o run past shelf h t front back last ticket split ended =
-    let left = laws.cleaned f size (image_of h.image) shelf w front back last ticket r.kept r.opened o.order.tracked (subst (TellsHandedOut f w) split r.known) (subst (IsLegal f size w) split r.legal) (subst AreTold split r.told)
+    let left = laws.cleaned f size (image_of h.image) shelf w front back last ticket r.kept r.opened o.order.tracked (subst (TellsHandedOut f w) split t.known) (subst (IsLegal f size w) split r.legal) (subst AreTold split r.told)
     (subst (AreHonest f w) split t.honest) ended in
     (left.0, λ untested unchanged. subst (λ (l : List Moment). IsCleaned f (world_from f w l)) (sym split) (cleaned_by files (world_from f w (front ++ last ∷ back)) (left.1 untested unchanged)))
   where
@@ -38,4 +37,4 @@ cleanups_leave_reach laws files size quiet before mid after k history o run past
     log = log_of after mid.clock history
 
     r : Ran f size (image_of h.image) shelf w log
-    r = ran files size quiet before mid after k history o run past shelf h (record { known = t.known; honest = honest_uploads f w log t.honest })
+    r = ran files size quiet before mid after k history o run past shelf h

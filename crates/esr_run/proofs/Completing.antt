@@ -1,7 +1,8 @@
 -- What a run over quiet objects ends with.
-use Rattle.std.proofs.Common.{◌≡◌, ◌⊎◌, ℕ, suc, ◌+◌, ◌^◌, ◌<◌, ◌≤◌, Bool, true, false, cond, nat_lt, List, [], ◌∷◌, ◌++◌, append_assoc, map, length, Option, Some, is_some, refl, sym, ap, ◌∙◌, subst, inl, inr, ⊎_elim, arith}
+use Rattle.std.proofs.Common.{◌≡◌, ◌≢◌, ◌⊎◌, ℕ, zero, suc, ◌+◌, ◌^◌, ◌<◌, ◌≤◌, Bool, true, false, cond, nat_lt, List, [], ◌∷◌, ◌++◌, append_assoc, map, length, Option, Some, is_some, refl, sym, ap, ◌∙◌, subst, inl, inr, ⊎_elim, arith}
 use Rattle.std.specs.Prelude.{◌&&◌, ◌==◌, unwrap_or, if◌then◌else◌}
 use Rattle.std.proofs.lemmas.Bool.{ltb-true, ltb-false}
+use Rattle.std.proofs.lemmas.Bool.Decides.{eqb_tells}
 use Rattle.std.proofs.lemmas.List.Sums.{sum_by-cons}
 use Rattle.esr_model.specs.Values.{Bytes, Has}
 use Rattle.esr_model.specs.Image.{Image}
@@ -14,7 +15,7 @@ use Rattle.esr_script.specs.declared.item.AskedIndex.{AskedIndex as LineIndex}
 use Rattle.esr_script.specs.declared.item.Item.{Item}
 use Rattle.esr_script.specs.declared.item.Item.TheVariants as items
 use Rattle.esr_script.specs.declared.item.ScriptLine.{ScriptLine}
-use Rattle.esr_report.specs.Replies.{replies}
+use Rattle.esr_report.specs.Replies.{is_election_step, replies}
 use Rattle.esr_report.specs.Status.{ending, status_of}
 use Rattle.esr_desk.specs.Start.{Start, Legal, formats_of, world_of}
 use Rattle.esr_desk.specs.declared.fault.Fault.{Fault}
@@ -28,19 +29,19 @@ use Rattle.esr_repo.specs.Counted.{is_fault, fault_entries}
 use Rattle.esr_repo.specs.Calm.{IsCalm}
 use Rattle.esr_repo.specs.Deposed.{FailedSwap, AreDeposedSo}
 use Rattle.esr_quiet.specs.Asked.{is_line_ask, is_asked, as_asked, asked_steps, AreSteady}
-use Rattle.esr_quiet.specs.Smooth.{IsSmooth, IsSpent, AreCalm, AreUnelected, NoneFailed, NoneUndeleted, NoneUnrestored, NoneUnverified, NoneAsked}
+use Rattle.esr_quiet.specs.Smooth.{IsSmooth, IsSpent, AreCalm, NoneFailed, NoneUndeleted, NoneUnrestored, NoneUnverified, NoneAsked}
 use Rattle.esr_quiet.specs.Refusals.{AreByRule}
-use Rattle.esr_complete.specs.Lines.{index_of_line, steps_of_item, steps_of, IsKnown, AreKnown, entries_of}
+use Rattle.esr_complete.specs.Lines.{index_of_line, steps_of_item, steps_of, failovers_of, entries_of, elections_of}
 use Rattle.esr_drive.specs.Elections.{election, elections}
 use Rattle.esr_complete.specs.InTurn.{IsInTurn, AreChecksInTurn}
 use Rattle.esr_complete.specs.Answers.{AreAnswered, EndsWell}
+use Rattle.esr_complete.specs.FaultFree.{IsFaultFreeRun}
 use Rattle.esr_run.specs.Start.{Telling, formats_by, steady_by, start_of}
 use Rattle.esr_run.specs.Images.{TellsAll}
 use Rattle.esr_run.specs.Complete.{AsksRestore, IsQuietFor, IsAnsweredWell, Completes}
 use Rattle.esr_run.specs.Laws.{QuietLaws}
 use Rattle.esr_run.specs.Verified.{AreClosed}
 use Rattle.esr_run.specs.Made.{MadeFirst, AreElected, IsWaiting, AskedApart, HasFallen, AreDone, NoneOpen}
-use Rattle.esr_run.specs.Waits.{failovers_in, failovers_of}
 use Rattle.esr_run.proofs.Parts.{are_parts}
 use Rattle.esr_run.proofs.Making.{legal_one, legal_front}
 use Rattle.esr_run.proofs.Callers.{waiting_closed}
@@ -195,34 +196,34 @@ of_line moment (line ∷ lines) step h = ⊎_elim
     (λ later. let o = of_line moment lines step later in record { line = o.line; there = inr o.there; step_is = o.step_is })
     (either_list (steps_of_item moment line.item) (steps_of moment lines) step h)
 
--- lines that are known ask for no election
-none_failover : (lines : List ScriptLine) → AreKnown lines → failovers_of lines ≡ 0
-none_failover [] known = refl
-none_failover (line ∷ lines) known =
-    let one : failovers_in line.item ≡ 0 = one_none line.item known.0 in
-    let rest : failovers_of lines ≡ 0 = none_failover lines known.1 in
-    omega (arith, one, rest)
-  where
-    one_none : (item : Item) → IsKnown item → failovers_in item ≡ 0
-    one_none (items.Snapshot name indices) known = refl
-    one_none (items.Clone source name indices) known = refl
-    one_none (items.Delete names) known = refl
-    one_none (items.Restore name place) known = refl
-    one_none items.Wait known = refl
-    one_none items.List known = refl
-    one_none items.Check known = refl
-    one_none items.Verify known = refl
-    one_none items.Cleanup known = refl
-    one_none items.Failover known = absurd known
+one_counts : (n : ℕ) → suc n ≡ 1 + n
+one_counts n = omega arith
 
--- an election counts
-one_election : (log : List Moment) (m : Moment) → Has log m → m.entry.who ≡ 0 → m.entry.step ≡ ElectStep → 1 ≤ elections log
-one_election [] m h who is = absurd h
-one_election (x ∷ log) m (inl same) who is =
-    let one : election x.entry.who x.entry.step ≡ 1 =
-    ap (λ (y : Moment). election y.entry.who y.entry.step) same ∙ ap (λ (k : ℕ). election k m.entry.step) who ∙ ap (election 0) is in
-    omega (arith, one)
-one_election (x ∷ log) m (inr h) who is = let rest : 1 ≤ elections log = one_election log m h who is in omega (arith, rest)
+none_counts : (n : ℕ) → n ≡ 0 + n
+none_counts n = omega arith
+
+of_nobody : (step : Step) (n : ℕ) → (if is_election_step step then suc n else n) ≡ election 0 step + n
+of_nobody ElectStep n = one_counts n
+of_nobody step n = none_counts n
+
+of_ticket : (who : ℕ) (step : Step) (n : ℕ) → who ≢ 0 → n ≡ election who step + n
+of_ticket zero step n some = absurd (some refl)
+of_ticket (suc k) step n some = none_counts n
+
+counts_one : (who : ℕ) (step : Step) (n : ℕ) → (if (who == 0) && is_election_step step then suc n else n) ≡ election who step + n
+counts_one who step n = elim (eqb_tells who 0) [
+  | inl nobody ↦ ap (λ (b : Bool). if b && is_election_step step then suc n else n) nobody.0 ∙ of_nobody step n ∙ ap (λ (k : ℕ). election k step + n) (sym nobody.1)
+  | inr some ↦ ap (λ (b : Bool). if b && is_election_step step then suc n else n) some.0 ∙ of_ticket who step n some.1
+]
+
+none_before : (a b : ℕ) → a ≡ 0 + b → a ≡ b
+none_before a b e = omega (arith, e)
+
+-- the entries tell as many elections as the history
+elections_told : (log : List Moment) → elections_of (entries_of log) ≡ elections log
+elections_told [] = refl
+elections_told (m ∷ log) =
+    counts_one m.entry.who m.entry.step (elections_of (entries_of log)) ∙ ap (λ (n : ℕ). election m.entry.who m.entry.step + n) (elections_told log)
 
 -- the indices of a snapshot that was asked are those of the line's
 record OfSnapshot (item : Item) (indices : List AskedIndex) : Type 0 where
@@ -337,13 +338,6 @@ module _ {S F H T : Type 0} (laws : QuietLaws S F H T) (evidence : Evidence S F 
         subst (λ (x : AskedIndex). telling.is_there x.place x.name number ≡ Some true) one.2 (quiet_for.there from.line snap.name snap.line_indices one.0 number from.there snap.item_is one.1 less) in
         is_steady telling a.place a.name number quiet_for.sources there
 
-    unelected : AreElected lines [] log → AreUnelected log
-    unelected elected m h who is =
-        let some : 1 ≤ elections log = one_election log m h who is in
-        let all : elections log ≡ 0 + failovers_of lines = elected in
-        let none : failovers_of lines ≡ 0 = none_failover lines quiet_for.known in
-        absurd (omega (arith, some, all, none))
-
     tells : s.tells ≡ true
     tells = ap is_some quiet_for.holds.told
 
@@ -360,8 +354,8 @@ module _ {S F H T : Type 0} (laws : QuietLaws S F H T) (evidence : Evidence S F 
         let was : Legal s front = legal_front (formats_of s) size front (m ∷ back) world whole in
         waiting_closed laws.leaves s front was waits
 
-    smooth : AreElected lines [] log → AskedApart s [] log → IsSmooth s log
-    smooth elected asked_apart = record {
+    smooth : AskedApart s [] log → IsSmooth s log
+    smooth asked_apart = record {
       tells = tells;
       quiet = refl;
       known = tells_all.known;
@@ -377,7 +371,6 @@ module _ {S F H T : Type 0} (laws : QuietLaws S F H T) (evidence : Evidence S F 
       steady = steady;
       calm = calm_log;
       unspent = λ m h spent. unspent m.entry (subst (λ (l : List Entry). Has l m.entry) entries (has_entry log m h)) spent;
-      unelected = unelected elected;
       apart = λ front back m command is who step. (asked_apart.apart front back m (sym asked_apart.is ∙ is) who (inl (command, step))).tickets;
       tests_apart = record {
         given = λ front back m ticket op is gave. ap (λ (c : Caller). c.drawn) (given_closed asked_apart front back m ticket op is gave);
@@ -388,7 +381,7 @@ module _ {S F H T : Type 0} (laws : QuietLaws S F H T) (evidence : Evidence S F 
     none_failed : IsSmooth s log → NoneFailed log
     none_failed smooth = laws.fails evidence s log faults smooth (shown.shown hands.Unit)
 
-    none_undeleted : IsSmooth s log → NoneUndeleted log
+    none_undeleted : IsSmooth s log → NoneUndeleted s log
     none_undeleted smooth = laws.deletes evidence s log faults smooth (shown.shown hands.Delete)
 
     -- no line asks for a restore
@@ -414,7 +407,7 @@ module _ {S F H T : Type 0} (laws : QuietLaws S F H T) (evidence : Evidence S F 
       closed = ap (λ (c : Caller). c.drawn) closed;
     }
 
-    rules : IsSmooth s log → AreByRule log
+    rules : IsSmooth s log → AreByRule s log
     rules smooth = laws.rules s log smooth (none_failed smooth)
 
     -- the work wasn't stopped
@@ -426,20 +419,37 @@ module _ {S F H T : Type 0} (laws : QuietLaws S F H T) (evidence : Evidence S F 
         let less : length history < 2 ^ 33 = few in
         omega (arith, many, most, less)
 
-    well : AreKnown lines → AreDone s moment lines [] log → IsAnsweredWell s moment lines log history
-    well known done =
+    -- as many masters were elected as lines ask for
+    elected_all : AreElected lines [] log → elections_of (entries_of log) ≡ failovers_of lines
+    elected_all elected = elections_told log ∙ none_before (elections log) (failovers_of lines) elected
+
+    well : AreDone s moment lines [] log → IsAnsweredWell s moment lines log history
+    well done =
         let checks : AreChecksInTurn moment lines log = inr (are_parts s moment lines log refl done.parted (never_deposed log history entries none_faults named)) in
-        let is_smooth : IsSmooth s log = smooth done.elected done.apart in
+        let is_smooth : IsSmooth s log = smooth done.apart in
         let asked : asked_steps log ≡ steps_of moment lines = ap asked_steps done.grew.is ∙ done.grew.asked refl in
+        let run : IsFaultFreeRun s log lines moment = record {
+          smooth = is_smooth;
+          units = none_failed is_smooth;
+          deletes = none_undeleted is_smooth;
+          restores = none_unrestored is_smooth;
+          verifies = none_unverified is_smooth;
+          checks = checks;
+          by_rule = rules is_smooth;
+          in_turn = in_turn done.closed;
+          idle = done.idle;
+          elected = elected_all done.elected;
+          asked = asked;
+        } in
         record {
-          answered = subst (λ (es : List Entry). AreAnswered lines (replies lines es)) entries (laws.answered s log lines moment is_smooth (none_failed is_smooth) (none_undeleted is_smooth) (none_unrestored is_smooth) (none_unverified is_smooth) checks (rules is_smooth) (in_turn done.closed) done.idle known asked);
-          ends = subst (λ (es : List Entry). EndsWell lines es) entries (laws.ends s log lines moment is_smooth (none_failed is_smooth) (none_undeleted is_smooth) (none_unrestored is_smooth) (none_unverified is_smooth) checks (rules is_smooth) (in_turn done.closed) done.idle known asked);
+          answered = subst (λ (es : List Entry). AreAnswered lines (replies lines es)) entries (laws.answered s log lines moment run);
+          ends = subst (λ (es : List Entry). EndsWell lines es) entries (laws.ends s log lines moment run);
           waits = done.waits;
         }
 
   pub completes : (status : ℕ) → Legal s log → (s.tells ≡ true → AreTold log) → AreShown {S = S} {F = F} {H = H} {T = T} evidence s log faults → AreOnce s log → AreTested s log → IsCalm true after.sure history → AreDeposedSo history
-      → MadeFirst s (steps_of moment lines) [] log → AreClosed s log → AreDone s moment lines [] log ⊎ HasFallen s moment lines [] log → AreKnown lines → status ≡ status_of (ending lines history) → IsQuietFor telling before lines → Completes telling size moment lines before world clock after history status
-  completes status legal told shown once tested calm named made apart done known is quiet_for tells_all =
+      → MadeFirst s (steps_of moment lines) [] log → AreClosed s log → AreDone s moment lines [] log ⊎ HasFallen s moment lines [] log → status ≡ status_of (ending lines history) → IsQuietFor telling before lines → Completes telling size moment lines before world clock after history status
+  completes status legal told shown once tested calm named made apart done is quiet_for tells_all =
       ⊎_elim
       (λ (spent : Spent history). inl (inl spent))
       (λ (unspent : (e : Entry) → Has history e → IsSpent e.reply → ⊥).
@@ -448,7 +458,7 @@ module _ {S F H T : Type 0} (laws : QuietLaws S F H T) (evidence : Evidence S F 
       (λ (few : length history < 2 ^ 33).
       inr (
         ⊎_elim
-            (λ (all : AreDone s moment lines [] log). well legal told shown once tested calm named made apart quiet_for tells_all few unspent known all)
+            (λ (all : AreDone s moment lines [] log). well legal told shown once tested calm named made apart quiet_for tells_all few unspent all)
             (λ (stopped : HasFallen s moment lines [] log). absurd (not_stopped legal told shown once tested calm named made apart quiet_for tells_all few unspent stopped))
             done,
         is,

@@ -20,7 +20,6 @@ use Rattle.esr_opening.specs.declared.refusal.OpenRefusal.{OpenRefusal}
 use Rattle.esr_opening.specs.declared.refusal.OpenRefusal.TheVariants as refusals
 use Rattle.esr_repo.specs.Log.{log_of}
 use Rattle.esr_repo.specs.Past.{IsPast}
-use Rattle.esr_law.specs.Digests.{honest_uploads}
 use Rattle.esr_run.specs.Start.{Telling, known_by, told_by, formats_by, LegalRun}
 use Rattle.esr_run.specs.Images.{Holds, HonestWork}
 use Rattle.esr_run.specs.Tidy.{IsTidyAt, StaysTidy, EveryImageTidy, EndTidy, EachDoomsExactly}
@@ -90,7 +89,7 @@ left_tidy : (laws : Laws) (files : Telling) (size : ℕ) (quiet : Bool) (before 
     → (shelf : List Shelved) → Holds (formats_by files) before shelf → IsTidyAt (formats_by files) before → HonestWork (formats_by files) (world_at before mid k o) (log_of after mid.clock history)
     → (i : Image) → Leaves (formats_by files) size (world_at before mid k o) (log_of after mid.clock history) i → TidyImage (formats_by files) i
 left_tidy laws files size quiet before mid after k history o run past shelf h tidy t i leaves =
-    laws.tidy.left f size shelf w log i r.known (laws.lawful f (image_of h.image) shelf w r.kept r.opened) (laws.tidy.opened f (image_of h.image) w (tidy h.image h.told) r.opened) r.back r.legal r.told t.honest leaves
+    laws.tidy.left f size shelf w log i t.known (laws.lawful f (image_of h.image) shelf w r.kept r.opened) (laws.tidy.opened f (image_of h.image) w (tidy h.image h.told) r.opened) r.back r.legal r.told t.honest leaves
   where
     f : Formats
     f = formats_by files
@@ -102,7 +101,7 @@ left_tidy laws files size quiet before mid after k history o run past shelf h ti
     log = log_of after mid.clock history
 
     r : Ran f size (image_of h.image) shelf w log
-    r = ran files size quiet before mid after k history o run past shelf h (record { known = t.known; honest = honest_uploads f w log t.honest })
+    r = ran files size quiet before mid after k history o run past shelf h
 
 pub every_image_tidy : (laws : Laws) (files : Telling) (size : ℕ) (quiet : Bool) (before mid after : Look) (k : Kept) (history : List Entry) (o : IsOpening before mid k)
     → LegalRun (start_at files size quiet before mid k o) mid.clock after history → IsPast (start_at files size quiet before mid k o) mid.clock mid.since after history
@@ -126,7 +125,7 @@ pub each_dooms_exactly : (laws : Laws) (files : Telling) (size : ℕ) (quiet : B
     → LegalRun (start_at files size quiet before mid k o) mid.clock after history → IsPast (start_at files size quiet before mid k o) mid.clock mid.since after history
     → EachDoomsExactly (formats_by files) (world_at before mid k o) (log_of after mid.clock history) before
 each_dooms_exactly laws files size quiet before mid after k history o run past shelf h tidy t front back m split step counted =
-    laws.tidy.dooms f size (image_of h.image) shelf w front back m (subst (TellsHandedOut f w) split r.known) r.kept (tidy h.image h.told) r.opened (subst (IsLegal f size w) split r.legal) (subst AreTold split r.told) (subst (AreHonest f w) split t.honest) step counted
+    laws.tidy.dooms f size (image_of h.image) shelf w front back m (subst (TellsHandedOut f w) split t.known) r.kept (tidy h.image h.told) r.opened (subst (IsLegal f size w) split r.legal) (subst AreTold split r.told) (subst (AreHonest f w) split t.honest) step counted
   where
     f : Formats
     f = formats_by files
@@ -138,4 +137,4 @@ each_dooms_exactly laws files size quiet before mid after k history o run past s
     log = log_of after mid.clock history
 
     r : Ran f size (image_of h.image) shelf w log
-    r = ran files size quiet before mid after k history o run past shelf h (record { known = t.known; honest = honest_uploads f w log t.honest })
+    r = ran files size quiet before mid after k history o run past shelf h

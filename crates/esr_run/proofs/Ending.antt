@@ -42,7 +42,7 @@ use Rattle.esr_run.specs.Laws.{Laws, KeptLaws}
 use Rattle.esr_run.specs.Stops.{StoppedBy}
 use Rattle.esr_run.specs.Causes.{Given, IsScript, IsOpenedRun, IsUntouched, IsUnopened, IsRunOf, IsCauseOf, IsOpenCause, IsTextOf, IsVerdict, IsTold, exit_unprinted, IsPrinted, IsEndOf, end_of_refusal}
 use Rattle.esr_run.proofs.Worlds.{begun_world, start_is}
-use Rattle.esr_run.proofs.Keeping.{untouched_kept, refused_kept, every_image_kept, end_kept, answers_stay}
+use Rattle.esr_run.proofs.Keeping.{untouched_kept, refused_kept, every_image_kept, every_image_whole, snapshots_of_sources, end_kept, answers_stay}
 use Rattle.esr_run.proofs.Dooms.{untouched_tidy, refused_tidy, every_image_tidy, end_tidy, each_dooms_exactly}
 use Rattle.esr_run.proofs.Cleanups.{cleanups_leave_reach}
 use Rattle.esr_run.proofs.Told.{stays_told}
@@ -121,11 +121,14 @@ opened_run {S} {F} {H} {T} laws kept evidence files size workers moment lines qu
       root = o.root;
       world_is = refl;
       finds = o.finds;
+      calls = o.calls;
       order = o.order;
       legal = run;
       told = stays_told files size quiet before after _ mid.clock mid.since history run was;
       every_image = every_image_kept laws files size quiet before mid after k history o run was;
+      whole = every_image_whole laws files size quiet before mid after k history o run was;
       end_kept = end_kept laws files size quiet before mid after k history o run was;
+      sourced = snapshots_of_sources laws files size quiet before mid after k history o run was;
       sourceless = needs_no_source laws (formats_by files) size moment lines made.rest (known_blobs (now before)) (cluster_of o.cluster) (root_of o.root) (log_of after mid.clock history) o.order.tracked run.legal asked;
       answered = answers_stay laws files size quiet before mid after k history o run was;
       tidy = every_image_tidy laws files size quiet before mid after k history o run was;

@@ -8,8 +8,7 @@ use Rattle.esr_core.specs.World.{World, record_of, Opened, OpenedEmpty, OpenedRe
 use Rattle.esr_core.specs.World as core
 use Rattle.esr_core.specs.Entry.{Entry, Moment}
 use Rattle.esr_core.specs.After.{after as world_after}
-use Rattle.esr_core.specs.History.{world_from, IsLegal, TellsHandedOut, AreTold, committed}
-use Rattle.esr_law.specs.Digests.{HonestUploads}
+use Rattle.esr_core.specs.History.{world_from, IsLegal, AreTold, committed}
 use Rattle.esr_core.specs.Left.{Leaves, safe_of, safe_by, safe_in}
 use Rattle.esr_depot.specs.Image.{Image as Held}
 use Rattle.esr_depot.specs.Look.{Look, now}
@@ -25,7 +24,7 @@ use Rattle.esr_repo.specs.Log.{image_at, tick, ticks, log_from, log_of}
 use Rattle.esr_repo.specs.Grown.{world_step}
 use Rattle.esr_repo.specs.Past.{IsPast}
 use Rattle.esr_run.specs.Start.{Telling, known_by, told_by, formats_by, start_of, LegalRun}
-use Rattle.esr_run.specs.Images.{Holds, TellsWork, StaysKept, EveryImageKept, AnsweredStay}
+use Rattle.esr_run.specs.Images.{Holds, StaysKept, EveryImageKept, EveryImageWhole, SnapshotsOfSources, AnsweredStay}
 use Rattle.esr_run.specs.Told.{EndKept}
 use Rattle.esr_run.specs.Laws.{Laws}
 use Rattle.esr_run.proofs.Worlds.{opened_image}
@@ -91,17 +90,15 @@ leaves_here f part_size w (m ∷ log) i e = inl e
 
 -- what holds of a history that began in the opened world of a kept image
 pub record Ran (f : Formats) (part_size : ℕ) (image : Image) (shelf : List Shelved) (w : World) (log : List Moment) : Type 0 where
-  pub known : TellsHandedOut f w log
   pub kept : IsKept f image shelf
   pub opened : Opened f image w
   pub back : ReadsBack f.cluster (record_of w)
   pub legal : IsLegal f part_size w log
   pub told : AreTold log
-  pub honest : HonestUploads f w log
 
 left_kept : (laws : Laws) (f : Formats) (part_size : ℕ) (image : Image) (shelf : List Shelved) (w : World) (log : List Moment) → Ran f part_size image shelf w log → (i : Image) → Leaves f part_size w log i
     → IsKept f i (shelf_after shelf (committed f (safe_in f i) w log))
-left_kept laws f part_size image shelf w log r i leaves = laws.left f part_size image shelf w log i r.known r.kept r.opened r.back r.legal r.told r.honest leaves
+left_kept laws f part_size image shelf w log r i leaves = laws.left f part_size image shelf w log i r.kept r.opened r.back r.legal r.told leaves
 
 -- in the image of the entry no command counts
 entry_kept : (laws : Laws) (f : Formats) (part_size : ℕ) (image : Image) (shelf : List Shelved) (w : World) (log : List Moment) → Ran f part_size image shelf w log
@@ -123,23 +120,20 @@ start_at files size quiet before mid k o = start_of files size quiet before (wor
 
 pub ran : (files : Telling) (size : ℕ) (quiet : Bool) (before mid after : Look) (k : Kept) (history : List Entry) (o : IsOpening before mid k)
     → LegalRun (start_at files size quiet before mid k o) mid.clock after history → IsPast (start_at files size quiet before mid k o) mid.clock mid.since after history
-    → (shelf : List Shelved) (h : Holds (formats_by files) before shelf) → TellsWork (formats_by files) (world_at before mid k o) (log_of after mid.clock history)
-    → Ran (formats_by files) size (image_of h.image) shelf (world_at before mid k o) (log_of after mid.clock history)
-ran files size quiet before mid after k history o run past shelf h t =
+    → (shelf : List Shelved) (h : Holds (formats_by files) before shelf) → Ran (formats_by files) size (image_of h.image) shelf (world_at before mid k o) (log_of after mid.clock history)
+ran files size quiet before mid after k history o run past shelf h =
     record {
-      known = t.known;
       kept = h.kept;
       opened = o.opens h.image (known_by files) (told_by files) h.told;
       back = back_of files (world_at before mid k o) o.order.record_back;
       legal = run.legal;
       told = past.told (ap is_some h.told);
-      honest = t.honest;
     }
 
 pub every_image_kept : (laws : Laws) (files : Telling) (size : ℕ) (quiet : Bool) (before mid after : Look) (k : Kept) (history : List Entry) (o : IsOpening before mid k)
     → LegalRun (start_at files size quiet before mid k o) mid.clock after history → IsPast (start_at files size quiet before mid k o) mid.clock mid.since after history
     → EveryImageKept (formats_by files) (world_at before mid k o) (log_of after mid.clock history) before after
-every_image_kept laws files size quiet before mid after k history o run past shelf h t i left =
+every_image_kept laws files size quiet before mid after k history o run past shelf h i left =
     ⊎_elim
     (λ was. ⊎_elim
     (λ same. subst (λ (x : Held). IsKept f (image_of x) (shelf_after shelf (committed f (safe_in f (image_of x)) w log))) (some_same h.image i (sym h.told ∙ same))
@@ -159,7 +153,23 @@ every_image_kept laws files size quiet before mid after k history o run past she
     log = log_of after mid.clock history
 
     r : Ran f size (image_of h.image) shelf w log
-    r = ran files size quiet before mid after k history o run past shelf h t
+    r = ran files size quiet before mid after k history o run past shelf h
+
+pub every_image_whole : (laws : Laws) (files : Telling) (size : ℕ) (quiet : Bool) (before mid after : Look) (k : Kept) (history : List Entry) (o : IsOpening before mid k)
+    → LegalRun (start_at files size quiet before mid k o) mid.clock after history → IsPast (start_at files size quiet before mid k o) mid.clock mid.since after history → EveryImageWhole (formats_by files) before after
+every_image_whole laws files size quiet before mid after k history o run past shelf h i left =
+    let f : Formats = formats_by files in
+    let now_on : List Shelved = shelf_after shelf (committed f (safe_in f (image_of i)) (world_at before mid k o) (log_of after mid.clock history)) in
+    laws.whole f (image_of i) now_on (every_image_kept laws files size quiet before mid after k history o run past shelf h i left)
+
+-- ---- the files of the snapshots
+
+pub snapshots_of_sources : (laws : Laws) (files : Telling) (size : ℕ) (quiet : Bool) (before mid after : Look) (k : Kept) (history : List Entry) (o : IsOpening before mid k)
+    → LegalRun (start_at files size quiet before mid k o) mid.clock after history → IsPast (start_at files size quiet before mid k o) mid.clock mid.since after history
+    → SnapshotsOfSources (formats_by files) (world_at before mid k o) (log_of after mid.clock history) before
+snapshots_of_sources laws files size quiet before mid after k history o run past shelf h t =
+    let r = ran files size quiet before mid after k history o run past shelf h in
+    laws.sourced (formats_by files) size (image_of h.image) shelf (world_at before mid k o) (log_of after mid.clock history) t.known t.honest r.kept r.opened r.legal r.told
 
 -- ---- the image at the end
 
@@ -170,11 +180,11 @@ leaves_last f part_size w (m ∷ log) = inr (inr (leaves_last f part_size (world
 pub end_kept : (laws : Laws) (files : Telling) (size : ℕ) (quiet : Bool) (before mid after : Look) (k : Kept) (history : List Entry) (o : IsOpening before mid k)
     → LegalRun (start_at files size quiet before mid k o) mid.clock after history → IsPast (start_at files size quiet before mid k o) mid.clock mid.since after history
     → EndKept (formats_by files) (world_at before mid k o) (log_of after mid.clock history) before after
-end_kept laws files size quiet before mid after k history o run past shelf h t i now_is =
+end_kept laws files size quiet before mid after k history o run past shelf h i now_is =
     let f : Formats = formats_by files in
     let w : World = world_at before mid k o in
     let log : List Moment = log_of after mid.clock history in
-    left_kept laws f size (image_of h.image) shelf w log (ran files size quiet before mid after k history o run past shelf h t) (image_of i) (subst (Leaves f size w log) (sym (run.image i now_is)) (leaves_last f size w log))
+    left_kept laws f size (image_of h.image) shelf w log (ran files size quiet before mid after k history o run past shelf h) (image_of i) (subst (Leaves f size w log) (sym (run.image i now_is)) (leaves_last f size w log))
 
 -- ---- settles that were answered
 

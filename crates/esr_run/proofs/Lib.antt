@@ -22,6 +22,7 @@ pub mod Smoothly
 pub mod Taking
 pub mod Checks
 pub mod Verifying
+pub mod Lines
 pub mod Checking
 pub mod Falling
 pub mod Undamaged

@@ -23,14 +23,14 @@ use Rattle.esr_quiet.specs.Asked.{GrewAsking}
 use Rattle.esr_quiet.specs.Asking.{asking_none, asking_on, asks_of, asking_refused}
 use Rattle.esr_quiet.specs.Numbers.{HasNoTickets}
 use Rattle.esr_drive.specs.Stopped.{WasStopped, StoppedIn}
-use Rattle.esr_complete.specs.Lines.{steps_of_item, steps_of}
+use Rattle.esr_complete.specs.Lines.{steps_of_item, steps_of, failovers_in, failovers_of}
 use Rattle.esr_complete.specs.Answers.{NoReaderOut, IsIdle}
 use Rattle.esr_run.specs.Script.{is_carried, first_bad}
 use Rattle.esr_run.specs.Laws.{StepsStay}
 use Rattle.esr_drive.specs.Elections.{WaitsOnly, elections, HasElected}
 use Rattle.esr_check.specs.Began.{HasEndedCheck}
 use Rattle.esr_run.specs.Checked.{is_check, asks_check}
-use Rattle.esr_run.specs.Waits.{failovers_in, failovers_of, owed_after, owed_then, LineElected, LineElects}
+use Rattle.esr_run.specs.Waits.{owed_after, owed_then, LineElected, LineElects}
 use Rattle.esr_run.specs.Made.{MadeFirst, HasStopped, HasNoReaders, AreIn, LineMade, LineRests, WaitEnds, NoneReady, AreElected, WaitEnded, WaitsEnded, Owes, AreMade, AreDone, NoneOpen, WasLeft, AreAsked, LineSpends, WasLookRefused, CheckEnded, ChecksEnded, AsksLine, LinePart, AreInParts, AskedApart}
 use Rattle.esr_run.proofs.Apart.{apart_none, apart_on, waits_apart, line_apart}
 

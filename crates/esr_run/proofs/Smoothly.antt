@@ -92,7 +92,7 @@ opens_well {S} {F} {H} {T} laws kept quiet_laws evidence files size workers mome
           (subst (λ (s : Start). MadeFirst s (steps_of moment lines) [] (log_of after mid.clock history)) same made)
           (subst (λ (s : Start). AreClosed s (log_of after mid.clock history)) same verified.closed)
           (subst (λ (s : Start). AreDone s moment lines [] (log_of after mid.clock history) ⊎ HasFallen s moment lines [] (log_of after mid.clock history)) same done)
-          quiet_for.known is quiet_for,
+          is quiet_for,
     )))
     (carried_status status text lines history told)
   where

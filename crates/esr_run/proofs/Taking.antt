@@ -8,7 +8,8 @@ use Rattle.esr_desk.specs.Start.{Start}
 use Rattle.esr_desk.specs.Outcome.{Outcome}
 use Rattle.esr_drive.specs.Takes.{idle_take, idle_takes, stepped_takes, refused_takes}
 use Rattle.esr_drive.specs.Elections.{election, elections, elections_more}
-use Rattle.esr_run.specs.Waits.{waits_in, waits_of, failovers_of, AreFew}
+use Rattle.esr_complete.specs.Lines.{failovers_of}
+use Rattle.esr_run.specs.Waits.{waits_in, waits_of, AreFew}
 use Rattle.esr_run.specs.Made.{AsksLine, AllAsk, AsksOnly}
 use Rattle.esr_run.proofs.Making.{take_rest}
 

@@ -41,7 +41,7 @@ module _ {S F H T : Type 0} (laws : KeptLaws S F H T) (evidence : Evidence S F H
       honest = work.honest;
     }
 
-    finds_none : OverKept s log → FindsNoDamage log
+    finds_none : OverKept s log → FindsNoDamage s log
     finds_none kept = record {
       units = laws.units evidence s log faults kept (shown.shown hands.Unit);
       restores = laws.restores evidence s log faults kept (shown.shown hands.Restore);
@@ -50,5 +50,5 @@ module _ {S F H T : Type 0} (laws : KeptLaws S F H T) (evidence : Evidence S F H
       names = laws.names s log kept single;
     }
 
-    pub stays_undamaged : StaysUndamaged (formats_by files) world log before
+    pub stays_undamaged : StaysUndamaged s (formats_by files) world log before
     stays_undamaged shelf holds work = finds_none (over shelf holds work)

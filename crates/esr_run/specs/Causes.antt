@@ -1,5 +1,5 @@
 -- Why a run ended as it did.
-use Rattle.std.specs.Prelude.{◌≡◌, ◌⊎◌, ℕ, zero, suc, ◌^◌, ◌≤◌, Bool, true, List, [], ◌++◌, length, Option, Some, None, Ok, Err}
+use Rattle.std.specs.Prelude.{◌≡◌, ◌⊎◌, ℕ, zero, suc, ◌+◌, ◌^◌, ◌≤◌, Bool, true, List, [], ◌++◌, length, Option, Some, None, Ok, Err}
 use Rattle.std.specs.Io.KnownBytes.{Appends, Consumes}
 use Rattle.esr_model.specs.Values.{Bytes}
 use Rattle.esr_core.specs.World.{World, Opened}
@@ -32,7 +32,7 @@ use Rattle.esr_run.specs.Script.{AreBytes, first_bad, bad_line}
 use Rattle.esr_run.specs.Ends.{RunEnd, BadWords, Unreadable, BadScript, BadLine, OpenFault, Damaged, NoTerm, Carried, text_of, exit_of, exit_at, text_at}
 use Rattle.esr_run.specs.Faults.{listed, fetch_of, HasFetch}
 use Rattle.esr_run.specs.Start.{Telling, formats_by, start_of, LegalRun}
-use Rattle.esr_run.specs.Images.{StaysKept, EveryImageKept, AnsweredStay}
+use Rattle.esr_run.specs.Images.{StaysKept, EveryImageKept, EveryImageWhole, SnapshotsOfSources, AnsweredStay}
 use Rattle.esr_run.specs.Tidy.{StaysTidy, EveryImageTidy, EndTidy, EachDoomsExactly}
 use Rattle.esr_run.specs.Cleaned.{CleanupsLeaveReach}
 use Rattle.esr_run.specs.Told.{StaysTold, EndKept}
@@ -153,12 +153,17 @@ pub record IsOpenedRun {S F H T : Type 0} (evidence : Evidence S F H T) (files :
   pub root : Root
   pub world_is : world ≡ world_in (now before) cluster root
   pub finds : (i : Held) → now before ≡ Some i → found i ≡ Ok (cluster, root)
+  -- the opening made four calls of the container at most, and one for each listed snapshot
+  pub calls : clock ≤ before.clock + (4 + length root.snapshots)
   pub order : IsInOrder world
   pub legal : LegalRun (start_of files size quiet before world) clock after history
   -- each moment is told where the entry is
   pub told : StaysTold before clock history after
   pub every_image : EveryImageKept (formats_by files) world (log_of after clock history) before after
+  pub whole : EveryImageWhole (formats_by files) before after
   pub end_kept : EndKept (formats_by files) world (log_of after clock history) before after
+  -- each finalization that was given has the command of a snapshot with the files that the sources tell
+  pub sourced : SnapshotsOfSources (formats_by files) world (log_of after clock history) before
   -- where no line asks for a snapshot, whatever the sources and the digests are
   pub sourceless : NeedsNoSource (formats_by files) world lines (log_of after clock history)
   pub answered : AnsweredStay (start_of files size quiet before world) clock history after
@@ -169,7 +174,7 @@ pub record IsOpenedRun {S F H T : Type 0} (evidence : Evidence S F H T) (files :
   -- a cleanup that came to its end left exactly what the safe root reaches, and `index.latest`
   pub cleaned : CleanupsLeaveReach (formats_by files) world (log_of after clock history) before
   -- over a kept container that tells nothing is found damaged and no name taken, whatever calls fail
-  pub undamaged : StaysUndamaged (formats_by files) world (log_of after clock history) before
+  pub undamaged : StaysUndamaged (start_of files size quiet before world) (formats_by files) world (log_of after clock history) before
   -- each failure of a unit that the history tells has its cause, and the objects that failed are listed
   pub shown : AreShown evidence (start_of files size quiet before world) (log_of after clock history) faults
   -- no blob is committed twice, but for the metadata of a finalization
@@ -192,7 +197,8 @@ pub record IsOpenedRun {S F H T : Type 0} (evidence : Evidence S F H T) (files :
 
 -- Each line was carried out, the work of each wait was done and its elections were made when it ended, and at the end no unit is ready
 -- or out and no verification is open; or a record swap failed, and each line was asked all the same; or 2 ^ 33 entries were made.
-abbrev pub IsWorked : {S F H T : Type 0} (evidence : Evidence S F H T) (files : Telling) (size workers moment : ℕ) (lines : List ScriptLine) (before after : Look) (history : List Entry) (faults : List (Fault S F H T)) → IsOpenedRun evidence files size workers moment lines before after history faults → Type 0
+abbrev pub IsWorked : {S F H T : Type 0} (evidence : Evidence S F H T) (files : Telling) (size workers moment : ℕ) (lines : List ScriptLine) (before after : Look) (history : List Entry) (faults : List (Fault S F H T))
+    → IsOpenedRun evidence files size workers moment lines before after history faults → Type 0
 IsWorked evidence files size workers moment lines before after history faults r =
     AreDone (start_of files size r.quiet before r.world) moment lines [] (log_of after r.clock history) ⊎ HasFallen (start_of files size r.quiet before r.world) moment lines [] (log_of after r.clock history)
 

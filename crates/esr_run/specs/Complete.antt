@@ -15,7 +15,6 @@ use Rattle.esr_desk.specs.Start.{Start}
 use Rattle.esr_opening.specs.Found.{LastTerm, found}
 use Rattle.esr_repo.specs.Log.{log_of}
 use Rattle.esr_quiet.specs.Smooth.{IsSpent}
-use Rattle.esr_complete.specs.Lines.{AreKnown}
 use Rattle.esr_complete.specs.Answers.{AreAnswered, EndsWell}
 use Rattle.esr_run.specs.Start.{Telling, formats_by, start_of}
 use Rattle.esr_run.specs.Images.{Holds, TellsAll}
@@ -31,7 +30,7 @@ abbrev pub AsksRestore : List ScriptLine → Type 0
 AsksRestore lines = (line : ScriptLine) × (name : Bytes) × (place : Bytes) × Has lines line × (line.item ≡ items.Restore name place)
 
 -- The container tells its image, which is kept, and it is sure to serve 2^62 calls; the sources are quiet, and each shard for which
--- the lines ask is there; the targets are quiet, if some line asks for a restore; and no line asks for a failover.
+-- the lines ask is there; and the targets are quiet, if some line asks for a restore.
 pub record IsQuietFor (telling : Telling) (before : Look) (lines : List ScriptLine) : Type 0 where
   pub sure : 2 ^ 62 ≤ before.sure
   pub shelf : List Shelved
@@ -39,7 +38,6 @@ pub record IsQuietFor (telling : Telling) (before : Look) (lines : List ScriptLi
   pub sources : telling.is_quiet ≡ true
   pub there : AreThere telling lines
   pub targets : AsksRestore lines → telling.targets_quiet ≡ true
-  pub known : AreKnown lines
 
 -- a number was spent: a step was refused for that, or 2 ^ 33 entries were made
 abbrev pub HasSpent : List Entry → Type 0

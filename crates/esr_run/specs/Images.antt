@@ -7,8 +7,9 @@ use Rattle.esr_model.specs.Kept.{Kept}
 use Rattle.esr_core.specs.World.{World, Ticket}
 use Rattle.esr_core.specs.Entry.{Entry, SettlePruned, SettleStep, PruneStep, WasSettled, Moment}
 use Rattle.esr_core.specs.History.{AllKnown, TellsHandedOut, AreHonest, committed}
-use Rattle.esr_law.specs.Digests.{HonestUploads}
 use Rattle.esr_core.specs.Left.{safe_in}
+use Rattle.esr_core.specs.Sources.{HonestUploads, AreOfSources}
+use Rattle.esr_law.specs.Digests.{IsWholeByDigests}
 use Rattle.esr_depot.specs.Image.{Image as Held}
 use Rattle.esr_depot.specs.Look.{Look, now}
 use Rattle.esr_desk.specs.Start.{Start, formats_of, world_of}
@@ -42,11 +43,20 @@ pub record HonestWork (f : Formats) (world : World) (log : List Moment) : Type 0
 abbrev pub StaysKept : Formats → Look → Look → Type 0
 StaysKept f before after = (shelf : List Shelved) → Holds f before shelf → (i : Held) → after.since before.clock i → Kept f (image_of i) shelf
 
--- each image since the entry is kept for the shelf of the entry with the commands that count in that image
+-- each image since the entry is kept for the shelf of the entry with the commands that count in that image; a snapshot among these
+-- has the files as they are stored
 abbrev pub EveryImageKept : Formats → World → List Moment → Look → Look → Type 0
 EveryImageKept f world log before after =
-    (shelf : List Shelved) → Holds f before shelf → TellsWork f world log → (i : Held) → after.since before.clock i
+    (shelf : List Shelved) → Holds f before shelf → (i : Held) → after.since before.clock i
     → Kept f (image_of i) (shelf_after shelf (committed f (safe_in f (image_of i)) world log))
+
+-- the safe root of each image since the entry is whole by its digests
+abbrev pub EveryImageWhole : Formats → Look → Look → Type 0
+EveryImageWhole f before after = (shelf : List Shelved) → Holds f before shelf → (i : Held) → after.since before.clock i → IsWholeByDigests f (image_of i)
+
+-- each finalization that was given makes a snapshot of the files that the sources tell
+abbrev pub SnapshotsOfSources : Formats → World → List Moment → Look → Type 0
+SnapshotsOfSources f world log before = (shelf : List Shelved) → Holds f before shelf → TellsWork f world log → AreOfSources f world log
 
 -- in this world the entry is a settle that was answered, of a finalization's or a delete's ticket that had raised that root
 pub record Settles (world : World) (e : Entry) (n : ℕ) : Type 0 where

@@ -9,7 +9,8 @@ use Rattle.esr_core.specs.World.{World, Ticket, image_of, record_of, opened, Ope
 use Rattle.esr_core.specs.Entry.{Asked, Read, AskStep, TakeStep, ElectStep, LookStep, ReadStep, Refusal, Refused, Given, Gave, Moment, SettleStep, SettlePruned, PruneStep, WasSettled}
 use Rattle.esr_core.specs.After.{after}
 use Rattle.esr_core.specs.History.{world_from, IsLegal, TellsHandedOut, AreTold, committed}
-use Rattle.esr_law.specs.Digests.{HonestUploads, AskNoSnapshot, AreClones}
+use Rattle.esr_core.specs.Sources.{HonestUploads, AreOfSources}
+use Rattle.esr_law.specs.Digests.{AskNoSnapshot, AreClones, IsWholeByDigests}
 use Rattle.esr_core.specs.Ids.{Law}
 use Rattle.esr_core.specs.Allowed.{Allowed}
 use Rattle.esr_core.specs.Causes.{TakeGave}
@@ -30,12 +31,11 @@ use Rattle.esr_quiet.specs.Numbers.{HasNoTickets}
 use Rattle.esr_quiet.specs.OverKept.{OverKept}
 use Rattle.esr_quiet.specs.Undamaged.{NoUnitFindsDamage, NoRestoreFindsDamage, NoDeleteFindsDamage, NoCheckFindsDamage}
 use Rattle.esr_quiet.specs.Untaken.{NoneTaken}
-use Rattle.esr_quiet.specs.Asked.{asked_steps}
 use Rattle.esr_quiet.specs.Smooth.{IsSmooth, NoneFailed, NoneUndeleted, NoneUnrestored, NoneUnverified, NoneAsked}
 use Rattle.esr_quiet.specs.Refusals.{AreByRule}
-use Rattle.esr_complete.specs.Lines.{steps_of, AreKnown, entries_of}
-use Rattle.esr_complete.specs.InTurn.{IsInTurn, AreChecksInTurn}
-use Rattle.esr_complete.specs.Answers.{IsIdle, AreAnswered, EndsWell}
+use Rattle.esr_complete.specs.Lines.{entries_of}
+use Rattle.esr_complete.specs.Answers.{AreAnswered, EndsWell}
+use Rattle.esr_complete.specs.FaultFree.{IsFaultFreeRun}
 use Rattle.esr_run.specs.Tidy.{TidyLaws}
 use Rattle.esr_run.specs.Cleaned.{CleanedLaw}
 
@@ -44,9 +44,13 @@ pub record Laws : Type 0 where
   pub lawful : (f : Formats) (image : Image) (shelf : List Shelved) (w : World) → Kept f image shelf → Opened f image w → Law f w shelf
   pub kept : (f : Formats) (w : World) (shelf : List Shelved) → Law f w shelf → ReadsBack f.cluster (record_of w) → Kept f (image_of f w) shelf
   pub one_shelf : (f : Formats) (image : Image) (a b : List Shelved) → Kept f image a → Kept f image b → a ≡ b
-  pub left : (f : Formats) (part_size : ℕ) (image : Image) (shelf : List Shelved) (w : World) (log : List Moment) (i : Image) → TellsHandedOut f w log → Kept f image shelf → Opened f image w → ReadsBack f.cluster (record_of w) → IsLegal f part_size w log
-      → AreTold log → HonestUploads f w log → Leaves f part_size w log i → Kept f i (shelf_after shelf (committed f (safe_in f i) w log))
-  pub stays : (f : Formats) (part_size : ℕ) (w : World) (before rest : List Moment) (m : Moment) (t : Ticket) (n : ℕ) (i : Image) → Tracked w → Ranked w → IsLegal f part_size w (before ++ m ∷ rest) → (m.entry.step ≡ SettleStep) ⊎ (m.entry.step ≡ PruneStep SettlePruned)
+  pub left : (f : Formats) (part_size : ℕ) (image : Image) (shelf : List Shelved) (w : World) (log : List Moment) (i : Image) → Kept f image shelf → Opened f image w → ReadsBack f.cluster (record_of w)
+      → IsLegal f part_size w log → AreTold log → Leaves f part_size w log i → Kept f i (shelf_after shelf (committed f (safe_in f i) w log))
+  pub whole : (f : Formats) (image : Image) (shelf : List Shelved) → Kept f image shelf → IsWholeByDigests f image
+  pub sourced : (f : Formats) (part_size : ℕ) (image : Image) (shelf : List Shelved) (w : World) (log : List Moment) → TellsHandedOut f w log → HonestUploads f w log → Kept f image shelf → Opened f image w
+      → IsLegal f part_size w log → AreTold log → AreOfSources f w log
+  pub stays : (f : Formats) (part_size : ℕ) (w : World) (before rest : List Moment) (m : Moment) (t : Ticket) (n : ℕ) (i : Image) → Tracked w → Ranked w → IsLegal f part_size w (before ++ m ∷ rest)
+      → (m.entry.step ≡ SettleStep) ⊎ (m.entry.step ≡ PruneStep SettlePruned)
       → m.entry.reply ≡ WasSettled → fin.get (world_from f w before).tickets m.entry.who ≡ Some t → t.raised ≡ Some n → Leaves f part_size (after f (world_from f w before) m) rest i → suc n ≤ safe_in f i
   pub tidy : TidyLaws
   pub cleaned : CleanedLaw
@@ -77,22 +81,20 @@ pub record Refusals : Type 0 where
 pub record KeptLaws (S F H T : Type 0) : Type 0 where
   pub units : (e : Evidence S F H T) (s : Start) (log : List Moment) (faults : List (Fault S F H T)) → OverKept s log → AreCaused hands.Unit e s log faults → NoUnitFindsDamage log
   pub restores : (e : Evidence S F H T) (s : Start) (log : List Moment) (faults : List (Fault S F H T)) → OverKept s log → AreCaused hands.Restore e s log faults → NoRestoreFindsDamage log
-  pub deletes : (e : Evidence S F H T) (s : Start) (log : List Moment) (faults : List (Fault S F H T)) → OverKept s log → AreCaused hands.Delete e s log faults → NoDeleteFindsDamage log
+  pub deletes : (e : Evidence S F H T) (s : Start) (log : List Moment) (faults : List (Fault S F H T)) → OverKept s log → AreCaused hands.Delete e s log faults → NoDeleteFindsDamage s log
   pub checks : (e : Evidence S F H T) (s : Start) (log : List Moment) (faults : List (Fault S F H T)) → OverKept s log → AreCaused hands.Check e s log faults → NoCheckFindsDamage log
   pub names : (s : Start) (log : List Moment) → OverKept s log → NoneTwice log → NoneTaken log
 
 -- the laws of histories in which nothing fails
 pub record QuietLaws (S F H T : Type 0) : Type 0 where
   pub fails : (e : Evidence S F H T) (s : Start) (log : List Moment) (faults : List (Fault S F H T)) → IsSmooth s log → AreCaused hands.Unit e s log faults → NoneFailed log
-  pub deletes : (e : Evidence S F H T) (s : Start) (log : List Moment) (faults : List (Fault S F H T)) → IsSmooth s log → AreCaused hands.Delete e s log faults → NoneUndeleted log
+  pub deletes : (e : Evidence S F H T) (s : Start) (log : List Moment) (faults : List (Fault S F H T)) → IsSmooth s log → AreCaused hands.Delete e s log faults → NoneUndeleted s log
   pub restores : (e : Evidence S F H T) (s : Start) (log : List Moment) (faults : List (Fault S F H T)) → IsSmooth s log → s.sure_targets ≡ true → AreCaused hands.Restore e s log faults → NoneUnrestored log
   pub unasked : (s : Start) (log : List Moment) → IsSmooth s log → NoneAsked log → NoneUnrestored log
   pub verifies : (e : Evidence S F H T) (s : Start) (log : List Moment) (faults : List (Fault S F H T)) → IsSmooth s log → AreCaused hands.Check e s log faults → NoneUnverified log
-  pub rules : (s : Start) (log : List Moment) → IsSmooth s log → NoneFailed log → AreByRule log
-  pub answered : (s : Start) (log : List Moment) (lines : List ScriptLine) (moment : ℕ) → IsSmooth s log → NoneFailed log → NoneUndeleted log → NoneUnrestored log → NoneUnverified log → AreChecksInTurn moment lines log → AreByRule log → IsInTurn s log → IsIdle s log → AreKnown lines → asked_steps log ≡ steps_of moment lines
-      → AreAnswered lines (replies lines (entries_of log))
-  pub ends : (s : Start) (log : List Moment) (lines : List ScriptLine) (moment : ℕ) → IsSmooth s log → NoneFailed log → NoneUndeleted log → NoneUnrestored log → NoneUnverified log → AreChecksInTurn moment lines log → AreByRule log → IsInTurn s log → IsIdle s log → AreKnown lines → asked_steps log ≡ steps_of moment lines
-      → EndsWell lines (entries_of log)
+  pub rules : (s : Start) (log : List Moment) → IsSmooth s log → NoneFailed log → AreByRule s log
+  pub answered : (s : Start) (log : List Moment) (lines : List ScriptLine) (moment : ℕ) → IsFaultFreeRun s log lines moment → AreAnswered lines (replies lines (entries_of log))
+  pub ends : (s : Start) (log : List Moment) (lines : List ScriptLine) (moment : ℕ) → IsFaultFreeRun s log lines moment → EndsWell lines (entries_of log)
   -- a unit is given by a take, and the work of units leaves verifications
   pub gave : (f : Formats) (part_size : ℕ) (w : World) (m : Moment) (k o : ℕ) (unit : Given) → Allowed f part_size w m → m.entry.reply ≡ Gave k o unit → TakeGave f w m.entry.who m.entry.step k o unit
   pub leaves : WorkLeaves

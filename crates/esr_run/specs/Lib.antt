@@ -13,6 +13,7 @@ pub mod Complete
 pub mod Undamaged
 pub mod Checked
 pub mod Verified
+pub mod Lines
 pub mod Waits
 pub mod Laws
 pub mod Causes

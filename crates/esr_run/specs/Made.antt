@@ -15,12 +15,12 @@ use Rattle.esr_desk.specs.Own.{caller_of}
 use Rattle.esr_quiet.specs.Asked.{GrewAsking}
 use Rattle.esr_drive.specs.Stopped.{WasStopped}
 use Rattle.esr_drive.specs.Elections.{AllOfWait, WaitsOnly, elections}
-use Rattle.esr_complete.specs.Lines.{steps_of_item, steps_of}
+use Rattle.esr_complete.specs.Lines.{steps_of_item, steps_of, failovers_of}
 use Rattle.esr_complete.specs.Answers.{NoReaderOut, IsIdle}
 use Rattle.esr_verify.specs.Idle as verify
 use Rattle.esr_verify.specs.Began.{HasBegun}
 use Rattle.esr_check.specs.Began.{HasEndedCheck}
-use Rattle.esr_run.specs.Waits.{failovers_of, owed_after, owed_then, LineElected}
+use Rattle.esr_run.specs.Waits.{owed_after, owed_then, LineElected}
 
 -- the first of these steps were asked
 pub record MadeFirst (s : Start) (wanted : List Step) (old new : List Moment) : Type 0 where

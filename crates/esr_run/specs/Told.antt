@@ -10,7 +10,7 @@ use Rattle.esr_core.specs.Left.{safe_in}
 use Rattle.esr_depot.specs.Image.{Image as Held}
 use Rattle.esr_depot.specs.Look.{Look, now}
 use Rattle.esr_repo.specs.Log.{image_of, log_of}
-use Rattle.esr_run.specs.Images.{Holds, TellsWork}
+use Rattle.esr_run.specs.Images.{Holds}
 
 -- each step of the history, counted from this clock on, has the image that it left, and the end of the run has its own
 pub record AllTold (clock : ℕ) (history : List Entry) (after : Look) : Type 0 where
@@ -24,4 +24,4 @@ StaysTold before clock history after = is_some (now before) ≡ true → AllTold
 -- the image at the end is kept for the shelf of the entry with the commands that count in it: so a run may begin with it
 abbrev pub EndKept : Formats → World → List Moment → Look → Look → Type 0
 EndKept f world log before after =
-    (shelf : List Shelved) → Holds f before shelf → TellsWork f world log → (i : Held) → now after ≡ Some i → Kept f (image_of i) (shelf_after shelf (committed f (safe_in f (image_of i)) world log))
+    (shelf : List Shelved) → Holds f before shelf → (i : Held) → now after ≡ Some i → Kept f (image_of i) (shelf_after shelf (committed f (safe_in f (image_of i)) world log))

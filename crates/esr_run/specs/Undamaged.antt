@@ -5,19 +5,20 @@ use Rattle.esr_model.specs.Shelf.{Shelved}
 use Rattle.esr_core.specs.World.{World}
 use Rattle.esr_core.specs.Entry.{Moment}
 use Rattle.esr_depot.specs.Look.{Look}
+use Rattle.esr_desk.specs.Start.{Start}
 use Rattle.esr_quiet.specs.Undamaged.{NoUnitFindsDamage, NoRestoreFindsDamage, NoDeleteFindsDamage, NoCheckFindsDamage}
 use Rattle.esr_quiet.specs.Untaken.{NoneTaken}
 use Rattle.esr_run.specs.Images.{Holds, HonestWork}
 
--- No unit of a snapshot or of a clone, no shard of a restore, no delete before an election and no check failed for damage, and no commit
--- of a ticket was refused since its name was taken.
-pub record FindsNoDamage (log : List Moment) : Type 0 where
+-- No unit of a snapshot or of a clone, no shard of a restore, no delete or cleanup whose ticket isn't stale and no check failed for damage,
+-- and no commit of a ticket was refused since its name was taken.
+pub record FindsNoDamage (s : Start) (log : List Moment) : Type 0 where
   pub units : NoUnitFindsDamage log
   pub restores : NoRestoreFindsDamage log
-  pub deletes : NoDeleteFindsDamage log
+  pub deletes : NoDeleteFindsDamage s log
   pub checks : NoCheckFindsDamage log
   pub names : NoneTaken log
 
 -- no damage is found over a kept container that tells, with honest sources, whatever calls fail
-abbrev pub StaysUndamaged : Formats → World → List Moment → Look → Type 0
-StaysUndamaged f world log before = (shelf : List Shelved) → Holds f before shelf → HonestWork f world log → FindsNoDamage log
+abbrev pub StaysUndamaged : Start → Formats → World → List Moment → Look → Type 0
+StaysUndamaged s f world log before = (shelf : List Shelved) → Holds f before shelf → HonestWork f world log → FindsNoDamage s log

@@ -1,4 +1,4 @@
--- How often the lines of a script let takes find no unit ready, and how many elections they ask for.
+-- How often the lines of a script let takes find no unit ready, and how many elections their waits make.
 use Rattle.std.specs.Prelude.{◌≡◌, ℕ, suc, ◌+◌, ◌≤◌, List, [], ◌∷◌, Result}
 use Rattle.esr_core.specs.Entry.{Moment}
 use Rattle.esr_script.specs.declared.item.Item.{Item}
@@ -7,6 +7,7 @@ use Rattle.esr_script.specs.declared.item.ScriptLine.{ScriptLine}
 use Rattle.esr_desk.specs.declared.refusal.StepRefusal.{StepRefusal}
 use Rattle.esr_drive.specs.Takes.{idle_takes}
 use Rattle.esr_drive.specs.Elections.{elections, HasElected}
+use Rattle.esr_complete.specs.Lines.{failovers_of}
 
 -- how many takes a line lets find no unit ready: a wait one for each worker
 abbrev pub waits_in : ℕ → Item → ℕ
@@ -16,15 +17,6 @@ waits_in workers item = 0
 abbrev pub waits_of : ℕ → List ScriptLine → ℕ
 waits_of workers [] = 0
 waits_of workers (line ∷ lines) = waits_in workers line.item + waits_of workers lines
-
--- whether a line asks for an election: 1, or 0
-abbrev pub failovers_in : Item → ℕ
-failovers_in items.Failover = 1
-failovers_in item = 0
-
-abbrev pub failovers_of : List ScriptLine → ℕ
-failovers_of [] = 0
-failovers_of (line ∷ lines) = failovers_in line.item + failovers_of lines
 
 -- how many elections the next wait makes after a line, by how many it would have made before it
 abbrev pub owed_after : Item → ℕ → ℕ

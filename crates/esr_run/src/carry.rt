@@ -1,27 +1,26 @@
 //! The lines of a script are carried out, in order.
-ghost use Rattle.std.specs.Prelude.{◌≡◌, ◌⊎◌, ◌+◌, ◌<◌, ◌≤◌, ℕ, Bool, ◌^◌, ◌∷◌, ◌++◌, [], true, false, None, IfOk, OnOk, length};
+ghost use Rattle.std.specs.Prelude.{◌≡◌, ◌⊎◌, ◌+◌, ◌<◌, ◌≤◌, ℕ, Bool, ◌^◌, ◌∷◌, [], true, false, None, IfOk, OnOk, length};
 ghost use Rattle.esr_script.specs.declared.item.Item.TheVariants.{Wait, Check, Verify};
 ghost use Rattle.esr_core.specs.Entry.{Clone, DeleteSnapshots, Restore, Cleanup, DrawTest, AskStep, LookStep, ReadStep};
 ghost use Rattle.esr_core.specs.Restores.{AreOnce};
 ghost use Rattle.esr_core.specs.Tracked.{Tracked};
-ghost use Rattle.esr_core.specs.ReadTracked.{ReadTracked};
 ghost use Rattle.esr_desk.specs.Start.{Legal};
 ghost use Rattle.esr_quiet.specs.Asked.{GrewAsking};
 ghost use Rattle.esr_quiet.specs.Numbers.{HasNoTickets};
-ghost use Rattle.esr_drive.specs.Outside.{IsOutside};
 ghost use Rattle.esr_drive.specs.Takes.{idle_takes};
 ghost use Rattle.esr_drive.specs.Elections.{WaitsOnly, elections, HasElected};
+ghost use Rattle.esr_shared.specs.Worked.{MayWait};
 ghost use Rattle.esr_report.specs.Replies.{is_wait};
 ghost use Rattle.esr_complete.specs.Answers.{IsIdle};
-ghost use Rattle.esr_complete.specs.Lines.{command_of_line, steps_of_item, steps_of};
-ghost use Rattle.esr_run.specs.Made.{MadeFirst, HasStopped, WasLeft, NoneOpen, LineSpends, AreIn, LineMade, LineRests, WaitEnds, CheckEnds, VerifyBegins, AsksOnly, AddsOnly, AreMade, AreDone};
+ghost use Rattle.esr_complete.specs.Lines.{command_of_line, steps_of_item, steps_of, failovers_of};
+ghost use Rattle.esr_run.specs.Made.{MadeFirst, HasStopped, WasLeft, NoneOpen, LineSpends, AreIn, LineMade, LineRests, WaitEnds, CheckEnds, VerifyBegins, AddsOnly, AreMade, AreDone};
+ghost use Rattle.esr_run.specs.Lines.{LineAsked};
 ghost use Rattle.esr_run.specs.Checked.{is_check, asks_check};
 ghost use Rattle.esr_run.specs.Verified.{AreWhole, MayVerify, VerifiesOn};
-ghost use Rattle.esr_run.specs.Waits.{waits_in, waits_of, failovers_of, owed_after, LineElects};
+ghost use Rattle.esr_run.specs.Waits.{waits_in, waits_of, owed_after, LineElects};
 ghost use Rattle.esr_run.specs.Script.{is_askable, is_carried, first_bad};
 
 use crate::command::command_of;
-use crate::crew::work_crew;
 use crate::law::{steps_stay, work_leaves};
 use esr_depot::Depot;
 use esr_desk::{Client, StepRefusal, UnitRefusal};
@@ -29,7 +28,7 @@ use esr_names::{IndexNames, SnapName, SnapNames};
 use esr_repo::Told;
 use esr_script::{AskedIndex, Item, ScriptLine};
 use esr_seq::Text;
-use esr_shared::{Crew, Outside};
+use esr_shared::{Crew, Outside, sit};
 use esr_solo::Solo;
 use esr_source::{Gate, Sources, Targets};
 use std::alloc::{AllocError, Global};
@@ -48,11 +47,7 @@ fn ask<Q: Client>(
     requires numbered { HasNoTickets Q.start }
     requires ops { Tracked Q.start.world }
     ensures made { LineMade Q.start (AskStep (command_of_line name.now indices.now moment) ∷ []) (Q.seen desk.old) (Q.seen desk.new) result }
-    ensures rests { Q.start.alone ≡ true → AreIn Q.start (Q.seen desk.old) → LineRests Q.start (Q.seen desk.new) result }
-    ensures spent { Q.start.alone ≡ true → LineSpends (Q.seen desk.new) result }
-    ensures takes { Q.start.alone ≡ true → idle_takes (Q.seen desk.new) ≡ idle_takes (Q.seen desk.old) }
-    ensures only { Q.start.alone ≡ true → AsksOnly (Q.seen desk.old) (Q.seen desk.new) }
-    ensures verified { (workers : ℕ) (checks : Bool) → Q.start.alone ≡ true → MayVerify Q.start workers checks (Q.seen desk.old) → VerifiesOn Q.start workers checks (Q.seen desk.new) result }
+    ensures asked { Q.start.alone ≡ true → LineAsked Q.start (Q.seen desk.old) (Q.seen desk.new) result }
 {
     steps_stay();
     let Ok(command) = command_of(alloc, name, indices, moment) else {
@@ -77,11 +72,7 @@ fn make_clone<Q: Client>(
     requires numbered { HasNoTickets Q.start }
     requires ops { Tracked Q.start.world }
     ensures made { LineMade Q.start (AskStep (Clone source.now name.now indices.now moment None) ∷ []) (Q.seen desk.old) (Q.seen desk.new) result }
-    ensures rests { Q.start.alone ≡ true → AreIn Q.start (Q.seen desk.old) → LineRests Q.start (Q.seen desk.new) result }
-    ensures spent { Q.start.alone ≡ true → LineSpends (Q.seen desk.new) result }
-    ensures takes { Q.start.alone ≡ true → idle_takes (Q.seen desk.new) ≡ idle_takes (Q.seen desk.old) }
-    ensures only { Q.start.alone ≡ true → AsksOnly (Q.seen desk.old) (Q.seen desk.new) }
-    ensures verified { (workers : ℕ) (checks : Bool) → Q.start.alone ≡ true → MayVerify Q.start workers checks (Q.seen desk.old) → VerifiesOn Q.start workers checks (Q.seen desk.new) result }
+    ensures asked { Q.start.alone ≡ true → LineAsked Q.start (Q.seen desk.old) (Q.seen desk.new) result }
 {
     steps_stay();
     if let Err(refusal) = desk.clone_snapshot(alloc, source, name, indices, moment) {
@@ -95,11 +86,7 @@ fn delete<Q: Client>(alloc: Global, desk: &mut Q, names: &SnapNames) -> Result<(
     requires numbered { HasNoTickets Q.start }
     requires ops { Tracked Q.start.world }
     ensures made { LineMade Q.start (AskStep (DeleteSnapshots names.now) ∷ []) (Q.seen desk.old) (Q.seen desk.new) result }
-    ensures rests { Q.start.alone ≡ true → AreIn Q.start (Q.seen desk.old) → LineRests Q.start (Q.seen desk.new) result }
-    ensures spent { Q.start.alone ≡ true → LineSpends (Q.seen desk.new) result }
-    ensures takes { Q.start.alone ≡ true → idle_takes (Q.seen desk.new) ≡ idle_takes (Q.seen desk.old) }
-    ensures only { Q.start.alone ≡ true → AsksOnly (Q.seen desk.old) (Q.seen desk.new) }
-    ensures verified { (workers : ℕ) (checks : Bool) → Q.start.alone ≡ true → MayVerify Q.start workers checks (Q.seen desk.old) → VerifiesOn Q.start workers checks (Q.seen desk.new) result }
+    ensures asked { Q.start.alone ≡ true → LineAsked Q.start (Q.seen desk.old) (Q.seen desk.new) result }
 {
     steps_stay();
     if let Err(refusal) = desk.delete(alloc, names) {
@@ -113,11 +100,7 @@ fn cleanup<Q: Client>(alloc: Global, desk: &mut Q) -> Result<(), StepRefusal>
     requires numbered { HasNoTickets Q.start }
     requires ops { Tracked Q.start.world }
     ensures made { LineMade Q.start (AskStep Cleanup ∷ []) (Q.seen desk.old) (Q.seen desk.new) result }
-    ensures rests { Q.start.alone ≡ true → AreIn Q.start (Q.seen desk.old) → LineRests Q.start (Q.seen desk.new) result }
-    ensures spent { Q.start.alone ≡ true → LineSpends (Q.seen desk.new) result }
-    ensures takes { Q.start.alone ≡ true → idle_takes (Q.seen desk.new) ≡ idle_takes (Q.seen desk.old) }
-    ensures only { Q.start.alone ≡ true → AsksOnly (Q.seen desk.old) (Q.seen desk.new) }
-    ensures verified { (workers : ℕ) (checks : Bool) → Q.start.alone ≡ true → MayVerify Q.start workers checks (Q.seen desk.old) → VerifiesOn Q.start workers checks (Q.seen desk.new) result }
+    ensures asked { Q.start.alone ≡ true → LineAsked Q.start (Q.seen desk.old) (Q.seen desk.new) result }
 {
     steps_stay();
     if let Err(refusal) = desk.cleanup(alloc) {
@@ -136,11 +119,7 @@ fn restore<Q: Client>(
     requires numbered { HasNoTickets Q.start }
     requires ops { Tracked Q.start.world }
     ensures made { LineMade Q.start (AskStep (Restore name.now place.now) ∷ []) (Q.seen desk.old) (Q.seen desk.new) result }
-    ensures rests { Q.start.alone ≡ true → AreIn Q.start (Q.seen desk.old) → LineRests Q.start (Q.seen desk.new) result }
-    ensures spent { Q.start.alone ≡ true → LineSpends (Q.seen desk.new) result }
-    ensures takes { Q.start.alone ≡ true → idle_takes (Q.seen desk.new) ≡ idle_takes (Q.seen desk.old) }
-    ensures only { Q.start.alone ≡ true → AsksOnly (Q.seen desk.old) (Q.seen desk.new) }
-    ensures verified { (workers : ℕ) (checks : Bool) → Q.start.alone ≡ true → MayVerify Q.start workers checks (Q.seen desk.old) → VerifiesOn Q.start workers checks (Q.seen desk.new) result }
+    ensures asked { Q.start.alone ≡ true → LineAsked Q.start (Q.seen desk.old) (Q.seen desk.new) result }
 {
     steps_stay();
     if let Err(refusal) = desk.restore(alloc, name, place) {
@@ -154,11 +133,7 @@ fn list<Q: Client>(alloc: Global, desk: &mut Q) -> Result<(), StepRefusal>
     requires numbered { HasNoTickets Q.start }
     requires ops { Tracked Q.start.world }
     ensures made { LineMade Q.start (LookStep ∷ []) (Q.seen desk.old) (Q.seen desk.new) result }
-    ensures rests { Q.start.alone ≡ true → AreIn Q.start (Q.seen desk.old) → LineRests Q.start (Q.seen desk.new) result }
-    ensures spent { Q.start.alone ≡ true → LineSpends (Q.seen desk.new) result }
-    ensures takes { Q.start.alone ≡ true → idle_takes (Q.seen desk.new) ≡ idle_takes (Q.seen desk.old) }
-    ensures only { Q.start.alone ≡ true → AsksOnly (Q.seen desk.old) (Q.seen desk.new) }
-    ensures verified { (workers : ℕ) (checks : Bool) → Q.start.alone ≡ true → MayVerify Q.start workers checks (Q.seen desk.old) → VerifiesOn Q.start workers checks (Q.seen desk.new) result }
+    ensures asked { Q.start.alone ≡ true → LineAsked Q.start (Q.seen desk.old) (Q.seen desk.new) result }
 {
     steps_stay();
     if let Err(refusal) = desk.look(alloc) {
@@ -279,13 +254,8 @@ fn wait<
 where
     D::Stage: Send,
     D::Fetch: Send,
-    requires alone { K.start.alone ≡ true }
-    requires some { 0 < crew.workers }
-    requires few { crew.workers ≤ 64 }
+    requires waits { MayWait K.start (S.told outside.now.sources.now) (T.told outside.now.targets.now) outside.now.part_size crew.workers }
     requires legal { Legal K.start desk }
-    requires outside { IsOutside K.start (S.told outside.now.sources.now) (T.told outside.now.targets.now) outside.now.part_size }
-    requires tracked { ReadTracked K.start.world }
-    requires ops { Tracked K.start.world }
     ensures made { LineMade K.start [] desk result.0 result.1 }
     ensures rests { AreIn K.start desk → LineRests K.start result.0 result.1 }
     ensures spent { LineSpends result.0 result.1 }
@@ -298,7 +268,7 @@ where
     ensures only { WaitsOnly desk result.0 }
 {
     work_leaves();
-    work_crew(rt, alloc, desk, outside, crew)
+    sit(rt, alloc, desk, outside, crew)
 }
 
 fn is_wait(item: &Item) -> bool
@@ -328,15 +298,10 @@ where
     D::Stage: Send,
     D::Fetch: Send,
     requires carried { is_carried item.now ≡ true }
-    requires alone { K.start.alone ≡ true }
-    requires some { 0 < crew.workers }
-    requires few { crew.workers ≤ 64 }
+    requires waits { MayWait K.start (S.told outside.now.sources.now) (T.told outside.now.targets.now) outside.now.part_size crew.workers }
     requires idle { NoneOpen K.start desk }
     requires legal { Legal K.start desk }
-    requires outside { IsOutside K.start (S.told outside.now.sources.now) (T.told outside.now.targets.now) outside.now.part_size }
     requires numbered { HasNoTickets K.start }
-    requires tracked { ReadTracked K.start.world }
-    requires ops { Tracked K.start.world }
     ensures made { LineMade K.start (steps_of_item moment item.now) desk result.0 result.1 }
     ensures rests { AreIn K.start desk → LineRests K.start result.0 result.1 }
     ensures spent { LineSpends result.0 result.1 }
@@ -395,14 +360,9 @@ where
     D::Stage: Send,
     D::Fetch: Send,
     requires carried { first_bad lines.now ≡ None }
-    requires alone { K.start.alone ≡ true }
-    requires some { 0 < workers }
-    requires few { workers ≤ 64 }
+    requires waits { MayWait K.start (S.told outside.now.sources.now) (T.told outside.now.targets.now) outside.now.part_size workers }
     requires may { MayVerify K.start workers (asks_check lines.now) desk }
-    requires outside { IsOutside K.start (S.told outside.now.sources.now) (T.told outside.now.targets.now) outside.now.part_size }
     requires numbered { HasNoTickets K.start }
-    requires tracked { ReadTracked K.start.world }
-    requires ops { Tracked K.start.world }
     ensures made { MadeFirst K.start (steps_of moment lines.now) desk result.0 }
     ensures rests { IfOk result.1 (λ owed. AreIn K.start desk → AreMade K.start moment owed lines.now desk result.0 ⊎ WasLeft K.start moment owed lines.now desk result.0) }
     ensures whole { AreWhole K.start workers (asks_check lines.now) result.0 }
@@ -453,13 +413,8 @@ fn work_out<
 where
     D::Stage: Send,
     D::Fetch: Send,
-    requires alone { K.start.alone ≡ true }
-    requires some { 0 < crew.workers }
-    requires few { crew.workers ≤ 64 }
+    requires waits { MayWait K.start (S.told outside.now.sources.now) (T.told outside.now.targets.now) outside.now.part_size crew.workers }
     requires legal { Legal K.start desk }
-    requires outside { IsOutside K.start (S.told outside.now.sources.now) (T.told outside.now.targets.now) outside.now.part_size }
-    requires tracked { ReadTracked K.start.world }
-    requires ops { Tracked K.start.world }
     ensures grew { GrewAsking K.start [] desk result.0 }
     ensures done { OnOk result.1 (AreIn K.start desk → IsIdle K.start result.0 ⊎ HasStopped result.0) }
     ensures whole { (workers : ℕ) (checks : Bool) → AreWhole K.start workers checks desk → AreWhole K.start workers checks result.0 }
@@ -501,14 +456,9 @@ where
     D::Stage: Send,
     D::Fetch: Send,
     requires carried { first_bad lines.now ≡ None }
-    requires alone { K.start.alone ≡ true }
-    requires some { 0 < workers }
-    requires few { workers ≤ 64 }
+    requires waits { MayWait K.start (S.told outside.now.sources.now) (T.told outside.now.targets.now) outside.now.part_size workers }
     requires may { MayVerify K.start workers (asks_check lines.now) desk }
-    requires outside { IsOutside K.start (S.told outside.now.sources.now) (T.told outside.now.targets.now) outside.now.part_size }
     requires numbered { HasNoTickets K.start }
-    requires tracked { ReadTracked K.start.world }
-    requires ops { Tracked K.start.world }
     ensures made { MadeFirst K.start (steps_of moment lines.now) desk result.0 }
     ensures done { OnOk result.1 (AreIn K.start desk → AreDone K.start moment lines.now desk result.0 ⊎ WasLeft K.start moment 0 lines.now desk result.0) }
     ensures whole { AreWhole K.start workers (asks_check lines.now) result.0 }

@@ -4,7 +4,6 @@
 mod asked;
 mod carry;
 mod command;
-mod crew;
 mod ended;
 mod fault;
 mod law;

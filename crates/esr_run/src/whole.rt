@@ -2,6 +2,7 @@
 ghost use Rattle.std.specs.Prelude.{◌≡◌, ◌⊎◌, ◌<◌, ◌≤◌, ◌^◌, ℕ, true, false, [], Some, None, OnOk, IfOk, IsErr, vec_len, vec_capacity};
 ghost use Rattle.esr_model.specs.Places.{sorted_by};
 ghost use Rattle.esr_drive.specs.Outside.{IsOutside};
+ghost use Rattle.esr_shared.specs.Worked.{MayWait};
 ghost use Rattle.esr_desk.specs.Evidence.{evidence};
 ghost use Rattle.esr_desk.specs.Restore.Targets.{AreTargetsOf};
 ghost use Rattle.esr_desk.specs.Shown.{AreShown};
@@ -12,8 +13,6 @@ ghost use Rattle.esr_run.specs.Restored.{OpensRestored, HasRestored};
 ghost use Rattle.esr_repo.specs.Begun.{IsBegun};
 ghost use Rattle.esr_desk.specs.Once.{AreOnce, NoneTwice, AreRemovedOnce};
 ghost use Rattle.esr_desk.specs.Verify.Tested.{AreTested};
-ghost use Rattle.esr_core.specs.Tracked.{Tracked};
-ghost use Rattle.esr_core.specs.ReadTracked.{ReadTracked};
 ghost use Rattle.esr_quiet.specs.Numbers.{HasNoTickets};
 ghost use Rattle.esr_complete.specs.Lines.{steps_of};
 ghost use Rattle.esr_repo.specs.Calm.{IsCalm};
@@ -128,14 +127,10 @@ where
     D::Stage: Send,
     D::Fetch: Send,
     requires fresh { repo ≡ [] }
-    requires outside { IsOutside K.start (S.told sources.now) (T.told targets.now) asked.now.part_size }
+    requires waits { MayWait K.start (S.told sources.now) (T.told targets.now) asked.now.part_size asked.now.workers }
     requires good { first_bad asked.now.script ≡ None }
     requires numbered { HasNoTickets K.start }
     requires readers { HasNoReaders K.start }
-    requires tracked { ReadTracked K.start.world }
-    requires ops { Tracked K.start.world }
-    requires alone { K.start.alone ≡ true }
-    requires workers { (1 ≤ asked.now.workers) × (asked.now.workers ≤ 64) }
     requires nobody { K.start.world.caller ≡ no_caller }
     requires alive { K.start.world.deposed ≡ false }
     ensures shown { AreShown (evidence D.Stage.faults D.Fetch.faults S.Shard.faults T.Target.faults S.Shard.told T.Target.told) K.start result.repo result.faults }

@@ -184,22 +184,6 @@ waited_off given read s old mid new workers elects answer alone h grew only take
   stopped = err_by (IsStopped s new) (StoppedIn s new) answer (λ e was. stopped_in s new e was) stopped;
 }
 
--- there was no memory for a lock
-pub waited_alone : (s : Start) (old was new : List Moment) (workers elects : ℕ) (answer : Answer) → was ≡ old → 1 ≤ workers → GrewAsking s [] was new → WaitsOnly was new → idle_takes new ≤ idle_takes was + 1 → HasElected elects was new answer
-    → OnOk answer (NoneOut s was → NoReaderOut s was → NoneOut s new) → OnOk answer (NoneOut s was → NoReaderOut s was → NoReaderOut s new)
-    → OnOk answer (AnyReady (world_of s new) → ⊥) → IfErr answer (StoppedIn s new) → HasWaited s old new workers elects answer
-waited_alone s old was new workers elects answer is some grew only takes elected rest readers ready stopped =
-    subst (λ (l : List Moment). HasWaited s l new workers elects answer) is (record {
-      grew = grew;
-      only = only;
-      takes = omega (arith, some, takes);
-      elected = elected;
-      rest = rest;
-      readers = readers;
-      ready = ready;
-      stopped = stopped;
-    })
-
 -- the desk came back with all entries
 pub sat_by : (s : Start) (before : List Moment) (lock : LockId) (first last : Seen) (new : List Moment) (workers elects : ℕ) (answer : Answer) → IsBack s before lock first last workers elects answer → new ≡ before ++ last.seen → last.mine ≡ places_from 0 last.seen
     → HasSat s before new workers elects answer

@@ -101,6 +101,13 @@ pub record IsWorkable (s : Start) (sources : SourcesTold) (targets : TargetsTold
   pub tracked : ReadTracked s.world
   pub ops : Tracked s.world
 
+-- A wait may begin: nobody else steps at the desk, there are one to 64 workers, and they are to work on what the start tells.
+pub record MayWait (s : Start) (sources : SourcesTold) (targets : TargetsTold) (part_size workers : ℕ) : Type 0 where
+  pub alone : s.alone ≡ true
+  pub some : 1 ≤ workers
+  pub few : workers ≤ 64
+  pub workable : IsWorkable s sources targets part_size
+
 -- a pass of the lock that has neither stepped nor used a turn, with at least so many turns
 pub record IsNewPass (s : Start) (before : List Moment) (lock : LockId) (least : ℕ) (p : Seen) : Type 0 where
   pub own : p.lock ≡ lock

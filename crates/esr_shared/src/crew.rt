@@ -1,18 +1,7 @@
 //! A sitting: the desk of one thread goes into a lock, workers do its units, and it comes back.
-ghost use Rattle.std.specs.Prelude.{◌≡◌, ◌+◌, ◌≤◌, ◌^◌, ◌++◌, true, [], IfErr, OnOk};
+ghost use Rattle.std.specs.Prelude.{◌≡◌, ◌+◌, ◌≤◌, ◌^◌, ◌++◌};
 ghost use Rattle.esr_turns.specs.Places.{places_from};
-ghost use Rattle.esr_core.specs.Ready.{AnyReady};
-ghost use Rattle.esr_core.specs.Tracked.{Tracked};
-ghost use Rattle.esr_core.specs.ReadTracked.{ReadTracked};
-ghost use Rattle.esr_desk.specs.Grew.{NoneOut};
-ghost use Rattle.esr_desk.specs.Start.{world_of};
-ghost use Rattle.esr_quiet.specs.Asked.{GrewAsking};
-ghost use Rattle.esr_drive.specs.Elections.{HasElected, WaitsOnly};
-ghost use Rattle.esr_drive.specs.Outside.{IsOutside};
-ghost use Rattle.esr_drive.specs.Over.{NoReaderOut};
-ghost use Rattle.esr_drive.specs.Stopped.{StoppedIn};
-ghost use Rattle.esr_drive.specs.Takes.{idle_takes};
-ghost use Rattle.esr_shared.specs.Worked.{IsWorkable, IsNewPass, HasSat, HasWaited};
+ghost use Rattle.esr_shared.specs.Worked.{IsWorkable, IsNewPass, MayWait, HasSat, HasWaited};
 
 use crate::workers::drive_and_elect;
 use crate::{Crew, Outside, Since, Sitting};
@@ -74,6 +63,30 @@ where
     (close(lock, pass), answer)
 }
 
+/// Works alone: the elections come first, and then all units, one after another.
+fn work_one<D: Depot, K: Told, S: Sources, T: Targets, G: Gate>(
+    alloc: Global,
+    desk: Solo<D, K, S::Shard, T::Target>,
+    outside: &Outside<'_, S, T, G>,
+    crew: Crew,
+) -> (Solo<D, K, S::Shard, T::Target>, Result<(), StepRefusal>)
+    requires { MayWait K.start (S.told outside.now.sources.now) (T.told outside.now.targets.now) outside.now.part_size crew.workers }
+    ensures { HasWaited K.start desk result.0 crew.workers crew.elections result.1 }
+{
+    desk.is_legal();
+    let mut desk = desk;
+    let answer = work_alone(
+        alloc,
+        &mut desk,
+        outside.sources,
+        outside.targets,
+        outside.gate,
+        outside.part_size,
+        crew.elections,
+    );
+    (desk, answer)
+}
+
 /// Works with the crew at a lock round the desk, where there is memory for it, and else alone.
 fn sit_told<
     D: Depot + Send,
@@ -94,10 +107,7 @@ where
     D::Stage: Send,
     D::Fetch: Send,
     requires picked { B.before ≡ desk }
-    requires alone { K.start.alone ≡ true }
-    requires some { 1 ≤ crew.workers }
-    requires few { crew.workers ≤ 64 }
-    requires workable { IsWorkable K.start (S.told outside.now.sources.now) (T.told outside.now.targets.now) outside.now.part_size }
+    requires waits { MayWait K.start (S.told outside.now.sources.now) (T.told outside.now.targets.now) outside.now.part_size crew.workers }
     ensures { HasWaited K.start desk result.0 crew.workers crew.elections result.1 }
 {
     ended_tickets_stay();
@@ -122,24 +132,14 @@ where
             }
         }
         Err(sitting) => {
-            let mut desk = sitting.into_desk();
-            desk.is_legal();
-            let answer = work_alone(
-                alloc,
-                &mut desk,
-                outside.sources,
-                outside.targets,
-                outside.gate,
-                outside.part_size,
-                crew.elections,
-            );
-            (desk, answer)
+            let desk = sitting.into_desk();
+            work_one(alloc, desk, outside, crew)
         }
     }
 }
 
 /// Does the units of the desk with a crew, until none is ready: its workers each in a thread of its own, beside a thread that elects
-/// so often. Where there is no memory for that, the elections come first, and then all units, one after another.
+/// so often. Of one worker, and where there is no memory for that, the elections come first, and then all units, one after another.
 pub fn sit<
     D: Depot + Send,
     K: Told + Send + Sync,
@@ -157,20 +157,11 @@ pub fn sit<
 where
     D::Stage: Send,
     D::Fetch: Send,
-    requires alone { K.start.alone ≡ true }
-    requires some { 1 ≤ crew.workers }
-    requires few { crew.workers ≤ 64 }
-    requires outside { IsOutside K.start (S.told outside.now.sources.now) (T.told outside.now.targets.now) outside.now.part_size }
-    requires tracked { ReadTracked K.start.world }
-    requires ops { Tracked K.start.world }
-    ensures grew { GrewAsking K.start [] desk result.0 }
-    ensures only { WaitsOnly desk result.0 }
-    ensures takes { idle_takes result.0 ≤ idle_takes desk + crew.workers }
-    ensures elects { HasElected crew.elections desk result.0 result.1 }
-    ensures rest { OnOk result.1 (NoneOut K.start desk → NoReaderOut K.start desk → NoneOut K.start result.0) }
-    ensures readers { OnOk result.1 (NoneOut K.start desk → NoReaderOut K.start desk → NoReaderOut K.start result.0) }
-    ensures ready { OnOk result.1 (AnyReady (world_of K.start result.0) → ⊥) }
-    ensures stopped { IfErr result.1 (StoppedIn K.start result.0) }
+    requires { MayWait K.start (S.told outside.now.sources.now) (T.told outside.now.targets.now) outside.now.part_size crew.workers }
+    ensures { HasWaited K.start desk result.0 crew.workers crew.elections result.1 }
 {
+    if crew.workers == 1 {
+        return work_one(alloc, desk, outside, crew);
+    }
     sit_told::<D, K, S, T, G, Brand, R>(rt, alloc, desk, outside, crew)
 }

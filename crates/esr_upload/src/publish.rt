@@ -203,7 +203,10 @@ pub fn finish<Q: Desk>(
     requires files { AreBelow (ticket_of Q.start (Q.seen desk.old) ticket) outcome.now.generation.number }
     requires ahead { are_snap_files [] entries ≡ false → IsBaseAhead Q.start (Q.seen desk.old) ticket outcome.now.shard generation base.now first.number }
     requires ready { ReadsBack shard_snap_kind (shard_snap_of (record { files = entries; uuid = uuid })) → ReadsBack shard_index_kind (shard_index_of (with_snap_of base.now (record { files = entries; uuid = uuid })))
-        → CanEnd Q.start (after_writes Q.start (last_blobs outcome.now.shard outcome.now.generation (record { files = entries; uuid = uuid }) (with_snap_of base.now (record { files = entries; uuid = uuid }))) (ticket_of Q.start (Q.seen desk.old) ticket)) (result_of outcome.now) }
+        → CanEnd Q.start
+        (after_writes Q.start (last_blobs outcome.now.shard outcome.now.generation (record { files = entries; uuid = uuid }) (with_snap_of base.now (record { files = entries; uuid = uuid })))
+        (ticket_of Q.start (Q.seen desk.old) ticket))
+        (result_of outcome.now) }
     requires tells { TellsAll Q.start (Q.seen desk.old) ticket }
     ensures ok { OnOk result (HasDone Q.start (Q.seen desk.old) (Q.seen desk.new) ticket) }
     ensures trouble { IfErr result (Shown (evidence Q.Stage.faults Q.Fetch.faults Q.Shard.faults Q.Target.faults Q.Shard.told Q.Target.told) 0 (Some []) Q.start (Q.seen desk.new) ticket) }

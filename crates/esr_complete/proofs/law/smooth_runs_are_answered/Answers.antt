@@ -1,25 +1,23 @@
 use Rattle.esr_desk.specs.Start.{Start}
 use Rattle.esr_core.specs.Entry.{Moment}
 use Rattle.esr_script.specs.declared.item.ScriptLine.{ScriptLine}
-use Rattle.std.proofs.Common.{ℕ, List, ◌≡◌}
+use Rattle.std.proofs.Common.{ℕ, List}
 use Rattle.esr_report.specs.Replies.{replies}
-use Rattle.esr_quiet.specs.Asked.{asked_steps}
-use Rattle.esr_quiet.specs.Smooth.{IsSmooth, NoneFailed, NoneUndeleted, NoneUnrestored, NoneUnverified}
-use Rattle.esr_quiet.specs.Refusals.{AreByRule}
-use Rattle.esr_complete.specs.Lines.{steps_of, AreKnown, entries_of}
-use Rattle.esr_complete.specs.InTurn.{IsInTurn, AreChecksInTurn}
-use Rattle.esr_complete.specs.Answers.{IsIdle, AreAnswered}
+use Rattle.esr_complete.specs.Lines.{entries_of}
+use Rattle.esr_complete.specs.Answers.{AreAnswered}
+use Rattle.esr_complete.specs.FaultFree.{IsFaultFreeRun}
 use Rattle.esr_complete.proofs.Histories.{Laws}
 use Rattle.esr_complete.proofs.InTurn.{entries_in_turn}
-use Rattle.esr_complete.proofs.Asks.{asks_all, asks_cleanup}
+use Rattle.esr_complete.proofs.Asks.{asks_all}
 use Rattle.esr_complete.proofs.Facts.{facts}
 use Rattle.esr_complete.proofs.Walk.{answered_lines}
 use Rattle.esr_complete.proofs.Endings.{ends_well}
 use Rattle.esr_complete.proofs.law.smooth_runs_are_answered.Goals as goal
 
-answered : Laws → (s : Start) (log : List Moment) (lines : List ScriptLine) (moment : ℕ) → IsSmooth s log → NoneFailed log → NoneUndeleted log → NoneUnrestored log → NoneUnverified log → AreChecksInTurn moment lines log → AreByRule log → IsInTurn s log → IsIdle s log → AreKnown lines → asked_steps log ≡ steps_of moment lines → AreAnswered lines (replies lines (entries_of log))
-answered laws s log lines moment smooth none undeleted unrestored unverified checks by_rule in_turn idle known asked =
-    answered_lines log lines moment known (facts laws lines s log smooth none undeleted unrestored by_rule idle (asks_all s log lines moment smooth by_rule asked) (asks_cleanup s log lines moment smooth by_rule asked)) (entries_in_turn s log lines moment smooth none undeleted unverified by_rule in_turn asked checks) asked
+answered : Laws → (s : Start) (log : List Moment) (lines : List ScriptLine) (moment : ℕ) → IsFaultFreeRun s log lines moment → AreAnswered lines (replies lines (entries_of log))
+answered laws s log lines moment run =
+    answered_lines log lines moment run.elected (facts laws lines s log run.smooth run.units run.deletes run.restores run.by_rule run.idle (asks_all s log lines moment run.smooth run.units run.by_rule run.asked))
+    (entries_in_turn s log lines moment run.smooth run.units run.verifies run.by_rule run.in_turn run.asked run.checks) run.asked
 
 pub returns-clause-answered : goal.returns-clause-answered
 returns-clause-answered c =
@@ -35,7 +33,7 @@ returns-clause-answered c =
     })
 
 pub returns-clause-ends : goal.returns-clause-ends
-returns-clause-ends c = λ s log lines moment smooth none undeleted unrestored unverified checks by_rule in_turn idle known asked.
+returns-clause-ends c = λ s log lines moment run.
     let laws : Laws = record {
       lawful = c.each_history_is_lawful.ensures;
       ready = c.some_unit_is_ready.ensures;
@@ -46,4 +44,4 @@ returns-clause-ends c = λ s log lines moment smooth none undeleted unrestored u
       opened_read_tracked = c.opened_worlds_track_restores.ensures;
       tracks = c.each_history_tracks_restores.ensures;
     } in
-    ends_well lines (entries_of log) (facts laws lines s log smooth none undeleted unrestored by_rule idle (asks_all s log lines moment smooth by_rule asked) (asks_cleanup s log lines moment smooth by_rule asked)) (answered laws s log lines moment smooth none undeleted unrestored unverified checks by_rule in_turn idle known asked)
+    ends_well lines (entries_of log) (facts laws lines s log run.smooth run.units run.deletes run.restores run.by_rule run.idle (asks_all s log lines moment run.smooth run.units run.by_rule run.asked)) (answered laws s log lines moment run)

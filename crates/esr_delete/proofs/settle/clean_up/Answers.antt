@@ -67,6 +67,9 @@ end_early-requires-clause-shown g c κs within =
     subst (λ (ending : Ending g.row.Q-Stage.Denot g.row.Q-Fetch.Denot g.row.Q-Shard.Denot g.row.Q-Target.Denot). EndingShown hands.Delete e ⊥ s mid who ending) (sym c.ending_of.ensures)
     (removal_shown e s mid who c.in-Err.refusal c.refusals_are_of_their_steps.ensures (subst IsSettledPlan (sym c.remove_once.ensures.own) c.requires.over) c.in-Err.ensures.refused)
 
+pub end_early-requires-clause-cause : goal.end_early-requires-clause-cause
+end_early-requires-clause-cause g c κs within = tt
+
 pub returns-in-Err-clause-refused : goal.returns-in-Err-clause-refused
 returns-in-Err-clause-refused g c =
     given_late (evidence g.Q.Stage.Counted.faults g.Q.Fetch.Counted.faults g.Q.Shard.Counted.faults g.Q.Target.Counted.faults g.Q.Shard.Shard.told g.Q.Target.Target.told)

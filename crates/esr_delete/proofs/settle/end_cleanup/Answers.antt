@@ -51,6 +51,9 @@ end_swap-requires-clause-shown g c κs within = λ other.
     drop_shown (evidence g.Q.Stage.Counted.faults g.Q.Fetch.Counted.faults g.Q.Shard.Counted.faults g.Q.Target.Counted.faults g.Q.Shard.Shard.told g.Q.Target.Target.told)
     g.Q.Desk.start (g.Q.Desk.seen c.args.desk.now) (g.Q.Desk.seen c.end_cleanup.new.self) c.args.ticket c.in-Err.refusal c.refusals_are_of_their_steps.ensures (over_at g at other) c.in-Err.ensures.step
 
+pub end_swap-requires-clause-cause : goal.end_swap-requires-clause-cause
+end_swap-requires-clause-cause g c κs within = λ other. tt
+
 pub returns-in-Err-clause-refused : goal.returns-in-Err-clause-refused
 returns-in-Err-clause-refused g c =
     drop_refused (evidence g.Q.Stage.Counted.faults g.Q.Fetch.Counted.faults g.Q.Shard.Counted.faults g.Q.Target.Counted.faults g.Q.Shard.Shard.told g.Q.Target.Target.told)

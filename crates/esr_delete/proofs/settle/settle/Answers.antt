@@ -109,6 +109,9 @@ end_swap-requires-clause-shown g c κs within = λ other.
     prune_shown (evidence g.Q.Stage.Counted.faults g.Q.Fetch.Counted.faults g.Q.Shard.Counted.faults g.Q.Target.Counted.faults g.Q.Shard.Shard.told g.Q.Target.Target.told)
     g.Q.Desk.start (g.Q.Desk.seen c.args.desk.now) (g.Q.Desk.seen c.settle_delete.new.self) c.args.ticket SettlePruned c.in-Err.refusal may.uuids may.plan c.refusals_are_of_their_steps.ensures may.out may.work c.in-Err.ensures.step
 
+pub end_swap-requires-clause-cause : goal.end_swap-requires-clause-cause
+end_swap-requires-clause-cause g c κs within = λ other. tt
+
 pub returns-in-Err-clause-refused : goal.returns-in-Err-clause-refused
 returns-in-Err-clause-refused g c =
     settle_halted c.args.clean (evidence g.Q.Stage.Counted.faults g.Q.Fetch.Counted.faults g.Q.Shard.Counted.faults g.Q.Target.Counted.faults g.Q.Shard.Shard.told g.Q.Target.Target.told)

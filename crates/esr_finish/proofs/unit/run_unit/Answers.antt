@@ -75,8 +75,8 @@ pub end_early-requires-clause-mine : goal.end_early-requires-clause-mine
 end_early-requires-clause-mine g c κs within =
     taken_on (g.Q.Desk.calls c.args.desk.now) (g.Q.Desk.calls c.write_swap.new.desk) c.args.unit.now.ready.ticket c.write_swap.ensures.calls c.requires.mine
 
-pub end_early-requires-clause-masters : goal.end_early-requires-clause-masters
-end_early-requires-clause-masters g c κs within =
+pub end_early-requires-clause-may : goal.end_early-requires-clause-may
+end_early-requires-clause-may g c κs within =
     let s = g.Q.Desk.start in
     let unit = c.args.unit.now in
     let ready = unit.ready in

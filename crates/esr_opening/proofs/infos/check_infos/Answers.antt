@@ -28,4 +28,5 @@ loop-snap-preserved g c =
           pairs_more (IsInfoOf (now first) root) snaps c.loop-snap.infos c.push.new.self index s c.in_ok-info.info c.loop-snap-test.true c.snap-item.is is.infos
           (subst (λ (held : Option Image). IsInfoOf held root s c.in_ok-info.info) same c.in_ok-info.ensures.info) c.in_ok-push.ensures.ok;
       spends = record { spent = omega (arith, is.spends.spent, c.check_info.ensures.spends.spent); sure = search rules };
+      calls = omega (arith, is.calls, c.check_info.ensures.calls);
     }

@@ -7,7 +7,7 @@ loop-entry-init c text = gone_unread c.args.entries.now c.args.ticket c.new-text
 pub loop-entry-preserved : goal.loop-entry-preserved
 loop-entry-preserved c text =
     gone_read c.args.entries.now c.args.ticket c.loop-entry.entry-index c.entry-item.result c.loop-entry.texts c.insert_texts.new.texts c.gone_at.result.now text c.loop-entry-test.true c.entry-item.is
-    c.gone_at.ensures.names (c.in_ok-insert_texts.ensures text) (c.loop-entry.invariant text)
+    c.gone_at.ensures (c.in_ok-insert_texts.ensures text) (c.loop-entry.invariant text)
 
 pub returns : goal.returns
 returns c = gone_all c.args.entries.now c.args.ticket c.loop-entry.entry-index c.loop-entry.texts c.loop-entry-test.false c.loop-entry.invariant

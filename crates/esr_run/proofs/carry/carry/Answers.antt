@@ -3,13 +3,16 @@ use Rattle.std.specs.declared.alloc.AllocError.{AllocError}
 use Rattle.esr_drive.specs.Takes.{idle_takes}
 use Rattle.esr_drive.specs.Elections.{elections}
 use Rattle.esr_complete.specs.Answers.{IsIdle}
-use Rattle.esr_complete.specs.Lines.{steps_of}
+use Rattle.esr_complete.specs.Lines.{steps_of, failovers_of}
 use Rattle.esr_run.specs.Checked.{asks_check}
 use Rattle.esr_run.specs.Made.{HasStopped, WasLeft, AreIn, AreMade, AreDone}
-use Rattle.esr_run.specs.Waits.{waits_of, failovers_of}
+use Rattle.esr_run.specs.Waits.{waits_of}
 use Rattle.esr_run.proofs.Making.{made_then, done_then}
 use Rattle.esr_run.proofs.Going.{ok_is}
 use Rattle.esr_run.proofs.carry.carry.Goals as goal
+
+pub work_out-requires-clause-waits : goal.work_out-requires-clause-waits
+work_out-requires-clause-waits g c κs within = c.requires.waits
 
 pub work_out-requires-clause-legal : goal.work_out-requires-clause-legal
 work_out-requires-clause-legal g c κs within = c.carry_lines-desk.ensures.made.grew.legal c.requires.may.legal

@@ -7,6 +7,18 @@ use Rattle.esr_run.specs.Waits.{waits_in, LineElects}
 use Rattle.esr_run.proofs.Waiting.{wait_is, no_check, no_verify, no_wait, other_elects}
 use Rattle.esr_run.proofs.carry.carry_line.Goals as goal
 
+pub carry_step-answer-requires-clause-alone : goal.carry_step-answer-requires-clause-alone
+carry_step-answer-requires-clause-alone g c κs within = c.requires.waits.alone
+
+pub carry_step-answer-requires-clause-some : goal.carry_step-answer-requires-clause-some
+carry_step-answer-requires-clause-some g c = let some : 1 ≤ c.args.crew.workers = c.requires.waits.some in omega (arith, some)
+
+pub carry_step-answer-requires-clause-few : goal.carry_step-answer-requires-clause-few
+carry_step-answer-requires-clause-few g c κs within = c.requires.waits.few
+
+pub carry_step-answer-requires-clause-ops : goal.carry_step-answer-requires-clause-ops
+carry_step-answer-requires-clause-ops g c κs within = c.requires.waits.workable.ops
+
 pub carry_step-answer-requires-clause-other : goal.carry_step-answer-requires-clause-other
 carry_step-answer-requires-clause-other g c κs within = sym c.is_wait.ensures ∙ c.if-is_wait.false
 

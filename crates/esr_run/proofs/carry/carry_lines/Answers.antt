@@ -3,9 +3,9 @@ use Rattle.esr_desk.specs.declared.refusal.StepRefusal.{StepRefusal}
 use Rattle.esr_desk.specs.declared.refusal.StepRefusal.TheVariants as steps
 use Rattle.esr_drive.specs.Takes.{idle_takes}
 use Rattle.esr_drive.specs.Elections.{elections}
-use Rattle.esr_complete.specs.Lines.{steps_of_item}
+use Rattle.esr_complete.specs.Lines.{steps_of_item, failovers_of}
 use Rattle.esr_run.specs.Checked.{asks_check}
-use Rattle.esr_run.specs.Waits.{waits_of, failovers_of}
+use Rattle.esr_run.specs.Waits.{waits_of}
 use Rattle.esr_run.proofs.Making.{IsTold, front_none, front_made, front_all, front_owes, front_few, line_few, good_next, good_line, none_left, asks_first, asks_here}
 use Rattle.esr_run.proofs.Going.{is_err, err_told, told_may, line_front, line_fits, made_by, turns_by}
 use Rattle.esr_run.proofs.Verifying.{verified_whole}
@@ -49,6 +49,9 @@ owed_after-owed-requires g c =
 
 pub carry_line-after-requires-clause-carried : goal.carry_line-after-requires-clause-carried
 carry_line-after-requires-clause-carried g c κs within = good_line c.line-item.result c.loop-left.left.now c.in-len1-up.len_at_least c.line-item.is c.loop-left.invariant.good
+
+pub carry_line-after-requires-clause-waits : goal.carry_line-after-requires-clause-waits
+carry_line-after-requires-clause-waits g c κs within = c.requires.waits
 
 pub carry_line-after-requires-clause-idle : goal.carry_line-after-requires-clause-idle
 carry_line-after-requires-clause-idle g c κs within = c.loop-left.invariant.may.idle
@@ -117,7 +120,7 @@ returns-clause-made g c = front_made g.K.Told.start c.args.moment c.loop-left.ow
 pub returns-clause-rests : goal.returns-clause-rests
 returns-clause-rests g c none =
     front_all g.K.Told.start c.args.moment c.loop-left.owed c.loop-left.left.now c.args.lines.now c.args.desk c.loop-left.desk (none_left c.loop-left.left.now c.in_default.len_below)
-    c.loop-left.invariant.front c.loop-left.invariant.may.idle c.requires.alone none
+    c.loop-left.invariant.front c.loop-left.invariant.may.idle c.requires.waits.alone none
 
 pub returns-clause-whole : goal.returns-clause-whole
 returns-clause-whole g c = c.loop-left.invariant.may.whole

@@ -13,112 +13,112 @@ pub make_clone-requires-clause-once : goal.make_clone-requires-clause-once
 make_clone-requires-clause-once g c κs within = names_once c.in-Clone.indices (sym (ap is_carried c.in-Clone.is) ∙ c.requires.carried)
 
 pub returns-in-Snapshot-clause-rests : goal.returns-in-Snapshot-clause-rests
-returns-in-Snapshot-clause-rests g c rest = c.ask.ensures.rests c.requires.alone rest
+returns-in-Snapshot-clause-rests g c rest = (c.ask.ensures.asked c.requires.alone).rests rest
 
 pub returns-in-Snapshot-clause-spent : goal.returns-in-Snapshot-clause-spent
-returns-in-Snapshot-clause-spent g c = c.ask.ensures.spent c.requires.alone
+returns-in-Snapshot-clause-spent g c = (c.ask.ensures.asked c.requires.alone).spent
 
 pub returns-in-Snapshot-clause-takes : goal.returns-in-Snapshot-clause-takes
-returns-in-Snapshot-clause-takes g c = c.ask.ensures.takes c.requires.alone
+returns-in-Snapshot-clause-takes g c = (c.ask.ensures.asked c.requires.alone).takes
 
 pub returns-in-Snapshot-clause-elects : goal.returns-in-Snapshot-clause-elects
-returns-in-Snapshot-clause-elects g c = asks_elect (g.Q.Desk.seen c.args.desk.now) (g.Q.Desk.seen c.ask.new.desk) (c.ask.ensures.only c.requires.alone)
+returns-in-Snapshot-clause-elects g c = asks_elect (g.Q.Desk.seen c.args.desk.now) (g.Q.Desk.seen c.ask.new.desk) (c.ask.ensures.asked c.requires.alone).only
 
 pub returns-in-Snapshot-clause-only : goal.returns-in-Snapshot-clause-only
-returns-in-Snapshot-clause-only g c = subst (λ (i : Item). AddsOnly i (g.Q.Desk.seen c.args.desk.now) (g.Q.Desk.seen c.ask.new.desk)) (sym c.in-Snapshot.is) (c.ask.ensures.only c.requires.alone)
+returns-in-Snapshot-clause-only g c = subst (λ (i : Item). AddsOnly i (g.Q.Desk.seen c.args.desk.now) (g.Q.Desk.seen c.ask.new.desk)) (sym c.in-Snapshot.is) (c.ask.ensures.asked c.requires.alone).only
 
 pub returns-in-Snapshot-clause-verified : goal.returns-in-Snapshot-clause-verified
-returns-in-Snapshot-clause-verified g c checks asks may = c.ask.ensures.verified c.args.workers checks c.requires.alone may
+returns-in-Snapshot-clause-verified g c checks asks may = (c.ask.ensures.asked c.requires.alone).verified c.args.workers checks may
 
 pub returns-in-Clone-clause-rests : goal.returns-in-Clone-clause-rests
-returns-in-Clone-clause-rests g c rest = c.make_clone.ensures.rests c.requires.alone rest
+returns-in-Clone-clause-rests g c rest = (c.make_clone.ensures.asked c.requires.alone).rests rest
 
 pub returns-in-Clone-clause-spent : goal.returns-in-Clone-clause-spent
-returns-in-Clone-clause-spent g c = c.make_clone.ensures.spent c.requires.alone
+returns-in-Clone-clause-spent g c = (c.make_clone.ensures.asked c.requires.alone).spent
 
 pub returns-in-Clone-clause-takes : goal.returns-in-Clone-clause-takes
-returns-in-Clone-clause-takes g c = c.make_clone.ensures.takes c.requires.alone
+returns-in-Clone-clause-takes g c = (c.make_clone.ensures.asked c.requires.alone).takes
 
 pub returns-in-Clone-clause-elects : goal.returns-in-Clone-clause-elects
-returns-in-Clone-clause-elects g c = asks_elect (g.Q.Desk.seen c.args.desk.now) (g.Q.Desk.seen c.make_clone.new.desk) (c.make_clone.ensures.only c.requires.alone)
+returns-in-Clone-clause-elects g c = asks_elect (g.Q.Desk.seen c.args.desk.now) (g.Q.Desk.seen c.make_clone.new.desk) (c.make_clone.ensures.asked c.requires.alone).only
 
 pub returns-in-Clone-clause-only : goal.returns-in-Clone-clause-only
-returns-in-Clone-clause-only g c = subst (λ (i : Item). AddsOnly i (g.Q.Desk.seen c.args.desk.now) (g.Q.Desk.seen c.make_clone.new.desk)) (sym c.in-Clone.is) (c.make_clone.ensures.only c.requires.alone)
+returns-in-Clone-clause-only g c = subst (λ (i : Item). AddsOnly i (g.Q.Desk.seen c.args.desk.now) (g.Q.Desk.seen c.make_clone.new.desk)) (sym c.in-Clone.is) (c.make_clone.ensures.asked c.requires.alone).only
 
 pub returns-in-Clone-clause-verified : goal.returns-in-Clone-clause-verified
-returns-in-Clone-clause-verified g c checks asks may = c.make_clone.ensures.verified c.args.workers checks c.requires.alone may
+returns-in-Clone-clause-verified g c checks asks may = (c.make_clone.ensures.asked c.requires.alone).verified c.args.workers checks may
 
 pub returns-in-Delete-clause-rests : goal.returns-in-Delete-clause-rests
-returns-in-Delete-clause-rests g c rest = c.delete.ensures.rests c.requires.alone rest
+returns-in-Delete-clause-rests g c rest = (c.delete.ensures.asked c.requires.alone).rests rest
 
 pub returns-in-Delete-clause-spent : goal.returns-in-Delete-clause-spent
-returns-in-Delete-clause-spent g c = c.delete.ensures.spent c.requires.alone
+returns-in-Delete-clause-spent g c = (c.delete.ensures.asked c.requires.alone).spent
 
 pub returns-in-Delete-clause-takes : goal.returns-in-Delete-clause-takes
-returns-in-Delete-clause-takes g c = c.delete.ensures.takes c.requires.alone
+returns-in-Delete-clause-takes g c = (c.delete.ensures.asked c.requires.alone).takes
 
 pub returns-in-Delete-clause-elects : goal.returns-in-Delete-clause-elects
-returns-in-Delete-clause-elects g c = asks_elect (g.Q.Desk.seen c.args.desk.now) (g.Q.Desk.seen c.delete.new.desk) (c.delete.ensures.only c.requires.alone)
+returns-in-Delete-clause-elects g c = asks_elect (g.Q.Desk.seen c.args.desk.now) (g.Q.Desk.seen c.delete.new.desk) (c.delete.ensures.asked c.requires.alone).only
 
 pub returns-in-Delete-clause-only : goal.returns-in-Delete-clause-only
-returns-in-Delete-clause-only g c = subst (λ (i : Item). AddsOnly i (g.Q.Desk.seen c.args.desk.now) (g.Q.Desk.seen c.delete.new.desk)) (sym c.in-Delete.is) (c.delete.ensures.only c.requires.alone)
+returns-in-Delete-clause-only g c = subst (λ (i : Item). AddsOnly i (g.Q.Desk.seen c.args.desk.now) (g.Q.Desk.seen c.delete.new.desk)) (sym c.in-Delete.is) (c.delete.ensures.asked c.requires.alone).only
 
 pub returns-in-Delete-clause-verified : goal.returns-in-Delete-clause-verified
-returns-in-Delete-clause-verified g c checks asks may = c.delete.ensures.verified c.args.workers checks c.requires.alone may
+returns-in-Delete-clause-verified g c checks asks may = (c.delete.ensures.asked c.requires.alone).verified c.args.workers checks may
 
 pub returns-in-Restore-clause-rests : goal.returns-in-Restore-clause-rests
-returns-in-Restore-clause-rests g c rest = c.restore.ensures.rests c.requires.alone rest
+returns-in-Restore-clause-rests g c rest = (c.restore.ensures.asked c.requires.alone).rests rest
 
 pub returns-in-Restore-clause-spent : goal.returns-in-Restore-clause-spent
-returns-in-Restore-clause-spent g c = c.restore.ensures.spent c.requires.alone
+returns-in-Restore-clause-spent g c = (c.restore.ensures.asked c.requires.alone).spent
 
 pub returns-in-Restore-clause-takes : goal.returns-in-Restore-clause-takes
-returns-in-Restore-clause-takes g c = c.restore.ensures.takes c.requires.alone
+returns-in-Restore-clause-takes g c = (c.restore.ensures.asked c.requires.alone).takes
 
 pub returns-in-Restore-clause-elects : goal.returns-in-Restore-clause-elects
-returns-in-Restore-clause-elects g c = asks_elect (g.Q.Desk.seen c.args.desk.now) (g.Q.Desk.seen c.restore.new.desk) (c.restore.ensures.only c.requires.alone)
+returns-in-Restore-clause-elects g c = asks_elect (g.Q.Desk.seen c.args.desk.now) (g.Q.Desk.seen c.restore.new.desk) (c.restore.ensures.asked c.requires.alone).only
 
 pub returns-in-Restore-clause-only : goal.returns-in-Restore-clause-only
-returns-in-Restore-clause-only g c = subst (λ (i : Item). AddsOnly i (g.Q.Desk.seen c.args.desk.now) (g.Q.Desk.seen c.restore.new.desk)) (sym c.in-Restore.is) (c.restore.ensures.only c.requires.alone)
+returns-in-Restore-clause-only g c = subst (λ (i : Item). AddsOnly i (g.Q.Desk.seen c.args.desk.now) (g.Q.Desk.seen c.restore.new.desk)) (sym c.in-Restore.is) (c.restore.ensures.asked c.requires.alone).only
 
 pub returns-in-Restore-clause-verified : goal.returns-in-Restore-clause-verified
-returns-in-Restore-clause-verified g c checks asks may = c.restore.ensures.verified c.args.workers checks c.requires.alone may
+returns-in-Restore-clause-verified g c checks asks may = (c.restore.ensures.asked c.requires.alone).verified c.args.workers checks may
 
 pub returns-in-Cleanup-clause-rests : goal.returns-in-Cleanup-clause-rests
-returns-in-Cleanup-clause-rests g c rest = c.cleanup.ensures.rests c.requires.alone rest
+returns-in-Cleanup-clause-rests g c rest = (c.cleanup.ensures.asked c.requires.alone).rests rest
 
 pub returns-in-Cleanup-clause-spent : goal.returns-in-Cleanup-clause-spent
-returns-in-Cleanup-clause-spent g c = c.cleanup.ensures.spent c.requires.alone
+returns-in-Cleanup-clause-spent g c = (c.cleanup.ensures.asked c.requires.alone).spent
 
 pub returns-in-Cleanup-clause-takes : goal.returns-in-Cleanup-clause-takes
-returns-in-Cleanup-clause-takes g c = c.cleanup.ensures.takes c.requires.alone
+returns-in-Cleanup-clause-takes g c = (c.cleanup.ensures.asked c.requires.alone).takes
 
 pub returns-in-Cleanup-clause-elects : goal.returns-in-Cleanup-clause-elects
-returns-in-Cleanup-clause-elects g c = asks_elect (g.Q.Desk.seen c.args.desk.now) (g.Q.Desk.seen c.cleanup.new.desk) (c.cleanup.ensures.only c.requires.alone)
+returns-in-Cleanup-clause-elects g c = asks_elect (g.Q.Desk.seen c.args.desk.now) (g.Q.Desk.seen c.cleanup.new.desk) (c.cleanup.ensures.asked c.requires.alone).only
 
 pub returns-in-Cleanup-clause-only : goal.returns-in-Cleanup-clause-only
-returns-in-Cleanup-clause-only g c = subst (λ (i : Item). AddsOnly i (g.Q.Desk.seen c.args.desk.now) (g.Q.Desk.seen c.cleanup.new.desk)) (sym c.in-Cleanup.is) (c.cleanup.ensures.only c.requires.alone)
+returns-in-Cleanup-clause-only g c = subst (λ (i : Item). AddsOnly i (g.Q.Desk.seen c.args.desk.now) (g.Q.Desk.seen c.cleanup.new.desk)) (sym c.in-Cleanup.is) (c.cleanup.ensures.asked c.requires.alone).only
 
 pub returns-in-Cleanup-clause-verified : goal.returns-in-Cleanup-clause-verified
-returns-in-Cleanup-clause-verified g c checks asks may = c.cleanup.ensures.verified c.args.workers checks c.requires.alone may
+returns-in-Cleanup-clause-verified g c checks asks may = (c.cleanup.ensures.asked c.requires.alone).verified c.args.workers checks may
 
 pub returns-in-List-clause-rests : goal.returns-in-List-clause-rests
-returns-in-List-clause-rests g c rest = c.list.ensures.rests c.requires.alone rest
+returns-in-List-clause-rests g c rest = (c.list.ensures.asked c.requires.alone).rests rest
 
 pub returns-in-List-clause-spent : goal.returns-in-List-clause-spent
-returns-in-List-clause-spent g c = c.list.ensures.spent c.requires.alone
+returns-in-List-clause-spent g c = (c.list.ensures.asked c.requires.alone).spent
 
 pub returns-in-List-clause-takes : goal.returns-in-List-clause-takes
-returns-in-List-clause-takes g c = c.list.ensures.takes c.requires.alone
+returns-in-List-clause-takes g c = (c.list.ensures.asked c.requires.alone).takes
 
 pub returns-in-List-clause-elects : goal.returns-in-List-clause-elects
-returns-in-List-clause-elects g c = asks_elect (g.Q.Desk.seen c.args.desk.now) (g.Q.Desk.seen c.list.new.desk) (c.list.ensures.only c.requires.alone)
+returns-in-List-clause-elects g c = asks_elect (g.Q.Desk.seen c.args.desk.now) (g.Q.Desk.seen c.list.new.desk) (c.list.ensures.asked c.requires.alone).only
 
 pub returns-in-List-clause-only : goal.returns-in-List-clause-only
-returns-in-List-clause-only g c = subst (λ (i : Item). AddsOnly i (g.Q.Desk.seen c.args.desk.now) (g.Q.Desk.seen c.list.new.desk)) (sym c.in-List.is) (c.list.ensures.only c.requires.alone)
+returns-in-List-clause-only g c = subst (λ (i : Item). AddsOnly i (g.Q.Desk.seen c.args.desk.now) (g.Q.Desk.seen c.list.new.desk)) (sym c.in-List.is) (c.list.ensures.asked c.requires.alone).only
 
 pub returns-in-List-clause-verified : goal.returns-in-List-clause-verified
-returns-in-List-clause-verified g c checks asks may = c.list.ensures.verified c.args.workers checks c.requires.alone may
+returns-in-List-clause-verified g c checks asks may = (c.list.ensures.asked c.requires.alone).verified c.args.workers checks may
 
 pub returns-in-Verify-clause-verified : goal.returns-in-Verify-clause-verified
 returns-in-Verify-clause-verified g c checks asks may = c.verify.ensures.verified checks may

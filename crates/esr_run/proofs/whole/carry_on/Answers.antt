@@ -16,6 +16,9 @@ returns-clause-done g c =
     (done_on g.K.Told.start c.args.moment c.as_slice-lines.result.now c.new-desk.result c.carry-desk.result.0 c.into_parts-repo.result.0 c.carry-desk.result.1 c.carry-desk.ensures.done c.into_parts-repo.ensures.repo c.new-desk.ensures c.requires.numbered c.requires.readers)
     c.carry-desk.ensures.made c.into_parts-repo.ensures.repo c.new-desk.ensures c.requires.alive)
 
+pub carry-desk-requires-clause-waits : goal.carry-desk-requires-clause-waits
+carry-desk-requires-clause-waits g c κs within = c.requires.waits
+
 pub carry-desk-requires-clause-may : goal.carry-desk-requires-clause-may
 carry-desk-requires-clause-may g c κs within = begun_may g.K.Told.start c.args.asked.now.workers _ c.new-desk.result c.new-desk.ensures c.requires.nobody
 

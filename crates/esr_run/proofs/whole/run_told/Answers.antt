@@ -16,6 +16,14 @@ use Rattle.esr_run.proofs.Completing.{entries_are}
 use Rattle.esr_run.proofs.Restoring.{by_lines}
 use Rattle.esr_run.proofs.whole.run_told.Goals as goal
 
+pub carry_on-worked-requires-clause-waits : goal.carry_on-worked-requires-clause-waits
+carry_on-worked-requires-clause-waits g c κs within = record {
+  alone = c.requires.alone;
+  some = c.requires.workers.0;
+  few = c.requires.workers.1;
+  workable = record { outside = c.requires.outside; tracked = c.requires.begun.read_tracked; ops = c.requires.begun.order.tracked };
+}
+
 pub returns-clause-shown : goal.returns-clause-shown
 returns-clause-shown g c = logged (evidence g.D.Stage.Counted.faults g.D.Fetch.Counted.faults g.S.Shard.Counted.faults g.T.Target.Counted.faults g.S.Shard.Shard.told g.T.Target.Target.told) g.K.Told.start c.carry_on-worked.result.repo (log_of (g.D.Depot.look c.into_parts-depot.result.0) g.K.Told.clock c.into_parts-depot.result.1) c.carry_on-worked.result.faults c.into_parts-depot.ensures.log c.carry_on-worked.ensures.shown
 

@@ -1,9 +1,0 @@
-use Rattle.std.proofs.Common.{take, map}
-use Rattle.esr_formats.specs.Ids.{number_of}
-use Rattle.esr_formats.specs.Shards.{entry_of}
-use Rattle.esr_model.specs.Image.{AllPairs}
-use Rattle.esr_plain.specs.Joined.{Names}
-use Rattle.esr_plain.proofs.shard.names_files.Given as goal
-
-abbrev pub invariant-loop-k : goal.invariant-loop-k
-invariant-loop-k l = AllPairs (Names (map entry_of l.entries)) (map number_of (take l.k l.ids)) (map entry_of (take l.k l.files))
