@@ -7,15 +7,15 @@ use std::io::{Cursor, Read};
 
 /// A blob that is being written.
 #[derive(Drop)]
-pub(crate) struct NewBlob {
-    pub name: Text,
-    pub bytes: Bytes,
+pub struct NewBlob {
+    pub(crate) name: Text,
+    pub(crate) bytes: Bytes,
     room: usize,
     faults: u64,
 }
 
 impl NewBlob {
-    pub fn new(name: Text, bytes: Bytes, room: usize) -> NewBlob
+    pub(crate) fn new(name: Text, bytes: Bytes, room: usize) -> NewBlob
         ensures name { result.name ≡ name }
         ensures room { result.room ≡ room }
         ensures count { result.faults ≡ 0 }
@@ -58,13 +58,13 @@ impl Stage for NewBlob {
 
 /// A blob that is being read.
 #[derive(Drop)]
-pub(crate) struct OpenBlob {
+pub struct OpenBlob {
     bytes: Cursor<Vec<u8>>,
     faults: u64,
 }
 
 impl OpenBlob {
-    pub fn new(bytes: Bytes) -> OpenBlob
+    pub(crate) fn new(bytes: Bytes) -> OpenBlob
         ensures { result.faults ≡ 0 }
     {
         OpenBlob {

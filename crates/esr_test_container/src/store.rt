@@ -17,7 +17,7 @@ struct Blob {
 
 /// Blobs by name, and the text of the record. No call fails but for want of memory.
 #[derive(Drop)]
-pub(crate) struct Store {
+pub struct Store {
     blobs: Vec<Blob>,
     record: Option<Bytes>,
     /// How many calls were made.

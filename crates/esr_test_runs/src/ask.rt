@@ -8,14 +8,23 @@ use std::alloc::{AllocError, Global};
 use std::fs;
 
 /// Bytes as a text, or as numbers.
-fn told(alloc: Global, bytes: Option<Bytes>, as_numbers: bool) -> Result<String, AllocError> {
-    let Some(bytes) = bytes else {
-        return String::from_str(alloc, "none");
-    };
+fn told(alloc: Global, bytes: &[u8], as_numbers: bool) -> Result<String, AllocError> {
     if as_numbers {
-        return format!(in alloc; "{:?}", bytes.as_slice());
+        return format!(in alloc; "{bytes:?}");
     }
-    String::from_str(alloc, str::from_utf8(bytes.as_slice()).unwrap_or("?"))
+    String::from_str(alloc, str::from_utf8(bytes).unwrap_or("?"))
+}
+
+/// Bytes as a text, or as numbers, or that there are none.
+fn told_or_none(
+    alloc: Global,
+    bytes: &Option<Bytes>,
+    as_numbers: bool,
+) -> Result<String, AllocError> {
+    match bytes {
+        Some(bytes) => told(alloc, bytes.as_slice(), as_numbers),
+        None => String::from_str(alloc, "none"),
+    }
 }
 
 /// The bytes of the blob of that name, or the first 4096 of more.
@@ -28,6 +37,31 @@ fn blob_of<D: Depot>(alloc: Global, depot: &mut D, name: &str) -> Result<Option<
     Ok(Some(Bytes::from_slice(alloc, &buf[..count])?))
 }
 
+fn record_told<D: Depot>(alloc: Global, depot: &mut D) -> Result<String, Trouble> {
+    let record = depot.read_record(alloc)?;
+    Ok(told_or_none(alloc, &record, false)?)
+}
+
+fn blob_told<D: Depot>(
+    alloc: Global,
+    depot: &mut D,
+    name: &str,
+    as_numbers: bool,
+) -> Result<String, Trouble> {
+    let blob = blob_of(alloc, depot, name)?;
+    Ok(told_or_none(alloc, &blob, as_numbers)?)
+}
+
+fn there_told<D: Depot>(alloc: Global, depot: &mut D, name: &str) -> Result<String, Trouble> {
+    let there = depot.fetch(alloc, name)?.is_some();
+    Ok(format!(in alloc; "{there}")?)
+}
+
+fn count_told<D: Depot>(alloc: Global, depot: &mut D) -> Result<String, Trouble> {
+    let count = depot.list(alloc, None)?.page.len();
+    Ok(format!(in alloc; "{count}")?)
+}
+
 /// What a container answers to a question.
 fn answer_of<D: Depot>(
     alloc: Global,
@@ -35,14 +69,14 @@ fn answer_of<D: Depot>(
     what: &str,
     name: &str,
 ) -> Result<String, Trouble> {
-    let text = match what {
-        "record" => told(alloc, depot.read_record(alloc)?, false),
-        "blob" | "bytes" => told(alloc, blob_of(alloc, depot, name)?, what == "bytes"),
-        "there" => format!(in alloc; "{}", depot.fetch(alloc, name)?.is_some()),
-        "blobs" => format!(in alloc; "{}", depot.list(alloc, None)?.page.len()),
-        _ => return Err(Trouble("there is no such question")),
-    };
-    Ok(text?)
+    match what {
+        "record" => record_told(alloc, depot),
+        "blob" => blob_told(alloc, depot, name, false),
+        "bytes" => blob_told(alloc, depot, name, true),
+        "there" => there_told(alloc, depot, name),
+        "blobs" => count_told(alloc, depot),
+        _ => Err(Trouble("there is no such question")),
+    }
 }
 
 /// What the container there answers to a question.
@@ -54,6 +88,7 @@ pub fn answer_there(
 ) -> Result<String, Trouble> {
     match ground {
         Ground::Memory { depot } => answer_of(alloc, depot, what, name),
+        Ground::Own { store } => answer_of(alloc, store, what, name),
         Ground::Folders { rt, .. } => {
             let mut depot = DirDepot::new(*rt, alloc, REPO)?;
             answer_of(alloc, &mut depot, what, name)
@@ -109,6 +144,7 @@ pub fn change_there(
 ) -> Result<(), Trouble> {
     match ground {
         Ground::Memory { depot } => change(alloc, depot, what, value),
+        Ground::Own { store } => change(alloc, store, what, value),
         Ground::Folders { rt, .. } => {
             let mut depot = DirDepot::new(*rt, alloc, REPO)?;
             change(alloc, &mut depot, what, value)

@@ -1,8 +1,9 @@
-//! Where a scene is played: in memory, or in folders of the folder that the program runs in.
+//! Where a scene is played: in memory, over a container of one's own, or in folders of the folder that the program runs in.
 use crate::errors::Trouble;
 use crate::setting::{Job, Mishaps, failing_at, plan_of, run_on, source_line, sources_of};
 use crate::shown::{Shown, Shows, push_restored, shown_by};
 use crate::text::last_word;
+use esr_depot::Depot;
 use esr_dirdepot::DirDepot;
 use esr_dirsource::{DirShard, DirSources, DirTarget, DirTargets};
 use esr_faulty::Faulty;
@@ -10,35 +11,68 @@ use esr_memdepot::{Leaves, MemDepot};
 use esr_run::Ended;
 use esr_seq::Seq;
 use esr_source::{Call, MemOut, MemShard, MemTarget, MemTargets, Shard, Sources};
+use esr_test_container::Store;
 use std::alloc::{AllocError, Global};
-use std::fs;
 use std::sync::Wait;
 use std::thread::Threads;
+use std::{fs, mem};
 
 /// The folder of the container.
 pub const REPO: &str = "played";
+
+/// Where scenes are played.
+#[derive(Clone, Copy)]
+pub enum Place {
+    Memory,
+    Folders,
+    Own,
+}
+
+impl Place {
+    pub fn name(self) -> &'static str {
+        match self {
+            Place::Memory => "memory",
+            Place::Folders => "folders",
+            Place::Own => "own",
+        }
+    }
+}
 
 /// Where a scene is played.
 #[derive(Drop)]
 pub enum Ground<'a> {
     /// A container, sources and targets in memory.
     Memory { depot: MemDepot },
+    /// A container of one's own, with sources and targets in memory.
+    Own { store: Store },
     /// All of them in folders, of which `made` has the names of those that this scene makes, a line each.
     Folders { rt: &'a HostRuntime, made: String },
 }
 
 /// An empty place in memory.
-pub fn in_memory<'a>(alloc: Global) -> Ground<'a> {
+fn in_memory<'a>(alloc: Global) -> Ground<'a> {
     Ground::Memory {
         depot: MemDepot::new(alloc, Seq::new(alloc)),
     }
 }
 
 /// An empty place in folders.
-pub fn in_folders(rt: &HostRuntime) -> Result<Ground<'_>, Trouble> {
+fn in_folders(rt: &HostRuntime) -> Result<Ground<'_>, Trouble> {
     let mut made = String::new(rt.alloc());
     claim(rt, &mut made, REPO)?;
     Ok(Ground::Folders { rt, made })
+}
+
+/// An empty place.
+pub fn ground_at(rt: &HostRuntime, place: Place) -> Result<Ground<'_>, Trouble> {
+    let alloc = rt.alloc();
+    match place {
+        Place::Memory => Ok(in_memory(alloc)),
+        Place::Own => Ok(Ground::Own {
+            store: Store::new(alloc),
+        }),
+        Place::Folders => in_folders(rt),
+    }
 }
 
 /// Whether a text has that line.
@@ -90,16 +124,17 @@ fn make_source(rt: &HostRuntime, made: &mut String, line: &str) -> Result<(), Tr
 /// Adds a source where it isn't in memory. Those in memory are made with each run.
 pub fn add_source(ground: &mut Ground, line: &str) -> Result<(), Trouble> {
     match ground {
-        Ground::Memory { .. } => Ok(()),
         Ground::Folders { rt, made } => make_source(*rt, made, line),
+        _ => Ok(()),
     }
 }
 
-/// What a run in memory leaves.
-type LeftInMemory = Ended<Faulty<MemDepot>, MemShard, MemTarget>;
-
-/// What a run in memory shows.
-fn shown_in_memory(alloc: Global, report: &[u8], left: &LeftInMemory) -> Result<Shown, AllocError> {
+/// What a run with sources and targets in memory shows.
+fn shown_in_memory<D: Depot>(
+    alloc: Global,
+    report: &[u8],
+    left: &Ended<Faulty<D>, MemShard, MemTarget>,
+) -> Result<Shown, AllocError> {
     let mut shown = shown_by(alloc, report, left)?;
     for restored in left.targets.as_slice() {
         push_restored(&mut shown.text, restored)?;
@@ -119,6 +154,25 @@ fn output_of(alloc: Global, mishaps: &Mishaps) -> Result<MemOut, AllocError> {
     )
 }
 
+/// A run over a container with sources and targets in memory: what it shows, and the container.
+fn run_over<D: Depot + Send, R: Threads + Wait + Sync>(
+    alloc: Global,
+    threads: &R,
+    depot: D,
+    job: &Job,
+) -> Result<(Shown, D), AllocError>
+where
+    D::Stage: Send,
+    D::Fetch: Send,
+{
+    let sources = sources_of(alloc, job.sources, job.mishaps.source)?;
+    let targets = MemTargets::new(failing_at(alloc, "out", job.mishaps.target)?);
+    let mut out = output_of(alloc, &job.mishaps)?;
+    let left = run_on(alloc, threads, job, depot, &sources, &targets, &mut out)?;
+    let shown = shown_in_memory(alloc, out.as_slice(), &left)?;
+    Ok((shown, left.depot.depot))
+}
+
 /// A run in memory, and what it shows.
 fn run_in_memory<R: Threads + Wait + Sync>(
     alloc: Global,
@@ -126,14 +180,23 @@ fn run_in_memory<R: Threads + Wait + Sync>(
     depot: &mut MemDepot,
     job: &Job,
 ) -> Result<Shown, AllocError> {
-    let sources = sources_of(alloc, job.sources, job.mishaps.source)?;
-    let targets = MemTargets::new(failing_at(alloc, "out", job.mishaps.target)?);
-    let mut out = output_of(alloc, &job.mishaps)?;
     let copy = depot.cut(alloc, u64::MAX, Leaves::Old)?;
-    let left = run_on(alloc, threads, job, copy, &sources, &targets, &mut out)?;
-    let shown = shown_in_memory(alloc, out.as_slice(), &left);
-    *depot = left.depot.depot;
-    shown
+    let (shown, left) = run_over(alloc, threads, copy, job)?;
+    *depot = left;
+    Ok(shown)
+}
+
+/// A run over a container of one's own, and what it shows.
+fn run_in_own<R: Threads + Wait + Sync>(
+    alloc: Global,
+    threads: &R,
+    store: &mut Store,
+    job: &Job,
+) -> Result<Shown, AllocError> {
+    let held = mem::replace(store, Store::new(alloc));
+    let (shown, left) = run_over(alloc, threads, held, job)?;
+    *store = left;
+    Ok(shown)
 }
 
 /// The line of that number of what a run is asked.
@@ -234,6 +297,7 @@ pub fn run_there<R: Threads + Wait + Sync>(
 ) -> Result<Shown, Trouble> {
     match ground {
         Ground::Memory { depot } => Ok(run_in_memory(alloc, threads, depot, job)?),
+        Ground::Own { store } => Ok(run_in_own(alloc, threads, store, job)?),
         Ground::Folders { rt, made } => run_in_folders(*rt, threads, made, job),
     }
 }

@@ -5,6 +5,7 @@ mod ask;
 mod errors;
 mod faults;
 mod ground;
+mod meeting;
 mod play;
 mod scene;
 mod setting;

@@ -1,7 +1,7 @@
 //! The scenes of a file, each of them over memory and over folders, with each of its rows and rounds.
 use crate::errors::Trouble;
 use crate::faults::{Way, way_of};
-use crate::ground::{clear, in_folders, in_memory};
+use crate::ground::{Place, clear, ground_at};
 use crate::scene::{Scene, begun};
 use crate::text::line_behind;
 use std::fs;
@@ -38,7 +38,7 @@ pub struct Played {
 struct Turn<'a, R> {
     rt: &'a HostRuntime,
     threads: &'a R,
-    is_memory: bool,
+    place: Place,
     row: &'a str,
     way: Way,
     name: &'a str,
@@ -51,6 +51,20 @@ struct Went {
     fails: bool,
     met: u64,
     blocks: u64,
+}
+
+/// Plays a line with a row.
+fn play_line<R: Threads + Wait + Sync>(
+    threads: &R,
+    scene: &mut Scene,
+    line: &str,
+    row: &str,
+) -> Result<(), Trouble> {
+    let line = line.replace(scene.alloc, "<row>", row)?;
+    match scene.step(threads, line.as_str()) {
+        Ok(()) => Ok(()),
+        Err(Trouble(why)) => Ok(scene.complain("a line that can be played", why)?),
+    }
 }
 
 /// Plays these lines, the first of which has that number.
@@ -66,10 +80,7 @@ fn play_lines<R: Threads + Wait + Sync>(
             return Ok(());
         }
         scene.number = at.saturating_add(place as u64);
-        let line = line.replace(scene.alloc, "<row>", row)?;
-        if let Err(Trouble(why)) = scene.step(threads, line.as_str()) {
-            scene.complain("a line that can be played", why)?;
-        }
+        play_line(threads, scene, line, row)?;
     }
     Ok(())
 }
@@ -85,7 +96,7 @@ fn note<R>(
     played.held = played.held.saturating_add(scene.held);
     let fails = !scene.complaint.is_empty();
     if fails {
-        let place = if turn.is_memory { "memory" } else { "folders" };
+        let place = turn.place.name();
         let (title, row, way, nth) = (lines.title, turn.row, turn.name, scene.nth);
         let complaint = scene.complaint.as_str();
         write!(
@@ -123,11 +134,7 @@ fn play_round<R: Threads + Wait + Sync>(
     turn: &Turn<R>,
     nth: u64,
 ) -> Result<Went, Trouble> {
-    let ground = if turn.is_memory {
-        in_memory(turn.rt.alloc())
-    } else {
-        in_folders(turn.rt)?
-    };
+    let ground = ground_at(turn.rt, turn.place)?;
     let mut scene = begun(turn.rt.alloc(), ground, turn.way, nth);
     let ended = play_whole(turn.threads, &mut scene, lines, turn.row);
     clear(&scene.ground);
@@ -206,38 +213,38 @@ fn play_rows<R: Threads + Wait + Sync>(
     Ok(fails)
 }
 
-/// Whether a scene holds there. One that doesn't has a line that says over what alone it does.
-fn holds_over(lines: &Lines, place: &str) -> bool {
+/// Whether a scene is played there: over what a line of it says, or over memory and folders.
+fn holds_over(lines: &Lines, place: Place) -> bool {
     match line_behind(lines.text, "only ") {
-        Some(rest) => rest.starts_with(place),
-        None => true,
+        Some(rest) => rest.starts_with(place.name()),
+        None => !matches!(place, Place::Own),
     }
 }
 
-/// Plays a scene over memory and over folders.
+/// Plays a scene over what it is to be played.
 fn play_scene<R: Threads + Wait + Sync>(
     rt: &HostRuntime,
     threads: &R,
     played: &mut Played,
     lines: &Lines,
 ) -> Result<(), Trouble> {
-    for is_memory in [true, false] {
-        let place = if is_memory { "memory" } else { "folders" };
+    for place in [Place::Memory, Place::Folders, Place::Own] {
         if !holds_over(lines, place) {
             continue;
         }
         let turn = Turn {
             rt,
             threads,
-            is_memory,
+            place,
             row: "",
             way: Way::Once,
             name: "once",
         };
         let fails = play_rows(played, lines, &turn)?;
         played.failed = played.failed.saturating_add(fails as u64);
-        played.in_memory = played.in_memory.saturating_add(is_memory as u64);
-        played.in_folders = played.in_folders.saturating_add(!is_memory as u64);
+        let in_folders = matches!(place, Place::Folders);
+        played.in_memory = played.in_memory.saturating_add(!in_folders as u64);
+        played.in_folders = played.in_folders.saturating_add(in_folders as u64);
     }
     Ok(())
 }

@@ -3,6 +3,7 @@ use crate::ask::{answer_there, change_there, file_there, write_file_there};
 use crate::errors::Trouble;
 use crate::faults::{Way, set_mishap, set_round};
 use crate::ground::{Ground, add_source, has_line, run_there};
+use crate::meeting::Meeting;
 use crate::setting::{Job, Mishaps, calm};
 use crate::shown::Shown;
 use crate::text::{counted_blobs, front_of, plain};
@@ -24,6 +25,8 @@ pub struct Scene<'a> {
     pub mishaps: Mishaps,
     /// The text of the record whose swap stops the next run.
     pub last: String,
+    /// What the workers of the runs come to, which holds one of them once or none.
+    pub gate: Meeting,
     /// What was shown, and how many bytes of it were compared.
     pub shown: String,
     pub at: usize,
@@ -65,6 +68,7 @@ pub fn begun(alloc: Global, ground: Ground<'_>, way: Way, nth: u64) -> Scene<'_>
         script: String::new(alloc),
         mishaps: calm(),
         last: String::new(alloc),
+        gate: Meeting::new(false),
         shown: String::new(alloc),
         at: 0,
         faults: 0,
@@ -241,6 +245,7 @@ impl Scene<'_> {
             sources: self.sources.as_str(),
             mishaps: self.mishaps,
             last: self.last.as_str(),
+            gate: &self.gate,
         };
         let shown = run_there(self.alloc, threads, &mut self.ground, &job)?;
         self.runs = self.runs.saturating_add(1);
@@ -318,6 +323,10 @@ impl Scene<'_> {
                 self.last.clear();
                 Ok(self.last.push_str(value)?)
             }
+            "meet" => {
+                self.gate = Meeting::new(true);
+                Ok(())
+            }
             _ => set_mishap(&mut self.mishaps, what, value),
         }
     }
@@ -337,6 +346,7 @@ impl Scene<'_> {
         match what {
             "faults" => Ok(format!(in self.alloc; "{}", self.faults)?),
             "misprints" => Ok(String::from_str(self.alloc, self.misprints.as_str().trim_start())?),
+            "met" => Ok(format!(in self.alloc; "{}", self.gate.has_met())?),
             "clean" => Ok(format!(in self.alloc; "{}", self.is_clean()?)?),
             "file" => file_there(self.alloc, &self.ground, name),
             _ => answer_there(self.alloc, &mut self.ground, what, name),

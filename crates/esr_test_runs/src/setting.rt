@@ -1,12 +1,13 @@
 //! A run: its words, its script, its sources, and which calls fail.
+use crate::meeting::Meeting;
 use esr_depot::Depot;
 use esr_faulty::{Fault, Faulty, Kind, Turn};
 use esr_run::{Ended, run};
 use esr_script::Words;
 use esr_seq::{Bytes, Seq, Text};
 use esr_source::{
-    Address, Call, Failing, FailingAt, MemFile, MemLines, MemOut, MemSource, MemSources, NoGate,
-    Plan, Sources, Targets,
+    Address, Call, Failing, FailingAt, MemFile, MemLines, MemOut, MemSource, MemSources, Plan,
+    Sources, Targets,
 };
 use std::alloc::{AllocError, Global};
 use std::sync::Wait;
@@ -25,14 +26,15 @@ pub struct Mishaps {
 }
 
 /// What a run is of: its words, the script, the lines that tell its sources, which calls fail, and the text of the record whose swap
-/// stops the container, if there is one.
-#[derive(Clone, Copy)]
+/// stops the container, if there is one, and the gate.
+#[derive(Drop)]
 pub struct Job<'a> {
     pub words: &'a str,
     pub script: &'a str,
     pub sources: &'a str,
     pub mishaps: Mishaps,
     pub last: &'a str,
+    pub gate: &'a Meeting,
 }
 
 /// More bytes than a run prints.
@@ -173,6 +175,6 @@ where
     let mut lines = MemLines::new(bytes, plan_of(alloc, Call::Read, job.mishaps.read)?);
     let depot = container_of(alloc, depot, job)?;
     Ok(run(
-        threads, alloc, &words, &mut lines, depot, sources, targets, &NoGate, 0, out,
+        threads, alloc, &words, &mut lines, depot, sources, targets, job.gate, 0, out,
     ))
 }

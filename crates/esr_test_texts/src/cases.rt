@@ -1,7 +1,7 @@
 //! Groups of cases.
 use crate::answers::answer;
 use crate::notation::bytes_of;
-use crate::words::cut;
+use crate::words::{cut, say};
 use esr_json::ReadRefusal;
 use std::alloc::{AllocError, Global};
 use std::io;
@@ -25,15 +25,24 @@ struct Group<'a> {
     frame: &'a str,
 }
 
+/// Says what is answered to the bytes of a case, or why they aren't read.
+fn say_answer(alloc: Global, line: &mut String, group: &Group<'_>, bytes: &[u8]) {
+    match answer(alloc, line, group.subject, group.question, bytes) {
+        Ok(()) => {}
+        Err(ReadRefusal::Damaged { why }) => {
+            let _ = write!(line, "{why:?}");
+        }
+        Err(ReadRefusal::Memory) => say(line, "no memory"),
+    }
+}
+
 /// What is answered to the text of a case.
 fn told(alloc: Global, group: &Group<'_>, text: &str) -> Result<String, AllocError> {
     let text = group.frame.replace(alloc, "..", text)?;
     let bytes = bytes_of(alloc, text.as_str())?;
-    match answer(alloc, group.subject, group.question, bytes.as_slice()) {
-        Ok(told) => Ok(told),
-        Err(ReadRefusal::Damaged { why }) => String::format(alloc, format_args!("{why:?}")),
-        Err(ReadRefusal::Memory) => Err(AllocError),
-    }
+    let mut line = String::new(alloc);
+    say_answer(alloc, &mut line, group, bytes.as_slice());
+    Ok(line)
 }
 
 /// Counts a case that held.
@@ -41,34 +50,49 @@ fn count(number: &mut u32) {
     *number = number.saturating_add(1);
 }
 
+/// Tells that a case doesn't hold.
+fn complain(
+    rt: &HostRuntime,
+    group: &Group<'_>,
+    line: &str,
+    wanted: &str,
+    came: &str,
+) -> io::Result<()> {
+    let (file, title) = (group.file, group.title);
+    eprintln!(rt; "{file}: {title}\n  the line {line}\n  wanted   {wanted}\n  came     {came}")
+}
+
 /// Plays a case: what is wanted, where `=` is the text itself, a bar, and the text of the case.
 fn play_case(rt: &HostRuntime, group: &Group<'_>, line: &str, tally: &mut Tally) -> io::Result<()> {
     let (wanted, text) = line.split_once(" | ").unwrap_or((line, ""));
     let wanted = if wanted == "=" { text } else { wanted };
-    let told = told(rt.alloc(), group, text)?;
-    let bytes = bytes_of(rt.alloc(), wanted)?;
-    if told.as_bytes() == bytes.as_slice() {
+    let came = told(rt.alloc(), group, text)?;
+    if bytes_of(rt.alloc(), wanted)?.as_slice() == came.as_bytes() {
         count(&mut tally.held);
         return Ok(());
     }
     count(&mut tally.failed);
-    let (file, title) = (group.file, group.title);
-    eprintln!(rt; "{file}: {title}\n  the line {line}\n  wanted   {wanted}\n  came     {told}")
+    complain(rt, group, line, wanted, came.as_str())
+}
+
+/// The group with this title, whose next line has the question and the frame.
+fn group_of<'a>(file: &'a str, title: &'a str, head: &'a str) -> Group<'a> {
+    let (subject, rest) = cut(head);
+    let (question, frame) = cut(rest);
+    Group {
+        file,
+        title,
+        subject,
+        question,
+        frame: if frame.is_empty() { ".." } else { frame },
+    }
 }
 
 /// Plays a group: its title, a line with the question and the frame, and a line for each case.
 fn play_group(rt: &HostRuntime, file: &str, group: &str, tally: &mut Tally) -> io::Result<()> {
     let (title, rest) = group.split_once('\n').unwrap_or((group, ""));
     let (head, lines) = rest.split_once('\n').unwrap_or((rest, ""));
-    let (subject, rest) = cut(head);
-    let (question, frame) = cut(rest);
-    let group = Group {
-        file,
-        title,
-        subject,
-        question,
-        frame: if frame.is_empty() { ".." } else { frame },
-    };
+    let group = group_of(file, title, head);
     for line in lines.lines() {
         play_case(rt, &group, line, tally)?;
     }

@@ -1,5 +1,5 @@
 //! The parts of JSON values.
-use crate::words::{Told, cut, cut_last, shown, unknown};
+use crate::words::{Said, cut, cut_last, say, say_bytes, say_unknown};
 use esr_json::{
     Key, Reason, items, items_or_none, members, number, number_or, parse, text, text_item,
     text_value, write,
@@ -43,51 +43,55 @@ fn key_of(name: &str) -> Option<Key> {
     None
 }
 
-fn value_told(alloc: Global, value: &Value) -> Told {
-    Ok(value.to_string(alloc)?)
+fn say_value(line: &mut String, value: &Value) {
+    let _ = write!(line, "{value}");
 }
 
-/// The text of the value of a text.
-pub(crate) fn again(alloc: Global, bytes: &[u8]) -> Told {
-    value_told(alloc, &parse(alloc, bytes)?)
+/// Says the text of the value of a text.
+pub(crate) fn say_again(alloc: Global, line: &mut String, bytes: &[u8]) -> Said {
+    say_value(line, &parse(alloc, bytes)?);
+    Ok(())
 }
 
-/// The value of a text, as it is written.
-fn written(alloc: Global, text: &str) -> Told {
+/// Says the value of a text, as it is written.
+fn say_written(alloc: Global, line: &mut String, text: &str) -> Said {
     let value = text_value(alloc, text)?;
-    let bytes = write(alloc, &value);
-    drop(value);
-    shown(alloc, bytes?.as_slice())
+    say_bytes(line, write(alloc, &value)?.as_slice());
+    Ok(())
 }
 
-fn text_told(alloc: Global, text: Result<&str, Reason>) -> Told {
-    Ok(String::from_str(alloc, text?)?)
+fn say_text(line: &mut String, text: Result<&str, Reason>) -> Said {
+    say(line, text?);
+    Ok(())
 }
 
-/// How many items there are, and the first of them.
-fn items_told(alloc: Global, items: Result<&[Value], Reason>) -> Told {
+/// Says how many items there are, and the first of them.
+fn say_items(line: &mut String, items: Result<&[Value], Reason>) -> Said {
     let items = items?;
     match items.first() {
         Some(first) => {
-            let first = value_told(alloc, first)?;
-            Ok(format!(in alloc; "{} items {first}", items.len())?)
+            let _ = write!(line, "{} items {first}", items.len());
         }
-        None => Ok(String::from_str(alloc, "no items")?),
+        None => say(line, "no items"),
     }
+    Ok(())
 }
 
-/// The names of the members.
-fn members_told(alloc: Global, members: Result<&Map<String, Value>, Reason>) -> Told {
-    let mut names = String::from_str(alloc, "members")?;
-    for (name, _) in members?.iter() {
-        write!(names, " {}", name.as_str())?;
+/// Says the names of the members.
+fn say_members(line: &mut String, members: Result<&Map<String, Value>, Reason>) -> Said {
+    let members = members?;
+    say(line, "members");
+    for (name, _) in members.iter() {
+        say(line, " ");
+        say(line, name.as_str());
     }
-    Ok(names)
+    Ok(())
 }
 
-fn number_told(alloc: Global, number: Result<i128, Reason>) -> Told {
+fn say_number(line: &mut String, number: Result<i128, Reason>) -> Said {
     let number = number?;
-    Ok(format!(in alloc; "{number}")?)
+    let _ = write!(line, "{number}");
+    Ok(())
 }
 
 /// A number of any size that a word spells, else 0.
@@ -95,54 +99,57 @@ fn wide(word: &str) -> i128 {
     word.parse::<i128>().unwrap_or(0)
 }
 
-/// A number from the least to the limit, which the words are.
-fn in_range(alloc: Global, value: &Value, key: Key, words: &str) -> Told {
+/// Says a number from the least to the limit, which the words are.
+fn say_in_range(line: &mut String, value: &Value, key: Key, words: &str) -> Said {
     let (least, limit) = cut(words);
-    number_told(alloc, number(value, key, wide(least), wide(limit)))
+    say_number(line, number(value, key, wide(least), wide(limit)))
 }
 
-/// A number from the least to the limit, or the one that is wanted where there is none: the words.
-fn in_range_or(alloc: Global, value: &Value, key: Key, words: &str) -> Told {
+/// Says a number from the least to the limit, or the one that is wanted where there is none: the words.
+fn say_in_range_or(line: &mut String, value: &Value, key: Key, words: &str) -> Said {
     let (least, rest) = cut(words);
     let (limit, absent) = cut(rest);
     let (least, limit, absent) = (wide(least), wide(limit), wide(absent));
     if absent < least || limit < absent {
-        return unknown(alloc);
+        return say_unknown(line);
     }
-    number_told(alloc, number_or(value, key, least, limit, absent))
+    say_number(line, number_or(value, key, least, limit, absent))
 }
 
-/// A part of a value, by the name of a member and more words.
-fn part(alloc: Global, question: &str, words: &str, value: &Value) -> Told {
+/// Says a part of a value, by the name of a member and more words.
+fn say_part(line: &mut String, question: &str, words: &str, value: &Value) -> Said {
     let (name, words) = cut(words);
     let Some(key) = key_of(name) else {
-        return unknown(alloc);
+        return say_unknown(line);
     };
     match question {
-        "text" => text_told(alloc, text(value, key)),
-        "text-item" => text_told(alloc, text_item(value, key)),
-        "items" => items_told(alloc, items(value, key)),
-        "items-or-none" => items_told(alloc, items_or_none(value, key)),
-        "members" => members_told(alloc, members(value, key)),
-        "number" => in_range(alloc, value, key, words),
-        "number-or" => in_range_or(alloc, value, key, words),
-        _ => unknown(alloc),
+        "text" => say_text(line, text(value, key)),
+        "text-item" => say_text(line, text_item(value, key)),
+        "items" => say_items(line, items(value, key)),
+        "items-or-none" => say_items(line, items_or_none(value, key)),
+        "members" => say_members(line, members(value, key)),
+        "number" => say_in_range(line, value, key, words),
+        "number-or" => say_in_range_or(line, value, key, words),
+        _ => say_unknown(line),
     }
 }
 
-fn key_told(alloc: Global, name: &str) -> Told {
+fn say_key(line: &mut String, name: &str) {
     let key = key_of(name);
-    Ok(format!(in alloc; "{key:?}")?)
+    let _ = write!(line, "{key:?}");
 }
 
-pub(crate) fn answer(alloc: Global, question: &str, line: &str) -> Told {
+pub(crate) fn answer(alloc: Global, line: &mut String, question: &str, text: &str) -> Said {
     match question {
-        "again" => again(alloc, line.as_bytes()),
-        "write" => written(alloc, line),
-        "key" => key_told(alloc, line),
+        "again" => say_again(alloc, line, text.as_bytes()),
+        "write" => say_written(alloc, line, text),
+        "key" => {
+            say_key(line, text);
+            Ok(())
+        }
         _ => {
-            let (words, json) = cut_last(line);
-            part(alloc, question, words, &parse(alloc, json.as_bytes())?)
+            let (words, json) = cut_last(text);
+            say_part(line, question, words, &parse(alloc, json.as_bytes())?)
         }
     }
 }

@@ -1,17 +1,15 @@
 //! Lists, bytes and texts, with ample memory.
-use crate::words::{Told, cut, number, shown, unknown};
-use esr_json::ReadRefusal;
+use crate::words::{Said, cut, number, say, say_unknown};
 use esr_seq::{Bytes, Seq, Text};
 use std::alloc::{AllocError, Global};
 
-/// A list that got two numbers, then three more at its end, and then one before its second.
-fn grown(alloc: Global, [a, b, c, d, e, second]: [u64; 6]) -> Result<Seq<u64>, ReadRefusal> {
-    let mut list = Seq::with_capacity(alloc, 4)?;
+/// Adds two numbers to a list, then three more at its end, and then one before its second.
+fn grow(list: &mut Seq<u64>, [a, b, c, d, e, second]: [u64; 6]) -> Result<(), AllocError> {
     list.push(a)?;
     list.push(b)?;
     list.extend_from_slice(&[c, d, e])?;
     list.insert(1, second)?;
-    Ok(list)
+    Ok(())
 }
 
 fn six(text: &str) -> [u64; 6] {
@@ -30,18 +28,23 @@ fn six(text: &str) -> [u64; 6] {
     ]
 }
 
-/// The copy of a list without its last number, how many that are, and the last one.
-fn numbers(alloc: Global, text: &str) -> Told {
-    let mut list = grown(alloc, six(text))?;
+/// Says the copy of a list without its last number, how many that are, and the last one.
+fn say_list(alloc: Global, line: &mut String, list: &mut Seq<u64>) -> Said {
     let last = list.pop();
-    let (len, empty) = (list.len(), list.is_empty());
     let copy = Seq::from_slice(alloc, list.as_slice())?.into_vec();
-    let items = copy.as_slice();
-    Ok(format!(in alloc; "{items:?} {len} {empty} {last:?}")?)
+    let (items, len, empty) = (copy.as_slice(), list.len(), list.is_empty());
+    let _ = write!(line, "{items:?} {len} {empty} {last:?}");
+    Ok(())
+}
+
+fn say_numbers(alloc: Global, line: &mut String, text: &str) -> Said {
+    let mut list = Seq::with_capacity(alloc, 4)?;
+    grow(&mut list, six(text))?;
+    say_list(alloc, line, &mut list)
 }
 
 /// The list of a text, or of none where it is empty.
-fn list_of(alloc: Global, text: &str) -> Result<Seq<Text>, ReadRefusal> {
+fn list_of(alloc: Global, text: &str) -> Result<Seq<Text>, AllocError> {
     let mut texts = Seq::new(alloc);
     if !text.is_empty() {
         texts.push(Text::from_str(alloc, text)?)?;
@@ -49,20 +52,25 @@ fn list_of(alloc: Global, text: &str) -> Result<Seq<Text>, ReadRefusal> {
     Ok(Seq::from_vec(texts.into_vec()))
 }
 
-/// The last text of a list, with its length, and whether the list was empty.
-fn last(alloc: Global, text: &str) -> Told {
+/// Says the last text of a list, with its length, and whether the list was empty.
+fn say_last(alloc: Global, line: &mut String, text: &str) -> Said {
     let mut texts = list_of(alloc, text)?;
     let empty = texts.is_empty();
     match texts.pop() {
-        Some(text) => Ok(format!(in alloc; "{} {} {empty}", text.as_str(), text.len())?),
-        None => Ok(format!(in alloc; "none {empty}")?),
+        Some(text) => {
+            let _ = write!(line, "{} {} {empty}", text.as_str(), text.len());
+        }
+        None => {
+            let _ = write!(line, "none {empty}");
+        }
     }
+    Ok(())
 }
 
-/// Bytes, with their number, and whether they are none.
-fn bytes_told(alloc: Global, bytes: &Bytes) -> Told {
-    let text = shown(alloc, bytes.as_slice())?;
-    Ok(format!(in alloc; "{text:?} {} {}", bytes.len(), bytes.is_empty())?)
+/// Says bytes, with their number, and whether they are none.
+fn say_bytes(line: &mut String, bytes: &Bytes) {
+    let text = str::from_utf8(bytes.as_slice()).unwrap_or("?");
+    let _ = write!(line, "{text:?} {} {}", bytes.len(), bytes.is_empty());
 }
 
 /// Bytes of a slice, or new ones where it is empty, which went through a vector.
@@ -80,30 +88,38 @@ fn extend(bytes: &mut Bytes, text: &str) -> Result<(), AllocError> {
     bytes.push(b'.')
 }
 
-/// The order of a copy and what grew from it, whether they are equal, and both.
-fn bytes_beside(alloc: Global, copy: &Bytes, bytes: &Bytes) -> Told {
+/// Says the order of a copy and what grew from it, whether they are equal, and both.
+fn say_bytes_beside(line: &mut String, copy: &Bytes, bytes: &Bytes) {
     let (order, same) = (copy.cmp(bytes), copy == bytes);
-    let first = bytes_told(alloc, copy)?;
-    let second = bytes_told(alloc, bytes)?;
-    Ok(format!(in alloc; "{order:?} {same}: {first}, {second}")?)
+    let _ = write!(line, "{order:?} {same}: ");
+    say_bytes(line, copy);
+    say(line, ", ");
+    say_bytes(line, bytes);
 }
 
-/// Bytes that are none at first and grow by a word and then by another, each with a dot, beside the copy between.
-fn bytes_grown(alloc: Global, text: &str) -> Told {
+/// Says bytes that are none at first and grow by a word and then by another, each with a dot, beside the copy between.
+fn say_bytes_grown(alloc: Global, line: &mut String, text: &str) -> Said {
     let (front, back) = cut(text);
     let mut bytes = Bytes::with_capacity(alloc, 2)?;
     if !bytes.is_empty() {
-        return unknown(alloc);
+        return say_unknown(line);
     }
     extend(&mut bytes, front)?;
     let copy = bytes.try_clone(alloc)?;
     extend(&mut bytes, back)?;
-    bytes_beside(alloc, &copy, &bytes)
+    say_bytes_beside(line, &copy, &bytes);
+    Ok(())
 }
 
-/// A text, with its length, and whether it is empty.
-fn text_told(alloc: Global, text: &Text) -> Told {
-    Ok(format!(in alloc; "{:?} {} {}", text.as_str(), text.len(), text.is_empty())?)
+/// Says a text, with its length, and whether it is empty.
+fn say_text(line: &mut String, text: &Text) {
+    let _ = write!(
+        line,
+        "{:?} {} {}",
+        text.as_str(),
+        text.len(),
+        text.is_empty()
+    );
 }
 
 /// A text, or a new one where it is empty, which went through a string.
@@ -115,31 +131,45 @@ fn text_of(alloc: Global, text: &str) -> Result<Text, AllocError> {
     Ok(Text::from_string(text.into_string()))
 }
 
-/// The order of a copy and what grew from it, whether they are equal, and both.
-fn text_beside(alloc: Global, copy: &Text, text: &Text) -> Told {
+/// Says the order of a copy and what grew from it, whether they are equal, and both.
+fn say_text_beside(line: &mut String, copy: &Text, text: &Text) {
     let (order, same) = (copy.cmp(text), copy == text);
-    let first = text_told(alloc, copy)?;
-    let second = text_told(alloc, text)?;
-    Ok(format!(in alloc; "{order:?} {same}: {first}, {second}")?)
+    let _ = write!(line, "{order:?} {same}: ");
+    say_text(line, copy);
+    say(line, ", ");
+    say_text(line, text);
 }
 
-/// A text that grows from one word by another, beside the copy before.
-fn text_grown(alloc: Global, text: &str) -> Told {
+/// Says a text that grows from one word by another, beside the copy before.
+fn say_text_grown(alloc: Global, line: &mut String, text: &str) -> Said {
     let (front, back) = cut(text);
     let mut text = Text::from_str(alloc, front)?;
     let copy = text.try_clone(alloc)?;
     text.push_str(back)?;
-    text_beside(alloc, &copy, &text)
+    say_text_beside(line, &copy, &text);
+    Ok(())
 }
 
-pub(crate) fn answer(alloc: Global, question: &str, text: &str) -> Told {
+fn say_bytes_of(alloc: Global, line: &mut String, text: &str) -> Said {
+    let bytes = bytes_of(alloc, text)?;
+    say_bytes(line, &bytes);
+    Ok(())
+}
+
+fn say_text_of(alloc: Global, line: &mut String, text: &str) -> Said {
+    let text = text_of(alloc, text)?;
+    say_text(line, &text);
+    Ok(())
+}
+
+pub(crate) fn answer(alloc: Global, line: &mut String, question: &str, text: &str) -> Said {
     match question {
-        "numbers" => numbers(alloc, text),
-        "last" => last(alloc, text),
-        "bytes" => bytes_told(alloc, &bytes_of(alloc, text)?),
-        "bytes-grown" => bytes_grown(alloc, text),
-        "text" => text_told(alloc, &text_of(alloc, text)?),
-        "text-grown" => text_grown(alloc, text),
-        _ => unknown(alloc),
+        "numbers" => say_numbers(alloc, line, text),
+        "last" => say_last(alloc, line, text),
+        "bytes" => say_bytes_of(alloc, line, text),
+        "bytes-grown" => say_bytes_grown(alloc, line, text),
+        "text" => say_text_of(alloc, line, text),
+        "text-grown" => say_text_grown(alloc, line, text),
+        _ => say_unknown(line),
     }
 }

@@ -1,6 +1,6 @@
 //! The metadata of snapshots.
-use crate::names::{id_told, index_told};
-use crate::words::{Told, shown, unknown};
+use crate::names::{say_id, say_index};
+use crate::words::{Said, say, say_unknown, say_written};
 use esr_meta::{
     GlobalMeta, IndexMeta, SnapInfo, global_read, global_text, index_meta_read, index_meta_text,
     indices_copy, info_read, info_text,
@@ -8,59 +8,87 @@ use esr_meta::{
 use esr_names::IndexRefs;
 use std::alloc::Global;
 
-fn info_again(alloc: Global, info: &SnapInfo) -> Told {
-    shown(alloc, info_text(alloc, info)?.as_slice())
+fn say_info_again(alloc: Global, line: &mut String, bytes: &[u8]) -> Said {
+    let info = info_read(alloc, bytes)?;
+    say_written(line, info_text(alloc, &info))
 }
 
-/// The one index of a list, or how many there are.
-fn indices_told(alloc: Global, indices: &IndexRefs) -> Told {
+/// Says the one index of a list, or how many there are.
+fn say_indices(line: &mut String, indices: &IndexRefs) {
     match indices.as_slice() {
-        [index] => index_told(alloc, index),
-        indices => Ok(format!(in alloc; "{} indices", indices.len())?),
+        [index] => say_index(line, index),
+        indices => {
+            let _ = write!(line, "{} indices", indices.len());
+        }
     }
 }
 
-/// What an info says, with its indices and then their copy.
-fn info_fields(alloc: Global, info: &SnapInfo) -> Told {
-    let uuid = id_told(alloc, info.uuid)?;
-    let indices = indices_told(alloc, &info.indices)?;
-    let copy = indices_told(alloc, &indices_copy(alloc, &info.indices)?)?;
+/// Says the numbers of an info, its name and its uuid.
+fn say_info(line: &mut String, info: &SnapInfo) {
     let (bytes, files, moment) = (info.bytes, info.files, info.moment);
     let (name, state) = (info.name.as_str(), info.state);
-    Ok(format!(in alloc;
-        "bytes {bytes} files {files} moment {moment} {name} state {state} {uuid}, {indices}, {copy}"
-    )?)
+    let _ = write!(
+        line,
+        "bytes {bytes} files {files} moment {moment} {name} state {state} "
+    );
+    say_id(line, info.uuid);
 }
 
-fn global_again(alloc: Global, global: &GlobalMeta) -> Told {
-    shown(alloc, global_text(alloc, global)?.as_slice())
+/// Says what an info has, with its indices and then their copy.
+fn say_info_fields(alloc: Global, line: &mut String, bytes: &[u8]) -> Said {
+    let info = info_read(alloc, bytes)?;
+    let copy = indices_copy(alloc, &info.indices)?;
+    say_info(line, &info);
+    say(line, ", ");
+    say_indices(line, &info.indices);
+    say(line, ", ");
+    say_indices(line, &copy);
+    Ok(())
 }
 
-fn global_fields(alloc: Global, global: &GlobalMeta) -> Told {
-    let uuid = id_told(alloc, global.uuid)?;
-    Ok(format!(in alloc; "moment {} {} {uuid}", global.moment, global.name.as_str())?)
+fn say_global_again(alloc: Global, line: &mut String, bytes: &[u8]) -> Said {
+    let global = global_read(alloc, bytes)?;
+    say_written(line, global_text(alloc, &global))
 }
 
-fn index_again(alloc: Global, index: &IndexMeta) -> Told {
-    shown(alloc, index_meta_text(alloc, index)?.as_slice())
+fn say_global(line: &mut String, global: &GlobalMeta) {
+    let _ = write!(line, "moment {} {} ", global.moment, global.name.as_str());
+    say_id(line, global.uuid);
 }
 
-fn index_fields(alloc: Global, index: &IndexMeta) -> Told {
-    let id = id_told(alloc, index.id)?;
-    let uuid = id_told(alloc, index.uuid)?;
+fn say_global_fields(alloc: Global, line: &mut String, bytes: &[u8]) -> Said {
+    let global = global_read(alloc, bytes)?;
+    say_global(line, &global);
+    Ok(())
+}
+
+fn say_index_again(alloc: Global, line: &mut String, bytes: &[u8]) -> Said {
+    let index = index_meta_read(alloc, bytes)?;
+    say_written(line, index_meta_text(alloc, &index))
+}
+
+fn say_index_meta(line: &mut String, index: &IndexMeta) {
     let (name, shards) = (index.name.as_str(), index.shards);
-    Ok(format!(in alloc; "{id} {name} shards {shards}, in {uuid}")?)
+    say_id(line, index.id);
+    let _ = write!(line, " {name} shards {shards}, in ");
+    say_id(line, index.uuid);
 }
 
-pub(crate) fn answer(alloc: Global, question: &str, text: &str) -> Told {
+fn say_index_fields(alloc: Global, line: &mut String, bytes: &[u8]) -> Said {
+    let index = index_meta_read(alloc, bytes)?;
+    say_index_meta(line, &index);
+    Ok(())
+}
+
+pub(crate) fn answer(alloc: Global, line: &mut String, question: &str, text: &str) -> Said {
     let bytes = text.as_bytes();
     match question {
-        "info" => info_again(alloc, &info_read(alloc, bytes)?),
-        "info-fields" => info_fields(alloc, &info_read(alloc, bytes)?),
-        "global" => global_again(alloc, &global_read(alloc, bytes)?),
-        "global-fields" => global_fields(alloc, &global_read(alloc, bytes)?),
-        "index" => index_again(alloc, &index_meta_read(alloc, bytes)?),
-        "index-fields" => index_fields(alloc, &index_meta_read(alloc, bytes)?),
-        _ => unknown(alloc),
+        "info" => say_info_again(alloc, line, bytes),
+        "info-fields" => say_info_fields(alloc, line, bytes),
+        "global" => say_global_again(alloc, line, bytes),
+        "global-fields" => say_global_fields(alloc, line, bytes),
+        "index" => say_index_again(alloc, line, bytes),
+        "index-fields" => say_index_fields(alloc, line, bytes),
+        _ => say_unknown(line),
     }
 }

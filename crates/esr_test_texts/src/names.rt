@@ -1,5 +1,5 @@
 //! Ids, names and the names of blobs.
-use crate::words::{Told, cut, id, index_name, number, shown, small, snap_name, unknown};
+use crate::words::{Said, UNKNOWN, cut, id, index_name, number, say, say_bytes, small, snap_name};
 use esr_json::ReadRefusal;
 use esr_names::{
     BlobName, Id, IndexName, IndexNames, IndexRef, NameRefusal, ShardId, SnapName, id_read,
@@ -7,9 +7,9 @@ use esr_names::{
 };
 use std::alloc::Global;
 
-/// An id by its term and its counter.
-pub(crate) fn id_told(alloc: Global, id: Id) -> Told {
-    Ok(format!(in alloc; "{}.{}", id.term(), id.counter())?)
+/// Says an id by its term and its counter.
+pub(crate) fn say_id(line: &mut String, id: Id) {
+    let _ = write!(line, "{}.{}", id.term(), id.counter());
 }
 
 /// The id of a term and a counter.
@@ -18,51 +18,61 @@ fn id_of(text: &str) -> Id {
     Id::new(number(term), number(counter))
 }
 
-/// The order of two ids, each by its term and its counter.
-fn id_order(alloc: Global, text: &str) -> Told {
+/// Says the order of two ids, each by its term and its counter.
+fn say_id_order(line: &mut String, text: &str) {
     let (first, second) = text.split_once(", ").unwrap_or((text, ""));
     let order = id_of(first).cmp(&id_of(second));
-    Ok(format!(in alloc; "{order:?}")?)
+    let _ = write!(line, "{order:?}");
 }
 
-/// A blob of this kind in the folder of a shard.
-fn in_shard(alloc: Global, kind: &str, shard: ShardId, of: Id) -> Told {
-    let index = id_told(alloc, shard.index)?;
-    let id = id_told(alloc, of)?;
-    Ok(format!(in alloc; "{kind} {id} of shard {} of {index}", shard.number)?)
+/// Says a blob of this kind in the folder of a shard.
+fn say_in_shard(line: &mut String, kind: &str, shard: ShardId, of: Id) {
+    say_of(line, kind, of);
+    let _ = write!(line, " of shard {} of ", shard.number);
+    say_id(line, shard.index);
 }
 
-/// A blob of this kind, for an id.
-fn alone(alloc: Global, kind: &str, of: Id) -> Told {
-    let id = id_told(alloc, of)?;
-    Ok(format!(in alloc; "{kind} {id}")?)
+/// Says a blob of this kind, for an id.
+fn say_of(line: &mut String, kind: &str, of: Id) {
+    let _ = write!(line, "{kind} {}.{}", of.term(), of.counter());
 }
 
-fn part(alloc: Global, shard: ShardId, file: Id, part: u64) -> Told {
-    let whole = in_shard(alloc, "file", shard, file)?;
-    Ok(format!(in alloc; "part {part} of {whole}")?)
+fn say_index_meta(line: &mut String, index: Id, snap: Id) {
+    say_of(line, "meta", snap);
+    say(line, " of ");
+    say_id(line, index);
 }
 
-/// The kind of a blob, and what its name tells.
-pub(crate) fn blob_told(alloc: Global, name: &BlobName) -> Told {
+fn say_part(line: &mut String, shard: ShardId, file: Id, part: u64) {
+    let _ = write!(line, "part {part} of ");
+    say_in_shard(line, "file", shard, file);
+}
+
+fn say_test_node(line: &mut String, test: Id, worker: u32) {
+    say_of(line, "test", test);
+    let _ = write!(line, " of {worker}");
+}
+
+fn say_root(line: &mut String, number: u64) {
+    let _ = write!(line, "root {number}");
+}
+
+/// Says the kind of a blob, and what its name tells.
+pub(crate) fn say_blob(line: &mut String, name: &BlobName) {
     match name {
-        BlobName::Root(number) => Ok(format!(in alloc; "root {number}")?),
-        BlobName::Latest => Ok(String::from_str(alloc, "latest")?),
-        BlobName::Snap(snap) => alone(alloc, "snap", *snap),
-        BlobName::Meta(snap) => alone(alloc, "meta", *snap),
-        BlobName::IndexMeta(index, snap) => {
-            let index = id_told(alloc, *index)?;
-            Ok(format!(in alloc; "meta {}.{} of {index}", snap.term(), snap.counter())?)
+        BlobName::Root(number) => say_root(line, *number),
+        BlobName::Latest => say(line, "latest"),
+        BlobName::Snap(snap) => say_of(line, "snap", *snap),
+        BlobName::Meta(snap) => say_of(line, "meta", *snap),
+        BlobName::IndexMeta(index, snap) => say_index_meta(line, *index, *snap),
+        BlobName::ShardSnap(shard, snap) => say_in_shard(line, "snap", *shard, *snap),
+        BlobName::ShardIndex(shard, generation) => {
+            say_in_shard(line, "index", *shard, *generation)
         }
-        BlobName::ShardSnap(shard, snap) => in_shard(alloc, "snap", *shard, *snap),
-        BlobName::ShardIndex(shard, generation) => in_shard(alloc, "index", *shard, *generation),
-        BlobName::Whole(shard, file) => in_shard(alloc, "file", *shard, *file),
-        BlobName::Part(shard, file, number) => part(alloc, *shard, *file, *number),
-        BlobName::TestMaster(test) => alone(alloc, "test", *test),
-        BlobName::TestNode(test, worker) => {
-            let test = id_told(alloc, *test)?;
-            Ok(format!(in alloc; "test {test} of {worker}")?)
-        }
+        BlobName::Whole(shard, file) => say_in_shard(line, "file", *shard, *file),
+        BlobName::Part(shard, file, number) => say_part(line, *shard, *file, *number),
+        BlobName::TestMaster(test) => say_of(line, "test", *test),
+        BlobName::TestNode(test, worker) => say_test_node(line, *test, *worker),
     }
 }
 
@@ -73,46 +83,55 @@ fn is_written(name: &BlobName, text: &str) -> bool {
     is_name(name) && &out[..len] == text.as_bytes()
 }
 
-/// The name of a blob with this text.
-fn blob(alloc: Global, text: &str) -> Told {
+/// Says the name of a blob with this text.
+fn say_blob_of(line: &mut String, text: &str) {
     match parse_name(text.as_bytes()) {
-        Some(name) if is_written(&name, text) => blob_told(alloc, &name),
-        Some(_) => Ok(String::from_str(alloc, "a blob of another text")?),
-        None => Ok(String::from_str(alloc, "no blob")?),
+        Some(name) if is_written(&name, text) => say_blob(line, &name),
+        Some(_) => say(line, "a blob of another text"),
+        None => say(line, "no blob"),
     }
 }
 
-fn refused(alloc: Global, refusal: NameRefusal) -> Told {
+fn say_refusal(line: &mut String, refusal: NameRefusal) -> Said {
     match refusal {
         NameRefusal::Memory => Err(ReadRefusal::Memory),
         NameRefusal::Bad(bad) => {
             let (rule, place) = (bad.rule, bad.place);
-            Ok(format!(in alloc; "{rule:?} at {place}")?)
+            let _ = write!(line, "{rule:?} at {place}");
+            Ok(())
         }
     }
 }
 
-/// The copy of a name of a snapshot, or the first rule that the text breaks.
-fn snapshot(alloc: Global, text: &str) -> Told {
+/// Says the copy of a name of a snapshot, or the first rule that the text breaks.
+fn say_snapshot(alloc: Global, line: &mut String, text: &str) -> Said {
     match SnapName::new(alloc, text) {
-        Ok(name) => shown(alloc, name.try_clone(alloc)?.as_str().as_bytes()),
-        Err(refusal) => refused(alloc, refusal),
+        Ok(name) => {
+            say(line, name.try_clone(alloc)?.as_str());
+            Ok(())
+        }
+        Err(refusal) => say_refusal(line, refusal),
     }
 }
 
-/// The copy of a name of an index, or the first rule that the text breaks.
-fn index(alloc: Global, text: &str) -> Told {
+/// Says the copy of a name of an index, or the first rule that the text breaks.
+fn say_index_name(alloc: Global, line: &mut String, text: &str) -> Said {
     match IndexName::new(alloc, text) {
-        Ok(name) => shown(alloc, name.try_clone(alloc)?.as_str().as_bytes()),
-        Err(refusal) => refused(alloc, refusal),
+        Ok(name) => {
+            say(line, name.try_clone(alloc)?.as_str());
+            Ok(())
+        }
+        Err(refusal) => say_refusal(line, refusal),
     }
 }
 
-/// The order of two names of snapshots.
-fn snapshot_order(alloc: Global, text: &str) -> Told {
+/// Says the order of two names of snapshots.
+fn say_snapshot_order(alloc: Global, line: &mut String, text: &str) -> Said {
     let (first, second) = cut(text);
-    let order = snap_name(alloc, first)?.cmp(&snap_name(alloc, second)?);
-    Ok(format!(in alloc; "{order:?}")?)
+    let first = snap_name(alloc, first)?;
+    let order = first.cmp(&snap_name(alloc, second)?);
+    let _ = write!(line, "{order:?}");
+    Ok(())
 }
 
 /// The names of indices that the text has, in their order.
@@ -126,22 +145,28 @@ fn sorted(alloc: Global, text: &str) -> Result<Vec<IndexName>, ReadRefusal> {
     Ok(names)
 }
 
-fn names_told(alloc: Global, names: &[IndexName]) -> Told {
-    let mut told = String::from_str(alloc, "names")?;
+fn say_names(line: &mut String, names: &[IndexName]) {
+    say(line, "names");
     for name in names {
-        write!(told, " {}", name.as_str())?;
+        say(line, " ");
+        say(line, name.as_str());
     }
-    Ok(told)
 }
 
-/// An index by its id, its name and the number of its shards.
-pub(crate) fn index_told(alloc: Global, index: &IndexRef) -> Told {
-    let id = id_told(alloc, index.id)?;
-    Ok(format!(in alloc; "{id} {} {}", index.name.as_str(), index.shards)?)
+fn say_sorted(alloc: Global, line: &mut String, text: &str) -> Said {
+    let names = sorted(alloc, text)?;
+    say_names(line, names.as_slice());
+    Ok(())
 }
 
-/// The copy of an index.
-fn index_copy(alloc: Global, text: &str) -> Told {
+/// Says an index by its id, its name and the number of its shards.
+pub(crate) fn say_index(line: &mut String, index: &IndexRef) {
+    say_id(line, index.id);
+    let _ = write!(line, " {} {}", index.name.as_str(), index.shards);
+}
+
+/// Says the copy of an index.
+fn say_index_copy(alloc: Global, line: &mut String, text: &str) -> Said {
     let (word, rest) = cut(text);
     let (name, shards) = cut(rest);
     let index = IndexRef {
@@ -149,27 +174,38 @@ fn index_copy(alloc: Global, text: &str) -> Told {
         name: index_name(alloc, name)?,
         shards: small(shards),
     };
-    index_told(alloc, &index.try_clone(alloc)?)
+    say_index(line, &index.try_clone(alloc)?);
+    Ok(())
 }
 
-fn read_told(alloc: Global, text: &str) -> Told {
+fn say_read(line: &mut String, text: &str) {
     match id_read(text.as_bytes()) {
-        Some(id) => id_told(alloc, id),
-        None => Ok(String::from_str(alloc, "no id")?),
+        Some(id) => say_id(line, id),
+        None => say(line, "no id"),
     }
 }
 
-pub(crate) fn answer(alloc: Global, question: &str, text: &str) -> Told {
+/// Answers a question about an id or the name of a blob.
+fn answer_plain(line: &mut String, question: &str, text: &str) {
     match question {
-        "id" => shown(alloc, id_text(id_of(text)).as_slice()),
-        "id-read" => read_told(alloc, text),
-        "id-order" => id_order(alloc, text),
-        "blob" => blob(alloc, text),
-        "snapshot" => snapshot(alloc, text),
-        "index" => index(alloc, text),
-        "snapshot-order" => snapshot_order(alloc, text),
-        "indices-sorted" => names_told(alloc, sorted(alloc, text)?.as_slice()),
-        "index-copy" => index_copy(alloc, text),
-        _ => unknown(alloc),
+        "id" => say_bytes(line, &id_text(id_of(text))),
+        "id-read" => say_read(line, text),
+        "id-order" => say_id_order(line, text),
+        "blob" => say_blob_of(line, text),
+        _ => say(line, UNKNOWN),
+    }
+}
+
+pub(crate) fn answer(alloc: Global, line: &mut String, question: &str, text: &str) -> Said {
+    match question {
+        "snapshot" => say_snapshot(alloc, line, text),
+        "index" => say_index_name(alloc, line, text),
+        "snapshot-order" => say_snapshot_order(alloc, line, text),
+        "indices-sorted" => say_sorted(alloc, line, text),
+        "index-copy" => say_index_copy(alloc, line, text),
+        _ => {
+            answer_plain(line, question, text);
+            Ok(())
+        }
     }
 }

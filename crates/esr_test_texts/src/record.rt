@@ -1,6 +1,6 @@
 //! Records, and the swaps of their numbers.
-use crate::names::id_told;
-use crate::words::{Told, cut, cut_last, number, shown, signed, unknown};
+use crate::names::say_id;
+use crate::words::{Said, UNKNOWN, cut, cut_last, number, say, say_unknown, say_written, signed};
 use esr_names::Id;
 use esr_record::{
     ClusterRecord, Making, OpWork, RecordOp, RecordRefusal, record_read, record_text,
@@ -8,142 +8,161 @@ use esr_record::{
 use std::alloc::Global;
 use std::fmt::Display;
 
-fn written(alloc: Global, record: &ClusterRecord) -> Told {
-    shown(alloc, record_text(alloc, record)?.as_slice())
-}
-
-/// The text of the record's copy.
-fn again(alloc: Global, record: &ClusterRecord) -> Told {
-    written(alloc, &record.try_clone(alloc)?)
-}
-
-/// The numbers of a record, how many ops it has, and the number of the last.
-fn numbers(alloc: Global, record: &ClusterRecord) -> Told {
+/// Says the numbers of a record, how many ops it has, and the number of the last.
+fn say_numbers(line: &mut String, record: &ClusterRecord) {
     let (pending, safe, term) = (record.pending, record.safe, record.term);
     let (count, last) = (record.ops.as_slice().len(), record.ops.last());
-    Ok(format!(in alloc; "pending {pending} safe {safe} term {term}, {count} ops, last {last}")?)
+    let _ = write!(
+        line,
+        "pending {pending} safe {safe} term {term}, {count} ops, last {last}"
+    );
 }
 
-fn making_told(alloc: Global, info: &Making) -> Told {
-    let uuid = id_told(alloc, info.uuid)?;
+fn say_making(line: &mut String, info: &Making) {
     let (name, moment, count) = (info.name.as_str(), info.moment, info.indices.len());
-    Ok(format!(in alloc; "{name} {uuid} moment {moment}, {count} indices")?)
+    let _ = write!(line, "{name} ");
+    say_id(line, info.uuid);
+    let _ = write!(line, " moment {moment}, {count} indices");
 }
 
-fn clone_told(alloc: Global, info: &Making, source: Id) -> Told {
-    let made = making_told(alloc, info)?;
-    let source = id_told(alloc, source)?;
-    Ok(format!(in alloc; "clone {made}, of {source}")?)
+fn say_clone(line: &mut String, info: &Making, source: Id) {
+    say(line, "clone ");
+    say_making(line, info);
+    say(line, ", of ");
+    say_id(line, source);
 }
 
-fn delete_told(alloc: Global, uuids: &[Id]) -> Told {
-    let mut told = String::from_str(alloc, "delete")?;
+fn say_delete(line: &mut String, uuids: &[Id]) {
+    say(line, "delete");
     for uuid in uuids {
-        write!(told, " {}.{}", uuid.term(), uuid.counter())?;
+        say(line, " ");
+        say_id(line, *uuid);
     }
-    Ok(told)
 }
 
-fn work_told(alloc: Global, work: &OpWork) -> Told {
+fn say_work(line: &mut String, work: &OpWork) {
     match work {
         OpWork::Create { info } => {
-            let made = making_told(alloc, info)?;
-            Ok(format!(in alloc; "create {made}")?)
+            say(line, "create ");
+            say_making(line, info);
         }
-        OpWork::Clone { info, source } => clone_told(alloc, info, *source),
-        OpWork::Delete { uuids } => delete_told(alloc, uuids.as_slice()),
-        OpWork::Cleanup => Ok(String::from_str(alloc, "cleanup")?),
+        OpWork::Clone { info, source } => say_clone(line, info, *source),
+        OpWork::Delete { uuids } => say_delete(line, uuids.as_slice()),
+        OpWork::Cleanup => say(line, "cleanup"),
     }
 }
 
-/// The op at this place.
-fn op(alloc: Global, record: &ClusterRecord, place: u64) -> Told {
+/// Says the op at this place.
+fn say_op(line: &mut String, record: &ClusterRecord, place: u64) {
     match record.ops.as_slice().get(place as usize) {
         Some(op) => {
-            let work = work_told(alloc, &op.work)?;
-            Ok(format!(in alloc; "{} {work}", op.op)?)
+            let _ = write!(line, "{} ", op.op);
+            say_work(line, &op.work);
         }
-        None => Ok(String::from_str(alloc, "none")?),
+        None => say(line, "none"),
     }
 }
 
-/// The answer to a swap.
-fn swap_told<T: Display + Copy>(alloc: Global, answer: Result<T, RecordRefusal>) -> Told {
-    match answer {
-        Ok(number) => Ok(format!(in alloc; "{number}")?),
-        Err(refusal) => Ok(format!(in alloc; "{refusal}")?),
-    }
+/// Says the answer to a swap.
+fn say_swap<T: Display + Copy>(line: &mut String, answer: Result<T, RecordRefusal>) {
+    let _ = match answer {
+        Ok(number) => write!(line, "{number}"),
+        Err(refusal) => write!(line, "{refusal}"),
+    };
 }
 
 /// Makes a generation the safe one, which is above that and was given out where the term is the master's.
-fn settle(alloc: Global, record: &mut ClusterRecord, own: u64, generation: i64) -> Told {
+fn settle(line: &mut String, record: &mut ClusterRecord, own: u64, generation: i64) {
     if own == record.term && (generation <= record.safe || record.pending < generation) {
-        return unknown(alloc);
+        return say(line, UNKNOWN);
     }
     match record.settle(own, generation) {
-        Ok(()) => Ok(String::from_str(alloc, "done")?),
-        Err(refusal) => Ok(format!(in alloc; "{refusal}")?),
+        Ok(()) => say(line, "done"),
+        Err(refusal) => say_swap::<u64>(line, Err(refusal)),
     }
 }
 
 /// Adds a cleanup with this number, which is above the last.
-fn push(alloc: Global, record: &mut ClusterRecord, op: u64) -> Told {
+fn push(line: &mut String, record: &mut ClusterRecord, op: u64) -> Said {
     if op <= record.ops.last() || op > 1 << 62 {
-        return unknown(alloc);
+        return say_unknown(line);
     }
-    record.ops.push(RecordOp {
-        op,
-        work: OpWork::Cleanup,
-    })?;
-    Ok(String::from_str(alloc, "done")?)
+    let work = OpWork::Cleanup;
+    record.ops.push(RecordOp { op, work })?;
+    say(line, "done");
+    Ok(())
 }
 
-fn remove(alloc: Global, record: &mut ClusterRecord, op: u64) -> Told {
+fn remove(line: &mut String, record: &mut ClusterRecord, op: u64) {
     record.ops.remove(op);
-    Ok(String::from_str(alloc, "done")?)
+    say(line, "done");
 }
 
-/// The answer to a change of a record.
-fn changed(alloc: Global, question: &str, words: &str, record: &mut ClusterRecord) -> Told {
+/// Changes the numbers of a record, or removes an op, and says the answer.
+fn change_plain(line: &mut String, question: &str, words: &str, record: &mut ClusterRecord) {
     let (first, second) = cut(words);
     match question {
-        "elect" => swap_told(alloc, record.elect()),
-        "raise" => swap_told(alloc, record.raise(number(first))),
-        "settle" => settle(alloc, record, number(first), signed(second)),
-        "push" => push(alloc, record, number(first)),
-        "remove" => remove(alloc, record, number(first)),
-        _ => unknown(alloc),
+        "elect" => say_swap(line, record.elect()),
+        "raise" => say_swap(line, record.raise(number(first))),
+        "settle" => settle(line, record, number(first), signed(second)),
+        "remove" => remove(line, record, number(first)),
+        _ => say(line, UNKNOWN),
     }
 }
 
-/// The answer to a change of a record, and the text of the record then.
-fn change(alloc: Global, question: &str, words: &str, record: &mut ClusterRecord) -> Told {
-    let answer = changed(alloc, question, words, record)?;
-    let text = written(alloc, record)?;
-    Ok(format!(in alloc; "{answer}: {text}")?)
-}
-
-/// What is told of a record, by the words before its text.
-fn of_record(alloc: Global, question: &str, words: &str, record: &mut ClusterRecord) -> Told {
+/// Changes a record, and says the answer and the text of the record then.
+fn say_change(
+    alloc: Global,
+    line: &mut String,
+    question: &str,
+    words: &str,
+    record: &mut ClusterRecord,
+) -> Said {
+    let (first, _) = cut(words);
     match question {
-        "numbers" => numbers(alloc, record),
-        "op" => op(alloc, record, number(words)),
-        _ => change(alloc, question, words, record),
+        "push" => push(line, record, number(first))?,
+        _ => change_plain(line, question, words, record),
     }
+    say(line, ": ");
+    say_written(line, record_text(alloc, record))
 }
 
-pub(crate) fn answer(alloc: Global, question: &str, text: &str) -> Told {
+/// Says what is asked of a record, by the words before its text.
+fn say_of_record(
+    alloc: Global,
+    line: &mut String,
+    question: &str,
+    words: &str,
+    record: &mut ClusterRecord,
+) -> Said {
     match question {
-        "again" => again(alloc, &record_read(alloc, text.as_bytes())?),
-        "new" => written(alloc, &ClusterRecord::new(alloc)),
+        "numbers" => say_numbers(line, record),
+        "op" => say_op(line, record, number(words)),
+        _ => return say_change(alloc, line, question, words, record),
+    }
+    Ok(())
+}
+
+/// Says the text of the copy of a record of a text.
+fn say_again(alloc: Global, line: &mut String, text: &str) -> Said {
+    let record = record_read(alloc, text.as_bytes())?;
+    let copy = record.try_clone(alloc)?;
+    say_written(line, record_text(alloc, &copy))
+}
+
+fn say_new(alloc: Global, line: &mut String) -> Said {
+    let record = ClusterRecord::new(alloc);
+    say_written(line, record_text(alloc, &record))
+}
+
+pub(crate) fn answer(alloc: Global, line: &mut String, question: &str, text: &str) -> Said {
+    match question {
+        "again" => say_again(alloc, line, text),
+        "new" => say_new(alloc, line),
         _ => {
-            let (words, record) = cut_last(text);
-            of_record(
-                alloc,
-                question,
-                words,
-                &mut record_read(alloc, record.as_bytes())?,
-            )
+            let (words, text) = cut_last(text);
+            let mut record = record_read(alloc, text.as_bytes())?;
+            say_of_record(alloc, line, question, words, &mut record)
         }
     }
 }

@@ -3,27 +3,27 @@ ghost use Rattle.std.specs.Prelude.{◌≡◌, ◌≤◌};
 ghost use Rattle.std.specs.List.{list_any};
 ghost use Rattle.esr_root.specs.Indices.{is_named};
 
-use crate::names::id_told;
-use crate::words::{Told, cut, id, index_name, shown, small, snap_name, unknown};
+use crate::names::say_id;
+use crate::words::{
+    Said, cut, cut_last, id, index_name, say, say_unknown, say_written, small, snap_name,
+};
 use esr_json::ReadRefusal;
 use esr_names::{Id, IndexName, IndexRef};
 use esr_root::{RootData, RootSnap, root_read, root_text};
 use esr_seq::Seq;
 use std::alloc::Global;
 
-fn written(alloc: Global, root: &RootData) -> Told {
-    shown(alloc, root_text(alloc, root)?.as_slice())
-}
-
-/// The one snapshot of a root, and how many indices it lists.
-fn fields(alloc: Global, root: &RootData) -> Told {
+/// Says the one snapshot of a root, and how many indices it lists.
+fn say_fields(line: &mut String, root: &RootData) -> Said {
     let [snap] = root.snapshots.as_slice() else {
-        return unknown(alloc);
+        return say_unknown(line);
     };
-    let uuid = id_told(alloc, snap.uuid)?;
-    let (name, state) = (snap.name.as_str(), snap.state);
-    let count = root.indices.as_slice().len();
-    Ok(format!(in alloc; "{name} {uuid} state {state}, {count} indices")?)
+    let (state, count) = (snap.state, root.indices.as_slice().len());
+    say(line, snap.name.as_str());
+    say(line, " ");
+    say_id(line, snap.uuid);
+    let _ = write!(line, " state {state}, {count} indices");
+    Ok(())
 }
 
 /// The empty root with a snapshot of an index.
@@ -35,8 +35,8 @@ fn first(alloc: Global, snap: &RootSnap, index: IndexRef) -> Result<RootData, Re
     Ok(RootData::new(alloc).add(alloc, snap, &indices)?)
 }
 
-/// The empty root with a snapshot 1.0 of an index 1.1: the words are their names, and the number of shards.
-fn added(alloc: Global, text: &str) -> Told {
+/// Says the empty root with a snapshot 1.0 of an index 1.1: the words are their names, and the number of shards.
+fn say_first(alloc: Global, line: &mut String, text: &str) -> Said {
     let (name, rest) = cut(text);
     let (index, shards) = cut(rest);
     let snap = RootSnap {
@@ -49,7 +49,8 @@ fn added(alloc: Global, text: &str) -> Told {
         name: index_name(alloc, index)?,
         shards: small(shards).min(1024),
     };
-    written(alloc, &first(alloc, &snap, index)?)
+    let root = first(alloc, &snap, index)?;
+    say_written(line, root_text(alloc, &root))
 }
 
 /// Whether the root has an index of this name.
@@ -62,56 +63,61 @@ fn has_index(root: &RootData, name: &IndexName) -> bool
         .any(|index| index.name == *name)
 }
 
-/// The root with another generation of a shard of an index.
-fn with_generation(alloc: Global, root: &RootData, words: &str) -> Told {
+/// Says the root with another generation of a shard of an index.
+fn say_with_generation(alloc: Global, line: &mut String, root: &RootData, words: &str) -> Said {
     let (name, rest) = cut(words);
     let (shard, generation) = cut(rest);
+    let (shard, generation) = (small(shard), id(generation));
     let name = index_name(alloc, name)?;
-    let shard = small(shard);
     if shard > 1023 || !has_index(root, &name) {
-        return unknown(alloc);
+        return say_unknown(line);
     }
-    written(
-        alloc,
-        &root.set_generation(alloc, &name, shard, Some(id(generation)))?,
-    )
+    let root = root.set_generation(alloc, &name, shard, Some(generation))?;
+    say_written(line, root_text(alloc, &root))
 }
 
-/// The root without a snapshot.
-fn without(alloc: Global, root: &RootData, uuid: Id) -> Told {
+/// Says the root without a snapshot.
+fn say_without(alloc: Global, line: &mut String, root: &RootData, uuid: Id) -> Said {
     let uuids = Seq::from_slice(alloc, &[uuid])?;
-    written(alloc, &root.without(alloc, &uuids)?)
+    let root = root.without(alloc, &uuids)?;
+    say_written(line, root_text(alloc, &root))
 }
 
-/// The generation of a shard of an index.
-fn generation(alloc: Global, root: &RootData, words: &str) -> Told {
+/// Says the generation of a shard of an index.
+fn say_generation(alloc: Global, line: &mut String, root: &RootData, words: &str) -> Said {
     let (name, shard) = cut(words);
     let name = index_name(alloc, name)?;
     match root.generation(&name, small(shard)) {
-        Some(id) => id_told(alloc, id),
-        None => Ok(String::from_str(alloc, "none")?),
+        Some(id) => say_id(line, id),
+        None => say(line, "none"),
+    }
+    Ok(())
+}
+
+/// Says what is asked of a root, by the words before its text.
+fn say_of_root(
+    alloc: Global,
+    line: &mut String,
+    question: &str,
+    words: &str,
+    root: &RootData,
+) -> Said {
+    match question {
+        "again" => say_written(line, root_text(alloc, root)),
+        "fields" => say_fields(line, root),
+        "set" => say_with_generation(alloc, line, root, words),
+        "without" => say_without(alloc, line, root, id(words)),
+        "generation" => say_generation(alloc, line, root, words),
+        _ => say_unknown(line),
     }
 }
 
-/// What is told of a root, by the words before its text.
-fn of_root(alloc: Global, question: &str, words: &str, root: &RootData) -> Told {
-    match question {
-        "again" => written(alloc, root),
-        "fields" => fields(alloc, root),
-        "set" => with_generation(alloc, root, words),
-        "without" => without(alloc, root, id(words)),
-        "generation" => generation(alloc, root, words),
-        _ => unknown(alloc),
-    }
-}
-
-pub(crate) fn answer(alloc: Global, question: &str, text: &str) -> Told {
-    match question {
-        "again" => of_root(alloc, question, "", &root_read(alloc, text.as_bytes())?),
-        "first" => added(alloc, text),
-        _ => {
-            let (words, root) = text.rsplit_once(' ').unwrap_or(("", text));
-            of_root(alloc, question, words, &root_read(alloc, root.as_bytes())?)
-        }
-    }
+pub(crate) fn answer(alloc: Global, line: &mut String, question: &str, text: &str) -> Said {
+    let (words, root) = match question {
+        "first" => return say_first(alloc, line, text),
+        "again" => ("", text),
+        _ => cut_last(text),
+    };
+    let root = root_read(alloc, root.as_bytes())?;
+    say_of_root(alloc, line, question, words, &root)
 }

@@ -1,42 +1,33 @@
 //! What scripts and command lines ask for.
-use crate::words::{Told, unknown};
+use crate::words::{Said, UNKNOWN, say};
 use esr_names::{IndexNames, SnapName, SnapNames};
 use esr_script::*;
 use esr_seq::Text;
 use std::alloc::{AllocError, Global};
 
-fn tell_snapshot(
-    text: &mut String,
-    name: &SnapName,
-    indices: &AskedIndices,
-) -> Result<(), AllocError> {
-    write!(text, "snapshot {}", name.as_str())?;
+fn say_snapshot(line: &mut String, name: &SnapName, indices: &AskedIndices) {
+    say(line, "snapshot ");
+    say(line, name.as_str());
     for index in indices.as_slice() {
         let (name, place) = (index.name.as_str(), index.place.as_str());
-        write!(text, " {name}:{}:{place}", index.shards)?;
+        let _ = write!(line, " {name}:{}:{place}", index.shards);
     }
-    Ok(())
 }
 
-fn tell_clone(
-    text: &mut String,
-    source: &SnapName,
-    name: &SnapName,
-    indices: &IndexNames,
-) -> Result<(), AllocError> {
-    write!(text, "clone {} {}", source.as_str(), name.as_str())?;
+fn say_clone(line: &mut String, source: &SnapName, name: &SnapName, indices: &IndexNames) {
+    let _ = write!(line, "clone {} {}", source.as_str(), name.as_str());
     for index in indices.as_slice() {
-        write!(text, " {}", index.as_str())?;
+        say(line, " ");
+        say(line, index.as_str());
     }
-    Ok(())
 }
 
-fn tell_delete(text: &mut String, names: &SnapNames) -> Result<(), AllocError> {
-    text.push_str("delete")?;
+fn say_delete(line: &mut String, names: &SnapNames) {
+    say(line, "delete");
     for name in names.as_slice() {
-        write!(text, " {}", name.as_str())?;
+        say(line, " ");
+        say(line, name.as_str());
     }
-    Ok(())
 }
 
 /// The verb of an item.
@@ -55,93 +46,94 @@ fn verb_of(item: &Item) -> &'static str {
     }
 }
 
-/// Adds an item and what it holds.
-fn tell(text: &mut String, item: &Item) -> Result<(), AllocError> {
+/// Says an item and what it holds.
+fn say_item(line: &mut String, item: &Item) {
     match item {
-        Item::Snapshot { name, indices } => tell_snapshot(text, name, indices),
+        Item::Snapshot { name, indices } => say_snapshot(line, name, indices),
         Item::Clone {
             source,
             name,
             indices,
-        } => tell_clone(text, source, name, indices),
-        Item::Delete { names } => tell_delete(text, names),
+        } => say_clone(line, source, name, indices),
+        Item::Delete { names } => say_delete(line, names),
         Item::Restore { name, place } => {
-            write!(text, "restore {} {}", name.as_str(), place.as_str())
+            let _ = write!(line, "restore {} {}", name.as_str(), place.as_str());
         }
-        _ => text.push_str(verb_of(item)),
+        _ => say(line, verb_of(item)),
     }
 }
 
-/// Adds a line, its number and its item.
-fn tell_line(text: &mut String, line: &ScriptLine) -> Result<(), AllocError> {
-    write!(text, " {} ", line.number)?;
-    tell(text, &line.item)?;
-    text.push(';')
-}
-
-/// The items of a script, each as the number of its line and what it holds.
-fn lines_told(alloc: Global, lines: &[ScriptLine]) -> Told {
-    let mut text = String::from_str(alloc, "lines")?;
-    for line in lines {
-        tell_line(&mut text, line)?;
+/// Says the items of a script, each as the number of its line and what it holds.
+fn say_lines(line: &mut String, script: &[ScriptLine]) {
+    say(line, "lines");
+    for item in script {
+        let _ = write!(line, " {} ", item.number);
+        say_item(line, &item.item);
+        say(line, ";");
     }
-    Ok(text)
 }
 
-/// The items of a script, or why there are none.
-fn script(alloc: Global, script: &str) -> Told {
+/// Says the items of a script, or why there are none.
+fn say_script(alloc: Global, line: &mut String, script: &str) {
     match script_read(alloc, script.as_bytes()) {
-        Ok(script) => lines_told(alloc, script.as_slice()),
-        Err(refusal) => Ok(format!(in alloc; "{refusal}")?),
+        Ok(script) => say_lines(line, script.as_slice()),
+        Err(refusal) => {
+            let _ = write!(line, "{refusal}");
+        }
     }
 }
 
 /// The words of a command line without the program's name, which spaces part here.
-fn words(alloc: Global, line: &str) -> Result<Words, AllocError> {
+fn words_of(alloc: Global, text: &str) -> Result<Words, AllocError> {
     let mut words = Words::new(alloc);
-    for word in line.split_whitespace() {
+    for word in text.split_whitespace() {
         words.push(Text::from_str(alloc, word)?)?;
     }
     Ok(words)
 }
 
-fn tell_work(text: &mut String, work: &JobWork) -> Result<(), AllocError> {
+fn say_work(line: &mut String, work: &JobWork) {
     match work {
-        JobWork::Run => text.push_str("run"),
-        JobWork::Single(item) => tell(text, item),
-        JobWork::Generate { seed } => write!(text, "generate {seed}"),
+        JobWork::Run => say(line, "run"),
+        JobWork::Single(item) => say_item(line, item),
+        JobWork::Generate { seed } => {
+            let _ = write!(line, "generate {seed}");
+        }
     }
 }
 
-/// A job: its workers, the size of its parts and its work.
-fn job_told(alloc: Global, job: &Job) -> Told {
-    let options = &job.options;
-    let mut text = format!(in alloc; "{} {} ", options.workers, options.part_size)?;
-    tell_work(&mut text, &job.work)?;
-    Ok(text)
+/// Says a job: its workers, the size of its parts and its work.
+fn say_job(line: &mut String, job: &Job) {
+    let _ = write!(line, "{} {} ", job.options.workers, job.options.part_size);
+    say_work(line, &job.work);
 }
 
-/// The job of a command line, or why there is none.
-fn job(alloc: Global, line: &str) -> Told {
-    let words = words(alloc, line)?;
+/// Says the job of a command line, or why there is none.
+fn say_words(alloc: Global, line: &mut String, text: &str) -> Said {
+    let words = words_of(alloc, text)?;
     match words_read(alloc, &words) {
-        Ok(job) => job_told(alloc, &job),
-        Err(refusal) => Ok(format!(in alloc; "{refusal}")?),
+        Ok(job) => say_job(line, &job),
+        Err(refusal) => {
+            let _ = write!(line, "{refusal}");
+        }
     }
+    Ok(())
 }
 
-/// The folder of the repository of a command line.
-fn folder(alloc: Global, line: &str) -> Told {
-    let words = words(alloc, line)?;
+/// Says the folder of the repository of a command line.
+fn say_folder(alloc: Global, line: &mut String, text: &str) -> Said {
+    let words = words_of(alloc, text)?;
     let place = repo_place(alloc, &words)?;
-    Ok(String::from_str(alloc, place.as_str())?)
+    say(line, place.as_str());
+    Ok(())
 }
 
-pub(crate) fn answer(alloc: Global, question: &str, text: &str) -> Told {
+pub(crate) fn answer(alloc: Global, line: &mut String, question: &str, text: &str) -> Said {
     match question {
-        "lines" => script(alloc, text),
-        "words" => job(alloc, text),
-        "folder" => folder(alloc, text),
-        _ => unknown(alloc),
+        "lines" => say_script(alloc, line, text),
+        "words" => return say_words(alloc, line, text),
+        "folder" => return say_folder(alloc, line, text),
+        _ => say(line, UNKNOWN),
     }
+    Ok(())
 }

@@ -1,9 +1,10 @@
 //! The texts of shards: what snapshots have of one, and indices, with the steps from one index to the next.
-use crate::names::id_told;
+use crate::names::say_id;
 use crate::shard_files::physical_name;
-use crate::words::{Told, cut, cut_last, id, number, shown, unknown};
+use crate::words::{Said, UNKNOWN, cut, cut_last, id, number, say, say_bytes, say_written};
 use esr_hash::{print_read, print_text};
 use esr_json::ReadRefusal;
+use esr_names::Id;
 use esr_seq::Seq;
 use esr_shardidx::{
     FileEntry, ShardIndex, ShardSnap, SnapList, shard_index_read, shard_index_text,
@@ -11,108 +12,116 @@ use esr_shardidx::{
 };
 use std::alloc::Global;
 
-pub(crate) fn snap_written(alloc: Global, snap: &ShardSnap) -> Told {
-    shown(alloc, shard_snap_text(alloc, snap)?.as_slice())
-}
-
-fn index_written(alloc: Global, index: &ShardIndex) -> Told {
-    shown(alloc, shard_index_text(alloc, index)?.as_slice())
-}
-
-/// A file by its id, its name, its length, the size of its parts and its digits.
-fn file_told(alloc: Global, file: &FileEntry) -> Told {
-    let id = id_told(alloc, file.name)?;
-    let digits = shown(alloc, print_text(&file.print).as_slice())?;
+/// Says a file by its id, its name, its length, the size of its parts and its digits.
+fn say_file(line: &mut String, file: &FileEntry) {
     let (name, len, part_size) = (file.physical.as_str(), file.print.len, file.part_size);
-    Ok(format!(in alloc; "{id} {name} length {len} parts {part_size} {digits}")?)
+    say_id(line, file.name);
+    let _ = write!(line, " {name} length {len} parts {part_size} ");
+    say_bytes(line, &print_text(&file.print));
 }
 
-/// The one file of some, or how many there are.
-fn files_told(alloc: Global, files: &[FileEntry]) -> Told {
+/// Says the one file of some, or how many there are.
+fn say_files(line: &mut String, files: &[FileEntry]) {
     match files {
-        [file] => file_told(alloc, file),
-        _ => Ok(format!(in alloc; "{} files", files.len())?),
+        [file] => say_file(line, file),
+        _ => {
+            let _ = write!(line, "{} files", files.len());
+        }
     }
 }
 
-fn snap_fields(alloc: Global, snap: &ShardSnap) -> Told {
-    let uuid = id_told(alloc, snap.uuid())?;
-    let files = files_told(alloc, snap.files())?;
-    Ok(format!(in alloc; "{uuid}: {files}")?)
-}
-
-/// A snapshot's list by its uuid and the one id of a file, or how many there are.
-fn list_told(alloc: Global, list: &SnapList) -> Told {
-    let uuid = id_told(alloc, list.uuid)?;
+/// Says a snapshot's list by its uuid and the one id of a file, or how many there are.
+fn say_list(line: &mut String, list: &SnapList) {
+    say_id(line, list.uuid);
+    say(line, " has ");
     match list.files.as_slice() {
-        [file] => {
-            let file = id_told(alloc, *file)?;
-            Ok(format!(in alloc; "{uuid} has {file}")?)
+        [file] => say_id(line, *file),
+        files => {
+            let _ = write!(line, "{} files", files.len());
         }
-        files => Ok(format!(in alloc; "{uuid} has {} files", files.len())?),
     }
 }
 
-/// The one list of an index, or how many there are, and then its files.
-fn index_fields(alloc: Global, index: &ShardIndex) -> Told {
-    let files = files_told(alloc, index.files())?;
+/// Says the one list of an index, or how many there are, and then its files.
+fn say_index_fields(line: &mut String, index: &ShardIndex) {
     match index.snapshots() {
-        [list] => {
-            let list = list_told(alloc, list)?;
-            Ok(format!(in alloc; "{list}: {files}")?)
+        [list] => say_list(line, list),
+        lists => {
+            let _ = write!(line, "{} snapshots", lists.len());
         }
-        lists => Ok(format!(in alloc; "{} snapshots: {files}", lists.len())?),
     }
+    say(line, ": ");
+    say_files(line, index.files());
 }
 
-fn found(alloc: Global, file: Option<&FileEntry>) -> Told {
+fn say_found(line: &mut String, file: Option<&FileEntry>) {
     match file {
-        Some(file) => id_told(alloc, file.name),
-        None => Ok(String::from_str(alloc, "none")?),
+        Some(file) => say_id(line, file.name),
+        None => say(line, "none"),
     }
 }
 
-fn list(alloc: Global, index: &ShardIndex, word: &str) -> Told {
-    match index.list(id(word)) {
-        Some(list) => list_told(alloc, list),
-        None => Ok(String::from_str(alloc, "none")?),
+fn say_list_of(line: &mut String, index: &ShardIndex, uuid: Id) {
+    match index.list(uuid) {
+        Some(list) => say_list(line, list),
+        None => say(line, "none"),
     }
 }
 
-/// The file of this physical name, length and digits.
-fn same_file(alloc: Global, index: &ShardIndex, words: &str) -> Told {
+/// Says the file of this physical name, length and digits.
+fn say_same_file(alloc: Global, line: &mut String, index: &ShardIndex, words: &str) -> Said {
     let (name, rest) = cut(words);
     let (len, digits) = cut(rest);
+    let print = print_read(number(len), digits.as_bytes());
     let name = physical_name(alloc, name)?;
-    match print_read(number(len), digits.as_bytes()) {
-        Some(print) => found(alloc, index.same_file(&name, &print)),
-        None => unknown(alloc),
+    match print {
+        Some(print) => say_found(line, index.same_file(&name, &print)),
+        None => say(line, UNKNOWN),
+    }
+    Ok(())
+}
+
+/// Says the index with what a snapshot has of the shard, under the uuid of the first word.
+fn say_with_snap(alloc: Global, line: &mut String, index: &ShardIndex, words: &str) -> Said {
+    let (uuid, text) = cut(words);
+    let snap = shard_snap_read(alloc, text.as_bytes())?.under(id(uuid));
+    let index = index.with_snap(alloc, &snap)?;
+    say_written(line, shard_index_text(alloc, &index))
+}
+
+/// Says what survives of an index if one snapshot is listed.
+fn say_survivors(alloc: Global, line: &mut String, index: &ShardIndex, uuid: Id) -> Said {
+    let listed = Seq::from_slice(alloc, &[uuid])?;
+    let index = index.survivors(alloc, &listed)?;
+    say_written(line, shard_index_text(alloc, &index))
+}
+
+/// Says what an index has.
+fn say_part(line: &mut String, question: &str, words: &str, index: &ShardIndex) {
+    match question {
+        "index-fields" => say_index_fields(line, index),
+        "list" => say_list_of(line, index, id(words)),
+        "file" => say_found(line, index.file(id(words))),
+        _ => say(line, UNKNOWN),
     }
 }
 
-/// The index with what a snapshot has of the shard, under the uuid of the first word.
-fn with_snap(alloc: Global, index: &ShardIndex, words: &str) -> Told {
-    let (uuid, text) = cut(words);
-    let snap = shard_snap_read(alloc, text.as_bytes())?.under(id(uuid));
-    index_written(alloc, &index.with_snap(alloc, &snap)?)
-}
-
-/// What survives of an index if one snapshot is listed.
-fn survivors(alloc: Global, index: &ShardIndex, word: &str) -> Told {
-    let listed = Seq::from_slice(alloc, &[id(word)])?;
-    index_written(alloc, &index.survivors(alloc, &listed)?)
-}
-
-/// What is told of an index, by the words before its text.
-fn of_index(alloc: Global, question: &str, words: &str, index: &ShardIndex) -> Told {
+/// Says what is asked of an index, by the words before its text.
+fn say_of_index(
+    alloc: Global,
+    line: &mut String,
+    question: &str,
+    words: &str,
+    index: &ShardIndex,
+) -> Said {
     match question {
-        "index-fields" => index_fields(alloc, index),
-        "list" => list(alloc, index, words),
-        "file" => found(alloc, index.file(id(words))),
-        "same-file" => same_file(alloc, index, words),
-        "with" => with_snap(alloc, index, words),
-        "survivors" => survivors(alloc, index, words),
-        _ => unknown(alloc),
+        "same-file" => say_same_file(alloc, line, index, words),
+        "with" => say_with_snap(alloc, line, index, words),
+        "survivors" => say_survivors(alloc, line, index, id(words)),
+        _ => {
+            say_part(line, question, words, index);
+            Ok(())
+        }
     }
 }
 
@@ -124,14 +133,33 @@ fn index_of(alloc: Global, text: &str) -> Result<ShardIndex, ReadRefusal> {
     }
 }
 
-pub(crate) fn answer(alloc: Global, question: &str, text: &str) -> Told {
+fn say_snap_again(alloc: Global, line: &mut String, text: &str) -> Said {
+    let snap = shard_snap_read(alloc, text.as_bytes())?;
+    say_written(line, shard_snap_text(alloc, &snap))
+}
+
+fn say_snap_fields(alloc: Global, line: &mut String, text: &str) -> Said {
+    let snap = shard_snap_read(alloc, text.as_bytes())?;
+    say_id(line, snap.uuid());
+    say(line, ": ");
+    say_files(line, snap.files());
+    Ok(())
+}
+
+fn say_index_again(alloc: Global, line: &mut String, text: &str) -> Said {
+    let index = shard_index_read(alloc, text.as_bytes())?;
+    say_written(line, shard_index_text(alloc, &index))
+}
+
+pub(crate) fn answer(alloc: Global, line: &mut String, question: &str, text: &str) -> Said {
     match question {
-        "snap" => snap_written(alloc, &shard_snap_read(alloc, text.as_bytes())?),
-        "snap-fields" => snap_fields(alloc, &shard_snap_read(alloc, text.as_bytes())?),
-        "index" => index_written(alloc, &shard_index_read(alloc, text.as_bytes())?),
+        "snap" => say_snap_again(alloc, line, text),
+        "snap-fields" => say_snap_fields(alloc, line, text),
+        "index" => say_index_again(alloc, line, text),
         _ => {
-            let (words, index) = cut_last(text);
-            of_index(alloc, question, words, &index_of(alloc, index)?)
+            let (words, text) = cut_last(text);
+            let index = index_of(alloc, text)?;
+            say_of_index(alloc, line, question, words, &index)
         }
     }
 }

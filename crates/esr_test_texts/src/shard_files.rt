@@ -1,14 +1,15 @@
 //! The files of shards: their names, and the blobs that they are stored in.
 ghost use Rattle.std.specs.Prelude.{◌≡◌};
 
-use crate::names::blob_told;
-use crate::shard::snap_written;
-use crate::words::{Told, cut, id, number, unknown};
+use crate::names::say_blob;
+use crate::words::{Said, cut, id, number, say, say_unknown, say_written};
 use esr_hash::print_read;
 use esr_json::{ReadRefusal, Reason};
 use esr_names::{Id, ShardId};
 use esr_seq::Seq;
-use esr_shardidx::{FileEntry, PhysicalName, PhysicalRefusal, ShardSnap, part_count, part_name};
+use esr_shardidx::{
+    FileEntry, PhysicalName, PhysicalRefusal, ShardSnap, part_count, part_name, shard_snap_text,
+};
 use std::alloc::Global;
 
 /// The name of a file where it was taken from.
@@ -22,20 +23,21 @@ pub(crate) fn physical_name(alloc: Global, word: &str) -> Result<PhysicalName, R
     }
 }
 
-fn name_told(alloc: Global, text: &str) -> Told {
-    let name = physical_name(alloc, text)?;
-    Ok(String::from_str(alloc, name.as_str())?)
+fn say_name(alloc: Global, line: &mut String, text: &str) -> Said {
+    say(line, physical_name(alloc, text)?.as_str());
+    Ok(())
 }
 
-/// The number of the blobs of a file, by its length and the size of its parts.
-fn count_told(alloc: Global, text: &str) -> Told {
+/// Says the number of the blobs of a file, by its length and the size of its parts.
+fn say_count(line: &mut String, text: &str) -> Said {
     let (len, size) = cut(text);
     let size = number(size);
     if size < 1 || size > 1 << 30 {
-        return unknown(alloc);
+        return say_unknown(line);
     }
     let count = part_count(number(len), size);
-    Ok(format!(in alloc; "{count}")?)
+    let _ = write!(line, "{count}");
+    Ok(())
 }
 
 /// A file of the digest of `abc`, by its id, its name, its length and the size of its parts.
@@ -62,29 +64,33 @@ const SHARD: ShardId = ShardId {
     number: 0,
 };
 
-/// The name of the blob of this number of a file.
-fn part_told(alloc: Global, text: &str) -> Told {
+/// Says the name of the blob of this number of a file.
+fn say_part(alloc: Global, line: &mut String, text: &str) -> Said {
     let (part, text) = cut(text);
     let file = entry(alloc, text)?;
-    blob_told(alloc, &part_name(SHARD, &file, number(part)))
+    say_blob(line, &part_name(SHARD, &file, number(part)));
+    Ok(())
 }
 
-/// What the snapshot 1.0 has of a shard with this file.
-fn snap_told(alloc: Global, text: &str) -> Told {
+/// Says what the snapshot 1.0 has of a shard with this file.
+fn say_snap_of(alloc: Global, line: &mut String, text: &str) -> Said {
     let mut files = Seq::new(alloc);
     files.push(entry(alloc, text)?)?;
     match ShardSnap::new(files, Id::new(1, 0)) {
-        Some(snap) => snap_written(alloc, &snap),
-        None => Ok(String::from_str(alloc, "none")?),
+        Some(snap) => say_written(line, shard_snap_text(alloc, &snap)),
+        None => {
+            say(line, "none");
+            Ok(())
+        }
     }
 }
 
-pub(crate) fn answer(alloc: Global, question: &str, text: &str) -> Told {
+pub(crate) fn answer(alloc: Global, line: &mut String, question: &str, text: &str) -> Said {
     match question {
-        "name" => name_told(alloc, text),
-        "parts" => count_told(alloc, text),
-        "part" => part_told(alloc, text),
-        "snap" => snap_told(alloc, text),
-        _ => unknown(alloc),
+        "name" => say_name(alloc, line, text),
+        "parts" => say_count(line, text),
+        "part" => say_part(alloc, line, text),
+        "snap" => say_snap_of(alloc, line, text),
+        _ => say_unknown(line),
     }
 }

@@ -1,19 +1,34 @@
-//! The words of a case, and what is told of one.
+//! The words of a case, and what is said of one. Where memory is wanting the line ends early, and isn't the one that is wanted.
 use esr_json::{ReadRefusal, Reason};
 use esr_names::{Id, IndexName, SnapName, id_read};
-use std::alloc::Global;
+use esr_seq::Bytes;
+use std::alloc::{AllocError, Global};
 
-/// What is told of a case, or why its text isn't read.
-pub(crate) type Told = Result<String, ReadRefusal>;
+/// Whether something is said of a case, or why its text isn't read. Nothing is said of such a text.
+pub(crate) type Said = Result<(), ReadRefusal>;
 
-/// What is told where there is no such question.
-pub(crate) fn unknown(alloc: Global) -> Told {
-    Ok(String::from_str(alloc, "there is no such question")?)
+/// Adds a text to a line.
+pub(crate) fn say(line: &mut String, text: &str) {
+    let _ = line.push_str(text);
 }
 
-/// The text of some bytes.
-pub(crate) fn shown(alloc: Global, bytes: &[u8]) -> Told {
-    Ok(String::from_utf8_lossy(alloc, bytes)?)
+/// Adds bytes to a line, as a text.
+pub(crate) fn say_bytes(line: &mut String, bytes: &[u8]) {
+    say(line, str::from_utf8(bytes).unwrap_or("?"));
+}
+
+/// Says a text that was written, if there was memory for it.
+pub(crate) fn say_written(line: &mut String, text: Result<Bytes, AllocError>) -> Said {
+    say_bytes(line, text?.as_slice());
+    Ok(())
+}
+
+/// What is said where there is no such question.
+pub(crate) const UNKNOWN: &str = "there is no such question";
+
+pub(crate) fn say_unknown(line: &mut String) -> Said {
+    say(line, UNKNOWN);
+    Ok(())
 }
 
 /// The first word, and what comes after it.

@@ -6,10 +6,11 @@ use std::thread;
 /// How often a worker that is held looks for the other one.
 const LOOKS: u64 = 10_000_000;
 
-/// Holds the first ticket that comes to a write until another one has written, or until it has looked for that often enough.
+/// Holds the first ticket that comes to a write until another one has written, or until it has looked for that often enough; or
+/// holds none.
 #[derive(Drop)]
 pub struct Meeting {
-    /// The ticket that is held, or 0.
+    /// The ticket that is held, 0 where the next one is to be, or the last number where none is.
     held: AtomicU64,
     /// How often other tickets have written.
     others: AtomicU64,
@@ -18,9 +19,11 @@ pub struct Meeting {
 }
 
 impl Meeting {
-    pub fn new() -> Meeting {
+    /// A gate that holds a ticket, or none.
+    pub fn new(holds: bool) -> Meeting {
+        let held = if holds { 0 } else { u64::MAX };
         Meeting {
-            held: AtomicU64::new(0),
+            held: AtomicU64::new(held),
             others: AtomicU64::new(0),
             met: AtomicU64::new(0),
         }
