@@ -1,17 +1,18 @@
 -- How a run ends whose lines were answered.
-use Rattle.std.proofs.Common.{◌≡◌, ◌⊎◌, ℕ, suc, Bool, true, false, ◌||◌, nat_lt, if◌then◌else◌, List, [], ◌∷◌, ◌++◌, length, Option, None, refl, ap, ◌∙◌, inl, inr, arith}
+use Rattle.std.proofs.Common.{◌≡◌, ◌⊎◌, ℕ, suc, ◌^◌, ◌<◌, Bool, true, false, not, ◌||◌, nat_lt, if◌then◌else◌, List, [], ◌∷◌, ◌++◌, length, Option, None, refl, ap, ◌∙◌, inl, inr, arith}
 use Rattle.std.specs.List.{list_any}
-use Rattle.std.proofs.lemmas.Bool.{le-ltb}
+use Rattle.std.proofs.lemmas.Bool.{le-ltb, lt-ltb}
 use Rattle.esr_model.specs.Names.{BlobName}
 use Rattle.esr_model.specs.Values.{Has}
 use Rattle.esr_core.specs.After.{or_else}
-use Rattle.esr_core.specs.Entry.{Refusal, CleanupRunning, NameInUse, TooMany, NoSnapshot, NoIndex, BeingDeleted, CloneRunning, RestoreRunning, BusyOp, Entry}
+use Rattle.esr_core.specs.Entry.{Refusal, CleanupRunning, NameInUse, TooMany, NoSnapshot, NoIndex, BeingDeleted, CloneRunning, RestoreRunning, BusyOp, Entry, Moment}
 use Rattle.esr_script.specs.declared.item.Item.{Item}
 use Rattle.esr_script.specs.declared.item.Item.TheVariants as items
 use Rattle.esr_script.specs.declared.item.ScriptLine.{ScriptLine}
-use Rattle.esr_report.specs.Replies.{Reply, Made, Deleted, Restored, Cleaned, Term, Waited, Listed, Checked, Verified, Refused, Aborted, fails_swap, has_fallen, wait_reply, end_reply, replies}
+use Rattle.esr_report.specs.Replies.{Reply, Made, Deleted, Restored, Cleaned, Term, Waited, Listed, Checked, Verified, Refused, Aborted, fails_swap, has_fallen, wait_reply, is_short, end_reply, replies}
 use Rattle.esr_report.specs.Status.{is_deposed, damaged_name, first_damaged, is_spent, are_ok, AllOk, SomeRefused, SwapFailed, ending_by, ending}
 use Rattle.esr_quiet.specs.Refusals.{RefusesSnapshot, RefusesRestore, RefusesClone, RefusesDelete, RefusesCleanup}
+use Rattle.esr_complete.specs.Lines.{entries_of}
 use Rattle.esr_complete.specs.Answers.{IsAnswer, AreAnsweredIn, AreAnswered, EndsWell}
 use Rattle.esr_complete.proofs.Facts.{Fact}
 
@@ -158,15 +159,28 @@ by_ok : (ok : Bool) → (ending_by None false ok ≡ AllOk) ⊎ (ending_by None 
 by_ok true = inl refl
 by_ok false = inr refl
 
-ends : (lines : List ScriptLine) (rs : List Reply) (history : List Entry) → has_fallen history ≡ false → AllCalm lines rs
-    → (if is_deposed (end_reply history) || list_any is_deposed rs then SwapFailed else ending_by (first_damaged rs) (list_any is_spent rs || nat_lt (length rs) (length lines)) (are_ok rs)) ≡ ending_by None false (are_ok rs)
-ends lines rs history none c =
-    ap (λ (b : Bool). if b then SwapFailed else ending_by (first_damaged rs) (list_any is_spent rs || nat_lt (length rs) (length lines)) (are_ok rs)) (neither (is_deposed (end_reply history)) (list_any is_deposed rs) (ap (λ (b : Bool). is_deposed (wait_reply b)) none) c.undeposed)
-    ∙ ap (λ (a : Option BlobName). ending_by a (list_any is_spent rs || nat_lt (length rs) (length lines)) (are_ok rs)) c.undamaged
-    ∙ ap (λ (b : Bool). ending_by None b (are_ok rs)) (neither (list_any is_spent rs) (nat_lt (length rs) (length lines)) c.unspent (not_less (length rs) (length lines) c.as_many))
+-- a history of a log that is short
+pub short_told : (log : List Moment) → length log < 2 ^ 33 → is_short (entries_of log) ≡ true
+short_told log few =
+    let same : length (entries_of log) ≡ length log = as_many log in
+    let less : length log < 2 ^ 33 = few in
+    lt-ltb (length (entries_of log)) (2 ^ 33) (omega (arith, same, less))
+  where
+    as_many : (log : List Moment) → length (entries_of log) ≡ length log
+    as_many [] = refl
+    as_many (m ∷ log) = ap suc (as_many log)
 
-pub ends_well : (lines : List ScriptLine) (history : List Entry) → ((x : Entry) → Has history x → Fact lines history x) → AreAnswered lines (replies lines history) → EndsWell lines history
+ends : (lines : List ScriptLine) (rs : List Reply) (history : List Entry) → has_fallen history ≡ false → is_short history ≡ true → AllCalm lines rs
+    → (if is_deposed (end_reply history) || list_any is_deposed rs then SwapFailed
+    else ending_by (first_damaged rs) ((list_any is_spent rs || nat_lt (length rs) (length lines)) || not (is_short history)) (are_ok rs)) ≡ ending_by None false (are_ok rs)
+ends lines rs history none short c =
+    ap (λ (b : Bool). if b then SwapFailed else ending_by (first_damaged rs) ((list_any is_spent rs || nat_lt (length rs) (length lines)) || not (is_short history)) (are_ok rs)) (neither (is_deposed (end_reply history)) (list_any is_deposed rs) (ap (λ (b : Bool). is_deposed (wait_reply b)) none) c.undeposed)
+    ∙ ap (λ (a : Option BlobName). ending_by a ((list_any is_spent rs || nat_lt (length rs) (length lines)) || not (is_short history)) (are_ok rs)) c.undamaged
+    ∙ ap (λ (b : Bool). ending_by None b (are_ok rs))
+    (neither (list_any is_spent rs || nat_lt (length rs) (length lines)) (not (is_short history)) (neither (list_any is_spent rs) (nat_lt (length rs) (length lines)) c.unspent (not_less (length rs) (length lines) c.as_many)) (ap not short))
+
+pub ends_well : (lines : List ScriptLine) (history : List Entry) → ((x : Entry) → Has history x → Fact lines history x) → is_short history ≡ true → AreAnswered lines (replies lines history) → EndsWell lines history
 unfolding ending
-ends_well lines history facts answered =
-    let e = ends lines (replies lines history) history (unfallen lines history history facts) (all_calm lines [] lines (replies lines history) answered) in
+ends_well lines history facts short answered =
+    let e = ends lines (replies lines history) history (unfallen lines history history facts) short (all_calm lines [] lines (replies lines history) answered) in
     elim (by_ok (are_ok (replies lines history))) [ inl ok ↦ inl (e ∙ ok) | inr ok ↦ inr (e ∙ ok) ]

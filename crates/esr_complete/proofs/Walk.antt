@@ -1,5 +1,5 @@
 -- The replies along the lines.
-use Rattle.std.proofs.Common.{◌≡◌, ℕ, zero, suc, ◌+◌, ◌-◌, Bool, true, false, ◌==◌, ◌&&◌, ◌||◌, if◌then◌else◌, List, [], ◌∷◌, ◌++◌, append_assoc, length, length-append, take, Option, Some, None, map, option_map, refl, sym, ap, ◌∙◌, subst, inl, inr, arith}
+use Rattle.std.proofs.Common.{◌≡◌, ℕ, zero, suc, ◌+◌, ◌-◌, Bool, true, false, not, ◌==◌, ◌&&◌, ◌||◌, if◌then◌else◌, List, [], ◌∷◌, ◌++◌, append_assoc, length, length-append, take, Option, Some, None, map, option_map, refl, sym, ap, ◌∙◌, subst, inl, inr, arith}
 use Rattle.esr_model.specs.Values.{Bytes, Has}
 use Rattle.esr_core.specs.Entry as entry
 use Rattle.esr_core.specs.Entry.{Asked, CloneOf, Clone, DeleteSnapshots, AsksNoClone, Restore, Cleanup, CheckedAll, DrawTest, VerifiedAll, Step, AskStep, LookStep, ReadStep, CleanupRunning, Entry, Moment}
@@ -8,7 +8,7 @@ use Rattle.esr_core.proofs.Results.{choose_true, choose_false}
 use Rattle.esr_script.specs.declared.item.Item.{Item}
 use Rattle.esr_script.specs.declared.item.Item.TheVariants as items
 use Rattle.esr_script.specs.declared.item.ScriptLine.{ScriptLine}
-use Rattle.esr_report.specs.Replies.{Reply, fails_swap, answer_at, is_of_line, from_line, falls_before, before_election, falls_first, is_check, is_looked, is_look_answered, look_reply, past_look, from_item, check_answer, line_answer, line_reply, wait_reply, is_wait, is_failover, has_fallen, is_election, election_reply, failover_reply, from_election, past_first, and_those, and_more, replies_from, replies}
+use Rattle.esr_report.specs.Replies.{Reply, fails_swap, answer_at, is_of_line, from_line, falls_before, before_election, falls_first, is_check, is_looked, is_look_answered, look_reply, past_look, from_item, check_answer, line_answer, line_reply, is_short, has_none, is_cut, wait_answer, is_wait, is_failover, has_fallen, is_election, election_reply, failover_reply, from_election, past_first, and_those, and_more, replies_from, replies}
 use Rattle.esr_quiet.specs.Asked.{is_line_ask, is_asked, as_asked, asked_steps}
 use Rattle.esr_complete.specs.Lines.{index_of_line, command_of_line, steps_of_item, steps_of, failovers_in, failovers_of, entries_of, elections_of}
 use Rattle.esr_complete.specs.Answers.{IsAnswer, AreAnsweredIn, AreAnswered}
@@ -388,58 +388,64 @@ module _ (script : List ScriptLine) where
     none_more : (a b : ℕ) → a ≡ 0 + b → a ≡ b
     none_more a b e = omega (arith, e)
 
-    walk_item : (all later rest : List Entry) (moment : ℕ) (item : Item) (lines : List ScriptLine) → IsRest all rest → CleansBefore all moment before item lines → ((x : Entry) → Has later x → Fact script all x) → ((x : Entry) → Has rest x → Fact script all x) → elections_of later ≡ failovers_in item + failovers_of lines → InTurn Idle (kinds_of_item item ++ kinds_of lines) rest → steps_asked rest ≡ steps_of_item moment item ++ steps_of moment lines
+    -- no wait of a short history was left
+    uncut : (all rest : List Entry) → is_short all ≡ true → is_cut all rest ≡ false
+    uncut all rest short = ap (λ (b : Bool). not b && has_none (from_line rest)) short
+
+    walk_item : (all later rest : List Entry) (moment : ℕ) (item : Item) (lines : List ScriptLine) → is_short all ≡ true → IsRest all rest → CleansBefore all moment before item lines → ((x : Entry) → Has later x → Fact script all x) → ((x : Entry) → Has rest x → Fact script all x) → elections_of later ≡ failovers_in item + failovers_of lines → InTurn Idle (kinds_of_item item ++ kinds_of lines) rest → steps_asked rest ≡ steps_of_item moment item ++ steps_of moment lines
         → GoesOn all moment now lines
         → IsFirst item lines
-        (if is_wait item then wait_reply (false || falls_before (before_election later rest)) ∷ replies_from all lines false later rest
+        (if is_wait item then and_those (wait_answer (false || falls_before (before_election later rest)) (is_cut all rest)) (replies_from all lines false later rest)
         else if is_failover item then and_those (failover_reply (has_fallen all) (from_election later)) (replies_from all lines false (past_first (from_election later)) rest)
         else and_more (line_reply item all (from_item item rest)) (replies_from all lines (false || (falls_before rest || falls_first (from_item item rest))) later))
-    walk_item all later rest moment (items.Snapshot name indices) lines place cleans elections facts few turn e on =
+    walk_item all later rest moment (items.Snapshot name indices) lines short place cleans elections facts few turn e on =
         let step : Step = AskStep (command_of_line name indices moment) in
         let n = next_same all step (steps_of moment lines) (kinds_of lines) rest facts (ask_no_read (command_of_line name indices moment)) (λ source called names when taken same. cc) turn e in
         by_entry all later rest (items.Snapshot name indices) lines (λ x. x.step ≡ step) (steps_of moment lines) (step ∷ steps_of moment lines) (kinds_of lines) refl facts n
         (subst (λ (x : Step). IsAnswerOf script before (items.Snapshot name indices) (answer_at all x n.e.reply)) (sym n.own) (n.fact.asked before (cleans n.e n.es (rest_at all rest n.front n.e n.es place n.split) n.fact n.here_is) name (map index_of_line indices) moment n.own indices))
         (on later n.es (rest_then all n.e n.es (rest_at all rest n.front n.e n.es place n.split)) (none_more (elections_of later) (failovers_of lines) few) elections n.facts n.turn n.more_is)
-    walk_item all later rest moment (items.Clone source name indices) lines place cleans elections facts few turn e on =
+    walk_item all later rest moment (items.Clone source name indices) lines short place cleans elections facts few turn e on =
         let step : Step = AskStep (Clone source name indices moment None) in
         let n = next_line all (AsksClone source name indices moment) step (steps_of moment lines) (kinds_of lines) rest facts (ask_no_read (Clone source name indices moment None)) (λ x same. asked_clone source name indices moment x.step same) turn e in
         by_entry all later rest (items.Clone source name indices) lines (AsksClone source name indices moment) (steps_of moment lines) (step ∷ steps_of moment lines) (kinds_of lines) refl facts n
         (subst (λ (x : Step). IsAnswerOf script before (items.Clone source name indices) (answer_at all x n.e.reply)) (sym n.own.1) (n.fact.cloned before (cleans n.e n.es (rest_at all rest n.front n.e n.es place n.split) n.fact n.here_is) source name indices moment n.own.0 n.own.1 source indices))
         (on later n.es (rest_then all n.e n.es (rest_at all rest n.front n.e n.es place n.split)) (none_more (elections_of later) (failovers_of lines) few) elections n.facts n.turn n.more_is)
-    walk_item all later rest moment (items.Delete names) lines place cleans elections facts few turn e on =
+    walk_item all later rest moment (items.Delete names) lines short place cleans elections facts few turn e on =
         let step : Step = AskStep (DeleteSnapshots names) in
         let n = next_same all step (steps_of moment lines) (kinds_of lines) rest facts (ask_no_read (DeleteSnapshots names)) (λ source called indices when taken same. cc) turn e in
         by_entry all later rest (items.Delete names) lines (λ x. x.step ≡ step) (steps_of moment lines) (step ∷ steps_of moment lines) (kinds_of lines) refl facts n
         (subst (λ (x : Step). IsAnswerOf script before (items.Delete names) (answer_at all x n.e.reply)) (sym n.own) (n.fact.deleted before (cleans n.e n.es (rest_at all rest n.front n.e n.es place n.split) n.fact n.here_is) names n.own))
         (on later n.es (rest_then all n.e n.es (rest_at all rest n.front n.e n.es place n.split)) (none_more (elections_of later) (failovers_of lines) few) elections n.facts n.turn n.more_is)
-    walk_item all later rest moment (items.Restore name at) lines place cleans elections facts few turn e on =
+    walk_item all later rest moment (items.Restore name at) lines short place cleans elections facts few turn e on =
         let step : Step = AskStep (Restore name at) in
         let n = next_same all step (steps_of moment lines) (kinds_of lines) rest facts (ask_no_read (Restore name at)) (λ source called names when taken same. cc) turn e in
         by_entry all later rest (items.Restore name at) lines (λ x. x.step ≡ step) (steps_of moment lines) (step ∷ steps_of moment lines) (kinds_of lines) refl facts n
         (subst (λ (x : Step). IsAnswerOf script before (items.Restore name at) (answer_at all x n.e.reply)) (sym n.own) (n.fact.restored before name at n.own name at))
         (on later n.es (rest_then all n.e n.es (rest_at all rest n.front n.e n.es place n.split)) (none_more (elections_of later) (failovers_of lines) few) elections n.facts n.turn n.more_is)
-    walk_item all later rest moment items.Cleanup lines place cleans elections facts few turn e on =
+    walk_item all later rest moment items.Cleanup lines short place cleans elections facts few turn e on =
         let step : Step = AskStep Cleanup in
         let n = next_same all step (steps_of moment lines) (kinds_of lines) rest facts (ask_no_read Cleanup) (λ source called names when taken same. cc) turn e in
         by_entry all later rest items.Cleanup lines (λ x. x.step ≡ step) (steps_of moment lines) (step ∷ steps_of moment lines) (kinds_of lines) refl facts n
         (subst (λ (x : Step). IsAnswerOf script before items.Cleanup (answer_at all x n.e.reply)) (sym n.own) (n.fact.cleaned before (cleans n.e n.es (rest_at all rest n.front n.e n.es place n.split) n.fact n.here_is) n.own))
         (on later n.es (rest_then all n.e n.es (rest_at all rest n.front n.e n.es place n.split)) (none_more (elections_of later) (failovers_of lines) few) elections n.facts n.turn n.more_is)
-    walk_item all later rest moment items.Wait lines place cleans elections facts few turn e on =
-        subst (λ (b : Bool). IsFirst items.Wait lines (wait_reply (false || b) ∷ replies_from all lines false later rest)) (sym (unfallen_then all later rest facts)) (tt, on later rest place (none_more (elections_of later) (failovers_of lines) few) elections facts turn e)
-    walk_item all later rest moment items.List lines place cleans elections facts few turn e on =
+    walk_item all later rest moment items.Wait lines short place cleans elections facts few turn e on =
+        subst (λ (c : Bool). IsFirst items.Wait lines (and_those (wait_answer (false || falls_before (before_election later rest)) c) (replies_from all lines false later rest))) (sym (uncut all rest short))
+        (subst (λ (b : Bool). IsFirst items.Wait lines (and_those (wait_answer (false || b) false) (replies_from all lines false later rest))) (sym (unfallen_then all later rest facts))
+        (tt, on later rest place (none_more (elections_of later) (failovers_of lines) few) elections facts turn e))
+    walk_item all later rest moment items.List lines short place cleans elections facts few turn e on =
         let n = next_same all LookStep (steps_of moment lines) (kinds_of lines) rest facts look_no_read (λ source called names when taken same. cc) turn e in
         by_entry all later rest items.List lines (λ x. x.step ≡ LookStep) (steps_of moment lines) (LookStep ∷ steps_of moment lines) (kinds_of lines) refl facts n
         (subst (λ (x : Step). IsAnswerOf script before items.List (answer_at all x n.e.reply)) (sym n.own) (n.fact.looked before n.own))
         (on later n.es (rest_then all n.e n.es (rest_at all rest n.front n.e n.es place n.split)) (none_more (elections_of later) (failovers_of lines) few) elections n.facts n.turn n.more_is)
-    walk_item all later rest moment items.Check lines place cleans elections facts few turn e on =
+    walk_item all later rest moment items.Check lines short place cleans elections facts few turn e on =
         let n = next_check all (steps_of moment lines) (kinds_of lines) rest facts turn e in
         by_check all later rest lines (steps_of moment lines) (kinds_of lines) facts n (on later n.next.es (rest_then all n.next.e n.next.es (rest_at all n.behind n.next.front n.next.e n.next.es (rest_then all n.look n.behind (rest_at all rest n.front n.look n.behind place n.split)) n.next.split)) (none_more (elections_of later) (failovers_of lines) few) elections n.next.facts n.next.turn n.next.more_is)
-    walk_item all later rest moment items.Verify lines place cleans elections facts few turn e on =
+    walk_item all later rest moment items.Verify lines short place cleans elections facts few turn e on =
         let n = next_verified all (steps_of moment lines) (kinds_of lines) rest facts turn e in
         by_entry all later rest items.Verify lines IsVerified (steps_of moment lines) (steps_of moment lines) (kinds_of lines) refl facts n
         (subst (λ (x : Step). IsAnswerOf script before items.Verify (answer_at all x n.e.reply)) (sym n.own.0) (subst (λ (r : entry.Reply). IsAnswerOf script before items.Verify (answer_at all (ReadStep VerifiedAll) r)) (sym n.own.1) tt))
         (on later n.es (rest_then all n.e n.es (rest_at all rest n.front n.e n.es place n.split)) (none_more (elections_of later) (failovers_of lines) few) elections n.facts n.turn n.more_is)
-    walk_item all later rest moment items.Failover lines place cleans elections facts few turn e on =
+    walk_item all later rest moment items.Failover lines short place cleans elections facts few turn e on =
         let n = next_election later (failovers_of lines) few in
         subst (λ (l : List Entry). IsFirst items.Failover lines (and_those (failover_reply (has_fallen all) l) (replies_from all lines false (past_first l) rest))) (sym n.is)
         (answered_those items.Failover lines (election_reply n.e.reply) (replies_from all lines false n.es rest) ((elections n.e n.has).elected before n.elects) (on n.es rest place n.more (λ x has. elections x (n.behind x has)) facts turn e))
@@ -448,15 +454,15 @@ module _ (script : List ScriptLine) where
   first_is before line lines [] h = h
   first_is before line lines (reply ∷ rs) h = h
 
-  walk : (all : List Entry) (moment : ℕ) → steps_asked all ≡ steps_of moment script → (before lines : List ScriptLine) → script ≡ before ++ lines → GoesOn all moment before lines
-  walk all moment whole before [] is later rest place few elections facts turn e = tt
-  walk all moment whole before (line ∷ lines) is later rest place few elections facts turn e =
+  walk : (all : List Entry) (moment : ℕ) → is_short all ≡ true → steps_asked all ≡ steps_of moment script → (before lines : List ScriptLine) → script ≡ before ++ lines → GoesOn all moment before lines
+  walk all moment short whole before [] is later rest place few elections facts turn e = tt
+  walk all moment short whole before (line ∷ lines) is later rest place few elections facts turn e =
       first_is before line lines (replies_from all (line ∷ lines) false later rest)
-      (walk_item before (before ++ line ∷ []) all later rest moment line.item lines place (cleans_before all moment whole before line lines is) elections facts few turn e
-      (λ more es last count tells known after same. walk all moment whole (before ++ line ∷ []) lines (is ∙ sym (append_assoc before (line ∷ []) lines)) more es last count tells known after same))
+      (walk_item before (before ++ line ∷ []) all later rest moment line.item lines short place (cleans_before all moment whole before line lines is) elections facts few turn e
+      (λ more es last count tells known after same. walk all moment short whole (before ++ line ∷ []) lines (is ∙ sym (append_assoc before (line ∷ []) lines)) more es last count tells known after same))
 
 pub answered_lines : (log : List Moment) (lines : List ScriptLine) (moment : ℕ) → elections_of (entries_of log) ≡ failovers_of lines → ((x : Entry) → Has (entries_of log) x → Fact lines (entries_of log) x) → InTurn Idle (kinds_of lines) (entries_of log) → asked_steps log ≡ steps_of moment lines
-    → AreAnswered lines (replies lines (entries_of log))
+    → is_short (entries_of log) ≡ true → AreAnswered lines (replies lines (entries_of log))
 unfolding replies
-answered_lines log lines moment few facts turn e =
-    let asked : steps_asked (entries_of log) ≡ steps_of moment lines = asked_same log ∙ e in walk lines (entries_of log) moment asked [] lines refl (entries_of log) (entries_of log) ([], refl) few facts facts turn asked
+answered_lines log lines moment few facts turn e short =
+    let asked : steps_asked (entries_of log) ≡ steps_of moment lines = asked_same log ∙ e in walk lines (entries_of log) moment short asked [] lines refl (entries_of log) (entries_of log) ([], refl) few facts facts turn asked

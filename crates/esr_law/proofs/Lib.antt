@@ -14,3 +14,4 @@ pub mod LatestStays
 pub mod OpenedWorlds
 pub mod Reach
 pub mod Exact
+pub mod Spending

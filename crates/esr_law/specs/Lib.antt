@@ -3,3 +3,4 @@ pub mod Cleanups
 pub mod Latest
 pub mod Reach
 pub mod Exact
+pub mod Spent

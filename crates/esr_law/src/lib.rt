@@ -1,13 +1,13 @@
 //! Laws of histories that follow from the core's, over definitions alone.
 #![tactic(auto)]
 
-ghost use Rattle.std.specs.Prelude.{ℕ, Bool, List, [], ◌∷◌, ◌++◌, Option};
-ghost use Rattle.esr_model.specs.Values.{Bytes, ReadsBack, Formats};
+ghost use Rattle.std.specs.Prelude.{◌≡◌, ℕ, Bool, List, [], ◌∷◌, ◌++◌, Option};
+ghost use Rattle.esr_model.specs.Values.{Bytes, Has, ReadsBack, Formats};
 ghost use Rattle.esr_model.specs.Image.{Image};
 ghost use Rattle.esr_model.specs.Shelf.{Shelved};
-ghost use Rattle.esr_model.specs.Kept.{Kept};
+ghost use Rattle.esr_model.specs.Kept.{first_id, Kept};
 ghost use Rattle.esr_core.specs.World.{World, record_of, Opened};
-ghost use Rattle.esr_core.specs.Entry.{Moment};
+ghost use Rattle.esr_core.specs.Entry.{Refusal, Refused, Moment};
 ghost use Rattle.esr_core.specs.History.{world_from, IsLegal, TellsHandedOut, AreTold, AreHonest, committed};
 ghost use Rattle.esr_core.specs.Left.{Leaves};
 ghost use Rattle.esr_core.specs.Sources.{HonestUploads};
@@ -19,6 +19,7 @@ ghost use Rattle.esr_law.specs.Cleanups.{HasFirstPage, IsEndedCleanup};
 ghost use Rattle.esr_law.specs.Latest.{HasLatest};
 ghost use Rattle.esr_law.specs.Reach.{RefusesUnlisted, HoldsListedReach, HoldsReach};
 ghost use Rattle.esr_law.specs.Exact.{HoldsExactly};
+ghost use Rattle.esr_law.specs.Spent.{SpentSo};
 
 // ---- digests
 
@@ -102,4 +103,14 @@ pub fn a_cleanup_leaves_exactly_the_reach()
     the_reach_is_there();
     each_cleanup_lists_first();
     a_cleanup_leaves_latest();
+}
+
+// ---- numbers
+
+/// A step is refused since a number is spent only where the history asks for so many: its elections take the term of the world past
+/// the last one, its raises the generation, or it asks for all the ids of a term. The world is one whose term has just begun.
+pub fn only_spent_numbers_refuse()
+    ensures { (f : Formats) (part_size : ℕ) (w : World) (log : List Moment) (m : Moment) (refusal : Refusal) → w.next_id ≡ first_id w.term → IsLegal f part_size w log → Has log m → m.entry.reply ≡ Refused refusal → SpentSo w log refusal }
+{
+    esr_core::each_step_has_its_maker();
 }

@@ -1,5 +1,5 @@
 -- What each line of a script was answered, by the history alone.
-use Rattle.std.specs.Prelude.{ℕ, ◌-◌, ◌^◌, min, Bool, true, false, ◌==◌, ◌&&◌, ◌||◌, if◌then◌else◌, List, [], ◌∷◌, ◌++◌, length, take, map, sum_by, Option, Some, None, option_map, option_and_then}
+use Rattle.std.specs.Prelude.{ℕ, ◌-◌, ◌^◌, min, nat_lt, Bool, true, false, not, ◌==◌, ◌&&◌, ◌||◌, if◌then◌else◌, List, [], ◌∷◌, ◌++◌, length, take, map, sum_by, Option, Some, None, option_map, option_and_then}
 use Rattle.esr_model.specs.Values.{Bytes, IndexRef, RootSnap}
 use Rattle.esr_model.specs.Places.{places}
 use Rattle.esr_model.specs.Uploads.{same_bytes}
@@ -466,10 +466,29 @@ abbrev pub falls_first : List Entry → Bool
 falls_first [] = false
 falls_first (e ∷ es) = fails_swap e.step e.reply
 
--- a wait is answered when its units have ended, or by a record swap that had failed by then
+-- the wait at the script's end is answered when its units have ended, or by a record swap that had failed by then
 abbrev pub wait_reply : Bool → Reply
 wait_reply true = Deposed
 wait_reply false = Waited
+
+-- fewer entries than turns last for
+abbrev pub is_short : List Entry → Bool
+is_short all = nat_lt (length all) (2 ^ 33)
+
+abbrev pub has_none : List Entry → Bool
+has_none [] = true
+has_none (e ∷ es) = false
+
+-- A wait before these of the entries may have been left with its turns spent: there are so many entries, and none of them belongs to a
+-- line after it.
+abbrev pub is_cut : List Entry → List Entry → Bool
+is_cut all rest = not (is_short all) && has_none (from_line rest)
+
+-- So is a wait among the lines; one that may have been left is not answered.
+abbrev pub wait_answer : Bool → Bool → Option Reply
+wait_answer true cut = Some Deposed
+wait_answer false true = None
+wait_answer false false = Some Waited
 
 -- Of the entries after those of the lines before, those before the next election of a failover after the line: a wait before that
 -- failover had ended by then. `later`: the entries after the elections of the failovers before
@@ -495,7 +514,7 @@ and_those (Some r) those = r ∷ those
 abbrev pub replies_from : List Entry → List ScriptLine → Bool → List Entry → List Entry → List Reply
 replies_from all [] down later rest = []
 replies_from all (line ∷ lines) down later rest =
-    if is_wait line.item then wait_reply (down || falls_before (before_election later rest)) ∷ replies_from all lines down later rest
+    if is_wait line.item then and_those (wait_answer (down || falls_before (before_election later rest)) (is_cut all rest)) (replies_from all lines down later rest)
     else if is_failover line.item then and_those (failover_reply (has_fallen all) (from_election later)) (replies_from all lines down (past_first (from_election later)) rest)
     else and_more (line_reply line.item all (from_item line.item rest)) (replies_from all lines (down || (falls_before rest || falls_first (from_item line.item rest))) later)
 

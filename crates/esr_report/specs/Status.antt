@@ -1,11 +1,11 @@
 -- How a run ended, by its replies, and its exit status.
-use Rattle.std.specs.Prelude.{ℕ, Bool, true, false, ◌||◌, nat_lt, if◌then◌else◌, List, [], ◌∷◌, length, Option, Some, None}
+use Rattle.std.specs.Prelude.{ℕ, Bool, true, false, not, ◌||◌, nat_lt, if◌then◌else◌, List, [], ◌∷◌, length, Option, Some, None}
 use Rattle.std.specs.List.{list_any}
 use Rattle.esr_model.specs.Names.{BlobName}
 use Rattle.esr_core.specs.After.{or_else}
 use Rattle.esr_core.specs.Entry.{OfAbsence, OfUnreadable, OfAhead, OfIdsSpent, OfGenerationsSpent, OfPrint, OfDisagreement, GenerationsSpent, TermsSpent, IdsSpent, Entry}
 use Rattle.esr_script.specs.declared.item.ScriptLine.{ScriptLine}
-use Rattle.esr_report.specs.Replies.{Reply, Made, Deleted, Restored, Cleaned, Term, Waited, Listed, Checked, Verified, Refused, Failed, Aborted, Deposed, replies, end_reply}
+use Rattle.esr_report.specs.Replies.{Reply, Made, Deleted, Restored, Cleaned, Term, Waited, Listed, Checked, Verified, Refused, Failed, Aborted, Deposed, is_short, replies, end_reply}
 
 abbrev pub is_deposed : Reply → Bool
 is_deposed Deposed = true
@@ -51,8 +51,8 @@ abbrev pub are_ok : List Reply → Bool
 are_ok [] = true
 are_ok (r ∷ rs) = if is_ok r then are_ok rs else false
 
--- Why a run doesn't end with 0. A record swap failed; a blob is damaged; numbers are spent, or a desk's turns are, so that
--- not all lines were answered; a command was refused or aborted, or it failed.
+-- Why a run doesn't end with 0. A record swap failed; a blob is damaged; numbers are spent, or so many entries were made that a desk's turns
+-- may be, so that not all lines were answered or the last wait was left; a command was refused or aborted, or it failed.
 pub data Ending : Type 0 where
   AllOk : Ending
   SomeRefused : Ending
@@ -71,7 +71,7 @@ unfoldable pub ending : List ScriptLine → List Entry → Ending
 ending script history =
     let rs : List Reply = replies script history in
     if is_deposed (end_reply history) || list_any is_deposed rs then SwapFailed
-    else ending_by (first_damaged rs) (list_any is_spent rs || nat_lt (length rs) (length script)) (are_ok rs)
+    else ending_by (first_damaged rs) ((list_any is_spent rs || nat_lt (length rs) (length script)) || not (is_short history)) (are_ok rs)
 
 abbrev pub status_of : Ending → ℕ
 status_of AllOk = 0

@@ -6,7 +6,7 @@ ghost use Rattle.esr_report.specs.Status.{is_deposed, damaged_name, first_damage
 ghost use Rattle.esr_report.specs.Replies.{replies};
 ghost use Rattle.esr_report.specs.Code.{reply_of, ending_of};
 
-use crate::history::has_fallen;
+use crate::history::{has_fallen, is_short};
 use crate::{Replies, Reply};
 use esr_desk::{EntryRefusal, History, Why};
 use esr_names::BlobName;
@@ -19,7 +19,7 @@ pub enum Ending {
     SwapFailed,
     /// A blob was absent, damaged or at odds with another, the first in the order of lines.
     BlobDamaged { name: BlobName },
-    /// Numbers are spent, or a line has no answer.
+    /// Numbers are spent, or turns may be, or a line has no answer.
     NumbersSpent,
     /// A command was refused or aborted, or it failed.
     SomeRefused,
@@ -143,13 +143,14 @@ pub fn end_of_run(script: &Script, history: &History, answers: &Replies) -> Endi
     ensures { ending_of result ≡ ending script.now history.now }
 {
     let answers = answers.as_slice();
-    if has_fallen(history.as_slice()) || any_deposed(answers) {
+    let entries = history.as_slice();
+    if has_fallen(entries) || any_deposed(answers) {
         return Ending::SwapFailed;
     }
     if let Some(name) = first_damaged(answers) {
         return Ending::BlobDamaged { name };
     }
-    if any_spent(answers) || answers.len() < script.len() {
+    if any_spent(answers) || answers.len() < script.len() || !is_short(entries) {
         return Ending::NumbersSpent;
     }
     if are_ok(answers) {

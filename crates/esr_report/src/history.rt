@@ -1,6 +1,6 @@
 //! The replies of a script's lines.
 ghost use Rattle.std.specs.Prelude.{◌≡◌, map, IfOk, option_map};
-ghost use Rattle.esr_report.specs.Replies.{fails_swap, has_fallen, is_end, is_line_read, is_of_line, from_line, falls_before, deposed_by, refused_reply, ask_reply, is_failover, is_election, from_election, before_election, election_reply, failover_reply, past_first, look_reply, ended_reply, read_reply, answer_at, is_check, is_looked, is_look_answered, past_look, checked_reply, check_ended, down_reply, check_answer, line_answer, is_wait, wait_reply, replies};
+ghost use Rattle.esr_report.specs.Replies.{fails_swap, has_fallen, is_end, is_line_read, is_of_line, from_line, falls_before, deposed_by, refused_reply, ask_reply, is_failover, is_election, from_election, before_election, election_reply, failover_reply, past_first, look_reply, ended_reply, read_reply, answer_at, is_check, is_looked, is_look_answered, past_look, checked_reply, check_ended, down_reply, check_answer, line_answer, is_wait, is_short, has_none, is_cut, wait_answer, replies};
 ghost use Rattle.esr_core.specs.After.{or_else, swaps_record};
 ghost use Rattle.esr_core.specs.Entry.{is_recorded};
 ghost use Rattle.esr_progress.specs.Asked.{asked_of};
@@ -402,11 +402,41 @@ fn before_election<'a>(later: &[Entry], rest: &'a [Entry]) -> &'a [Entry]
     &rest[..rest.len().saturating_sub(from_election(later).len())]
 }
 
-/// What a wait is answered, after which a record swap had failed or not.
-pub fn wait_reply(down: bool) -> Reply
-    ensures { reply_of result ≡ wait_reply down }
+/// There are fewer entries than turns last for.
+pub(crate) fn is_short(entries: &[Entry]) -> bool
+    ensures { result ≡ is_short entries.now }
 {
-    if down { Reply::Deposed } else { Reply::Waited }
+    let count = entries.len() as u64;
+    count < 1 << 33
+}
+
+fn has_none(entries: &[Entry]) -> bool
+    ensures { result ≡ has_none entries.now }
+{
+    let [_, ..] = entries else {
+        return true;
+    };
+    false
+}
+
+/// A wait before `rest` may have been left with its turns spent.
+fn is_cut(entries: &[Entry], rest: &[Entry]) -> bool
+    ensures { result ≡ is_cut entries.now rest.now }
+{
+    !is_short(entries) && has_none(from_line(rest))
+}
+
+/// What a wait is answered, after which a record swap had failed or not, unless it may have been left.
+fn wait_answer(down: bool, cut: bool) -> Option<Reply>
+    ensures { option_map reply_of result ≡ wait_answer down cut }
+{
+    if down {
+        return Some(Reply::Deposed);
+    }
+    if cut {
+        return None;
+    }
+    Some(Reply::Waited)
 }
 
 /// The replies of the lines, in order, as far as there is an answer.
@@ -424,7 +454,10 @@ pub fn replies(alloc: Global, script: &Script, history: &History) -> Result<Repl
     for line in script.as_slice() {
         if is_wait(&line.item) {
             let falls = down || falls_before(before_election(later, rest));
-            replies.push(wait_reply(falls))?;
+            let Some(reply) = wait_answer(falls, is_cut(entries, rest)) else {
+                return Ok(replies);
+            };
+            replies.push(reply)?;
             continue;
         }
         if is_failover(&line.item) {

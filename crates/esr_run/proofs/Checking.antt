@@ -388,6 +388,6 @@ was_refused s old new refusal h stops = absurd stops
 pub check_ended : (X : Type 0) {S F H T : Type 0} (evidence : Evidence S F H T) (s : Start) (old new : List Moment) (e : UnitRefusal) → AsksOne {X = X} old new (Err e) → IsCheckRefused evidence s old new e → CheckEnds old new (check_result {X = X} (Err e))
 check_ended X evidence s old new (units.Failed why) asks err = err.2
 check_ended X evidence s old new (units.Stopped (steps.Refused refusal)) asks err = was_refused s old new refusal asks err
-check_ended X evidence s old new (units.Stopped steps.Memory) asks err = tt
-check_ended X evidence s old new (units.Stopped steps.TurnsSpent) asks err = tt
+check_ended X evidence s old new (units.Stopped steps.Memory) asks err = asks
+check_ended X evidence s old new (units.Stopped steps.TurnsSpent) asks err = asks
 check_ended X evidence s old new units.Stale asks err = absurd asks

@@ -1,21 +1,23 @@
 -- What a run over quiet objects ends with.
 use Rattle.std.proofs.Common.{◌≡◌, ◌≢◌, ◌⊎◌, ℕ, zero, suc, ◌+◌, ◌^◌, ◌<◌, ◌≤◌, Bool, true, false, cond, nat_lt, List, [], ◌∷◌, ◌++◌, append_assoc, map, length, Option, Some, is_some, refl, sym, ap, ◌∙◌, subst, inl, inr, ⊎_elim, arith}
 use Rattle.std.specs.Prelude.{◌&&◌, ◌==◌, unwrap_or, if◌then◌else◌}
-use Rattle.std.proofs.lemmas.Bool.{ltb-true, ltb-false}
+use Rattle.std.proofs.lemmas.Bool.{ltb-true, ltb-false, le-ltb}
 use Rattle.std.proofs.lemmas.Bool.Decides.{eqb_tells}
 use Rattle.std.proofs.lemmas.List.Sums.{sum_by-cons}
-use Rattle.esr_model.specs.Values.{Bytes, Has}
+use Rattle.esr_model.specs.Values.{Bytes, Has, Formats}
 use Rattle.esr_model.specs.Image.{Image}
-use Rattle.esr_core.specs.World.{World, Caller, Opened}
-use Rattle.esr_core.specs.Entry.{AskedIndex, Snapshot, Restore, GivenCleanup, Step, AskStep, TakeStep, ElectStep, Reply, Gave, Refused, DepotFault, DeposedAt, IdsSpent, GenerationsSpent, TermsSpent, Entry, Moment}
+use Rattle.esr_model.specs.Kept.{first_id}
+use Rattle.esr_core.specs.World.{World, Caller, Opened, OpenedEmpty, OpenedRecord}
+use Rattle.esr_core.specs.Entry.{AskedIndex, Snapshot, Restore, GivenCleanup, Step, AskStep, TakeStep, ElectStep, Refusal, Reply, Gave, Refused, DepotFault, DeposedAt, IdsSpent, GenerationsSpent, TermsSpent, Entry, Moment}
 use Rattle.esr_core.specs.History.{AreTold}
+use Rattle.esr_law.specs.Spent.{terms_by, terms_in, SpentSo}
 use Rattle.esr_depot.specs.Image.{Image as Held}
 use Rattle.esr_depot.specs.Look.{Look, now}
 use Rattle.esr_script.specs.declared.item.AskedIndex.{AskedIndex as LineIndex}
 use Rattle.esr_script.specs.declared.item.Item.{Item}
 use Rattle.esr_script.specs.declared.item.Item.TheVariants as items
 use Rattle.esr_script.specs.declared.item.ScriptLine.{ScriptLine}
-use Rattle.esr_report.specs.Replies.{is_election_step, replies}
+use Rattle.esr_report.specs.Replies.{is_election_step, is_short, replies}
 use Rattle.esr_report.specs.Status.{ending, status_of}
 use Rattle.esr_desk.specs.Start.{Start, Legal, formats_of, world_of}
 use Rattle.esr_desk.specs.declared.fault.Fault.{Fault}
@@ -38,10 +40,11 @@ use Rattle.esr_complete.specs.Answers.{AreAnswered, EndsWell}
 use Rattle.esr_complete.specs.FaultFree.{IsFaultFreeRun}
 use Rattle.esr_run.specs.Start.{Telling, formats_by, steady_by, start_of}
 use Rattle.esr_run.specs.Images.{TellsAll}
-use Rattle.esr_run.specs.Complete.{AsksRestore, IsQuietFor, IsAnsweredWell, Completes}
+use Rattle.esr_run.specs.Complete.{AsksRestore, IsQuietFor, SpentBy, IsAnsweredWell, Completes}
 use Rattle.esr_run.specs.Laws.{QuietLaws}
 use Rattle.esr_run.specs.Verified.{AreClosed}
 use Rattle.esr_run.specs.Made.{MadeFirst, AreElected, IsWaiting, AskedApart, HasFallen, AreDone, NoneOpen}
+use Rattle.esr_run.proofs.Leaving.{long_ends}
 use Rattle.esr_run.proofs.Parts.{are_parts}
 use Rattle.esr_run.proofs.Making.{legal_one, legal_front}
 use Rattle.esr_run.proofs.Callers.{waiting_closed}
@@ -85,6 +88,38 @@ find_spent (e ∷ es) = ⊎_elim
     (λ (none : (x : Entry) → Has es x → IsSpent x.reply → ⊥). inr (λ x h s. ⊎_elim (λ is. n (subst (λ (y : Entry). IsSpent y.reply) (sym is) s)) (λ has. none x has s) h))
     (find_spent es))
     (spent_or_not e.reply)
+
+-- which number it was
+moment_of : (log : List Moment) (e : Entry) → Has (entries_of log) e → (m : Moment) × Has log m × (m.entry ≡ e)
+moment_of [] e h = absurd h
+moment_of (m ∷ log) e (inl is) = (m, inl refl, is)
+moment_of (m ∷ log) e (inr h) = let r = moment_of log e h in (r.0, inr r.1, r.2)
+
+opened_first : (f : Formats) (image : Image) (w : World) → Opened f image w → w.next_id ≡ first_id w.term
+opened_first f image w (OpenedEmpty none) = refl
+opened_first f image w (OpenedRecord cluster text root is reads safe) = refl
+
+same_election : (who : ℕ) (step : Step) → terms_by who step ≡ election who step
+same_election zero ElectStep = refl
+same_election zero step = refl
+same_election (suc k) step = refl
+
+same_elections : (log : List Moment) → terms_in log ≡ elections log
+same_elections [] = refl
+same_elections (m ∷ log) = ap (λ (n : ℕ). n + terms_in log) (same_election m.entry.who m.entry.step) ∙ ap (λ (n : ℕ). election m.entry.who m.entry.step + n) (same_elections log)
+
+few_terms : (term : ℕ) (log : List Moment) (lines : List ScriptLine) → elections log ≤ failovers_of lines → 2 ^ 63 ≤ term + terms_in log → 2 ^ 63 ≤ term + failovers_of lines
+few_terms term log lines few past =
+    let same : terms_in log ≡ elections log = same_elections log in
+    let fewer : elections log ≤ failovers_of lines = few in
+    let reached : 2 ^ 63 ≤ term + terms_in log = past in
+    omega (arith, same, fewer, reached)
+
+spent_by : (world : World) (lines : List ScriptLine) (log : List Moment) (reply : Reply) → elections log ≤ failovers_of lines → ((refusal : Refusal) → reply ≡ Refused refusal → SpentSo world log refusal) → IsSpent reply → SpentBy world lines log reply
+spent_by world lines log (Refused (IdsSpent next)) few so is = so (IdsSpent next) refl
+spent_by world lines log (Refused (GenerationsSpent pending)) few so is = so (GenerationsSpent pending) refl
+spent_by world lines log (Refused (TermsSpent term)) few so is = few_terms world.term log lines few (so (TermsSpent term) refl)
+spent_by world lines log reply few so is = absurd is
 
 many_or_not : (n m : ℕ) → (m ≤ n) ⊎ (n < m)
 many_or_not n m = go (nat_lt n m) refl
@@ -423,6 +458,12 @@ module _ {S F H T : Type 0} (laws : QuietLaws S F H T) (evidence : Evidence S F 
     elected_all : AreElected lines [] log → elections_of (entries_of log) ≡ failovers_of lines
     elected_all elected = elections_told log ∙ none_before (elections log) (failovers_of lines) elected
 
+    short_log : length log < 2 ^ 33
+    short_log =
+        let many : length history ≡ length log = ap length (sym entries) ∙ as_many log in
+        let less : length history < 2 ^ 33 = few in
+        omega (arith, many, less)
+
     well : AreDone s moment lines [] log → IsAnsweredWell s moment lines log history
     well done =
         let checks : AreChecksInTurn moment lines log = inr (are_parts s moment lines log refl done.parted (never_deposed log history entries none_faults named)) in
@@ -440,6 +481,7 @@ module _ {S F H T : Type 0} (laws : QuietLaws S F H T) (evidence : Evidence S F 
           idle = done.idle;
           elected = elected_all done.elected;
           asked = asked;
+          short = short_log;
         } in
         record {
           answered = subst (λ (es : List Entry). AreAnswered lines (replies lines es)) entries (laws.answered s log lines moment run);
@@ -448,13 +490,24 @@ module _ {S F H T : Type 0} (laws : QuietLaws S F H T) (evidence : Evidence S F 
         }
 
   pub completes : (status : ℕ) → Legal s log → (s.tells ≡ true → AreTold log) → AreShown {S = S} {F = F} {H = H} {T = T} evidence s log faults → AreOnce s log → AreTested s log → IsCalm true after.sure history → AreDeposedSo history
-      → MadeFirst s (steps_of moment lines) [] log → AreClosed s log → AreDone s moment lines [] log ⊎ HasFallen s moment lines [] log → status ≡ status_of (ending lines history) → IsQuietFor telling before lines → Completes telling size moment lines before world clock after history status
-  completes status legal told shown once tested calm named made apart done is quiet_for tells_all =
+      → MadeFirst s (steps_of moment lines) [] log → AreClosed s log → AreDone s moment lines [] log ⊎ HasFallen s moment lines [] log → status ≡ status_of (ending lines history) → elections log ≤ failovers_of lines → IsQuietFor telling before lines
+      → Completes telling size moment lines before world clock after history status
+  completes status legal told shown once tested calm named made apart done is elects quiet_for tells_all =
       ⊎_elim
-      (λ (spent : Spent history). inl (inl spent))
+      (λ (spent : Spent history).
+      let found = moment_of log spent.0 (subst (λ (es : List Entry). Has es spent.0) (sym (entries_are (image_at after) clock history)) spent.1) in
+      let m : Moment = found.0 in
+      let first : world.next_id ≡ first_id world.term = opened_first (formats_by telling) (image_of quiet_for.holds.image) world (opened quiet_for.holds.image quiet_for.holds.told) in
+      inl (inl (
+        m,
+        found.1,
+        spent_by world lines log m.entry.reply elects (λ refusal e. laws.spent (formats_of s) size world log m refusal first legal found.1 e) (subst (λ (e : Entry). IsSpent e.reply) (sym found.2) spent.2),
+      )))
       (λ (unspent : (e : Entry) → Has history e → IsSpent e.reply → ⊥).
       ⊎_elim
-      (λ (many : 2 ^ 33 ≤ length history). inl (inr many))
+      (λ (many : 2 ^ 33 ≤ length history).
+      let long : is_short history ≡ false = le-ltb (length history) (2 ^ 33) many in
+      inl (inr (many, subst (λ (n : ℕ). 2 ≤ n) (sym is) (long_ends lines history long))))
       (λ (few : length history < 2 ^ 33).
       inr (
         ⊎_elim

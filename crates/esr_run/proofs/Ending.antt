@@ -21,7 +21,7 @@ use Rattle.esr_report.specs.Status.{Ending, AllOk, SomeRefused, SwapFailed, Blob
 use Rattle.esr_run.specs.Checked.{asks_check}
 use Rattle.esr_run.specs.Verified.{AreWhole}
 use Rattle.esr_run.specs.Waits.{AreFew}
-use Rattle.esr_run.specs.Made.{MadeFirst, HasFallen, AreDone}
+use Rattle.esr_run.specs.Made.{MadeFirst, HasFallen, AreDone, AskedUnlessStopped}
 use Rattle.std.specs.Io.KnownBytes.{Appends}
 use Rattle.esr_opening.specs.Opening.{Kept, known_blobs, world_in, IsFault, IsOpening, IsOpenRefused}
 use Rattle.esr_opening.specs.declared.refusal.OpenRefusal.{OpenRefusal}
@@ -32,7 +32,7 @@ use Rattle.esr_script.specs.declared.item.ScriptLine.{ScriptLine}
 use Rattle.esr_desk.specs.declared.fault.Fault.{Fault}
 use Rattle.esr_desk.specs.Evidence.{Evidence}
 use Rattle.esr_desk.specs.Shown.{AreShown}
-use Rattle.esr_repo.specs.Log.{log_of}
+use Rattle.esr_repo.specs.Log.{image_at, log_of}
 use Rattle.esr_run.specs.Asked.{wanted_of, part_size_of, workers_of}
 use Rattle.esr_run.specs.Ends.{RunEnd, BadWords, Unreadable, BadScript, BadLine, OpenFault, Damaged, NoTerm, Carried, exit_of, text_of}
 use Rattle.esr_run.specs.Faults.{listed, fetch_of, HasFetch}
@@ -48,6 +48,8 @@ use Rattle.esr_run.proofs.Cleanups.{cleanups_leave_reach}
 use Rattle.esr_run.proofs.Told.{stays_told}
 use Rattle.esr_run.proofs.Sourceless.{needs_no_source}
 use Rattle.esr_run.proofs.Undamaged.{stays_undamaged}
+use Rattle.esr_run.proofs.Completing.{entries_are}
+use Rattle.esr_run.proofs.Leaving.{worked_or_left}
 
 -- ---- what is told at the start
 
@@ -102,9 +104,9 @@ Begun files size quiet mid k = start_of files size quiet mid (begun_world (now m
 unfoldable pub opened_run : {S F H T : Type 0} (laws : Laws) (kept : KeptLaws S F H T) (evidence : Evidence S F H T) (files : Telling) (size workers moment : ℕ) (lines : List ScriptLine) (quiet : Bool) (before mid after : Look) (k : Kept) (history : List Entry) (faults : List (Fault S F H T)) → IsOpening before mid k → (2 ^ 62 ≤ before.sure → quiet ≡ true)
     → LegalRun (Begun files size quiet mid k) mid.clock after history → IsPast (Begun files size quiet mid k) mid.clock mid.since after history → AreShown evidence (Begun files size quiet mid k) (log_of after mid.clock history) faults
     → AreOnce (Begun files size quiet mid k) (log_of after mid.clock history) → AreTested (Begun files size quiet mid k) (log_of after mid.clock history) → NoneTwice (log_of after mid.clock history) → AreRemovedOnce (log_of after mid.clock history) → IsCalm quiet after.sure history → MadeFirst (Begun files size quiet mid k) (steps_of moment lines) [] (log_of after mid.clock history)
-    → AreWhole (Begun files size quiet mid k) workers (asks_check lines) (log_of after mid.clock history) → AreFew workers lines (log_of after mid.clock history)
+    → AreWhole (Begun files size quiet mid k) workers (asks_check lines) (log_of after mid.clock history) → AreFew workers lines (log_of after mid.clock history) → AskedUnlessStopped (Begun files size quiet mid k) [] (log_of after mid.clock history)
     → IsOpenedRun evidence files size workers moment lines before after history faults
-opened_run {S} {F} {H} {T} laws kept evidence files size workers moment lines quiet before mid after k history faults o quiet_is legal past shown once tested single removed calm made verified takes =
+opened_run {S} {F} {H} {T} laws kept evidence files size workers moment lines quiet before mid after k history faults o quiet_is legal past shown once tested single removed calm made verified takes apart =
     let is = start_is files size quiet before mid k o in
     let run = subst (λ (s : Start). LegalRun s mid.clock after history) is legal in
     let was = subst (λ (s : Start). IsPast s mid.clock mid.since after history) is past in
@@ -145,6 +147,7 @@ opened_run {S} {F} {H} {T} laws kept evidence files size workers moment lines qu
       calm = calm;
       verified = subst (λ (s : Start). AreWhole s workers (asks_check lines) (log_of after mid.clock history)) is verified;
       few = takes;
+      apart = subst (λ (s : Start). AskedUnlessStopped s [] (log_of after mid.clock history)) is apart;
       asked = (made.rest, asked);
     }
 
@@ -161,15 +164,15 @@ pub verdict_opening : {S F H T : Type 0} (laws : Laws) (kept : KeptLaws S F H T)
     (old_faults new_faults status : ℕ) (text : Bytes) → IsOpening before mid k → (2 ^ 62 ≤ before.sure → quiet ≡ true)
     → LegalRun (Begun files size quiet mid k) mid.clock after history → IsPast (Begun files size quiet mid k) mid.clock mid.since after history → AreShown evidence (Begun files size quiet mid k) (log_of after mid.clock history) faults
     → AreOnce (Begun files size quiet mid k) (log_of after mid.clock history) → AreTested (Begun files size quiet mid k) (log_of after mid.clock history) → NoneTwice (log_of after mid.clock history) → AreRemovedOnce (log_of after mid.clock history) → IsCalm quiet after.sure history → MadeFirst (Begun files size quiet mid k) (steps_of moment lines) [] (log_of after mid.clock history)
-    → AreWhole (Begun files size quiet mid k) workers (asks_check lines) (log_of after mid.clock history) → AreFew workers lines (log_of after mid.clock history)
+    → AreWhole (Begun files size quiet mid k) workers (asks_check lines) (log_of after mid.clock history) → AreFew workers lines (log_of after mid.clock history) → AskedUnlessStopped (Begun files size quiet mid k) [] (log_of after mid.clock history)
     → IsTold status text (Some (Carried lines history))
     → (status ≡ 8) ⊎ (AreDone (Begun files size quiet mid k) moment lines [] (log_of after mid.clock history) ⊎ HasFallen (Begun files size quiet mid k) moment lines [] (log_of after mid.clock history))
     → IsVerdict status text (IsOpenCause evidence files size workers moment before after old_faults new_faults lines history faults)
 unfolding opened_run
-verdict_opening laws kept evidence files size workers moment lines quiet before mid after k history faults old_faults new_faults status text o quiet_is legal past shown once tested single removed calm made verified takes (inl wanting) done = inl wanting
-verdict_opening laws kept evidence files size workers moment lines quiet before mid after k history faults old_faults new_faults status text o quiet_is legal past shown once tested single removed calm made verified takes (inr told) (inl wanting) =
+verdict_opening laws kept evidence files size workers moment lines quiet before mid after k history faults old_faults new_faults status text o quiet_is legal past shown once tested single removed calm made verified takes apart (inl wanting) done = inl wanting
+verdict_opening laws kept evidence files size workers moment lines quiet before mid after k history faults old_faults new_faults status text o quiet_is legal past shown once tested single removed calm made verified takes apart (inr told) (inl wanting) =
     absurd (not_wanting (ending lines history) (sym told.0 ∙ wanting))
-verdict_opening laws kept evidence files size workers moment lines quiet before mid after k history faults old_faults new_faults status text o quiet_is legal past shown once tested single removed calm made verified takes (inr told) (inr done) =
+verdict_opening laws kept evidence files size workers moment lines quiet before mid after k history faults old_faults new_faults status text o quiet_is legal past shown once tested single removed calm made verified takes apart (inr told) (inr done) =
     inr (record {
       end = Carried lines history;
       status_is = told.0;
@@ -178,8 +181,9 @@ verdict_opening laws kept evidence files size workers moment lines quiet before 
         refl,
         refl,
         (
-          opened_run laws kept evidence files size workers moment lines quiet before mid after k history faults o quiet_is legal past shown once tested single removed calm made verified takes,
-          subst (λ (s : Start). AreDone s moment lines [] (log_of after mid.clock history) ⊎ HasFallen s moment lines [] (log_of after mid.clock history)) (start_is files size quiet before mid k o) done,
+          opened_run laws kept evidence files size workers moment lines quiet before mid after k history faults o quiet_is legal past shown once tested single removed calm made verified takes apart,
+          worked_or_left (start_of files size quiet before (world_in (now before) o.cluster o.root)) moment lines (log_of after mid.clock history) history (entries_are (image_at after) mid.clock history)
+              (subst (λ (s : Start). AreDone s moment lines [] (log_of after mid.clock history) ⊎ HasFallen s moment lines [] (log_of after mid.clock history)) (start_is files size quiet before mid k o) done),
         ),
       );
     })

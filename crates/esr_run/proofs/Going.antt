@@ -1,5 +1,5 @@
 -- One line after another, by what each was answered.
-use Rattle.std.proofs.Common.{◌≡◌, ◌⊎◌, ℕ, suc, ◌+◌, ◌-◌, ◌^◌, ◌≤◌, Bool, List, [], ◌∷◌, length, take, drop, slice_index_or, Result, Ok, Err, IfOk, refl, sym, ap, ◌∙◌, subst, inl, inr, arith}
+use Rattle.std.proofs.Common.{◌≡◌, ◌⊎◌, ℕ, suc, ◌+◌, ◌-◌, ◌^◌, ◌≤◌, Bool, true, List, [], ◌∷◌, length, take, drop, slice_index_or, Result, Ok, Err, IfOk, refl, sym, ap, ◌∙◌, subst, inl, inr, arith}
 use Rattle.std.specs.declared.alloc.AllocError.{AllocError}
 use Rattle.esr_core.specs.Entry.{Step, Moment}
 use Rattle.esr_script.specs.declared.item.Item.{Item}
@@ -15,9 +15,9 @@ use Rattle.esr_complete.specs.Answers.{IsIdle}
 use Rattle.esr_verify.specs.Began.{HasBegun}
 use Rattle.esr_check.specs.Began.{HasEndedCheck}
 use Rattle.esr_run.specs.Waits.{owed_after, LineElects}
-use Rattle.esr_run.specs.Made.{MadeFirst, HasStopped, AreIn, LineMade, LineRests, LineSpends, WaitEnds, WasLookRefused, CheckEnds, VerifyBegins, AddsOnly, NoneOpen}
+use Rattle.esr_run.specs.Made.{MadeFirst, HasStopped, AreIn, LineMade, LineRests, LineSpends, WaitEnds, WasLookRefused, CheckEnds, VerifyBegins, AddsOnly, NoneOpen, AskedUnlessStopped}
 use Rattle.esr_run.specs.Verified.{MayVerify, VerifiesOn}
-use Rattle.esr_run.proofs.Making.{IsTold, LineEnded, Front, refused_line, line_counts, front_step, take_rest, AsksFirst, made_stopped, ElectedOr}
+use Rattle.esr_run.proofs.Making.{IsTold, LineEnded, Front, refused_line, line_counts, front_step, take_rest, AsksFirst, made_stopped, front_cut, ElectedOr}
 
 abbrev Answer : Type 0
 Answer = Result (Unit {0}) StepRefusal
@@ -75,6 +75,14 @@ pub made_by : (s : Start) (moment owed : ℕ) (left lines : List ScriptLine) (wa
 made_by s moment owed left lines wanted old mid new r asks f made which = elim which [
   | inl memory ↦ made_stopped s moment owed left lines wanted old mid new steps.Memory asks f (subst (LineMade s wanted mid new) memory made) (inl refl)
   | inr turns ↦ made_stopped s moment owed left lines wanted old mid new steps.TurnsSpent asks f (subst (LineMade s wanted mid new) turns made) (inr refl)
+]
+
+-- asked only where it might
+pub cut_by : (s : Start) (moment owed : ℕ) (item : Item) (left lines : List ScriptLine) (old mid new : List Moment) (r : Answer) → Front s moment owed left lines old mid → LineMade s (steps_of_item moment item) mid new r → (item ≡ items.Check → CheckEnds mid new r) → (item ≡ items.Verify → VerifyBegins mid new r)
+    → AddsOnly item mid new → NoneOpen s mid → (r ≡ Err steps.Memory) ⊎ (r ≡ Err steps.TurnsSpent) → s.alone ≡ true → AreIn s old → AskedUnlessStopped s old new
+cut_by s moment owed item left lines old mid new r f made checked begun only closed which alone none = elim which [
+  | inl memory ↦ front_cut s moment owed left lines item old mid new f (subst (LineMade s (steps_of_item moment item) mid new) memory made) only (λ check. subst (CheckEnds mid new) memory (checked check)) (λ verify. subst (VerifyBegins mid new) memory (begun verify)) closed alone none
+  | inr turns ↦ front_cut s moment owed left lines item old mid new f (subst (LineMade s (steps_of_item moment item) mid new) turns made) only (λ check. subst (CheckEnds mid new) turns (checked check)) (λ verify. subst (VerifyBegins mid new) turns (begun verify)) closed alone none
 ]
 
 pub turns_by : (new : List Moment) (r : Answer) → r ≡ Err steps.TurnsSpent → LineSpends new r → 2 ^ 33 ≤ length new

@@ -13,6 +13,7 @@ pub mod Dooms
 pub mod Unlisted
 pub mod Cleanups
 pub mod Told
+pub mod Leaving
 pub mod Ending
 pub mod Restoring
 pub mod Counting

@@ -31,8 +31,10 @@ use Rattle.esr_drive.specs.Elections.{WaitsOnly, elections, HasElected}
 use Rattle.esr_check.specs.Began.{HasEndedCheck}
 use Rattle.esr_run.specs.Checked.{is_check, asks_check}
 use Rattle.esr_run.specs.Waits.{owed_after, owed_then, LineElected, LineElects}
-use Rattle.esr_run.specs.Made.{MadeFirst, HasStopped, HasNoReaders, AreIn, LineMade, LineRests, WaitEnds, NoneReady, AreElected, WaitEnded, WaitsEnded, Owes, AreMade, AreDone, NoneOpen, WasLeft, AreAsked, LineSpends, WasLookRefused, CheckEnded, ChecksEnded, AsksLine, LinePart, AreInParts, AskedApart}
-use Rattle.esr_run.proofs.Apart.{apart_none, apart_on, waits_apart, line_apart}
+use Rattle.esr_run.specs.Made.{MadeFirst, HasStopped, HasNoReaders, AreIn, LineMade, LineRests, WaitEnds, NoneReady, AreElected, WaitEnded, WaitsEnded, Owes, AreMade, AreDone, NoneOpen, WasLeft, AreAsked, LineSpends, WasLookRefused, CheckEnded, ChecksEnded, AsksLine, LinePart, AreInParts, AskedApart, AddsOnly, IsWaiting, InOrStopped, WaitsOrStopped, AskedUnlessStopped}
+use Rattle.esr_verify.specs.Began as verifying
+use Rattle.esr_check.specs.Began as checking
+use Rattle.esr_run.proofs.Apart.{apart_none, apart_on, TakesAfter, is_waiting, waits_apart, line_apart, cut_apart}
 
 abbrev Readers : Type 0
 Readers = FinMap nat_cmp Reader
@@ -425,9 +427,18 @@ pub record Front (s : Start) (moment owed : ℕ) (left lines : List ScriptLine) 
   pub owed_is : owed ≡ owed_then 0 done
   pub parts : AreInParts s moment 0 done old new
   pub rests : s.alone ≡ true → AreIn s old → Rested s moment done old new ⊎ HasStopped new
+  pub apart : s.alone ≡ true → AreIn s old → AskedUnlessStopped s old new
 
 pub front_none : (s : Start) (moment : ℕ) (lines : List ScriptLine) (log : List Moment) → Front s moment 0 lines lines log log
-front_none s moment lines log = record { done = []; is = refl; grew = asking_none s log; elected = refl; checks = no_checks s moment log log; owed_is = refl; parts = refl; rests = λ alone none. inl (record { none_out = none; waits = no_waits s moment log log; apart = apart_none s log }) }
+front_none s moment lines log = record { done = []; is = refl; grew = asking_none s log; elected = refl; checks = no_checks s moment log log; owed_is = refl; parts = refl; rests = λ alone none. inl (record { none_out = none; waits = no_waits s moment log log; apart = apart_none (AreIn s) (IsWaiting s) log }); apart = λ alone none. apart_none (InOrStopped s) (WaitsOrStopped s) log }
+
+-- no ticket is out, or the work was stopped; and a wait begins then where no verification is open
+in_or_stopped : (s : Start) (moment : ℕ) (done : List ScriptLine) (old new : List Moment) → Rested s moment done old new ⊎ HasStopped new → InOrStopped s new
+in_or_stopped s moment done old new (inl r) = inl r.none_out
+in_or_stopped s moment done old new (inr was) = inr was
+
+waits_closed : (s : Start) (log : List Moment) → NoneOpen s log → TakesAfter (WaitsOrStopped s) log
+waits_closed s log closed front all = inl (is_waiting s log closed front all)
 
 pub front_next : (s : Start) (moment owed : ℕ) (line : ScriptLine) (rest lines : List ScriptLine) (old mid new : List Moment) → Front s moment owed (line ∷ rest) lines old mid → GrewAsking s (steps_of_item moment line.item) mid new → LineCounts owed line.item mid new
     → LinePart line.item mid new → NoneOpen s mid → (s.alone ≡ true → AreIn s mid → LineEnded s line.item new) → Front s moment (owed_after line.item owed) rest lines old new
@@ -447,12 +458,15 @@ front_next s moment owed line rest lines old mid new f g counts part closed ende
           (λ (e : AreIn s new × (line.item ≡ items.Wait → NoneReady s new)). inl (record {
             none_out = e.0;
             waits = waits_next s moment f.done line old mid new f.grew g r.waits (λ wait. elected_here owed f.done line.item old mid new wait f.elected counts) e.0 e.1;
-            apart = apart_on s old mid new r.apart (line_apart s moment line.item mid new alone r.none_out closed g part);
+            apart = apart_on (AreIn s) (IsWaiting s) old mid new r.apart (line_apart (AreIn s) (IsWaiting s) s moment line.item mid new alone r.none_out (is_waiting s mid closed) g part);
           }))
           (λ (was : HasStopped new). inr was)
           (ended alone r.none_out))
           (λ (was : HasStopped mid). inr (stopped_stays s (steps_of_item moment line.item) mid new g was))
           (f.rests alone none);
+      apart = λ alone none.
+          apart_on (InOrStopped s) (WaitsOrStopped s) old mid new (f.apart alone none)
+          (line_apart (InOrStopped s) (WaitsOrStopped s) s moment line.item mid new alone (in_or_stopped s moment f.done old mid (f.rests alone none)) (waits_closed s mid closed) g part);
     }
 
 front_steps : (s : Start) (moment owed : ℕ) (left lines : List ScriptLine) (old new : List Moment) (f : Front s moment owed left lines old new) → steps_of moment f.done ++ steps_of moment left ≡ steps_of moment lines
@@ -511,7 +525,31 @@ front_all s moment owed left lines old new none f closed alone out =
       | inr (inr turns) ↦ inr (inr turns)
     ]
 
+-- a line that was left
+pub front_cut : (s : Start) (moment owed : ℕ) (left lines : List ScriptLine) (item : Item) (old mid new : List Moment) → Front s moment owed left lines old mid → MadeFirst s (steps_of_item moment item) mid new → AddsOnly item mid new → (item ≡ items.Check → checking.BeganOne mid new) → (item ≡ items.Verify → verifying.BeganOne mid new)
+    → NoneOpen s mid → s.alone ≡ true → AreIn s old → AskedUnlessStopped s old new
+front_cut s moment owed left lines item old mid new f made only checks verifies closed alone none =
+    apart_on (InOrStopped s) (WaitsOrStopped s) old mid new (f.apart alone none)
+    (cut_apart (InOrStopped s) (WaitsOrStopped s) s moment item mid new alone (in_or_stopped s moment f.done old mid (f.rests alone none)) (waits_closed s mid closed) made only checks verifies)
+
 -- ---- and the work after them
+
+long_on : (a b : List Moment) → 2 ^ 33 ≤ length a → 2 ^ 33 ≤ length (a ++ b)
+long_on a b long =
+    let whole : length (a ++ b) ≡ length a + length b = length-append a b in
+    let most : 2 ^ 33 ≤ length a = long in
+    omega (arith, whole, most)
+
+-- the wait at the end begins where no verification is open, unless turns were spent
+waits_then : (s : Start) (moment owed : ℕ) (lines : List ScriptLine) (old mid : List Moment) → AreMade s moment owed lines old mid ⊎ WasLeft s moment owed lines old mid → TakesAfter (WaitsOrStopped s) mid
+waits_then s moment owed lines old mid (inl a) front all = inl (is_waiting s mid a.closed front all)
+waits_then s moment owed lines old mid (inr (inl left)) front all = inl (is_waiting s mid left.0.closed front all)
+waits_then s moment owed lines old mid (inr (inr turns)) front all = inr (inr (long_on mid front turns))
+
+pub apart_then : (s : Start) (moment owed : ℕ) (lines : List ScriptLine) (old mid new : List Moment) → (AreIn s old → AskedUnlessStopped s old mid) → (AreIn s old → AreMade s moment owed lines old mid ⊎ WasLeft s moment owed lines old mid) → WaitsOnly mid new → AreIn s old
+    → AskedUnlessStopped s old new
+apart_then s moment owed lines old mid new first made works none =
+    apart_on (InOrStopped s) (WaitsOrStopped s) old mid new (first none) (waits_apart (InOrStopped s) (WaitsOrStopped s) mid new (waits_then s moment owed lines old mid (made none)) works)
 
 pub made_then : (s : Start) (wanted : List Step) (old mid new : List Moment) → MadeFirst s wanted old mid → GrewAsking s [] mid new → MadeFirst s wanted old new
 made_then s wanted old mid new f g = record {
@@ -557,7 +595,7 @@ done_then s moment owed lines old mid new made g works counts done closes none =
       waits = λ before after line is wait. wait_on s moment before [] old mid new g (a.waits before after line is wait);
       checks = checks_then a.checks;
       parted = record { mid = mid; parts = a.parts; elects = all ∙ ap (λ (n : ℕ). elections mid + n) a.owed_is; grew = g; waits = works };
-      apart = apart_on s old mid new a.apart (waits_apart s mid new a.closed works);
+      apart = apart_on (AreIn s) (IsWaiting s) old mid new a.apart (waits_apart (AreIn s) (IsWaiting s) mid new (is_waiting s mid a.closed) works);
       idle = idle;
       closed = closes a.closed;
     })
@@ -594,15 +632,23 @@ made_stopped s moment owed left lines wanted old mid new (steps.Refused refusal)
     no_turns : (refusal : EntryRefusal) → steps.Refused refusal ≡ steps.TurnsSpent → ⊥
     no_turns refusal e = cc
 
+-- at its beginning no ticket of a repository is out
+none_in : (s : Start) → HasNoTickets s → HasNoReaders s → AreIn s []
+none_in s numbered unread = record {
+  tickets = λ k. ap (λ (m : FinMap nat_cmp Ticket). (or_no_ticket (fin.get m k)).out) numbered.none ∙ ap (λ (o : Option Ticket). (or_no_ticket o).out) (fin.get-empty nat_cmp k);
+  readers = λ k. ap (λ (m : Readers). (or_no_reader (fin.get m k)).out) unread ∙ ap (λ (o : Option Reader). (or_no_reader o).out) (fin.get-empty nat_cmp k);
+}
+
+pub apart_first : (s : Start) (old new same : List Moment) → (AreIn s old → AskedUnlessStopped s old new) → same ≡ new → old ≡ [] → HasNoTickets s → HasNoReaders s → AskedUnlessStopped s [] same
+apart_first s old new same h is begun numbered unread =
+    subst (λ (l : List Moment). AskedUnlessStopped s [] l) (sym is) (subst (λ (l : List Moment). AskedUnlessStopped s l new) begun (h (subst (AreIn s) (sym begun) (none_in s numbered unread))))
+
 -- on the history of a repository, from its beginning on
 pub done_on : {X E : Type 0} (s : Start) (moment : ℕ) (lines : List ScriptLine) (old new same : List Moment) (r : Result X E) → OnOk r (AreIn s old → AreDone s moment lines old new ⊎ WasLeft s moment 0 lines old new) → same ≡ new → old ≡ [] → HasNoTickets s → HasNoReaders s
     → OnOk r (AreDone s moment lines [] same ⊎ WasLeft s moment 0 lines [] same)
 done_on {X} {E} s moment lines old new same (Err e) done is begun numbered unread = tt
 done_on {X} {E} s moment lines old new same (Ok x) done is begun numbered unread =
-    let none : AreIn s [] = record {
-      tickets = λ k. ap (λ (m : FinMap nat_cmp Ticket). (or_no_ticket (fin.get m k)).out) numbered.none ∙ ap (λ (o : Option Ticket). (or_no_ticket o).out) (fin.get-empty nat_cmp k);
-      readers = λ k. ap (λ (m : Readers). (or_no_reader (fin.get m k)).out) unread ∙ ap (λ (o : Option Reader). (or_no_reader o).out) (fin.get-empty nat_cmp k);
-    } in
+    let none : AreIn s [] = none_in s numbered unread in
     subst (λ (l : List Moment). AreDone s moment lines [] l ⊎ WasLeft s moment 0 lines [] l) (sym is)
     (subst (λ (l : List Moment). AreDone s moment lines l new ⊎ WasLeft s moment 0 lines l new) begun (done (subst (AreIn s) (sym begun) none)))
 

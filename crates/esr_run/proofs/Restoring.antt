@@ -28,7 +28,7 @@ use Rattle.esr_desk.specs.Evidence.{Evidence}
 use Rattle.esr_desk.specs.Shown.{AreShown}
 use Rattle.esr_run.specs.Start.{Telling, LegalRun}
 use Rattle.esr_run.specs.Laws.{Laws, KeptLaws}
-use Rattle.esr_run.specs.Made.{MadeFirst}
+use Rattle.esr_run.specs.Made.{MadeFirst, AskedUnlessStopped}
 use Rattle.esr_run.specs.Causes.{Given, IsScript}
 use Rattle.esr_run.specs.Restored.{OpensRestored, HasRestored}
 use Rattle.esr_run.proofs.Worlds.{start_is}
@@ -66,14 +66,14 @@ pub opens_restored : {S F H T : Type 0} (laws : Laws) (kept : KeptLaws S F H T) 
     (o : IsOpening before mid k) → (2 ^ 62 ≤ before.sure → quiet ≡ true)
     → LegalRun (Begun files size quiet mid k) mid.clock after history → IsPast (Begun files size quiet mid k) mid.clock mid.since after history → AreShown evidence (Begun files size quiet mid k) (log_of after mid.clock history) faults
     → AreOnce (Begun files size quiet mid k) (log_of after mid.clock history) → AreTested (Begun files size quiet mid k) (log_of after mid.clock history) → NoneTwice (log_of after mid.clock history) → AreRemovedOnce (log_of after mid.clock history) → IsCalm quiet after.sure history → MadeFirst (Begun files size quiet mid k) (steps_of moment lines) [] (log_of after mid.clock history)
-    → AreWhole (Begun files size quiet mid k) workers (asks_check lines) (log_of after mid.clock history) → AreFew workers lines (log_of after mid.clock history)
+    → AreWhole (Begun files size quiet mid k) workers (asks_check lines) (log_of after mid.clock history) → AreFew workers lines (log_of after mid.clock history) → AskedUnlessStopped (Begun files size quiet mid k) [] (log_of after mid.clock history)
     → (status ≡ 8) ⊎ AreTargetsOfLines evidence (Begun files size quiet mid k) moment lines (log_of after mid.clock history) targets
     → OpensRestored evidence files size workers moment lines before after history faults targets status
 unfolding opened_run
-opens_restored {S} {F} {H} {T} laws kept evidence files size workers moment lines quiet before mid after k history faults targets status o quiet_is legal past shown once tested single removed calm made verified takes (inl wanting) = inl wanting
-opens_restored {S} {F} {H} {T} laws kept evidence files size workers moment lines quiet before mid after k history faults targets status o quiet_is legal past shown once tested single removed calm made verified takes (inr of) =
+opens_restored {S} {F} {H} {T} laws kept evidence files size workers moment lines quiet before mid after k history faults targets status o quiet_is legal past shown once tested single removed calm made verified takes apart (inl wanting) = inl wanting
+opens_restored {S} {F} {H} {T} laws kept evidence files size workers moment lines quiet before mid after k history faults targets status o quiet_is legal past shown once tested single removed calm made verified takes apart (inr of) =
     inr (inr (
-      opened_run laws kept evidence files size workers moment lines quiet before mid after k history faults o quiet_is legal past shown once tested single removed calm made verified takes,
+      opened_run laws kept evidence files size workers moment lines quiet before mid after k history faults o quiet_is legal past shown once tested single removed calm made verified takes apart,
       subst (λ (s : Start). AreTargetsOfLines {S = S} {F = F} {H = H} {T = T} evidence s moment lines (log_of after mid.clock history) targets) (start_is files size quiet before mid k o) of,
     ))
 

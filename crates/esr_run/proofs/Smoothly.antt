@@ -32,7 +32,7 @@ use Rattle.esr_run.specs.Laws.{Laws, KeptLaws, QuietLaws}
 use Rattle.esr_run.specs.Checked.{asks_check}
 use Rattle.esr_run.specs.Verified.{AreClosed, AreWhole}
 use Rattle.esr_run.specs.Waits.{AreFew}
-use Rattle.esr_run.specs.Made.{MadeFirst, HasFallen, AreDone}
+use Rattle.esr_run.specs.Made.{MadeFirst, HasFallen, AreDone, AskedUnlessStopped}
 use Rattle.esr_run.specs.Stops.{StoppedBy}
 use Rattle.esr_run.specs.Causes.{Given, AreWanted, IsScriptFor, IsScript, IsStoppedFor, OpensWell, IsReadWell, IsComplete, IsTold, IsPrinted, end_of_refusal}
 use Rattle.esr_run.proofs.Worlds.{start_is}
@@ -69,18 +69,18 @@ pub opens_well : {S F H T : Type 0} (laws : Laws) (kept : KeptLaws S F H T) (qui
     (status : ℕ) (text : Bytes) (o : IsOpening before mid k) → (2 ^ 62 ≤ before.sure → quiet ≡ true)
     → LegalRun (Begun files size quiet mid k) mid.clock after history → IsPast (Begun files size quiet mid k) mid.clock mid.since after history → AreShown evidence (Begun files size quiet mid k) (log_of after mid.clock history) faults
     → AreOnce (Begun files size quiet mid k) (log_of after mid.clock history) → AreTested (Begun files size quiet mid k) (log_of after mid.clock history) → NoneTwice (log_of after mid.clock history) → AreRemovedOnce (log_of after mid.clock history) → IsCalm quiet after.sure history → MadeFirst (Begun files size quiet mid k) (steps_of moment lines) [] (log_of after mid.clock history)
-    → AreWhole (Begun files size quiet mid k) workers (asks_check lines) (log_of after mid.clock history) → AreFew workers lines (log_of after mid.clock history)
+    → AreWhole (Begun files size quiet mid k) workers (asks_check lines) (log_of after mid.clock history) → AreFew workers lines (log_of after mid.clock history) → AskedUnlessStopped (Begun files size quiet mid k) [] (log_of after mid.clock history)
     → AreDeposedSo history → IsTold status text (Some (Carried lines history))
     → (status ≡ 8) ⊎ (AreDone (Begun files size quiet mid k) moment lines [] (log_of after mid.clock history) ⊎ HasFallen (Begun files size quiet mid k) moment lines [] (log_of after mid.clock history))
     → OpensWell evidence files size workers moment lines before after history faults status
 unfolding opened_run
-opens_well {S} {F} {H} {T} laws kept quiet_laws evidence files size workers moment lines quiet before mid after k history faults status text o quiet_is legal past shown once tested single removed calm made verified takes named told (inl wanting) quiet_for = inl wanting
-opens_well {S} {F} {H} {T} laws kept quiet_laws evidence files size workers moment lines quiet before mid after k history faults status text o quiet_is legal past shown once tested single removed calm made verified takes named told (inr done) quiet_for =
+opens_well {S} {F} {H} {T} laws kept quiet_laws evidence files size workers moment lines quiet before mid after k history faults status text o quiet_is legal past shown once tested single removed calm made verified takes apart named told (inl wanting) quiet_for = inl wanting
+opens_well {S} {F} {H} {T} laws kept quiet_laws evidence files size workers moment lines quiet before mid after k history faults status text o quiet_is legal past shown once tested single removed calm made verified takes apart named told (inr done) quiet_for =
     ⊎_elim
     (λ (wanting : status ≡ 8). inl wanting)
     (λ (is : status ≡ status_of (ending lines history)).
     inr (inr (
-      opened_run laws kept evidence files size workers moment lines quiet before mid after k history faults o quiet_is legal past shown once tested single removed calm made verified takes,
+      opened_run laws kept evidence files size workers moment lines quiet before mid after k history faults o quiet_is legal past shown once tested single removed calm made verified takes apart,
       completes quiet_laws evidence files size moment lines before after world mid.clock history faults (λ i e. o.opens i _ _ e) status
           (subst (λ (s : Start). LegalRun s mid.clock after history) same legal).legal
           (subst (λ (s : Start). IsPast s mid.clock mid.since after history) same past).told
@@ -92,7 +92,7 @@ opens_well {S} {F} {H} {T} laws kept quiet_laws evidence files size workers mome
           (subst (λ (s : Start). MadeFirst s (steps_of moment lines) [] (log_of after mid.clock history)) same made)
           (subst (λ (s : Start). AreClosed s (log_of after mid.clock history)) same verified.closed)
           (subst (λ (s : Start). AreDone s moment lines [] (log_of after mid.clock history) ⊎ HasFallen s moment lines [] (log_of after mid.clock history)) same done)
-          is quiet_for,
+          is takes.elects quiet_for,
     )))
     (carried_status status text lines history told)
   where

@@ -267,8 +267,8 @@ pub verify_begins : (old new : List Moment) (r : Result Unit UnitRefusal) → As
 verify_begins old new (Ok x) h = h
 verify_begins old new (Err (units.Failed why)) h = h
 verify_begins old new (Err (units.Stopped (steps.Refused refusal))) h = h
-verify_begins old new (Err (units.Stopped steps.Memory)) h = tt
-verify_begins old new (Err (units.Stopped steps.TurnsSpent)) h = tt
+verify_begins old new (Err (units.Stopped steps.Memory)) h = h
+verify_begins old new (Err (units.Stopped steps.TurnsSpent)) h = h
 verify_begins old new (Err units.Stale) h = absurd h
 
 -- its steps, one after another: each is of who 0 and reads, and restores no shard

@@ -21,6 +21,7 @@ use Rattle.esr_opening.specs.Opening.{image_of, world_in, IsInOrder, IsOpenRefus
 use Rattle.esr_repo.specs.Log.{log_of}
 use Rattle.esr_repo.specs.Calm.{IsCalm}
 use Rattle.esr_quiet.specs.Asked.{asked_steps}
+use Rattle.esr_report.specs.Status.{ending, status_of}
 use Rattle.esr_complete.specs.Lines.{steps_of}
 use Rattle.esr_desk.specs.declared.fault.Fault.{Fault}
 use Rattle.esr_desk.specs.Evidence.{Evidence}
@@ -41,7 +42,7 @@ use Rattle.esr_run.specs.Undamaged.{StaysUndamaged}
 use Rattle.esr_run.specs.Checked.{asks_check}
 use Rattle.esr_run.specs.Verified.{AreWhole}
 use Rattle.esr_run.specs.Waits.{AreFew}
-use Rattle.esr_run.specs.Made.{HasFallen, AreDone}
+use Rattle.esr_run.specs.Made.{HasFallen, AreDone, AskedUnlessStopped}
 use Rattle.esr_run.specs.Complete.{IsQuietFor, IsLastTerm, Completes}
 
 -- what a run is given
@@ -192,15 +193,20 @@ pub record IsOpenedRun {S F H T : Type 0} (evidence : Evidence S F H T) (files :
   pub verified : AreWhole (start_of files size quiet before world) workers (asks_check lines) (log_of after clock history)
   -- takes found no unit ready at most once for each worker in each wait, and at the end; no more elections were made than lines ask for
   pub few : AreFew workers lines (log_of after clock history)
+  -- who 0 asked for commands, and drew for verifications, only where no ticket was out, and units were taken by waits alone, unless the
+  -- work had been stopped before
+  pub apart : AskedUnlessStopped (start_of files size quiet before world) [] (log_of after clock history)
   -- what was asked is what the lines ask for, in order, as far as they were carried out
   pub asked : (rest : List Step) × (asked_steps (log_of after clock history) ++ rest ≡ steps_of moment lines)
 
 -- Each line was carried out, the work of each wait was done and its elections were made when it ended, and at the end no unit is ready
--- or out and no verification is open; or a record swap failed, and each line was asked all the same; or 2 ^ 33 entries were made.
+-- or out and no verification is open; or a record swap failed, and each line was asked all the same, or 2 ^ 33 entries were made: such a
+-- run ends neither with 0 nor with 1.
 abbrev pub IsWorked : {S F H T : Type 0} (evidence : Evidence S F H T) (files : Telling) (size workers moment : ℕ) (lines : List ScriptLine) (before after : Look) (history : List Entry) (faults : List (Fault S F H T))
     → IsOpenedRun evidence files size workers moment lines before after history faults → Type 0
 IsWorked evidence files size workers moment lines before after history faults r =
-    AreDone (start_of files size r.quiet before r.world) moment lines [] (log_of after r.clock history) ⊎ HasFallen (start_of files size r.quiet before r.world) moment lines [] (log_of after r.clock history)
+    AreDone (start_of files size r.quiet before r.world) moment lines [] (log_of after r.clock history)
+    ⊎ (HasFallen (start_of files size r.quiet before r.world) moment lines [] (log_of after r.clock history) × (2 ≤ status_of (ending lines history)))
 
 -- with parts of the size for which the words ask
 pub record IsCarried {S F H T : Type 0} (evidence : Evidence S F H T) (given : Given) (files : Telling) (before after : Look) (history : List Entry) (faults : List (Fault S F H T)) : Type 0 where

@@ -1,9 +1,10 @@
 -- Completeness: what a run ends with where nothing fails.
-use Rattle.std.specs.Prelude.{◌≡◌, ◌⊎◌, ℕ, ◌^◌, ◌<◌, ◌≤◌, true, List, [], length, Some, Err}
+use Rattle.std.specs.Prelude.{◌≡◌, ◌⊎◌, ℕ, ◌+◌, ◌^◌, ◌<◌, ◌≤◌, true, List, [], length, Some, Err}
 use Rattle.esr_model.specs.Values.{Bytes, Has}
 use Rattle.esr_model.specs.Shelf.{Shelved}
 use Rattle.esr_core.specs.World.{World}
-use Rattle.esr_core.specs.Entry.{Entry, Moment}
+use Rattle.esr_core.specs.Entry.{GenerationsSpent, TermsSpent, IdsSpent, Reply, Refused, Entry, Moment}
+use Rattle.esr_law.specs.Spent.{generations_in, ids_in}
 use Rattle.esr_depot.specs.Image.{Image as Held}
 use Rattle.esr_depot.specs.Look.{Look, now}
 use Rattle.esr_script.specs.declared.item.AskedIndex.{AskedIndex}
@@ -14,8 +15,8 @@ use Rattle.esr_report.specs.Status.{ending, status_of}
 use Rattle.esr_desk.specs.Start.{Start}
 use Rattle.esr_opening.specs.Found.{LastTerm, found}
 use Rattle.esr_repo.specs.Log.{log_of}
-use Rattle.esr_quiet.specs.Smooth.{IsSpent}
 use Rattle.esr_complete.specs.Answers.{AreAnswered, EndsWell}
+use Rattle.esr_complete.specs.Lines.{failovers_of}
 use Rattle.esr_run.specs.Start.{Telling, formats_by, start_of}
 use Rattle.esr_run.specs.Images.{Holds, TellsAll}
 use Rattle.esr_run.specs.Made.{WaitsEnded}
@@ -39,9 +40,17 @@ pub record IsQuietFor (telling : Telling) (before : Look) (lines : List ScriptLi
   pub there : AreThere telling lines
   pub targets : AsksRestore lines → telling.targets_quiet ≡ true
 
--- a number was spent: a step was refused for that, or 2 ^ 33 entries were made
-abbrev pub HasSpent : List Entry → Type 0
-HasSpent history = ((e : Entry) × Has history e × IsSpent e.reply) ⊎ (2 ^ 33 ≤ length history)
+-- A step was refused since a number was spent: the failovers of the lines take the term of the opened world past the last one, the raises
+-- of the history the generation, or the history asks for all the ids of a term.
+abbrev pub SpentBy : World → List ScriptLine → List Moment → Reply → Type 0
+SpentBy world lines log (Refused (TermsSpent term)) = 2 ^ 63 ≤ world.term + failovers_of lines
+SpentBy world lines log (Refused (GenerationsSpent pending)) = 2 ^ 63 ≤ world.pending + generations_in log
+SpentBy world lines log (Refused (IdsSpent next)) = 2 ^ 64 ≤ ids_in log
+SpentBy world lines log reply = ⊥
+
+-- a number was spent; or 2 ^ 33 entries were made, and the run ended neither with 0 nor with 1
+abbrev pub HasSpent : World → List ScriptLine → List Moment → List Entry → ℕ → Type 0
+HasSpent world lines log history status = ((m : Moment) × Has log m × SpentBy world lines log m.entry.reply) ⊎ ((2 ^ 33 ≤ length history) × (2 ≤ status))
 
 -- the record has the last term
 abbrev pub IsLastTerm : Look → Type 0
@@ -58,4 +67,4 @@ pub record IsAnsweredWell (s : Start) (moment : ℕ) (lines : List ScriptLine) (
 abbrev pub Completes : Telling → ℕ → ℕ → List ScriptLine → Look → World → ℕ → Look → List Entry → ℕ → Type 0
 Completes telling size moment lines before world clock after history status =
     TellsAll (formats_by telling) world (log_of after clock history)
-    → HasSpent history ⊎ (IsAnsweredWell (start_of telling size true before world) moment lines (log_of after clock history) history × (status ≡ status_of (ending lines history)))
+    → HasSpent world lines (log_of after clock history) history status ⊎ (IsAnsweredWell (start_of telling size true before world) moment lines (log_of after clock history) history × (status ≡ status_of (ending lines history)))

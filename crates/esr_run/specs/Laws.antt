@@ -1,9 +1,9 @@
 -- The laws of the core on which a run rests.
 use Rattle.std.specs.Prelude.{◌≡◌, ◌≢◌, ◌⊎◌, ℕ, suc, ◌≤◌, List, [], ◌∷◌, ◌++◌, Some, true, false}
 use Rattle.std.specs.FinMap as fin
-use Rattle.esr_model.specs.Values.{Formats, ReadsBack, RootData, ClusterRecord}
+use Rattle.esr_model.specs.Values.{Has, Formats, ReadsBack, RootData, ClusterRecord}
 use Rattle.esr_model.specs.Image.{Image, Blobs}
-use Rattle.esr_model.specs.Kept.{Kept}
+use Rattle.esr_model.specs.Kept.{first_id, Kept}
 use Rattle.esr_model.specs.Shelf.{Shelved, shelf_after}
 use Rattle.esr_core.specs.World.{World, Ticket, image_of, record_of, opened, Opened}
 use Rattle.esr_core.specs.Entry.{Asked, Read, AskStep, TakeStep, ElectStep, LookStep, ReadStep, Refusal, Refused, Given, Gave, Moment, SettleStep, SettlePruned, PruneStep, WasSettled}
@@ -11,6 +11,7 @@ use Rattle.esr_core.specs.After.{after}
 use Rattle.esr_core.specs.History.{world_from, IsLegal, TellsHandedOut, AreTold, committed}
 use Rattle.esr_core.specs.Sources.{HonestUploads, AreOfSources}
 use Rattle.esr_law.specs.Digests.{AskNoSnapshot, AreClones, IsWholeByDigests}
+use Rattle.esr_law.specs.Spent.{SpentSo}
 use Rattle.esr_core.specs.Ids.{Law}
 use Rattle.esr_core.specs.Allowed.{Allowed}
 use Rattle.esr_core.specs.Causes.{TakeGave}
@@ -95,6 +96,8 @@ pub record QuietLaws (S F H T : Type 0) : Type 0 where
   pub rules : (s : Start) (log : List Moment) → IsSmooth s log → NoneFailed log → AreByRule s log
   pub answered : (s : Start) (log : List Moment) (lines : List ScriptLine) (moment : ℕ) → IsFaultFreeRun s log lines moment → AreAnswered lines (replies lines (entries_of log))
   pub ends : (s : Start) (log : List Moment) (lines : List ScriptLine) (moment : ℕ) → IsFaultFreeRun s log lines moment → EndsWell lines (entries_of log)
+  -- which number is spent where a step is refused so
+  pub spent : (f : Formats) (part_size : ℕ) (w : World) (log : List Moment) (m : Moment) (refusal : Refusal) → w.next_id ≡ first_id w.term → IsLegal f part_size w log → Has log m → m.entry.reply ≡ Refused refusal → SpentSo w log refusal
   -- a unit is given by a take, and the work of units leaves verifications
   pub gave : (f : Formats) (part_size : ℕ) (w : World) (m : Moment) (k o : ℕ) (unit : Given) → Allowed f part_size w m → m.entry.reply ≡ Gave k o unit → TakeGave f w m.entry.who m.entry.step k o unit
   pub leaves : WorkLeaves

@@ -18,6 +18,8 @@ use Rattle.esr_drive.specs.Elections.{AllOfWait, WaitsOnly, elections}
 use Rattle.esr_complete.specs.Lines.{steps_of_item, steps_of, failovers_of}
 use Rattle.esr_complete.specs.Answers.{NoReaderOut, IsIdle}
 use Rattle.esr_verify.specs.Idle as verify
+use Rattle.esr_verify.specs.Began as verifying
+use Rattle.esr_check.specs.Began as checking
 use Rattle.esr_verify.specs.Began.{HasBegun}
 use Rattle.esr_check.specs.Began.{HasEndedCheck}
 use Rattle.esr_run.specs.Waits.{owed_after, owed_then, LineElected}
@@ -101,11 +103,11 @@ pub record WasLookRefused (old new : List Moment) : Type 0 where
   pub place : ℕ
   pub refused : look.entry.reply ≡ Refused (DeposedAt place)
 
--- a line that asks for a check was carried out to the check's end, unless memory was wanting or turns were spent
+-- a line that asks for a check was carried out to the check's end, unless memory was wanting or turns were spent; then it may have begun
 abbrev pub CheckEnds : {X : Type 0} → List Moment → List Moment → Result X StepRefusal → Type 0
 CheckEnds old new (Ok x) = HasEndedCheck old new
-CheckEnds old new (Err steps.Memory) = Unit {0}
-CheckEnds old new (Err steps.TurnsSpent) = Unit {0}
+CheckEnds old new (Err steps.Memory) = checking.BeganOne old new
+CheckEnds old new (Err steps.TurnsSpent) = checking.BeganOne old new
 CheckEnds old new (Err (steps.Refused refusal)) = WasLookRefused old new
 
 -- A check has ended at some point of the history, or its look was refused: before it what the lines before ask for was asked, and
@@ -122,11 +124,11 @@ pub record CheckEnded (s : Start) (moment : ℕ) (before : List ScriptLine) (old
 abbrev pub ChecksEnded : Start → ℕ → List ScriptLine → List Moment → List Moment → Type 0
 ChecksEnded s moment lines old log = (before after : List ScriptLine) (line : ScriptLine) → lines ≡ before ++ line ∷ after → line.item ≡ items.Check → CheckEnded s moment before old log
 
--- a line that asks for a verification began with its draw, unless memory was wanting or turns were spent
+-- a line that asks for a verification began with its draw; where memory was wanting or turns were spent it may have made no step
 abbrev pub VerifyBegins : {X : Type 0} → List Moment → List Moment → Result X StepRefusal → Type 0
 VerifyBegins old new (Ok x) = HasBegun old new
-VerifyBegins old new (Err steps.Memory) = Unit {0}
-VerifyBegins old new (Err steps.TurnsSpent) = Unit {0}
+VerifyBegins old new (Err steps.Memory) = verifying.BeganOne old new
+VerifyBegins old new (Err steps.TurnsSpent) = verifying.BeganOne old new
 VerifyBegins old new (Err (steps.Refused refusal)) = HasBegun old new
 
 -- a command or a look
@@ -189,13 +191,26 @@ pub record IsWaiting (s : Start) (log : List Moment) : Type 0 where
   pub all : AllOfWait work
   pub closed : NoneOpen s start
 
--- among what was added who 0 asked for commands, and drew for verifications, only where no ticket was out; and units were taken by waits alone,
--- each of which began where no verification was open
-pub record AskedApart (s : Start) (old new : List Moment) : Type 0 where
+-- among what was added who 0 asked for commands, and drew for verifications, only where P held, and units were taken only where Q did
+pub record AskedWhere (P Q : List Moment → Type 0) (old new : List Moment) : Type 0 where
   pub more : List Moment
   pub is : new ≡ old ++ more
-  pub apart : (front back : List Moment) (m : Moment) → more ≡ front ++ m ∷ back → m.entry.who ≡ 0 → AsksOrDraws m.entry.step → AreIn s (old ++ front)
-  pub taken : (front back : List Moment) (m : Moment) → more ≡ front ++ m ∷ back → m.entry.step ≡ TakeStep → IsWaiting s (old ++ front)
+  pub apart : (front back : List Moment) (m : Moment) → more ≡ front ++ m ∷ back → m.entry.who ≡ 0 → AsksOrDraws m.entry.step → P (old ++ front)
+  pub taken : (front back : List Moment) (m : Moment) → more ≡ front ++ m ∷ back → m.entry.step ≡ TakeStep → Q (old ++ front)
+
+-- who 0 asked and drew only where no ticket was out; and units were taken by waits alone, each of which began where no verification was open
+abbrev pub AskedApart : Start → List Moment → List Moment → Type 0
+AskedApart s old new = AskedWhere (AreIn s) (IsWaiting s) old new
+
+abbrev pub InOrStopped : Start → List Moment → Type 0
+InOrStopped s log = AreIn s log ⊎ HasStopped log
+
+abbrev pub WaitsOrStopped : Start → List Moment → Type 0
+WaitsOrStopped s log = IsWaiting s log ⊎ HasStopped log
+
+-- so it was but where the work had been stopped before, or 2 ^ 33 entries had been made
+abbrev pub AskedUnlessStopped : Start → List Moment → List Moment → Type 0
+AskedUnlessStopped s old new = AskedWhere (InOrStopped s) (WaitsOrStopped s) old new
 
 -- the next wait owes so many of the elections for which these lines ask; the others were made
 abbrev pub Owes : ℕ → List ScriptLine → List Moment → List Moment → Type 0

@@ -13,7 +13,7 @@ ghost use Rattle.esr_shared.specs.Worked.{MayWait};
 ghost use Rattle.esr_report.specs.Replies.{is_wait};
 ghost use Rattle.esr_complete.specs.Answers.{IsIdle};
 ghost use Rattle.esr_complete.specs.Lines.{command_of_line, steps_of_item, steps_of, failovers_of};
-ghost use Rattle.esr_run.specs.Made.{MadeFirst, HasStopped, WasLeft, NoneOpen, LineSpends, AreIn, LineMade, LineRests, WaitEnds, CheckEnds, VerifyBegins, AddsOnly, AreMade, AreDone};
+ghost use Rattle.esr_run.specs.Made.{MadeFirst, HasStopped, WasLeft, NoneOpen, LineSpends, AreIn, LineMade, LineRests, WaitEnds, CheckEnds, VerifyBegins, AddsOnly, AreMade, AreDone, AskedUnlessStopped};
 ghost use Rattle.esr_run.specs.Lines.{LineAsked};
 ghost use Rattle.esr_run.specs.Checked.{is_check, asks_check};
 ghost use Rattle.esr_run.specs.Verified.{AreWhole, MayVerify, VerifiesOn};
@@ -369,6 +369,7 @@ where
     ensures takes { idle_takes result.0 ≤ idle_takes desk + waits_of workers lines.now }
     ensures owes { IfOk result.1 (λ owed. elections result.0 + owed ≤ elections desk + failovers_of lines.now) }
     ensures elects { elections result.0 ≤ elections desk + failovers_of lines.now }
+    ensures apart { AreIn K.start desk → AskedUnlessStopped K.start desk result.0 }
 {
     is_count(lines.len());
     let mut desk = desk;
@@ -464,6 +465,7 @@ where
     ensures whole { AreWhole K.start workers (asks_check lines.now) result.0 }
     ensures takes { idle_takes result.0 ≤ idle_takes desk + (waits_of workers lines.now + workers) }
     ensures elects { elections result.0 ≤ elections desk + failovers_of lines.now }
+    ensures apart { AreIn K.start desk → AskedUnlessStopped K.start desk result.0 }
 {
     let (desk, owed) = carry_lines(rt, alloc, desk, lines, outside, workers, moment);
     match owed {

@@ -80,6 +80,7 @@ pub(crate) fn quiet_laws<S, F, H, T>()
     esr_quiet::no_check_fails::<S, F, H, T>();
     esr_quiet::only_rules_refuse();
     esr_complete::smooth_runs_are_answered();
+    esr_law::only_spent_numbers_refuse();
     esr_core::answers_tell_their_steps();
     work_leaves();
 }

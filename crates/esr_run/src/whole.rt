@@ -30,7 +30,7 @@ ghost use Rattle.esr_core.specs.World.{no_caller};
 ghost use Rattle.esr_run.specs.Checked.{asks_check};
 ghost use Rattle.esr_run.specs.Verified.{AreWhole};
 ghost use Rattle.esr_run.specs.Waits.{AreFew};
-ghost use Rattle.esr_run.specs.Made.{MadeFirst, HasFallen, HasNoReaders, AreDone};
+ghost use Rattle.esr_run.specs.Made.{MadeFirst, HasFallen, HasNoReaders, AreDone, AskedUnlessStopped};
 
 use crate::asked::{Asked, asked_for};
 use crate::carry::carry;
@@ -141,6 +141,7 @@ where
     ensures done { OnOk result.carried (AreDone K.start moment asked.now.script [] result.repo ⊎ HasFallen K.start moment asked.now.script [] result.repo) }
     ensures whole { AreWhole K.start asked.now.workers (asks_check asked.now.script) result.repo }
     ensures few { AreFew asked.now.workers asked.now.script result.repo }
+    ensures apart { AskedUnlessStopped K.start [] result.repo }
     ensures restored { AreTargetsOf (evidence D.Stage.faults D.Fetch.faults S.Shard.faults T.Target.faults S.Shard.told T.Target.told) K.start result.repo result.restored }
 {
     refusals();
@@ -212,6 +213,7 @@ where
         (log_of (D.look result.0.depot) K.clock result.0.history)) }
     ensures verified { AreWhole K.start asked.now.workers (asks_check asked.now.script) (log_of (D.look result.0.depot) K.clock result.0.history) }
     ensures few { AreFew asked.now.workers asked.now.script (log_of (D.look result.0.depot) K.clock result.0.history) }
+    ensures apart { AskedUnlessStopped K.start [] (log_of (D.look result.0.depot) K.clock result.0.history) }
     ensures told { IsTold result.0.verdict.status result.0.verdict.text (Some (Carried asked.now.script result.0.history)) }
     ensures restored { (result.0.verdict.status ≡ 8) ⊎ AreTargetsOfLines (evidence D.Stage.faults D.Fetch.faults S.Shard.faults T.Target.faults S.Shard.told T.Target.told)
         K.start moment asked.now.script (log_of (D.look result.0.depot) K.clock result.0.history) result.0.targets }

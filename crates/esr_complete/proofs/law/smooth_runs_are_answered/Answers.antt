@@ -11,13 +11,13 @@ use Rattle.esr_complete.proofs.InTurn.{entries_in_turn}
 use Rattle.esr_complete.proofs.Asks.{asks_all}
 use Rattle.esr_complete.proofs.Facts.{facts}
 use Rattle.esr_complete.proofs.Walk.{answered_lines}
-use Rattle.esr_complete.proofs.Endings.{ends_well}
+use Rattle.esr_complete.proofs.Endings.{short_told, ends_well}
 use Rattle.esr_complete.proofs.law.smooth_runs_are_answered.Goals as goal
 
 answered : Laws → (s : Start) (log : List Moment) (lines : List ScriptLine) (moment : ℕ) → IsFaultFreeRun s log lines moment → AreAnswered lines (replies lines (entries_of log))
 answered laws s log lines moment run =
     answered_lines log lines moment run.elected (facts laws lines s log run.smooth run.units run.deletes run.restores run.by_rule run.idle (asks_all s log lines moment run.smooth run.units run.by_rule run.asked))
-    (entries_in_turn s log lines moment run.smooth run.units run.verifies run.by_rule run.in_turn run.asked run.checks) run.asked
+    (entries_in_turn s log lines moment run.smooth run.units run.verifies run.by_rule run.in_turn run.asked run.checks) run.asked (short_told log run.short)
 
 pub returns-clause-answered : goal.returns-clause-answered
 returns-clause-answered c =
@@ -44,4 +44,4 @@ returns-clause-ends c = λ s log lines moment run.
       opened_read_tracked = c.opened_worlds_track_restores.ensures;
       tracks = c.each_history_tracks_restores.ensures;
     } in
-    ends_well lines (entries_of log) (facts laws lines s log run.smooth run.units run.deletes run.restores run.by_rule run.idle (asks_all s log lines moment run.smooth run.units run.by_rule run.asked)) (answered laws s log lines moment run)
+    ends_well lines (entries_of log) (facts laws lines s log run.smooth run.units run.deletes run.restores run.by_rule run.idle (asks_all s log lines moment run.smooth run.units run.by_rule run.asked)) (short_told log run.short) (answered laws s log lines moment run)

@@ -7,7 +7,7 @@ use Rattle.esr_complete.specs.Lines.{steps_of, failovers_of}
 use Rattle.esr_run.specs.Checked.{asks_check}
 use Rattle.esr_run.specs.Made.{HasStopped, WasLeft, AreIn, AreMade, AreDone}
 use Rattle.esr_run.specs.Waits.{waits_of}
-use Rattle.esr_run.proofs.Making.{made_then, done_then}
+use Rattle.esr_run.proofs.Making.{made_then, done_then, apart_then}
 use Rattle.esr_run.proofs.Going.{ok_is}
 use Rattle.esr_run.proofs.carry.carry.Goals as goal
 
@@ -48,3 +48,12 @@ pub returns-in-Err-clause-takes : goal.returns-in-Err-clause-takes
 returns-in-Err-clause-takes g c =
     let few : idle_takes c.carry_lines-desk.result.0 ≤ idle_takes c.args.desk + waits_of c.args.workers c.args.lines.now = c.carry_lines-desk.ensures.takes in
     omega (arith, few)
+
+pub returns-in-Ok-clause-apart : goal.returns-in-Ok-clause-apart
+returns-in-Ok-clause-apart g c =
+    apart_then g.K.Told.start c.args.moment c.in-Ok.elections c.args.lines.now c.args.desk c.carry_lines-desk.result.0 c.work_out.result.0 c.carry_lines-desk.ensures.apart
+    (ok_is (λ (owed : ℕ). AreIn g.K.Told.start c.args.desk → AreMade g.K.Told.start c.args.moment owed c.args.lines.now c.args.desk c.carry_lines-desk.result.0 ⊎ WasLeft g.K.Told.start c.args.moment owed c.args.lines.now c.args.desk c.carry_lines-desk.result.0) c.carry_lines-desk.result.1 c.in-Ok.elections c.in-Ok.is c.carry_lines-desk.ensures.rests)
+    c.work_out.ensures.only
+
+pub returns-in-Err-clause-apart : goal.returns-in-Err-clause-apart
+returns-in-Err-clause-apart g c = c.carry_lines-desk.ensures.apart

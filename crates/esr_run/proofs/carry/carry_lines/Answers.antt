@@ -7,7 +7,7 @@ use Rattle.esr_complete.specs.Lines.{steps_of_item, failovers_of}
 use Rattle.esr_run.specs.Checked.{asks_check}
 use Rattle.esr_run.specs.Waits.{waits_of}
 use Rattle.esr_run.proofs.Making.{IsTold, front_none, front_made, front_all, front_owes, front_few, line_few, good_next, good_line, none_left, asks_first, asks_here}
-use Rattle.esr_run.proofs.Going.{is_err, err_told, told_may, line_front, line_fits, made_by, turns_by}
+use Rattle.esr_run.proofs.Going.{is_err, err_told, told_may, line_front, line_fits, made_by, cut_by, turns_by}
 use Rattle.esr_run.proofs.Verifying.{verified_whole}
 use Rattle.esr_run.proofs.Taking.{waits_on, waits_end}
 use Rattle.esr_run.proofs.carry.carry_lines.Goals as goal
@@ -64,6 +64,12 @@ returns-in-Memory-clause-made g c =
     made_by g.K.Told.start c.args.moment c.loop-left.owed c.loop-left.left.now c.args.lines.now (steps_of_item c.args.moment c.line-item.result.item) c.args.desk c.loop-left.desk c.carry_line-after.result.0 c.carry_line-after.result.1
     (asks_first c.args.moment c.line-item.result c.loop-left.left.now c.in-len1-up.len_at_least c.line-item.is) c.loop-left.invariant.front c.carry_line-after.ensures.made (inl (is_err c.carry_line-after.result.1 c.in-Err.refusal steps.Memory c.in-Err.is c.in-Memory.is))
 
+pub returns-in-Memory-clause-apart : goal.returns-in-Memory-clause-apart
+returns-in-Memory-clause-apart g c none =
+    cut_by g.K.Told.start c.args.moment c.loop-left.owed c.line-item.result.item c.loop-left.left.now c.args.lines.now c.args.desk c.loop-left.desk c.carry_line-after.result.0 c.carry_line-after.result.1 c.loop-left.invariant.front
+    c.carry_line-after.ensures.made c.carry_line-after.ensures.checked c.carry_line-after.ensures.begun c.carry_line-after.ensures.only c.loop-left.invariant.may.idle
+    (inl (is_err c.carry_line-after.result.1 c.in-Err.refusal steps.Memory c.in-Err.is c.in-Memory.is)) c.requires.waits.alone none
+
 pub returns-in-Memory-clause-whole : goal.returns-in-Memory-clause-whole
 returns-in-Memory-clause-whole g c =
     let s = g.K.Told.start in
@@ -86,6 +92,12 @@ pub returns-in-TurnsSpent-clause-made : goal.returns-in-TurnsSpent-clause-made
 returns-in-TurnsSpent-clause-made g c =
     made_by g.K.Told.start c.args.moment c.loop-left.owed c.loop-left.left.now c.args.lines.now (steps_of_item c.args.moment c.line-item.result.item) c.args.desk c.loop-left.desk c.carry_line-after.result.0 c.carry_line-after.result.1
     (asks_first c.args.moment c.line-item.result c.loop-left.left.now c.in-len1-up.len_at_least c.line-item.is) c.loop-left.invariant.front c.carry_line-after.ensures.made (inr (is_err c.carry_line-after.result.1 c.in-Err.refusal steps.TurnsSpent c.in-Err.is c.in-TurnsSpent.is))
+
+pub returns-in-TurnsSpent-clause-apart : goal.returns-in-TurnsSpent-clause-apart
+returns-in-TurnsSpent-clause-apart g c none =
+    cut_by g.K.Told.start c.args.moment c.loop-left.owed c.line-item.result.item c.loop-left.left.now c.args.lines.now c.args.desk c.loop-left.desk c.carry_line-after.result.0 c.carry_line-after.result.1 c.loop-left.invariant.front
+    c.carry_line-after.ensures.made c.carry_line-after.ensures.checked c.carry_line-after.ensures.begun c.carry_line-after.ensures.only c.loop-left.invariant.may.idle
+    (inr (is_err c.carry_line-after.result.1 c.in-Err.refusal steps.TurnsSpent c.in-Err.is c.in-TurnsSpent.is)) c.requires.waits.alone none
 
 pub returns-in-TurnsSpent-clause-whole : goal.returns-in-TurnsSpent-clause-whole
 returns-in-TurnsSpent-clause-whole g c =
@@ -121,6 +133,9 @@ pub returns-clause-rests : goal.returns-clause-rests
 returns-clause-rests g c none =
     front_all g.K.Told.start c.args.moment c.loop-left.owed c.loop-left.left.now c.args.lines.now c.args.desk c.loop-left.desk (none_left c.loop-left.left.now c.in_default.len_below)
     c.loop-left.invariant.front c.loop-left.invariant.may.idle c.requires.waits.alone none
+
+pub returns-clause-apart : goal.returns-clause-apart
+returns-clause-apart g c none = c.loop-left.invariant.front.apart c.requires.waits.alone none
 
 pub returns-clause-whole : goal.returns-clause-whole
 returns-clause-whole g c = c.loop-left.invariant.may.whole

@@ -1,7 +1,7 @@
 use Rattle.std.proofs.Common.{◌⊎◌, List, [], OnOk, sym, subst}
 use Rattle.esr_script.specs.declared.item.ScriptLine.{ScriptLine}
 use Rattle.esr_run.specs.Made.{HasFallen, AreDone}
-use Rattle.esr_run.proofs.Making.{done_on}
+use Rattle.esr_run.proofs.Making.{apart_first, done_on}
 use Rattle.esr_run.proofs.Falling.{done_fallen}
 use Rattle.esr_run.specs.Checked.{asks_check}
 use Rattle.esr_run.specs.Verified.{AreWhole}
@@ -31,3 +31,7 @@ pub returns-clause-few : goal.returns-clause-few
 returns-clause-few g c =
     are_few c.args.asked.now.workers c.new-desk.result c.carry-desk.result.0 c.into_parts-repo.result.0 c.as_slice-lines.result.now c.args.asked.now.script c.carry-desk.ensures.takes c.carry-desk.ensures.elects c.into_parts-repo.ensures.repo c.new-desk.ensures
     c.as_slice-lines.ensures
+
+pub returns-clause-apart : goal.returns-clause-apart
+returns-clause-apart g c =
+    apart_first g.K.Told.start c.new-desk.result c.carry-desk.result.0 c.into_parts-repo.result.0 c.carry-desk.ensures.apart c.into_parts-repo.ensures.repo c.new-desk.ensures c.requires.numbered c.requires.readers

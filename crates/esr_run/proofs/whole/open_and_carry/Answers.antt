@@ -27,14 +27,14 @@ pub returns-in-Ok-clause-run : goal.returns-in-Ok-clause-run
 returns-in-Ok-clause-run g c =
     let k : Kept = record { cluster = c.in-Ok.opening.cluster; root = c.in-Ok.opening.root; infos = c.in-Ok.opening.infos; plan = c.in-Ok.opening.progress; next = c.in-Ok.opening.next.number } in
     inr (opened_run c.laws.ensures c.kept_laws.ensures _ (telling (g.S.Sources.told c.args.sources.now) (g.T.Targets.told c.args.targets.now)) c.args.asked.now.part_size c.args.asked.now.workers c.args.moment c.args.asked.now.script (is_calm_by (g.D.Depot.look c.in-Ok.opening.depot).sure) (g.D.Depot.look c.args.depot) (g.D.Depot.look c.in-Ok.opening.depot) (g.D.Depot.look c.run_told.result.0.depot) k c.run_told.result.0.history c.run_told.result.1
-    c.in-Ok.ensures.opened (taken_calm (g.D.Depot.look c.args.depot).sure (g.D.Depot.look c.in-Ok.opening.depot).sure c.in-Ok.ensures.spent) c.run_told.ensures.legal c.run_told.ensures.past c.run_told.ensures.shown c.run_told.ensures.once c.run_told.ensures.tested c.run_told.ensures.single c.run_told.ensures.removed c.run_told.ensures.calm c.run_told.ensures.made c.run_told.ensures.verified c.run_told.ensures.few)
+    c.in-Ok.ensures.opened (taken_calm (g.D.Depot.look c.args.depot).sure (g.D.Depot.look c.in-Ok.opening.depot).sure c.in-Ok.ensures.spent) c.run_told.ensures.legal c.run_told.ensures.past c.run_told.ensures.shown c.run_told.ensures.once c.run_told.ensures.tested c.run_told.ensures.single c.run_told.ensures.removed c.run_told.ensures.calm c.run_told.ensures.made c.run_told.ensures.verified c.run_told.ensures.few c.run_told.ensures.apart)
 
 pub returns-in-Ok-clause-told : goal.returns-in-Ok-clause-told
 returns-in-Ok-clause-told g c =
     let k : Kept = record { cluster = c.in-Ok.opening.cluster; root = c.in-Ok.opening.root; infos = c.in-Ok.opening.infos; plan = c.in-Ok.opening.progress; next = c.in-Ok.opening.next.number } in
     verdict_opening c.laws.ensures c.kept_laws.ensures _ (telling (g.S.Sources.told c.args.sources.now) (g.T.Targets.told c.args.targets.now)) c.args.asked.now.part_size c.args.asked.now.workers c.args.moment c.args.asked.now.script (is_calm_by (g.D.Depot.look c.in-Ok.opening.depot).sure) (g.D.Depot.look c.args.depot) (g.D.Depot.look c.in-Ok.opening.depot) (g.D.Depot.look c.run_told.result.0.depot) k c.run_told.result.0.history c.run_told.result.1
     (g.D.Counted.faults c.args.depot) (g.D.Counted.faults c.run_told.result.0.depot) c.run_told.result.0.verdict.status c.run_told.result.0.verdict.text c.in-Ok.ensures.opened (taken_calm (g.D.Depot.look c.args.depot).sure (g.D.Depot.look c.in-Ok.opening.depot).sure c.in-Ok.ensures.spent)
-    c.run_told.ensures.legal c.run_told.ensures.past c.run_told.ensures.shown c.run_told.ensures.once c.run_told.ensures.tested c.run_told.ensures.single c.run_told.ensures.removed c.run_told.ensures.calm c.run_told.ensures.made c.run_told.ensures.verified c.run_told.ensures.few c.run_told.ensures.told c.run_told.ensures.done
+    c.run_told.ensures.legal c.run_told.ensures.past c.run_told.ensures.shown c.run_told.ensures.once c.run_told.ensures.tested c.run_told.ensures.single c.run_told.ensures.removed c.run_told.ensures.calm c.run_told.ensures.made c.run_told.ensures.verified c.run_told.ensures.few c.run_told.ensures.apart c.run_told.ensures.told c.run_told.ensures.done
 
 pub returns-in-Err-clause-run : goal.returns-in-Err-clause-run
 returns-in-Err-clause-run g c =
@@ -72,7 +72,7 @@ returns-in-Ok-clause-complete g c =
     let k : Kept = record { cluster = c.in-Ok.opening.cluster; root = c.in-Ok.opening.root; infos = c.in-Ok.opening.infos; plan = c.in-Ok.opening.progress; next = c.in-Ok.opening.next.number } in
     opens_well c.laws.ensures c.kept_laws.ensures c.quiet_laws.ensures _ (telling (g.S.Sources.told c.args.sources.now) (g.T.Targets.told c.args.targets.now)) c.args.asked.now.part_size c.args.asked.now.workers c.args.moment c.args.asked.now.script (is_calm_by (g.D.Depot.look c.in-Ok.opening.depot).sure) (g.D.Depot.look c.args.depot) (g.D.Depot.look c.in-Ok.opening.depot) (g.D.Depot.look c.run_told.result.0.depot) k c.run_told.result.0.history c.run_told.result.1
     c.run_told.result.0.verdict.status c.run_told.result.0.verdict.text c.in-Ok.ensures.opened (taken_calm (g.D.Depot.look c.args.depot).sure (g.D.Depot.look c.in-Ok.opening.depot).sure c.in-Ok.ensures.spent)
-    c.run_told.ensures.legal c.run_told.ensures.past c.run_told.ensures.shown c.run_told.ensures.once c.run_told.ensures.tested c.run_told.ensures.single c.run_told.ensures.removed c.run_told.ensures.calm c.run_told.ensures.made c.run_told.ensures.verified c.run_told.ensures.few c.run_told.ensures.named c.run_told.ensures.told c.run_told.ensures.done
+    c.run_told.ensures.legal c.run_told.ensures.past c.run_told.ensures.shown c.run_told.ensures.once c.run_told.ensures.tested c.run_told.ensures.single c.run_told.ensures.removed c.run_told.ensures.calm c.run_told.ensures.made c.run_told.ensures.verified c.run_told.ensures.few c.run_told.ensures.apart c.run_told.ensures.named c.run_told.ensures.told c.run_told.ensures.done
 
 pub returns-in-Err-clause-complete : goal.returns-in-Err-clause-complete
 returns-in-Err-clause-complete g c =
@@ -84,7 +84,7 @@ pub returns-in-Ok-clause-restored : goal.returns-in-Ok-clause-restored
 returns-in-Ok-clause-restored g c =
     let k : Kept = record { cluster = c.in-Ok.opening.cluster; root = c.in-Ok.opening.root; infos = c.in-Ok.opening.infos; plan = c.in-Ok.opening.progress; next = c.in-Ok.opening.next.number } in
     opens_restored c.laws.ensures c.kept_laws.ensures _ (telling (g.S.Sources.told c.args.sources.now) (g.T.Targets.told c.args.targets.now)) c.args.asked.now.part_size c.args.asked.now.workers c.args.moment c.args.asked.now.script (is_calm_by (g.D.Depot.look c.in-Ok.opening.depot).sure) (g.D.Depot.look c.args.depot) (g.D.Depot.look c.in-Ok.opening.depot) (g.D.Depot.look c.run_told.result.0.depot) k c.run_told.result.0.history c.run_told.result.1
-    c.run_told.result.0.targets c.run_told.result.0.verdict.status c.in-Ok.ensures.opened (taken_calm (g.D.Depot.look c.args.depot).sure (g.D.Depot.look c.in-Ok.opening.depot).sure c.in-Ok.ensures.spent) c.run_told.ensures.legal c.run_told.ensures.past c.run_told.ensures.shown c.run_told.ensures.once c.run_told.ensures.tested c.run_told.ensures.single c.run_told.ensures.removed c.run_told.ensures.calm c.run_told.ensures.made c.run_told.ensures.verified c.run_told.ensures.few c.run_told.ensures.restored
+    c.run_told.result.0.targets c.run_told.result.0.verdict.status c.in-Ok.ensures.opened (taken_calm (g.D.Depot.look c.args.depot).sure (g.D.Depot.look c.in-Ok.opening.depot).sure c.in-Ok.ensures.spent) c.run_told.ensures.legal c.run_told.ensures.past c.run_told.ensures.shown c.run_told.ensures.once c.run_told.ensures.tested c.run_told.ensures.single c.run_told.ensures.removed c.run_told.ensures.calm c.run_told.ensures.made c.run_told.ensures.verified c.run_told.ensures.few c.run_told.ensures.apart c.run_told.ensures.restored
 
 pub returns-in-Err-clause-restored : goal.returns-in-Err-clause-restored
 returns-in-Err-clause-restored g c =

@@ -7,7 +7,7 @@ use Rattle.esr_desk.specs.Evidence.{evidence}
 use Rattle.esr_run.specs.Checked.{asks_check}
 use Rattle.esr_run.specs.Verified.{AreWhole}
 use Rattle.esr_run.specs.Waits.{AreFew}
-use Rattle.esr_run.specs.Made.{HasFallen, AreDone}
+use Rattle.esr_run.specs.Made.{HasFallen, AreDone, AskedUnlessStopped}
 use Rattle.esr_run.proofs.Making.{done_or}
 use Rattle.esr_repo.specs.Log.{image_at, log_of}
 use Rattle.esr_run.proofs.Ending.{logged}
@@ -64,3 +64,6 @@ returns-clause-verified g c = subst (AreWhole g.K.Told.start c.args.asked.now.wo
 
 pub returns-clause-few : goal.returns-clause-few
 returns-clause-few g c = subst (AreFew c.args.asked.now.workers c.args.asked.now.script) (sym c.into_parts-depot.ensures.log) c.carry_on-worked.ensures.few
+
+pub returns-clause-apart : goal.returns-clause-apart
+returns-clause-apart g c = subst (AskedUnlessStopped g.K.Told.start []) (sym c.into_parts-depot.ensures.log) c.carry_on-worked.ensures.apart
