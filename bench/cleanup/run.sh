@@ -4,7 +4,7 @@
 # cold: the system has given up what it held of all files here.
 #
 # Afterwards the container must hold what the first snapshot needs and nothing else, and its check and restore must be well. The goals are tried last, and where one is missed the status is
-# 1: 32 MB of memory; a system call for each listed blob, whose length a page has, one for each removed blob, and a tenth more.
+# 1: 32 MB of memory, two system calls for each blob that was removed.
 #
 # The program must be built (`./esrepo build`), or PROGRAM names one.
 set -euo pipefail
@@ -144,7 +144,7 @@ missed = [said for said, good in (
     ("all of the garbage is gone, and the root before", removed >= garbage),
     ("what is needed is left", abs(left - needed) <= 1),
     ("32 MB of memory", memory <= 32),
-    ("a system call for each listed and each removed blob", not sys.argv[5] or float(sys.argv[5]) * removed <= 1.1 * (left + 2 * removed)),
+    ("two system calls for each removed blob", not sys.argv[5] or float(sys.argv[5]) <= 2),
 ) if not good]
 for said in missed:
     print(f"missed: {said}")
