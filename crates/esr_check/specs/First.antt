@@ -122,4 +122,5 @@ pub data FirstOf (s : Start) (log : List Moment) (name : BlobName) : Type 0 wher
 
 -- each check that failed names the first blob that is damaged
 abbrev pub AreFirst : Start → List Moment → Type 0
-AreFirst s log = (front back : List Moment) (m : Moment) (why : Why) → log ≡ front ++ m ∷ back → m.entry.who ≡ 0 → m.entry.step ≡ ReadStep (ReadFails why) → m.entry.reply ≡ HasEnded → IsChecking (world_of s front) → NamesOne (FirstOf s front) why
+AreFirst s log = (front back : List Moment) (m : Moment) (why : Why) → log ≡ front ++ m ∷ back → m.entry.who ≡ 0 → m.entry.step ≡ ReadStep (ReadFails why) → m.entry.reply ≡ HasEnded → IsChecking (world_of s front)
+    → NamesOne (FirstOf s front) why

@@ -1,13 +1,14 @@
 //! The program: a repository in a folder, shards in folders, the script on standard input, the report on standard output.
 #![tactic(auto)]
 
+use esr_depot::Depot;
 use esr_dirdepot::DirDepot;
 use esr_dirsource::{DirSources, DirTargets};
 use esr_meter::{Meter, MeterOut, MeterSources, MeterTargets};
 use esr_run::run;
 use esr_script::{Words, repo_place};
 use esr_seq::{Seq, Text};
-use esr_source::{NoGate, StdLines, StdOut};
+use esr_source::{NoGate, Out, Sources, StdLines, StdOut, Targets};
 use std::alloc::AllocError;
 use std::env;
 use std::io::{ErrorKind, IsTerminal};
@@ -53,6 +54,28 @@ fn has_terminal(rt: &HostRuntime) -> bool {
     }
 }
 
+/// Runs over a container, and answers the exit status. At types that aren't known a call of `run` is proved far sooner.
+fn run_over<D: Depot + Send, S: Sources, T: Targets, O: Out, R: Threads + Wait + Sync>(
+    rt: &HostRuntime,
+    threads: &R,
+    words: &Words,
+    depot: D,
+    sources: &S,
+    targets: &T,
+    out: &mut O,
+) -> u8
+where
+    D::Stage: Send,
+    D::Fetch: Send,
+{
+    let mut lines = StdLines::new(rt.stdin());
+    let (alloc, moment) = (rt.alloc(), moment_of(rt));
+    let ended = run(
+        threads, alloc, words, &mut lines, depot, sources, targets, &NoGate, moment, out,
+    );
+    ended.status
+}
+
 /// Carries out what the words ask for, with workers in threads, and answers the exit status.
 fn status_of<R: Threads + Wait + Sync>(rt: &HostRuntime, threads: &R) -> Result<u8, AllocError> {
     let alloc = rt.alloc();
@@ -60,20 +83,17 @@ fn status_of<R: Threads + Wait + Sync>(rt: &HostRuntime, threads: &R) -> Result<
     let dir = repo_place(alloc, &words)?;
     let depot = DirDepot::new(rt, alloc, dir.as_str())?;
     let meter = Meter::new(rt, has_terminal(rt));
-    let ended = run(
+    let status = run_over(
+        rt,
         threads,
-        alloc,
         &words,
-        &mut StdLines::new(rt.stdin()),
         depot,
         &MeterSources::new(&meter, DirSources::new(rt)),
         &MeterTargets::new(&meter, DirTargets::new(rt)),
-        &NoGate,
-        moment_of(rt),
         &mut MeterOut::new(&meter, StdOut::new(rt.stdout())),
     );
     meter.clear();
-    Ok(ended.status)
+    Ok(status)
 }
 
 fn main(rt: HostRuntime) -> ExitCode {

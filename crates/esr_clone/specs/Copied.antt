@@ -11,8 +11,8 @@ use Rattle.esr_shardidx.specs.declared.entry.FileEntry.{FileEntry as CodeEntry}
 use Rattle.esr_shardidx.specs.Snapshots.{SnapValue}
 use Rattle.esr_shardidx.specs.Indices.{IndexValue, IsShardIndex, has_uuid}
 use Rattle.esr_formats.specs.Shards.{shard_snap_of, shard_index_of}
-use Rattle.esr_progress.specs.declared.unit.Work.{Work}
-use Rattle.esr_progress.specs.declared.unit.Work.TheVariants as works
+use Rattle.esr_ops.specs.declared.unit.Work.{Work}
+use Rattle.esr_ops.specs.declared.unit.Work.TheVariants as works
 use Rattle.esr_desk.specs.Start.{Start, formats_of}
 use Rattle.esr_upload.specs.Stored.{IsAt}
 

@@ -16,7 +16,7 @@ use crate::copy::copy;
 use crate::snap::fetch_snap;
 use esr_desk::{Desk, Hand, Unit, UnitRefusal};
 use esr_names::{Id, ShardId};
-use esr_progress::Work;
+use esr_ops::Work;
 use esr_unit::{Trouble, ending_of, give_up};
 use esr_upload::base_of;
 use std::alloc::Global;

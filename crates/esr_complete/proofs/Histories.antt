@@ -15,7 +15,7 @@ use Rattle.esr_core.specs.Ids.{Law}
 use Rattle.esr_core.specs.ReadLaw.{ReadLaw}
 use Rattle.esr_core.specs.Entry.{Why, Step, AskStep, FailedStep, PruneStep, DeleteFails, Refusal, StaleTerm, Reply, HasEnded, Refused, Entry, Moment}
 use Rattle.esr_core.specs.After.{after}
-use Rattle.esr_core.specs.History.{world_from, IsLegal, TellsHandedOut, all_handed_out, AreTold, AreHonest, committed}
+use Rattle.esr_core.specs.History.{world_from, IsLegal, AreTold, committed}
 use Rattle.esr_core.proofs.Opening.{nothing}
 use Rattle.esr_core.proofs.Queues.{was_in}
 use Rattle.esr_desk.specs.Start.{Start, formats_of, world_of, or_no_ticket}
@@ -163,12 +163,12 @@ follows_history f size (m ∷ log) w es h legal calm safe =
 
 -- the laws of the core on which this rests
 pub record Laws : Type 0 where
-  pub lawful : (f : Formats) (part_size : ℕ) (image : Image) (shelf : List Shelved) (w : World) (log : List Moment) → TellsHandedOut f w log → Kept f image shelf → Opened f image w → IsLegal f part_size w log → AreTold log → AreHonest f w log
+  pub lawful : (f : Formats) (part_size : ℕ) (image : Image) (shelf : List Shelved) (w : World) (log : List Moment) → Kept f image shelf → Opened f image w → IsLegal f part_size w log → AreTold log
       → Law f (world_from f w log) (shelf_after shelf (committed f (world_from f w log).safe w log))
   pub ready : (f : Formats) (w : World) (shelf : List Shelved) (o : ℕ) → Law f w shelf → ReadTracked w → IsOpen w o ⊎ HasRestore w o → NoTicketOut w → AnyReady w
   pub opening : (f : Formats) (image : Image) (shelf : List Shelved) (w : World) → Kept f image shelf → Opened f image w → Law f w shelf
   pub restores_open : (f : Formats) (blobs : Blobs) (cluster : ClusterRecord) (root : RootData) → ReadLaw f (opened blobs cluster root)
-  pub restores_kept : (f : Formats) (part_size : ℕ) (shelf : List Shelved) (w : World) (log : List Moment) → TellsHandedOut f w log → Law f w shelf → ReadLaw f w → IsLegal f part_size w log → AreTold log → AreHonest f w log → ReadLaw f (world_from f w log)
+  pub restores_kept : (f : Formats) (part_size : ℕ) (shelf : List Shelved) (w : World) (log : List Moment) → Law f w shelf → ReadLaw f w → IsLegal f part_size w log → AreTold log → ReadLaw f (world_from f w log)
   pub opened_tracked : (blobs : Blobs) (cluster : ClusterRecord) (root : RootData) → RootIds root (first_id (suc cluster.ledger.term)) → ((x y : RootIndex) → Has root.indices x → Has root.indices y → IsOneIndex x.name x.id y.name y.id)
       → Tracked (opened blobs cluster root)
   pub opened_read_tracked : (blobs : Blobs) (cluster : ClusterRecord) (root : RootData) → ReadTracked (opened blobs cluster root)
@@ -206,8 +206,7 @@ reader_out found q none is out = true≢false (sym out ∙ sym (ap (λ (o : Opti
 pub all_closed : Laws → (s : Start) (log : List Moment) → IsSmooth s log → IsIdle s log → (o : ℕ) → IsOpen (world_of s log) o → ⊥
 all_closed laws s log smooth idle o stands =
     let f = formats_of s in
-    let handed : TellsHandedOut f s.world log = all_handed_out f s.world log smooth.known in
-    let law = laws.lawful f s.part_size smooth.image smooth.shelf s.world log handed smooth.kept smooth.opened smooth.legal smooth.told smooth.honest in
+    let law = laws.lawful f s.part_size smooth.image smooth.shelf s.world log smooth.kept smooth.opened smooth.legal smooth.told in
     let in_order = opened_in_order laws s smooth.image smooth.shelf s.world smooth.kept smooth.opened in
     let tracked : ReadTracked (world_of s log) = laws.tracks f s.part_size s.world log in_order.0 in_order.1 smooth.legal in
     idle.none_ready
@@ -222,7 +221,7 @@ all_safe laws s log smooth front back is =
     let h = smooth_front s log smooth front back is in
     record {
       shelf = shelf_after h.shelf (committed (formats_of s) (world_of s front).safe s.world front);
-      law = laws.lawful (formats_of s) s.part_size h.image h.shelf s.world front (all_handed_out (formats_of s) s.world front h.known) h.kept h.opened h.legal h.told h.honest;
+      law = laws.lawful (formats_of s) s.part_size h.image h.shelf s.world front h.kept h.opened h.legal h.told;
       present = (terms_at s log smooth front back is).final;
     }
 

@@ -12,8 +12,8 @@ use Rattle.esr_core.specs.ReadTracked.{RestoresTracked}
 use Rattle.esr_core.specs.Ready.{AnyReady, ARestore}
 use Rattle.esr_core.specs.Entry.{Entry, Moment}
 use Rattle.esr_core.specs.After.{after}
-use Rattle.esr_core.specs.History.{world_from, IsLegal, AllKnown, all_handed_out, AreTold, AreHonest}
-use Rattle.esr_core.proofs.Histories.{legal_parts, told_parts, honest_parts}
+use Rattle.esr_core.specs.History.{world_from, IsLegal, AreTold}
+use Rattle.esr_core.proofs.Histories.{legal_parts, told_parts}
 use Rattle.esr_core.proofs.Opening.{nothing}
 use Rattle.esr_core.proofs.Restoring.{one_waits}
 use Rattle.esr_desk.specs.Start.{Start, formats_of, world_of}
@@ -35,19 +35,19 @@ use Rattle.esr_complete.proofs.Histories.{Laws, read_opened, reader_out, AreCalm
 below_or_same : (a b : ℕ) → a < b → a ≤ b
 below_or_same a b less = omega (arith, less)
 
-ordered_by : Laws → (f : Formats) (size : ℕ) (first : Image) (shelf : List Shelved) (w : World) (log : List Moment) → AllKnown f → Kept f first shelf → Opened f first w → IsLegal f size w log → AreTold log → AreHonest f w log → IsOrdered (world_from f w log)
-ordered_by laws f size first shelf w log known kept start legal told honest =
-    let law = laws.lawful f size first shelf w log (all_handed_out f w log known) kept start legal told honest in
-    let reads = laws.restores_kept f size shelf w log (all_handed_out f w log known) (laws.opening f first shelf w kept start) (read_opened laws f first w start) legal told honest in
+ordered_by : Laws → (f : Formats) (size : ℕ) (first : Image) (shelf : List Shelved) (w : World) (log : List Moment) → Kept f first shelf → Opened f first w → IsLegal f size w log → AreTold log → IsOrdered (world_from f w log)
+ordered_by laws f size first shelf w log kept start legal told =
+    let law = laws.lawful f size first shelf w log kept start legal told in
+    let reads = laws.restores_kept f size shelf w log (laws.opening f first shelf w kept start) (read_opened laws f first w start) legal told in
     record { tracked = reads.tracked; below = below_or_same (world_from f w log).next_id (first_id (suc (world_from f w log).term)) law.in_term.below }
 
 -- and so is each that a history passes
 abbrev AreOrdered : Formats → World → List Moment → Type 0
 AreOrdered f w log = (front back : List Moment) → log ≡ front ++ back → IsOrdered (world_from f w front)
 
-all_ordered : Laws → (f : Formats) (size : ℕ) (first : Image) (shelf : List Shelved) (w : World) (log : List Moment) → AllKnown f → Kept f first shelf → Opened f first w → IsLegal f size w log → AreTold log → AreHonest f w log → AreOrdered f w log
-all_ordered laws f size first shelf w log known kept start legal told honest front back is =
-    ordered_by laws f size first shelf w front known kept start (legal_parts f size front back w (subst (IsLegal f size w) is legal)).0 (told_parts front back (subst AreTold is told)).0 (honest_parts f front back w (subst (AreHonest f w) is honest)).0
+all_ordered : Laws → (f : Formats) (size : ℕ) (first : Image) (shelf : List Shelved) (w : World) (log : List Moment) → Kept f first shelf → Opened f first w → IsLegal f size w log → AreTold log → AreOrdered f w log
+all_ordered laws f size first shelf w log kept start legal told front back is =
+    ordered_by laws f size first shelf w front kept start (legal_parts f size front back w (subst (IsLegal f size w) is legal)).0 (told_parts front back (subst AreTold is told)).0
 
 -- ---- from the opened world on
 
@@ -74,7 +74,7 @@ restores_history f size (m ∷ log) w es h r legal calm safe none ordered =
     (λ n why has. none n why (inr has)) (λ front back is. ordered (m ∷ front) back (ap (λ (l : List Moment). m ∷ l) is)))
 
 smooth_ordered : Laws → (s : Start) (log : List Moment) → IsSmooth s log → AreOrdered (formats_of s) s.world log
-smooth_ordered laws s log smooth = all_ordered laws (formats_of s) s.part_size smooth.image smooth.shelf s.world log smooth.known smooth.kept smooth.opened smooth.legal smooth.told smooth.honest
+smooth_ordered laws s log smooth = all_ordered laws (formats_of s) s.part_size smooth.image smooth.shelf s.world log smooth.kept smooth.opened smooth.legal smooth.told
 
 -- what the whole history tells
 restores_all : Laws → (s : Start) (log : List Moment) → IsSmooth s log → NoneFailed log → NoneUndeleted s log → NoneUnrestored log → AreByRule s log → RestoresIn (world_of s log) (entries_of log)

@@ -14,7 +14,7 @@ use Rattle.esr_core.specs.Entry.{Restore, Step, AskStep, Refusal, Reply, Refused
 use Rattle.esr_core.specs.After.{answered, after}
 use Rattle.esr_core.specs.Allowed as allowed
 use Rattle.esr_core.specs.Allowed.{Told, RestoredBy, RestoreAllows, OpeningRestore, AcceptsRestore, IsInInfo, Allows, Allowed}
-use Rattle.esr_core.specs.History.{world_from, IsLegal, TellsHandedOut, AreTold, AreHonest, commands_at, committed}
+use Rattle.esr_core.specs.History.{world_from, IsLegal, AreTold, commands_at, committed}
 use Rattle.esr_core.specs.ReadLaw.{ReadLaw, ReadsShelved, IsOnShelf}
 use Rattle.esr_core.specs.Restored.{IsServed, IsShelvedAs}
 use Rattle.esr_core.proofs.Reading.{some_same, none_some}
@@ -138,22 +138,6 @@ pub told_front : (log rest : List Moment) → AreTold (log ++ rest) → AreTold 
 told_front [] rest h = tt
 told_front (m ∷ log) rest h = (h.0, told_front log rest h.1)
 
-pub honest_now : (f : Formats) (w : World) (log : List Moment) → AreHonest f w log → AreHonest f w []
-honest_now f w [] h = h
-honest_now f w (m ∷ log) h = h.0
-
-pub honest_front : (f : Formats) (w : World) (log rest : List Moment) → AreHonest f w (log ++ rest) → AreHonest f w log
-honest_front f w [] rest h = honest_now f w rest h
-honest_front f w (m ∷ log) rest h = (h.0, honest_front f (after f w m) log rest h.1)
-
-pub known_now : (f : Formats) (w : World) (log : List Moment) → TellsHandedOut f w log → TellsHandedOut f w []
-known_now f w [] h = h
-known_now f w (m ∷ log) h = h.0
-
-pub known_front : (f : Formats) (w : World) (log rest : List Moment) → TellsHandedOut f w (log ++ rest) → TellsHandedOut f w log
-known_front f w [] rest h = known_now f w rest h
-known_front f w (m ∷ log) rest h = (h.0, known_front f (after f w m) log rest h.1)
-
 -- ---- what was asked and is read later
 
 module _ (f : Formats) (size : ℕ) (m : Moment) (name place : Bytes) (o uuid : ℕ) (indices : List IndexRef) (step : m.entry.step ≡ AskStep (Restore name place)) (reply : m.entry.reply ≡ AcceptedRestore o uuid indices) (k : ℕ) (q : Reader) (of : q.op ≡ o) (files bytes : ℕ) (by : RestoredBy f q files bytes) where
@@ -167,8 +151,8 @@ module _ (f : Formats) (size : ℕ) (m : Moment) (name place : Bytes) (o uuid : 
   next_at : (w : World) → (after f w m).next_op ≡ suc w.next_op
   next_at w = ap (λ (s : Step). (answered f w m.entry.who s m.entry.reply m.image).next_op) step ∙ ap (λ (r : Reply). (answered f w m.entry.who (AskStep (Restore name place)) r m.image).next_op) reply
 
-  from_ask : (w : World) (shelf : List Shelved) (rest : List Moment) → TellsHandedOut f w (m ∷ rest) → Law f w shelf → ReadLaw f w → IsLegal f size w (m ∷ rest) → AreTold (m ∷ rest) → AreHonest f w (m ∷ rest) → IsReading (world_from f (after f w m) rest) k q → IsOnShelf f shelf q files bytes by
-  from_ask w shelf rest known l r legal told honest reading =
+  from_ask : (w : World) (shelf : List Shelved) (rest : List Moment) → Law f w shelf → ReadLaw f w → IsLegal f size w (m ∷ rest) → AreTold (m ∷ rest) → IsReading (world_from f (after f w m) rest) k q → IsOnShelf f shelf q files bytes by
+  from_ask w shelf rest l r legal told reading =
       let a : AcceptedAs f w m name place o uuid indices = accepted_as f size w m name place o uuid indices legal.0 step reply in
       let asked : IsShelvedAs shelf name uuid indices = asked_shelf f w shelf l m name place o uuid indices told.0.0 told.0.1 a in
       let s : Stepped f w shelf m (after f w m) = step_law f size w shelf l m told.0.0 told.0.1 legal.0 in
@@ -183,9 +167,9 @@ module _ (f : Formats) (size : ℕ) (m : Moment) (name place : Bytes) (o uuid : 
       ] in
       let last : World = world_from f (after f w m) rest in
       let later : List Shelved = shelf_after shelf (committed f last.safe (after f w m) rest) in
-      let on : ReadsShelved last later o asked.shelved = reads_on f size shelf (after f w m) rest o asked.shelved known.1 law read (omega (arith, number, next)) reads legal.1 told.1 honest.1 in
+      let on : ReadsShelved last later o asked.shelved = reads_on f size shelf (after f w m) rest o asked.shelved law read (omega (arith, number, next)) reads legal.1 told.1 in
       let last_law : Law f last later = legal_law f size rest (after f w m) shelf law legal.1 told.1 in
-      let last_read : ReadLaw f last = read_legal f size rest (after f w m) shelf known.1 law read legal.1 told.1 honest.1 in
+      let last_read : ReadLaw f last = read_legal f size rest (after f w m) shelf law read legal.1 told.1 in
       let h : IsOnShelf f later q files bytes by = on_shelf f last later last_law last_read k q reading files bytes by in
       let t = last_read.tracked.readers k q reading.there reading.out in
       let here = on t.r (ap (fin.get last.restores) (sym of) ∙ t.there) in
@@ -206,14 +190,14 @@ module _ (f : Formats) (size : ℕ) (m : Moment) (name place : Bytes) (o uuid : 
         bytes_is = h.bytes_is;
       }
 
-  pub from_start : (before rest : List Moment) (w : World) (shelf : List Shelved) → TellsHandedOut f w (before ++ m ∷ rest) → Law f w shelf → ReadLaw f w → IsLegal f size w (before ++ m ∷ rest) → AreTold (before ++ m ∷ rest) → AreHonest f w (before ++ m ∷ rest) → IsReading (world_from f w (before ++ m ∷ rest)) k q
+  pub from_start : (before rest : List Moment) (w : World) (shelf : List Shelved) → Law f w shelf → ReadLaw f w → IsLegal f size w (before ++ m ∷ rest) → AreTold (before ++ m ∷ rest) → IsReading (world_from f w (before ++ m ∷ rest)) k q
       → IsOnShelf f (shelf_after shelf (committed f (world_from f w before).safe w before)) q files bytes by
-  from_start [] rest w shelf known l r legal told honest reading = from_ask w shelf rest known l r legal told honest reading
-  from_start (b ∷ before) rest w shelf known l r legal told honest reading =
+  from_start [] rest w shelf l r legal told reading = from_ask w shelf rest l r legal told reading
+  from_start (b ∷ before) rest w shelf l r legal told reading =
       let s : Stepped f w shelf b (after f w b) = step_law f size w shelf l b told.0.0 told.0.1 legal.0 in
       let lasting = lasts f size before (after f w b) (shelf_after shelf s.commands) s.law (legal_front f size (after f w b) before (m ∷ rest) legal.1) (told_front before (m ∷ rest) told.1) in
       let ask : World = world_from f (after f w b) before in
       let mine : commands_at f ask.safe w b.entry.who b.entry.step b.entry.reply ≡ s.commands = s.counted ask.safe lasting.rises lasting.alone in
       let h : IsOnShelf f (shelf_after (shelf_after shelf s.commands) (committed f ask.safe (after f w b) before)) q files bytes by =
-      from_start before rest (after f w b) (shelf_after shelf s.commands) known.1 s.law (read_step_law f size w shelf l r b (after f w b) s) legal.1 told.1 honest.1 reading in
+      from_start before rest (after f w b) (shelf_after shelf s.commands) s.law (read_step_law f size w shelf l r b (after f w b) s) legal.1 told.1 reading in
       subst (λ (x : List Shelved). IsOnShelf f x q files bytes by) (sym (shelf_after-append shelf s.commands (committed f ask.safe (after f w b) before)) ∙ ap (λ cs. shelf_after shelf (cs ++ committed f ask.safe (after f w b) before)) (sym mine)) h

@@ -25,7 +25,7 @@ use Rattle.esr_core.specs.Entry.{Prune, SettlePruned, RemoveDoomed, DeleteFails,
 use Rattle.esr_core.specs.After.{with_given, committing, fetching, told_blob, delete_settled, delete_failed, delete_failed_by, is_stale, has_text, is_latest, tried, done_step, answered, after, dropped_of, raised, blobs_in}
 use Rattle.esr_core.specs.Allowed as allowed
 use Rattle.esr_core.specs.Allowed.{Told, SameBlobs, Adds, IsUnlisted, IsStale, ListsPage, SettlesDeletion, RemovesDoomed, PruneAllows, Allows, IsBlocked, Allowed, InReach}
-use Rattle.esr_core.specs.History.{world_from, IsLegal, IsHonest, TellsShards, TellsHandedOut, AreTold, AreHonest, is_settle}
+use Rattle.esr_core.specs.History.{world_from, IsLegal, AreTold, is_settle}
 use Rattle.esr_core.specs.Cleaned.{HoldsReachAlone, ListsListedAlone, IsTestCommit, ChangesBlobs, NoneOf, IsFirstPage, IsLastDrop}
 use Rattle.esr_core.proofs.Reading.{some_same, none_some, reads_one, Has-left, Has-right, Has-either}
 use Rattle.esr_core.proofs.Deleting.{bool_told}
@@ -42,7 +42,7 @@ use Rattle.esr_core.proofs.StepFrames.{step_frame, entries_apart}
 use Rattle.esr_core.proofs.BlobChanges.{blobs_change}
 use Rattle.esr_core.proofs.Makers.{maker}
 use Rattle.esr_core.proofs.Blocked.{blocked_stays}
-use Rattle.esr_core.proofs.Histories.{Stepped, step_law, known_here, honest_here}
+use Rattle.esr_core.proofs.Histories.{Stepped, step_law}
 use Rattle.esr_core.proofs.Pieces.{in_parts}
 use Rattle.esr_core.proofs.TrackingSteps.{tracked_step}
 use Rattle.esr_core.proofs.ReadSteps.{read_step_tracked, read_opened_tracked}
@@ -77,8 +77,6 @@ record Here (f : Formats) (w : World) : Type 0 where
 
 record Step1 (f : Formats) (size : ℕ) (w : World) (m : Moment) : Type 0 where
   here : Here f w
-  known : TellsShards f w
-  honest : IsHonest f w.blobs
   image : Image
   told : m.image ≡ Some image
   legal : Allowed f size w m
@@ -97,13 +95,13 @@ here_after {f} {size} {w} {m} s =
 
 -- each step of a list of moments
 abbrev Steps1 : Formats → ℕ → World → List Moment → Type 0
-Steps1 f size w log = Here f w × TellsHandedOut f w log × IsLegal f size w log × AreTold log × AreHonest f w log
+Steps1 f size w log = Here f w × IsLegal f size w log × AreTold log
 
 first_step : (f : Formats) (size : ℕ) (w : World) (m : Moment) (log : List Moment) → Steps1 f size w (m ∷ log) → Step1 f size w m
-first_step f size w m log (here, known, legal, told, honest) = record { here = here; known = known.0; honest = honest.0; image = told.0.0; told = told.0.1; legal = legal.0 }
+first_step f size w m log (here, legal, told) = record { here = here; image = told.0.0; told = told.0.1; legal = legal.0 }
 
 later_steps : (f : Formats) (size : ℕ) (w : World) (m : Moment) (log : List Moment) → Steps1 f size w (m ∷ log) → Steps1 f size (after f w m) log
-later_steps f size w m log (here, known, legal, told, honest) = (here_after (first_step f size w m log (here, known, legal, told, honest)), known.1, legal.1, told.1, honest.1)
+later_steps f size w m log (here, legal, told) = (here_after (first_step f size w m log (here, legal, told)), legal.1, told.1)
 
 -- ---- the ticket stays as it is at the end
 
@@ -992,11 +990,11 @@ rest_holds f size (m ∷ log) w s none alone = rest_holds f size log (after f w 
 
 -- the steps of a part, and those after it
 steps_parts : (f : Formats) (size : ℕ) (xs ys : List Moment) (w : World) → Steps1 f size w (xs ++ ys) → Steps1 f size w xs × Steps1 f size (world_from f w xs) ys
-steps_parts f size [] ys w s = ((s.0, known_here f w ys s.1, tt, tt, honest_here f w ys s.4), s)
+steps_parts f size [] ys w s = ((s.0, tt, tt), s)
 steps_parts f size (x ∷ xs) ys w s =
     let r = steps_parts f size xs ys (after f w x) (later_steps f size w x (xs ++ ys) s) in
     let own = first_step f size w x (xs ++ ys) s in
-    ((s.0, (own.known, r.0.1), (own.legal, r.0.2), ((own.image, own.told), r.0.3), (own.honest, r.0.4)), r.1)
+    ((s.0, (own.legal, r.0.1), ((own.image, own.told), r.0.2)), r.1)
 
 lists_by : {f : Formats} {size : ℕ} {w : World} {who : ℕ} {page : List BlobSize} {image : Option Image} → Allows f size w who (ListStep None) (WasListed page) image → ListsPage w who None
 lists_by (allowed.Listing k from page image g shape here) = g
@@ -1015,10 +1013,10 @@ none_listed (x ∷ y ∷ xs) e = absurd (no_none y xs e)
     no_none y (z ∷ xs) e = no_none z xs e
 
 pub reach_alone : (f : Formats) (size : ℕ) (w : World) (shelf : List Shelved) (before between rest : List Moment) (first last : Moment) (k : ℕ) → Law f w shelf → Tracked w → ReadTracked w → w.entries ≡ [] → ((t : Ticket) → fin.get w.tickets k ≡ Some t → ⊥)
-    → TellsHandedOut f w (before ++ first ∷ (between ++ last ∷ rest)) → IsLegal f size w (before ++ first ∷ (between ++ last ∷ rest)) → AreTold (before ++ first ∷ (between ++ last ∷ rest)) → AreHonest f w (before ++ first ∷ (between ++ last ∷ rest))
+    → IsLegal f size w (before ++ first ∷ (between ++ last ∷ rest)) → AreTold (before ++ first ∷ (between ++ last ∷ rest))
     → IsFirstPage first k → IsLastDrop last k → NoneOf IsTestCommit between → NoneOf ChangesBlobs rest → HoldsReachAlone f (world_from f w (before ++ first ∷ (between ++ last ∷ rest))) × ListsListedAlone f (world_from f w (before ++ first ∷ (between ++ last ∷ rest)))
-reach_alone f size w shelf before between rest first last k l tracked reads no_entry no_ticket known legal told honest page drop no_test no_change =
-    let all : Steps1 f size w (before ++ first ∷ (between ++ last ∷ rest)) = (record { shelf = shelf; law = l; tracked = tracked; reads = reads }, known, legal, told, honest) in
+reach_alone f size w shelf before between rest first last k l tracked reads no_entry no_ticket legal told page drop no_test no_change =
+    let all : Steps1 f size w (before ++ first ∷ (between ++ last ∷ rest)) = (record { shelf = shelf; law = l; tracked = tracked; reads = reads }, legal, told) in
     let a = steps_parts f size before (first ∷ (between ++ last ∷ rest)) w all in
     let here : World = world_from f w before in
     let b = steps_parts f size (first ∷ between) (last ∷ rest) (world_from f w before) a.1 in
@@ -1048,7 +1046,7 @@ reach_alone f size w shelf before between rest first last k l tracked reads no_e
 
 -- from an opened image on
 pub opened_reach_alone : (f : Formats) (size : ℕ) (image : Image) (shelf : List Shelved) (w : World) (before between rest : List Moment) (first last : Moment) (k : ℕ) → Kept f image shelf → Opened f image w → Tracked w
-    → TellsHandedOut f w (before ++ first ∷ (between ++ last ∷ rest)) → IsLegal f size w (before ++ first ∷ (between ++ last ∷ rest)) → AreTold (before ++ first ∷ (between ++ last ∷ rest)) → AreHonest f w (before ++ first ∷ (between ++ last ∷ rest))
+    → IsLegal f size w (before ++ first ∷ (between ++ last ∷ rest)) → AreTold (before ++ first ∷ (between ++ last ∷ rest))
     → IsFirstPage first k → IsLastDrop last k → NoneOf IsTestCommit between → NoneOf ChangesBlobs rest → HoldsReachAlone f (world_from f w (before ++ first ∷ (between ++ last ∷ rest))) × ListsListedAlone f (world_from f w (before ++ first ∷ (between ++ last ∷ rest)))
 opened_reach_alone f size image shelf w before between rest first last k is_kept opens tracked =
     reach_alone f size w shelf before between rest first last k (opening_law f image shelf w is_kept opens) tracked (by w opens) (none w opens) (λ t at. no_ticket w opens t at)

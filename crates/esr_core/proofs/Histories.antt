@@ -13,7 +13,7 @@ use Rattle.esr_core.specs.Past.{is_counted, with_entry}
 use Rattle.esr_core.specs.Entry.{DoneStep, HasEnded, Refusal, Refused, StaleTerm, Moment}
 use Rattle.esr_core.specs.After.{answered, done_of, done_by, blobs_in, stepped, after}
 use Rattle.esr_core.specs.Allowed.{Allows, Allowed, Blocks, ByFailedSwap, ByDelete, IsBlocked, SameBlobs, DoneAs, Dones as DonesBy}
-use Rattle.esr_core.specs.History.{world_from, IsLegal, TellsShards, TellsHandedOut, AreTold, AreHonest, IsHonest, commands_at, committed, Lasts}
+use Rattle.esr_core.specs.History.{world_from, IsLegal, AreTold, commands_at, committed, Lasts}
 use Rattle.esr_core.specs.Turns.{DoneFound, Turn, Stays, Commits, CommitFails, Finds, Raises, Latests, Fetches, SettlesFinal, SettlesDelete, Elects, TakesShard, TakesFinal, TakesDrop, TakesDelete, TakesCleanup, AsksCleanup, CleanDrops, DrawsShard, DrawsPlan, Dones, Ending, Fails, FailsDelete, Drops, AsksCreate, AsksDelete, Merges, Removing, Pages, Deposes, commands_of, Besides, Calls, Tests, TestTurn, DrawsTest, AddsTest, RemovesTests}
 use Rattle.esr_core.proofs.Besides.{aside_of}
 use Rattle.esr_core.proofs.Heard.{unheard_stays}
@@ -200,22 +200,6 @@ legal_parts f size (x ∷ xs) ys w h = let r = legal_parts f size xs ys (after f
 pub told_parts : (xs ys : List Moment) → AreTold (xs ++ ys) → AreTold xs × AreTold ys
 told_parts [] ys h = (tt, h)
 told_parts (x ∷ xs) ys h = let r = told_parts xs ys h.1 in ((h.0, r.0), r.1)
-
-pub honest_here : (f : Formats) (w : World) (ys : List Moment) → AreHonest f w ys → IsHonest f w.blobs
-honest_here f w [] h = h
-honest_here f w (y ∷ ys) h = h.0
-
-pub honest_parts : (f : Formats) (xs ys : List Moment) (w : World) → AreHonest f w (xs ++ ys) → AreHonest f w xs × AreHonest f (world_from f w xs) ys
-honest_parts f [] ys w h = (honest_here f w ys h, h)
-honest_parts f (x ∷ xs) ys w h = let r = honest_parts f xs ys (after f w x) h.1 in ((h.0, r.0), r.1)
-
-pub known_here : (f : Formats) (w : World) (ys : List Moment) → TellsHandedOut f w ys → TellsShards f w
-known_here f w [] h = h
-known_here f w (y ∷ ys) h = h.0
-
-pub known_parts : (f : Formats) (xs ys : List Moment) (w : World) → TellsHandedOut f w (xs ++ ys) → TellsHandedOut f w xs × TellsHandedOut f (world_from f w xs) ys
-known_parts f [] ys w h = (known_here f w ys h, h)
-known_parts f (x ∷ xs) ys w h = let r = known_parts f xs ys (after f w x) h.1 in ((h.0, r.0), r.1)
 
 committed_parts : (f : Formats) (safe : ℕ) (xs ys : List Moment) (w : World) → committed f safe w (xs ++ ys) ≡ committed f safe w xs ++ committed f safe (world_from f w xs) ys
 committed_parts f safe [] ys w = refl

@@ -108,6 +108,7 @@ pub mod Causes
 pub mod Changes
 pub mod Makers
 pub mod StepFrames
+pub mod ToldCommands
 pub mod BlobChanges
 pub mod ReadyAgain
 pub mod CleanLists

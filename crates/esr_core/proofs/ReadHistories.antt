@@ -7,7 +7,7 @@ use Rattle.esr_core.specs.Entry.{Moment}
 use Rattle.esr_core.specs.After.{after}
 use Rattle.esr_core.specs.Ids.{Law}
 use Rattle.esr_core.specs.ReadLaw.{ReadLaw}
-use Rattle.esr_core.specs.History.{world_from, IsLegal, TellsHandedOut, AreTold, AreHonest}
+use Rattle.esr_core.specs.History.{world_from, IsLegal, AreTold}
 use Rattle.esr_core.proofs.Histories.{Stepped, step_law}
 use Rattle.esr_core.proofs.ReadLaws.{turn_read}
 
@@ -17,8 +17,8 @@ read_step_law f size w shelf l r m new s = elim s.made [
   | inr h ↦ subst (ReadLaw f) (sym h.0) r
 ]
 
-pub read_legal : (f : Formats) (size : ℕ) (log : List Moment) (w : World) (shelf : List Shelved) → TellsHandedOut f w log → Law f w shelf → ReadLaw f w → IsLegal f size w log → AreTold log → AreHonest f w log → ReadLaw f (world_from f w log)
-read_legal f size [] w shelf known l r legal told honest = r
-read_legal f size (m ∷ log) w shelf known l r legal told honest =
+pub read_legal : (f : Formats) (size : ℕ) (log : List Moment) (w : World) (shelf : List Shelved) → Law f w shelf → ReadLaw f w → IsLegal f size w log → AreTold log → ReadLaw f (world_from f w log)
+read_legal f size [] w shelf l r legal told = r
+read_legal f size (m ∷ log) w shelf l r legal told =
     let s = step_law f size w shelf l m told.0.0 told.0.1 legal.0 in
-    read_legal f size log (after f w m) (shelf_after shelf s.commands) known.1 s.law (read_step_law f size w shelf l r m (after f w m) s) legal.1 told.1 honest.1
+    read_legal f size log (after f w m) (shelf_after shelf s.commands) s.law (read_step_law f size w shelf l r m (after f w m) s) legal.1 told.1

@@ -15,7 +15,7 @@ use Rattle.esr_core.specs.Entry.{Moment}
 use Rattle.esr_core.specs.After.{after}
 use Rattle.esr_core.specs.Turns.{ReadTurn, OpensRestore, HandsShard, ReadsMore, EndsShard, Calls, Turn, Deposes, Besides, commands_of}
 use Rattle.esr_core.specs.ReadLaw.{ReadLaw, ReadsShelved}
-use Rattle.esr_core.specs.History.{world_from, IsLegal, TellsHandedOut, AreTold, AreHonest, commands_at, committed}
+use Rattle.esr_core.specs.History.{world_from, IsLegal, AreTold, commands_at, committed}
 use Rattle.esr_core.proofs.Reading.{some_same, held_one, safe_root_stands}
 use Rattle.esr_core.proofs.Queues.{was_in}
 use Rattle.esr_core.proofs.Determined.{pairs_one}
@@ -143,10 +143,10 @@ module _ (f : Formats) (o : ℕ) (x : Shelved) where
 
 -- ---- over a history
 
-pub follows_legal : (f : Formats) (size : ℕ) (o : ℕ) (x : Shelved) (log : List Moment) (w : World) (shelf : List Shelved) → TellsHandedOut f w log → Law f w shelf → ReadLaw f w → Follows f o x w shelf → IsLegal f size w log → AreTold log → AreHonest f w log
+pub follows_legal : (f : Formats) (size : ℕ) (o : ℕ) (x : Shelved) (log : List Moment) (w : World) (shelf : List Shelved) → Law f w shelf → ReadLaw f w → Follows f o x w shelf → IsLegal f size w log → AreTold log
     → Follows f o x (world_from f w log) (shelf_after shelf (committed f (world_from f w log).safe w log))
-follows_legal f size o x [] w shelf known l r h legal told honest = h
-follows_legal f size o x (m ∷ log) w shelf known l r h legal told honest =
+follows_legal f size o x [] w shelf l r h legal told = h
+follows_legal f size o x (m ∷ log) w shelf l r h legal told =
     let s = step_law f size w shelf l m told.0.0 told.0.1 legal.0 in
     let now : World = after f w m in
     let read : ReadLaw f now = read_step_law f size w shelf l r m now s in
@@ -154,7 +154,7 @@ follows_legal f size o x (m ∷ log) w shelf known l r h legal told honest =
     let rest = lasts f size log now (shelf_after shelf s.commands) s.law legal.1 told.1 in
     let last : World = world_from f now log in
     let mine : commands_at f last.safe w m.entry.who m.entry.step m.entry.reply ≡ s.commands = s.counted last.safe rest.rises rest.alone in
-    let later : Follows f o x last (shelf_after (shelf_after shelf s.commands) (committed f last.safe now log)) = follows_legal f size o x log now (shelf_after shelf s.commands) known.1 s.law read next legal.1 told.1 honest.1 in
+    let later : Follows f o x last (shelf_after (shelf_after shelf s.commands) (committed f last.safe now log)) = follows_legal f size o x log now (shelf_after shelf s.commands) s.law read next legal.1 told.1 in
     subst (Follows f o x last) (sym (shelf_after-append shelf s.commands (committed f last.safe now log)) ∙ ap (λ cs. shelf_after shelf (cs ++ committed f last.safe now log)) (sym mine)) later
   where
     stepped : (m : Moment) (now : World) (s : Stepped f w shelf m now) → Law f w shelf → ReadLaw f w → Follows f o x w shelf → Follows f o x now (shelf_after shelf s.commands)
@@ -163,6 +163,6 @@ follows_legal f size o x (m ∷ log) w shelf known l r h legal told honest =
       | inr same ↦ subst (λ (v : World). Follows f o x v (shelf_after shelf s.commands)) (sym same.0) (subst (λ cs. Follows f o x w (shelf_after shelf cs)) (sym same.1) h)
     ]
 
-pub reads_on : (f : Formats) (size : ℕ) (shelf : List Shelved) (w : World) (log : List Moment) (o : ℕ) (x : Shelved) → TellsHandedOut f w log → Law f w shelf → ReadLaw f w → o < w.next_op → ReadsShelved w shelf o x → IsLegal f size w log → AreTold log → AreHonest f w log
+pub reads_on : (f : Formats) (size : ℕ) (shelf : List Shelved) (w : World) (log : List Moment) (o : ℕ) (x : Shelved) → Law f w shelf → ReadLaw f w → o < w.next_op → ReadsShelved w shelf o x → IsLegal f size w log → AreTold log
     → ReadsShelved (world_from f w log) (shelf_after shelf (committed f (world_from f w log).safe w log)) o x
-reads_on f size shelf w log o x known l r begun reads legal told honest = (follows_legal f size o x log w shelf known l r (record { begun = begun; reads = reads }) legal told honest).reads
+reads_on f size shelf w log o x l r begun reads legal told = (follows_legal f size o x log w shelf l r (record { begun = begun; reads = reads }) legal told).reads

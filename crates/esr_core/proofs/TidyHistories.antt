@@ -12,7 +12,7 @@ use Rattle.esr_core.specs.Entry.{SettlePruned, PruneStep, Reply, Moment}
 use Rattle.esr_core.specs.After.{after}
 use Rattle.esr_core.specs.Allowed as allowed
 use Rattle.esr_core.specs.Allowed.{Settles, SettlesDeletion, PruneAllows, Allows, Allowed}
-use Rattle.esr_core.specs.History.{world_from, IsLegal, TellsHandedOut, AreTold, AreHonest, committed, counts}
+use Rattle.esr_core.specs.History.{world_from, IsLegal, AreTold, committed, counts}
 use Rattle.esr_core.specs.Left.{cut_off, Leaves}
 use Rattle.esr_core.specs.Tidy.{TidyRoot, TidyIn, TidyImage, DoomsExactly}
 use Rattle.esr_core.proofs.Reading.{some_same, none_some, reads_one, held_one}
@@ -20,7 +20,7 @@ use Rattle.esr_core.proofs.Grows.{root_is_kept}
 use Rattle.esr_core.proofs.Opening.{nothing}
 use Rattle.esr_core.proofs.Lists.{opening_law}
 use Rattle.esr_core.proofs.Blocked.{block_uncounted}
-use Rattle.esr_core.proofs.Histories.{Stepped, step_law, legal_law, image_is, legal_parts, told_parts, honest_parts, known_parts}
+use Rattle.esr_core.proofs.Histories.{Stepped, step_law, legal_law, image_is, legal_parts, told_parts}
 use Rattle.esr_core.proofs.Left.{allows_pruned}
 use Rattle.esr_core.proofs.PruneTurns.{was_reached, is_left}
 use Rattle.esr_core.proofs.DoomsAll.{dooms_all, dooms_root}
@@ -33,11 +33,11 @@ module _ (f : Formats) (w : World) (shelf : List Shelved) (l : Law f w shelf) wh
     | inr h ↦ subst (TidyIn f) (sym h.0) tidy
   ]
 
-pub legal_tidy : (f : Formats) (size : ℕ) (log : List Moment) (w : World) (shelf : List Shelved) → TellsHandedOut f w log → Law f w shelf → TidyIn f w → IsLegal f size w log → AreTold log → AreHonest f w log → TidyIn f (world_from f w log)
-legal_tidy f size [] w shelf known l tidy legal told honest = tidy
-legal_tidy f size (m ∷ log) w shelf known l tidy legal told honest =
+pub legal_tidy : (f : Formats) (size : ℕ) (log : List Moment) (w : World) (shelf : List Shelved) → Law f w shelf → TidyIn f w → IsLegal f size w log → AreTold log → TidyIn f (world_from f w log)
+legal_tidy f size [] w shelf l tidy legal told = tidy
+legal_tidy f size (m ∷ log) w shelf l tidy legal told =
     let s = step_law f size w shelf l m told.0.0 told.0.1 legal.0 in
-    legal_tidy f size log (after f w m) (shelf_after shelf s.commands) known.1 s.law (step_tidy f w shelf l size tidy m legal.0 s) legal.1 told.1 honest.1
+    legal_tidy f size log (after f w m) (shelf_after shelf s.commands) s.law (step_tidy f w shelf l size tidy m legal.0 s) legal.1 told.1
 
 -- ---- images
 
@@ -79,16 +79,16 @@ image_tidy f w shelf l tidy back = λ text cluster root there reads is.
 now_tidy : (f : Formats) (w : World) (shelf : List Shelved) (i : Image) → Law f w shelf → TidyIn f w → ReadsBack f.cluster (record_of w) → i ≡ image_of f w → TidyImage f i
 now_tidy f w shelf i l tidy back now = subst (TidyImage f) (sym now) (image_tidy f w shelf l tidy back)
 
-pub left_tidy_image : (f : Formats) (size : ℕ) (log : List Moment) (w : World) (shelf : List Shelved) (i : Image) → TellsHandedOut f w log → Law f w shelf → TidyIn f w → ReadsBack f.cluster (record_of w) → IsLegal f size w log → AreTold log
-    → AreHonest f w log → Leaves f size w log i → TidyImage f i
-left_tidy_image f size [] w shelf i known l tidy back legal told honest now = now_tidy f w shelf i l tidy back now
-left_tidy_image f size (m ∷ log) w shelf i known l tidy back legal told honest (inl now) = now_tidy f w shelf i l tidy back now
-left_tidy_image f size (m ∷ log) w shelf i known l tidy back legal told honest (inr (inl cut)) =
+pub left_tidy_image : (f : Formats) (size : ℕ) (log : List Moment) (w : World) (shelf : List Shelved) (i : Image) → Law f w shelf → TidyIn f w → ReadsBack f.cluster (record_of w) → IsLegal f size w log → AreTold log
+    → Leaves f size w log i → TidyImage f i
+left_tidy_image f size [] w shelf i l tidy back legal told now = now_tidy f w shelf i l tidy back now
+left_tidy_image f size (m ∷ log) w shelf i l tidy back legal told (inl now) = now_tidy f w shelf i l tidy back now
+left_tidy_image f size (m ∷ log) w shelf i l tidy back legal told (inr (inl cut)) =
     let s = step_law f size w shelf l (cut_off m i) i refl cut in
     now_tidy f (after f w (cut_off m i)) (shelf_after shelf s.commands) i s.law (step_tidy f w shelf l size tidy (cut_off m i) cut s) cut.record_back (image_is f size w (cut_off m i) i refl cut)
-left_tidy_image f size (m ∷ log) w shelf i known l tidy back legal told honest (inr (inr later)) =
+left_tidy_image f size (m ∷ log) w shelf i l tidy back legal told (inr (inr later)) =
     let s = step_law f size w shelf l m told.0.0 told.0.1 legal.0 in
-    left_tidy_image f size log (after f w m) (shelf_after shelf s.commands) i known.1 s.law (step_tidy f w shelf l size tidy m legal.0 s) legal.0.record_back legal.1 told.1 honest.1 later
+    left_tidy_image f size log (after f w m) (shelf_after shelf s.commands) i s.law (step_tidy f w shelf l size tidy m legal.0 s) legal.0.record_back legal.1 told.1 later
 
 -- ---- deletes
 
@@ -102,22 +102,22 @@ exact f w shelf k s l present deletes tidy = record {
   left = is_left f w shelf l k s present;
 }
 
-pub exact_over : (f : Formats) (size : ℕ) (image : Image) (shelf : List Shelved) (w : World) (log : List Moment) (k : ℕ) → TellsHandedOut f w log → Kept f image shelf → TidyImage f image → Opened f image w → IsLegal f size w log → AreTold log → AreHonest f w log
+pub exact_over : (f : Formats) (size : ℕ) (image : Image) (shelf : List Shelved) (w : World) (log : List Moment) (k : ℕ) → Kept f image shelf → TidyImage f image → Opened f image w → IsLegal f size w log → AreTold log
     → (s : SettlesDeletion f (world_from f w log) k) → s.t.term ≡ (world_from f w log).term → s.t.clean ≡ false → DoomsExactly f (world_from f w log) k s
-exact_over f size image shelf w log k known kept tidy opened legal told honest s present deletes =
+exact_over f size image shelf w log k kept tidy opened legal told s present deletes =
     let l : Law f w shelf = opening_law f image shelf w kept opened in
     let last : World = world_from f w log in
-    exact f (world_from f w log) (shelf_after shelf (committed f last.safe w log)) k s (legal_law f size log w shelf l legal told) present deletes (legal_tidy f size log w shelf known l (opened_tidy f image w tidy opened) legal told honest).rooted
+    exact f (world_from f w log) (shelf_after shelf (committed f last.safe w log)) k s (legal_law f size log w shelf l legal told) present deletes (legal_tidy f size log w shelf l (opened_tidy f image w tidy opened) legal told).rooted
 
-settles_delete : {f : Formats} {w : World} {who : ℕ} {reply : Reply} {image : Option Image} → PruneAllows f w who SettlePruned reply image → counts reply ≡ true → (s : SettlesDeletion f w who) × (s.t.term ≡ w.term)
+pub settles_delete : {f : Formats} {w : World} {who : ℕ} {reply : Reply} {image : Option Image} → PruneAllows f w who SettlePruned reply image → counts reply ≡ true → (s : SettlesDeletion f w who) × (s.t.term ≡ w.term)
 settles_delete (allowed.SettlingDelete k im s present same) e = (s, present)
 settles_delete (allowed.SettleDeleteStale k im s apart same) e = absurd (true≢false (sym e))
 settles_delete (allowed.SettleDeleteFails k im s present same) e = (s, present)
 
-pub settled_exact : (f : Formats) (size : ℕ) (image : Image) (shelf : List Shelved) (w : World) (before rest : List Moment) (m : Moment) → TellsHandedOut f w (before ++ m ∷ rest) → Kept f image shelf → TidyImage f image → Opened f image w
-    → IsLegal f size w (before ++ m ∷ rest) → AreTold (before ++ m ∷ rest) → AreHonest f w (before ++ m ∷ rest) → m.entry.step ≡ PruneStep SettlePruned → counts m.entry.reply ≡ true
+pub settled_exact : (f : Formats) (size : ℕ) (image : Image) (shelf : List Shelved) (w : World) (before rest : List Moment) (m : Moment) → Kept f image shelf → TidyImage f image → Opened f image w
+    → IsLegal f size w (before ++ m ∷ rest) → AreTold (before ++ m ∷ rest) → m.entry.step ≡ PruneStep SettlePruned → counts m.entry.reply ≡ true
     → (s : SettlesDeletion f (world_from f w before) m.entry.who) × (s.t.clean ≡ false → DoomsExactly f (world_from f w before) m.entry.who s)
-settled_exact f size image shelf w before rest m known kept tidy opened legal told honest step counted =
+settled_exact f size image shelf w before rest m kept tidy opened legal told step counted =
     let here : World = world_from f w before in
     let legals = legal_parts f size before (m ∷ rest) w legal in
     let allows : Allows f size here m.entry.who m.entry.step m.entry.reply m.image = elim legals.1.0.answered [
@@ -125,4 +125,4 @@ settled_exact f size image shelf w before rest m known kept tidy opened legal to
       | inr dead ↦ absurd (true≢false (sym counted ∙ ap counts dead.refused ∙ block_uncounted here m.entry.who m.entry.step dead.refusal dead.blocks))
     ] in
     let (s, present) = settles_delete (allows_pruned (subst (λ x. Allows f size (world_from f w before) m.entry.who x m.entry.reply m.image) step allows)) counted in
-    (s, λ deletes. exact_over f size image shelf w before m.entry.who (known_parts f before (m ∷ rest) w known).0 kept tidy opened legals.0 (told_parts before (m ∷ rest) told).0 (honest_parts f before (m ∷ rest) w honest).0 s present deletes)
+    (s, λ deletes. exact_over f size image shelf w before m.entry.who kept tidy opened legals.0 (told_parts before (m ∷ rest) told).0 s present deletes)

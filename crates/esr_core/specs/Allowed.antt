@@ -782,15 +782,15 @@ pub data PruneAllows (f : Formats) (w : World) : ℕ → Prune → Reply → Opt
       → PruneAllows f w k (FetchShard name) WasFetched image
   ShardMissing : (k : ℕ) (name : BlobName) (image : Option Image) → FetchesShard f w k name → Told image (λ blobs. (fin.get w.blobs (f.names.text name) ≡ None) × (blobs ≡ w.blobs)) → PruneAllows f w k (FetchShard name) WasAbsent image
   FetchShardFails : (k : ℕ) (name : BlobName) (image : Option Image) → FetchesShard f w k name → SameBlobs w image → PruneAllows f w k (FetchShard name) (Refused DepotFault) image
-  Planning : (k : ℕ) (shards : List PrunedShard) (image : Option Image) (p : MayPlan f w k shards image) → w.next_id + kept_count shards < first_id (suc w.term) → ReadsBack f.root (deleted_root p.t.root p.uuids shards w.next_id) → SameBlobs w image
-      → PruneAllows f w k (PlanShards shards) (DrawnFrom w.next_id) image
+  Planning : (k : ℕ) (shards : List PrunedShard) (image : Option Image) (p : MayPlan f w k shards image) → w.next_id + kept_count shards < first_id (suc w.term) → ReadsBack f.root (deleted_root p.t.root p.uuids shards w.next_id)
+      → SameBlobs w image → PruneAllows f w k (PlanShards shards) (DrawnFrom w.next_id) image
   PlanSpent : (k : ℕ) (shards : List PrunedShard) (image : Option Image) → MayPlan f w k shards image → first_id (suc w.term) ≤ w.next_id + kept_count shards → SameBlobs w image
       → PruneAllows f w k (PlanShards shards) (Refused (IdsSpent w.next_id)) image
   SettlingDelete : (k : ℕ) (image : Option Image) (s : SettlesDeletion f w k) → s.t.term ≡ w.term → SameBlobs w image → PruneAllows f w k SettlePruned WasSettled image
   SettleDeleteStale : (k : ℕ) (image : Option Image) (s : SettlesDeletion f w k) → s.t.term ≢ w.term → SameBlobs w image → PruneAllows f w k SettlePruned (Refused (StaleTerm s.t.term w.term)) image
   SettleDeleteFails : (k : ℕ) (image : Option Image) (s : SettlesDeletion f w k) → s.t.term ≡ w.term → SameBlobs w image → PruneAllows f w k SettlePruned (Refused DepotFault) image
-  RemovingDoomed : (k : ℕ) (names : List BlobName) (image : Option Image) → RemovesDoomed f w k names image → Told image (λ blobs. Removes f w.blobs blobs names × ((name : BlobName) → Has names name → fin.get blobs (f.names.text name) ≡ None))
-      → PruneAllows f w k (RemoveDoomed names) WasRemoved image
+  RemovingDoomed : (k : ℕ) (names : List BlobName) (image : Option Image) → RemovesDoomed f w k names image
+      → Told image (λ blobs. Removes f w.blobs blobs names × ((name : BlobName) → Has names name → fin.get blobs (f.names.text name) ≡ None)) → PruneAllows f w k (RemoveDoomed names) WasRemoved image
   RemoveDoomedFails : (k : ℕ) (names : List BlobName) (image : Option Image) → RemovesDoomed f w k names image → Told image (λ blobs. Removes f w.blobs blobs names) → PruneAllows f w k (RemoveDoomed names) (Refused DepotFault) image
   EndingDelete : (k : ℕ) (image : Option Image) → EndsDelete f w k image → SameBlobs w image → PruneAllows f w k EndDelete HasEnded image
   FailingDelete : (k : ℕ) (why : Why) (image : Option Image) → FailsDeletion w k → SameBlobs w image → PruneAllows f w k (DeleteFails why) HasEnded image
@@ -832,7 +832,8 @@ pub data Allows (f : Formats) (part_size : ℕ) (w : World) : ℕ → Step → R
   -- refusals by rule; no command that is recorded is accepted while a cleanup is open
   Cleaning : (command : Asked) (d : ℕ) (x : Deletion) (image : Option Image) → is_recorded command ≡ true → fin.get w.deletes d ≡ Some x → x.clean ≡ true → SameBlobs w image
       → Allows f part_size w 0 (AskStep command) (Refused (CleanupRunning d)) image
-  Used : (name : Bytes) (indices : List AskedIndex) (moment uuid : ℕ) (image : Option Image) → NoCleanup w → IsNameOf w name uuid → SameBlobs w image → Allows f part_size w 0 (AskStep (Snapshot name indices moment)) (Refused (NameInUse uuid)) image
+  Used : (name : Bytes) (indices : List AskedIndex) (moment uuid : ℕ) (image : Option Image) → NoCleanup w → IsNameOf w name uuid → SameBlobs w image
+      → Allows f part_size w 0 (AskStep (Snapshot name indices moment)) (Refused (NameInUse uuid)) image
   Full : (name : Bytes) (indices : List AskedIndex) (moment : ℕ) (image : Option Image) → NoCleanup w → IsUnused w name → 1000 ≤ open_count w → SameBlobs w image
       → Allows f part_size w 0 (AskStep (Snapshot name indices moment)) (Refused (TooMany 1000)) image
   AskSpent : (name : Bytes) (indices : List AskedIndex) (moment : ℕ) (image : Option Image) → NoCleanup w → IsUnused w name → open_count w < 1000 → first_id (suc w.term) ≤ w.next_id + suc (new_names w indices) → SameBlobs w image
@@ -848,12 +849,14 @@ pub data Allows (f : Formats) (part_size : ℕ) (w : World) : ℕ → Step → R
   -- calls that fail: of a commit nothing or the whole blob is left, of a replacement nothing or the blob, of a record swap the old record or the new one
   BeginFails : (k : ℕ) (name : BlobName) (image : Option Image) → Commits f part_size w k name → SameBlobs w image → Allows f part_size w k (BeginStep name) (Refused DepotFault) image
   BeginLatestFails : (k : ℕ) (image : Option Image) → Puts f w k → SameBlobs w image → Allows f part_size w k (BeginStep Latest) (Refused DepotFault) image
-  CommitFails : (k : ℕ) (name : BlobName) (image : Option Image) (c : Commits f part_size w k name) → Told image (λ blobs. (blobs ≡ w.blobs) ⊎ Adds f w name c.bytes blobs) → Allows f part_size w k (CommitStep name) (Refused DepotFault) image
+  CommitFails : (k : ℕ) (name : BlobName) (image : Option Image) (c : Commits f part_size w k name) → Told image (λ blobs. (blobs ≡ w.blobs) ⊎ Adds f w name c.bytes blobs)
+      → Allows f part_size w k (CommitStep name) (Refused DepotFault) image
   ReplaceFails : (k : ℕ) (image : Option Image) (p : Puts f w k) → ReadsBack f.names Latest → Told image (λ blobs. (blobs ≡ w.blobs) ⊎ (blobs ≡ fin.insert w.blobs (f.names.text Latest) (latest_text p.n)))
       → Allows f part_size w k LatestStep (Refused DepotFault) image
   FetchFails : (k : ℕ) (name : BlobName) (image : Option Image) → Fetches f w k name → SameBlobs w image → Allows f part_size w k (FetchStep name) (Refused DepotFault) image
   ListFails : (k : ℕ) (from : Option Bytes) (image : Option Image) → ListsPage w k from → SameBlobs w image → Allows f part_size w k (ListStep from) (Refused DepotFault) image
-  AskFails : (name : Bytes) (indices : List AskedIndex) (moment : ℕ) (image : Option Image) → Accepts f w name indices moment w.next_op → SameBlobs w image → Allows f part_size w 0 (AskStep (Snapshot name indices moment)) (Refused DepotFault) image
+  AskFails : (name : Bytes) (indices : List AskedIndex) (moment : ℕ) (image : Option Image) → Accepts f w name indices moment w.next_op → SameBlobs w image
+      → Allows f part_size w 0 (AskStep (Snapshot name indices moment)) (Refused DepotFault) image
   RaiseFails : (k : ℕ) (image : Option Image) → Raises f w k w.pending → SameBlobs w image → Allows f part_size w k RaiseStep (Refused DepotFault) image
   SettleFails : (k : ℕ) (image : Option Image) → Settles f w k → SameBlobs w image → Allows f part_size w k SettleStep (Refused DepotFault) image
   DropFails : (k : ℕ) (image : Option Image) → Drops f w k image → SameBlobs w image → Allows f part_size w k DroppedStep (Refused DepotFault) image

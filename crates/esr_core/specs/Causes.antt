@@ -26,7 +26,8 @@ IsRule refusal = ⊥
 pub data RefusalCause (f : Formats) (part_size : ℕ) (w : World) (who : ℕ) (step : Step) (image : Option Image) : Refusal → Type 0 where
   OfRule : (refusal : Refusal) (command : Asked) → step ≡ AskStep command → IsRule refusal → RefusalCause f part_size w who step image refusal
   OfCleanup : (command : Asked) (d : ℕ) (x : Deletion) → step ≡ AskStep command → fin.get w.deletes d ≡ Some x → x.clean ≡ true → RefusalCause f part_size w who step image (CleanupRunning d)
-  OfName : (name : BlobName) (c : Commits f part_size w who name) → step ≡ CommitStep name → (IsMetadata name → ⊥) → Told image (λ blobs. Present f w.blobs name × (blobs ≡ w.blobs)) → RefusalCause f part_size w who step image (NameTaken name)
+  OfName : (name : BlobName) (c : Commits f part_size w who name) → step ≡ CommitStep name → (IsMetadata name → ⊥) → Told image (λ blobs. Present f w.blobs name × (blobs ≡ w.blobs))
+      → RefusalCause f part_size w who step image (NameTaken name)
   OfTestName : (name : BlobName) → IsOwnTest f w name → step ≡ ReadStep (CommitTest name) → Told image (λ blobs. Present f w.blobs name × (blobs ≡ w.blobs)) → RefusalCause f part_size w who step image (NameTaken name)
   OfTerm : (t : Ticket) → IsOut w who t → t.term ≢ w.term → RefusalCause f part_size w who step image (StaleTerm t.term w.term)
   -- so many ids more would be of the next term

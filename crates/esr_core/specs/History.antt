@@ -57,11 +57,6 @@ abbrev pub IsHonest : Formats → Blobs → Type 0
 IsHonest f blobs = (place name : Bytes) (number : ℕ) (file : Bytes × Bytes) (i k : ℕ) (e : FileEntry) (bytes : Bytes) → Has (files_told f place name number) file → FileStands f (At f blobs) i k e bytes
     → length bytes ≡ length file.1 → f.digest bytes ≡ f.digest file.1 → bytes ≡ file.1
 
--- and so in each world of the history
-abbrev pub AreHonest : Formats → World → List Moment → Type 0
-AreHonest f w [] = IsHonest f w.blobs
-AreHonest f w (m ∷ log) = IsHonest f w.blobs × AreHonest f (after f w m) log
-
 -- the sources tell the files of each shard that a ticket has
 abbrev pub TellsShards : Formats → World → Type 0
 TellsShards f w = (k : ℕ) (t : Ticket) (index number : ℕ) → fin.get w.tickets k ≡ Some t → t.out ≡ true → t.work ≡ Shard index number → t.source ≡ None → f.known t.place t.name number ≡ true
@@ -74,11 +69,6 @@ TellsHandedOut f w (m ∷ log) = TellsShards f w × TellsHandedOut f (after f w 
 -- the sources tell all files
 abbrev pub AllKnown : Formats → Type 0
 AllKnown f = (place name : Bytes) (number : ℕ) → f.known place name number ≡ true
-
--- those that tell all files tell what is handed out
-pub all_handed_out : (f : Formats) (w : World) (log : List Moment) → AllKnown f → TellsHandedOut f w log
-all_handed_out f w [] known = λ k t index number there out work source. known t.place t.name number
-all_handed_out f w (m ∷ log) known = (λ k t index number there out work source. known t.place t.name number, all_handed_out f (after f w m) log known)
 
 -- the container tells its image at each moment
 abbrev pub AreTold : List Moment → Type 0

@@ -2,7 +2,7 @@
 use Rattle.std.specs.Prelude.{◌≡◌, ℕ, zero, Bool, true, false, ◌==◌, if◌then◌else◌, List, [], ◌∷◌, ◌++◌}
 use Rattle.esr_model.specs.Names.{BlobName}
 use Rattle.esr_model.specs.Values.{Has}
-use Rattle.esr_core.specs.Entry.{Read, ReadBlob, CheckedAll, DrawTest, BeginTest, CommitTest, RemoveTests, VerifiedAll, ReadFails, Prune, FetchShard, PlanShards, SettlePruned, RemoveDoomed, Step, AskStep, DrawStep, BeginStep, CommitStep, LatestStep, FetchStep, ListStep, RaiseStep, SettleStep, LookStep, ReadStep, PruneStep, StaleTerm, DeposedAt, Reply, WasRemoved, Refused, Entry}
+use Rattle.esr_core.specs.Entry.{Read, ReadBlob, CheckedAll, DrawTest, BeginTest, CommitTest, RemoveTests, VerifiedAll, ReadFails, Prune, FetchShard, PlanShards, SettlePruned, RemoveDoomed, Step, AskStep, DrawStep, BeginStep, CommitStep, LatestStep, FetchStep, ListStep, RaiseStep, SettleStep, DroppedStep, LookStep, ReadStep, PruneStep, StaleTerm, DeposedAt, Reply, WasRemoved, Refused, Entry}
 use Rattle.esr_core.specs.World.{World}
 
 -- a step that was refused since a record swap had failed isn't counted
@@ -79,7 +79,7 @@ RepeatsPrune SettlePruned SettlePruned = Unit {0}
 RepeatsPrune (RemoveDoomed a) (RemoveDoomed b) = ShareName a b
 RepeatsPrune was prune = ⊥
 
--- Each is made once on one name, a page of a listing once after one name; a draw, a raise, a settle, a replacement of `index.latest` and a removal of nothing are made once.
+-- Each is made once on one name, a page of a listing once after one name; a draw, a raise, a settle, a replacement of `index.latest`, a drop and a removal of nothing are made once.
 abbrev pub Repeats : Step → Step → Type 0
 Repeats (DrawStep a) (DrawStep b) = Unit {0}
 Repeats (BeginStep a) (BeginStep b) = a ≡ b
@@ -89,6 +89,7 @@ Repeats (FetchStep a) (FetchStep b) = a ≡ b
 Repeats (ListStep a) (ListStep b) = a ≡ b
 Repeats RaiseStep RaiseStep = Unit {0}
 Repeats SettleStep SettleStep = Unit {0}
+Repeats DroppedStep DroppedStep = Unit {0}
 Repeats (ReadStep a) (ReadStep b) = RepeatsRead a b
 Repeats (PruneStep a) (PruneStep b) = RepeatsPrune a b
 Repeats was step = ⊥

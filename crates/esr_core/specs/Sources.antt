@@ -1,13 +1,13 @@
 -- Histories whose snapshots have the files that the sources tell, and what that asks of digests.
-use Rattle.std.specs.Prelude.{◌≡◌, ℕ, true, List, [], ◌∷◌, Option, Some, None, map}
+use Rattle.std.specs.Prelude.{◌≡◌, ℕ, true, List, [], ◌∷◌, ◌++◌, Option, Some, None, map}
 use Rattle.std.specs.FinMap as fin
-use Rattle.esr_model.specs.Values.{SnapInfo, ShardResult, Formats, files_told}
+use Rattle.esr_model.specs.Values.{Has, SnapInfo, ShardResult, Formats, files_told}
 use Rattle.esr_model.specs.Shelf.{ShelfShard, Shelved, Command, Create, Clone}
 use Rattle.esr_model.specs.Places.{sorted_by}
 use Rattle.esr_core.specs.World.{World, Op, ShardWork, Ticket, Shard, comes_first_of, index_names, made_of}
 use Rattle.esr_core.specs.Entry.{GivenFinalize, Gave, Moment}
 use Rattle.esr_core.specs.After.{after}
-use Rattle.esr_core.specs.History.{IsHonest}
+use Rattle.esr_core.specs.History.{world_from, committed, IsHonest}
 
 -- ---- the files that the sources tell
 
@@ -34,6 +34,26 @@ IsOfSources f w m = (k o : ℕ) (info : SnapInfo) (results : List ShardResult) (
 abbrev pub AreOfSources : Formats → World → List Moment → Type 0
 AreOfSources f w [] = Unit {0}
 AreOfSources f w (m ∷ log) = IsOfSources f w m × AreOfSources f (after f w m) log
+
+-- ---- the snapshots among the commands that count
+
+-- an op of a world that the history passes
+pub record IsOpOf (f : Formats) (w : World) (log : List Moment) (op : Op) : Type 0 where
+  pub front : List Moment
+  pub back : List Moment
+  pub log_is : log ≡ front ++ back
+  pub number : ℕ
+  pub there : fin.get (world_from f w front).ops number ≡ Some op
+
+-- the snapshot of such an op, with exactly the files that the sources tell
+pub record IsOfOp (f : Formats) (w : World) (log : List Moment) (snap : Shelved) : Type 0 where
+  pub op : Op
+  pub passed : IsOpOf f w log op
+  pub snap_is : snap ≡ told_snap f op
+
+-- each snapshot among the commands that count, in whatever image, is one
+abbrev pub AreOfOps : Formats → World → List Moment → Type 0
+AreOfOps f w log = (safe : ℕ) (snap : Shelved) → Has (committed f safe w log) (Create snap) → IsOfOp f w log snap
 
 -- ---- digests that are honest while files come from a source
 

@@ -112,7 +112,8 @@ pub record Tracked (w : World) : Type 0 where
   pub finals : (k : ℕ) (t : Ticket) (info : SnapInfo) (results : List ShardResult) (made : Command) → fin.get w.tickets k ≡ Some t → t.out ≡ true → t.settled ≡ false → t.term ≡ w.term
       → t.work ≡ Finalize info results made → FinalTracked w.root w.ops t info results
   pub drops : (k : ℕ) (t : Ticket) → fin.get w.tickets k ≡ Some t → t.out ≡ true → t.term ≡ w.term → t.work ≡ Drop → DropTracked w.ops w.deletes w.tickets t
-  pub deleting : (k : ℕ) (t : Ticket) (uuids : List ℕ) (plan : Option Swap) → fin.get w.tickets k ≡ Some t → t.out ≡ true → t.settled ≡ false → t.term ≡ w.term → t.work ≡ Deleting uuids plan → DeleteTracked w.root w.deletes w.next_id t plan
+  pub deleting : (k : ℕ) (t : Ticket) (uuids : List ℕ) (plan : Option Swap) → fin.get w.tickets k ≡ Some t → t.out ≡ true → t.settled ≡ false → t.term ≡ w.term → t.work ≡ Deleting uuids plan
+      → DeleteTracked w.root w.deletes w.next_id t plan
   pub deletions : ModesTracked w.term w.deletes w.tickets
   pub one_swap : (j k : ℕ) → SwapIsOut w.tickets w.term j → SwapIsOut w.tickets w.term k → j ≡ k
   pub named : Named w.root w.ops w.next_id

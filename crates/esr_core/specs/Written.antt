@@ -18,7 +18,8 @@ pub record WroteLaw (f : Formats) (blobs : Blobs) (t : Ticket) : Type 0 where
   -- as is the snapshot of the shard that a clone's fetched
   pub source : (index shard u : ℕ) (bytes : Bytes) → t.work ≡ Shard index shard → t.source ≡ Some u → Has t.read (ShardSnap index shard u, bytes) → At f blobs (ShardSnap index shard u) bytes
   -- the files of the base have ids below those that it drew
-  pub fresh : (index shard g : ℕ) (held : ShardFiles) → t.work ≡ Shard index shard → t.base ≡ Some g → Reads (At f blobs) (ShardIndex index shard g) f.shard_index held → (e : FileEntry) → Has held.files e → (id : ℕ) → Drew t id → e.name < id
+  pub fresh : (index shard g : ℕ) (held : ShardFiles) → t.work ≡ Shard index shard → t.base ≡ Some g → Reads (At f blobs) (ShardIndex index shard g) f.shard_index held → (e : FileEntry) → Has held.files e → (id : ℕ) → Drew t id
+      → e.name < id
 
 abbrev pub Written : Formats → Blobs → FinMap nat_cmp Ticket → Type 0
 Written f blobs tickets = (k : ℕ) (t : Ticket) → fin.get tickets k ≡ Some t → t.out ≡ true → IsShard t.work → WroteLaw f blobs t

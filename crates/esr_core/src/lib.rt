@@ -39,10 +39,10 @@ ghost use Rattle.esr_core.specs.Changes.{StepChange, StepFrame, BlobsChange, Mak
 ghost use Rattle.esr_core.specs.Example.{CanWrite, HasSnapshot};
 ghost use Rattle.esr_core.specs.Allowed.{SameBlobs, SettlesDeletion, ClonedBy, Allowed, RestoredBy, Blocks, IsBlocked};
 ghost use Rattle.esr_core.specs.Causes.{RefusalCause, TakeGave, SettleDid};
-ghost use Rattle.esr_core.specs.History.{world_from, IsLegal, TellsHandedOut, AreTold, AreHonest, committed, counts, Lasts};
+ghost use Rattle.esr_core.specs.History.{world_from, IsLegal, TellsHandedOut, AreTold, committed, counts, Lasts};
 ghost use Rattle.esr_core.specs.Cleaned.{HoldsReachAlone, ListsListedAlone, IsTestCommit, ChangesBlobs, NoneOf, IsFirstPage, IsLastDrop};
 ghost use Rattle.esr_core.specs.Left.{cut_off, Leaves, safe_in};
-ghost use Rattle.esr_core.specs.Sources.{AreOfSources, HonestUploads};
+ghost use Rattle.esr_core.specs.Sources.{AreOfSources, AreOfOps, HonestUploads};
 ghost use Rattle.esr_core.specs.Refusing.{RefusedSo, SwapFailed};
 
 /// A raise keeps the law, and the generation that it begins is that of no root that is there.
@@ -103,7 +103,7 @@ pub fn the_queue_is_apart()
 
 /// Over each legal history the law holds, for the shelf with the commands that count in its last image.
 pub fn each_history_is_lawful()
-    ensures { (f : Formats) (part_size : ℕ) (image : Image) (shelf : List Shelved) (w : World) (log : List Moment) → TellsHandedOut f w log → Kept f image shelf → Opened f image w → IsLegal f part_size w log → AreTold log → AreHonest f w log
+    ensures { (f : Formats) (part_size : ℕ) (image : Image) (shelf : List Shelved) (w : World) (log : List Moment) → Kept f image shelf → Opened f image w → IsLegal f part_size w log → AreTold log
         → Law f (world_from f w log) (shelf_after shelf (committed f (world_from f w log).safe w log)) }
 {}
 
@@ -131,46 +131,39 @@ pub fn only_failed_swaps_depose()
 
 /// From any lawful world of a history on `safe` never falls, and from one on in which a record swap failed it stays.
 pub fn safe_never_falls()
-    ensures { (f : Formats) (part_size : ℕ) (shelf : List Shelved) (w : World) (log : List Moment) → TellsHandedOut f w log → Law f w shelf → IsLegal f part_size w log → AreTold log → AreHonest f w log → Lasts f w (world_from f w log) }
+    ensures { (f : Formats) (part_size : ℕ) (shelf : List Shelved) (w : World) (log : List Moment) → Law f w shelf → IsLegal f part_size w log → AreTold log → Lasts f w (world_from f w log) }
 {}
 
 /// Each image of a legal history is kept for the commands of the whole history that count in it: also one that a failed call leaves, and so one that a crash in that call leaves.
 pub fn each_image_is_kept()
-    ensures { (f : Formats) (part_size : ℕ) (image : Image) (shelf : List Shelved) (w : World) (log rest : List Moment) (m : Moment) (i : Image) → TellsHandedOut f w (log ++ m ∷ rest) → Kept f image shelf → Opened f image w → m.image ≡ Some i
-        → IsLegal f part_size w (log ++ m ∷ rest)
-        → AreTold (log ++ m ∷ rest) → AreHonest f w (log ++ m ∷ rest) → Kept f i (shelf_after shelf (committed f (world_from f w (log ++ m ∷ [])).safe w (log ++ m ∷ rest))) }
+    ensures { (f : Formats) (part_size : ℕ) (image : Image) (shelf : List Shelved) (w : World) (log rest : List Moment) (m : Moment) (i : Image) → Kept f image shelf → Opened f image w → m.image ≡ Some i
+        → IsLegal f part_size w (log ++ m ∷ rest) → AreTold (log ++ m ∷ rest) → Kept f i (shelf_after shelf (committed f (world_from f w (log ++ m ∷ [])).safe w (log ++ m ∷ rest))) }
 {}
 
 /// Each image that a crash might leave over a legal history is kept for the commands of the whole history that count in it, also one that stands nowhere in the history:
 /// what a call would have left that failed, where it was answered Ok or failed otherwise. The record of the opened world can be written, as opening writes it.
 pub fn each_left_image_is_kept()
-    ensures { (f : Formats) (part_size : ℕ) (image : Image) (shelf : List Shelved) (w : World) (log : List Moment) (i : Image) → TellsHandedOut f w log → Kept f image shelf → Opened f image w → ReadsBack f.cluster (record_of w)
-        → IsLegal f part_size w log
-        → AreTold log → AreHonest f w log → Leaves f part_size w log i → Kept f i (shelf_after shelf (committed f (safe_in f i) w log)) }
-{}
-
-/// Over each legal history the law holds, whatever the sources tell and whatever the digests are: the commands that count have the files as they are stored.
-pub fn each_history_is_lawful_over_any_sources()
-    ensures { (f : Formats) (part_size : ℕ) (image : Image) (shelf : List Shelved) (w : World) (log : List Moment) → Kept f image shelf → Opened f image w → IsLegal f part_size w log → AreTold log
-        → Law f (world_from f w log) (shelf_after shelf (committed f (world_from f w log).safe w log)) }
-{}
-
-/// Each image that a crash might leave over a legal history is kept for the commands that count in it, whatever the sources tell and whatever the digests are.
-pub fn each_left_image_is_kept_over_any_sources()
     ensures { (f : Formats) (part_size : ℕ) (image : Image) (shelf : List Shelved) (w : World) (log : List Moment) (i : Image) → Kept f image shelf → Opened f image w → ReadsBack f.cluster (record_of w) → IsLegal f part_size w log
         → AreTold log → Leaves f part_size w log i → Kept f i (shelf_after shelf (committed f (safe_in f i) w log)) }
 {}
 
 /// Where the sources tell each shard that a legal history hands out, and digests are honest while one is out whose files come from a source, each finalization that is given makes a snapshot of the files that the sources tell.
 pub fn snapshots_are_of_their_sources()
-    ensures { (f : Formats) (part_size : ℕ) (image : Image) (shelf : List Shelved) (w : World) (log : List Moment) → TellsHandedOut f w log → HonestUploads f w log → Kept f image shelf → Opened f image w → IsLegal f part_size w log → AreTold log
-        → AreOfSources f w log }
+    ensures { (f : Formats) (part_size : ℕ) (image : Image) (shelf : List Shelved) (w : World) (log : List Moment) → TellsHandedOut f w log → HonestUploads f w log → Kept f image shelf → Opened f image w → IsLegal f part_size w log
+        → AreTold log → AreOfSources f w log }
+{}
+
+/// Where the sources tell each shard that a legal history hands out, and digests are honest while one is out whose files come from a source, each snapshot among the commands that count, in whatever image,
+/// is that of an op which was open in the history, with exactly the files that the sources tell.
+pub fn counted_snapshots_are_of_their_sources()
+    ensures { (f : Formats) (part_size : ℕ) (image : Image) (shelf : List Shelved) (w : World) (log : List Moment) → TellsHandedOut f w log → HonestUploads f w log → Kept f image shelf → Opened f image w → IsLegal f part_size w log
+        → AreTold log → AreOfOps f w log }
 {}
 
 /// From any lawful world of a history on, whose record can be written, no image that a crash might leave has an older safe root.
 pub fn left_images_are_no_older()
-    ensures { (f : Formats) (part_size : ℕ) (shelf : List Shelved) (w : World) (log : List Moment) (i : Image) → TellsHandedOut f w log → Law f w shelf → ReadsBack f.cluster (record_of w) → IsLegal f part_size w log
-        → AreTold log → AreHonest f w log → Leaves f part_size w log i → w.safe ≤ safe_in f i }
+    ensures { (f : Formats) (part_size : ℕ) (shelf : List Shelved) (w : World) (log : List Moment) (i : Image) → Law f w shelf → ReadsBack f.cluster (record_of w) → IsLegal f part_size w log
+        → AreTold log → Leaves f part_size w log i → w.safe ≤ safe_in f i }
 {}
 
 /// A settle that was answered, of a finalization or of a delete, stays: in each image that a crash might leave after it its root
@@ -229,7 +222,8 @@ pub fn doomed_stay_apart()
 /// What a delete dooms with its settle the safe root reached, or it is that root's name; and the new root doesn't reach it.
 /// What a cleanup dooms it had to list alone, and no new root reaches it.
 pub fn a_delete_dooms_what_it_leaves()
-    ensures was { (f : Formats) (w : World) (shelf : List Shelved) (k : ℕ) (s : SettlesDeletion f w k) → Law f w shelf → s.t.term ≡ w.term → s.t.clean ≡ false → (name : BlobName) → Has (dooms f s.t) name → Reached f (HeldIn f w) w.root name
+    ensures was { (f : Formats) (w : World) (shelf : List Shelved) (k : ℕ) (s : SettlesDeletion f w k) → Law f w shelf → s.t.term ≡ w.term → s.t.clean ≡ false → (name : BlobName) → Has (dooms f s.t) name
+        → Reached f (HeldIn f w) w.root name
         ⊎ ((m : ℕ) × (name ≡ Root m) × (w.safe ≡ suc m)) }
     ensures left { (f : Formats) (w : World) (shelf : List Shelved) (k : ℕ) (s : SettlesDeletion f w k) → Law f w shelf → s.t.term ≡ w.term → (name : BlobName) → Has (dooms f s.t) name → Reached f (HeldIn f w) s.s.root name → ⊥ }
 {}
@@ -258,22 +252,22 @@ pub fn opened_worlds_are_tidy()
 
 /// Each legal history from a lawful and tidy world leads to a tidy one.
 pub fn each_history_stays_tidy()
-    ensures { (f : Formats) (part_size : ℕ) (shelf : List Shelved) (w : World) (log : List Moment) → TellsHandedOut f w log → Law f w shelf → TidyIn f w → IsLegal f part_size w log → AreTold log → AreHonest f w log → TidyIn f (world_from f w log) }
+    ensures { (f : Formats) (part_size : ℕ) (shelf : List Shelved) (w : World) (log : List Moment) → Law f w shelf → TidyIn f w → IsLegal f part_size w log → AreTold log → TidyIn f (world_from f w log) }
 {}
 
 /// Each image that a crash might leave over a legal history from a lawful and tidy world is tidy.
 pub fn each_left_image_is_tidy()
-    ensures { (f : Formats) (part_size : ℕ) (shelf : List Shelved) (w : World) (log : List Moment) (i : Image) → TellsHandedOut f w log → Law f w shelf → TidyIn f w → ReadsBack f.cluster (record_of w) → IsLegal f part_size w log
-        → AreTold log → AreHonest f w log → Leaves f part_size w log i → TidyImage f i }
+    ensures { (f : Formats) (part_size : ℕ) (shelf : List Shelved) (w : World) (log : List Moment) (i : Image) → Law f w shelf → TidyIn f w → ReadsBack f.cluster (record_of w) → IsLegal f part_size w log
+        → AreTold log → Leaves f part_size w log i → TidyImage f i }
 {}
 
 /// Over a legal history from a kept and tidy image each delete that may settle dooms exactly what it leaves behind: what the safe root reaches and its new root doesn't, and the safe root's name.
 /// So does each whose settle was answered, or failed in the container.
 pub fn each_delete_dooms_exactly_what_it_leaves()
-    ensures may { (f : Formats) (part_size : ℕ) (image : Image) (shelf : List Shelved) (w : World) (log : List Moment) (k : ℕ) → TellsHandedOut f w log → Kept f image shelf → TidyImage f image → Opened f image w → IsLegal f part_size w log
-        → AreTold log → AreHonest f w log → (s : SettlesDeletion f (world_from f w log) k) → s.t.term ≡ (world_from f w log).term → s.t.clean ≡ false → DoomsExactly f (world_from f w log) k s }
-    ensures settled { (f : Formats) (part_size : ℕ) (image : Image) (shelf : List Shelved) (w : World) (before rest : List Moment) (m : Moment) → TellsHandedOut f w (before ++ m ∷ rest) → Kept f image shelf → TidyImage f image → Opened f image w
-        → IsLegal f part_size w (before ++ m ∷ rest) → AreTold (before ++ m ∷ rest) → AreHonest f w (before ++ m ∷ rest) → m.entry.step ≡ PruneStep SettlePruned → counts m.entry.reply ≡ true
+    ensures may { (f : Formats) (part_size : ℕ) (image : Image) (shelf : List Shelved) (w : World) (log : List Moment) (k : ℕ) → Kept f image shelf → TidyImage f image → Opened f image w → IsLegal f part_size w log
+        → AreTold log → (s : SettlesDeletion f (world_from f w log) k) → s.t.term ≡ (world_from f w log).term → s.t.clean ≡ false → DoomsExactly f (world_from f w log) k s }
+    ensures settled { (f : Formats) (part_size : ℕ) (image : Image) (shelf : List Shelved) (w : World) (before rest : List Moment) (m : Moment) → Kept f image shelf → TidyImage f image → Opened f image w
+        → IsLegal f part_size w (before ++ m ∷ rest) → AreTold (before ++ m ∷ rest) → m.entry.step ≡ PruneStep SettlePruned → counts m.entry.reply ≡ true
         → (s : SettlesDeletion f (world_from f w before) m.entry.who) × (s.t.clean ≡ false → DoomsExactly f (world_from f w before) m.entry.who s) }
 {}
 
@@ -281,16 +275,15 @@ pub fn each_delete_dooms_exactly_what_it_leaves()
 /// So it stays until a blob is committed, replaced or removed.
 pub fn a_cleanup_leaves_the_reach_alone()
     ensures { (f : Formats) (part_size : ℕ) (image : Image) (shelf : List Shelved) (w : World) (before between rest : List Moment) (first last : Moment) (k : ℕ) → Kept f image shelf → Opened f image w → Tracked w
-        → TellsHandedOut f w (before ++ first ∷ (between ++ last ∷ rest)) → IsLegal f part_size w (before ++ first ∷ (between ++ last ∷ rest)) → AreTold (before ++ first ∷ (between ++ last ∷ rest))
-        → AreHonest f w (before ++ first ∷ (between ++ last ∷ rest))
+        → IsLegal f part_size w (before ++ first ∷ (between ++ last ∷ rest)) → AreTold (before ++ first ∷ (between ++ last ∷ rest))
         → IsFirstPage first k → IsLastDrop last k → NoneOf IsTestCommit between → NoneOf ChangesBlobs rest → HoldsReachAlone f (world_from f w (before ++ first ∷ (between ++ last ∷ rest)))
         × ListsListedAlone f (world_from f w (before ++ first ∷ (between ++ last ∷ rest))) }
 {}
 
 /// What a delete's settled ticket doomed stays doomed.
 pub fn what_a_delete_dooms_stays_doomed()
-    ensures { (f : Formats) (w : World) (shelf : List Shelved) (k : ℕ) (t : Ticket) (uuids : List ℕ) (s : Swap) → Law f w shelf → fin.get w.tickets k ≡ Some t → t.settled ≡ true → t.work ≡ Deleting uuids (Some s) → (name : BlobName)
-        → Has (dooms f t) name → Has w.doomed name }
+    ensures { (f : Formats) (w : World) (shelf : List Shelved) (k : ℕ) (t : Ticket) (uuids : List ℕ) (s : Swap) → Law f w shelf → fin.get w.tickets k ≡ Some t → t.settled ≡ true → t.work ≡ Deleting uuids (Some s)
+        → (name : BlobName) → Has (dooms f t) name → Has w.doomed name }
 {}
 
 /// At most one ticket of the present term has a swap that it has not settled.
@@ -358,15 +351,14 @@ pub fn each_restored_shard_is_on_the_shelf()
 
 /// While a restore is open the snapshot of the shelf that it reads stays there as it was when it was asked.
 pub fn each_restored_snapshot_stays()
-    ensures { (f : Formats) (part_size : ℕ) (shelf : List Shelved) (w : World) (log : List Moment) (o : ℕ) (x : Shelved) → TellsHandedOut f w log → Law f w shelf → ReadLaw f w → o < w.next_op → ReadsShelved w shelf o x → IsLegal f part_size w log
-        → AreTold log
-        → AreHonest f w log → ReadsShelved (world_from f w log) (shelf_after shelf (committed f (world_from f w log).safe w log)) o x }
+    ensures { (f : Formats) (part_size : ℕ) (shelf : List Shelved) (w : World) (log : List Moment) (o : ℕ) (x : Shelved) → Law f w shelf → ReadLaw f w → o < w.next_op → ReadsShelved w shelf o x → IsLegal f part_size w log
+        → AreTold log → ReadsShelved (world_from f w log) (shelf_after shelf (committed f (world_from f w log).safe w log)) o x }
 {}
 
 /// In a lawful world each ticket of a restore that is out, and of which no fetch has failed, can read its whole shard and end it: the conditions of its steps can be met.
 pub fn each_reader_can_end()
-    ensures { (f : Formats) (part_size : ℕ) (w : World) (shelf : List Shelved) (k : ℕ) (q : Reader) → Law f w shelf → ReadLaw f w → ReadTracked w → w.deposed ≡ false → ReadsBack f.cluster (record_of w) → IsReading w k q → NoFetchFailed w k q
-        → CanEnd f part_size w k }
+    ensures { (f : Formats) (part_size : ℕ) (w : World) (shelf : List Shelved) (k : ℕ) (q : Reader) → Law f w shelf → ReadLaw f w → ReadTracked w → w.deposed ≡ false → ReadsBack f.cluster (record_of w) → IsReading w k q
+        → NoFetchFailed w k q → CanEnd f part_size w k }
 {}
 
 /// Where a restore is open and none of its tickets is out, some unit is ready.
@@ -381,7 +373,7 @@ pub fn opened_restores_are_lawful()
 
 /// Over each legal history that begins at a lawful world all this holds of restores.
 pub fn each_history_keeps_restores()
-    ensures { (f : Formats) (part_size : ℕ) (shelf : List Shelved) (w : World) (log : List Moment) → TellsHandedOut f w log → Law f w shelf → ReadLaw f w → IsLegal f part_size w log → AreTold log → AreHonest f w log → ReadLaw f (world_from f w log) }
+    ensures { (f : Formats) (part_size : ℕ) (shelf : List Shelved) (w : World) (log : List Moment) → Law f w shelf → ReadLaw f w → IsLegal f part_size w log → AreTold log → ReadLaw f (world_from f w log) }
 {}
 
 /// A step that doesn't swap the record leaves it, whatever it answers and whatever the container tells.
@@ -408,8 +400,7 @@ pub fn each_history_is_ranked()
 /// whatever has counted since then.
 pub fn restores_give_the_shelf_of_their_ask()
     ensures { (f : Formats) (part_size : ℕ) (shelf : List Shelved) (w : World) (before rest : List Moment) (m : Moment) (name place : Bytes) (o uuid : ℕ) (indices : List IndexRef) (k : ℕ) (q : Reader) (files bytes : ℕ)
-        → TellsHandedOut f w (before ++ m ∷ rest) → Law f w shelf → ReadLaw f w
-        → IsLegal f part_size w (before ++ m ∷ rest) → AreTold (before ++ m ∷ rest) → AreHonest f w (before ++ m ∷ rest) → m.entry.step ≡ AskStep (Restore name place) → m.entry.reply ≡ AcceptedRestore o uuid indices
+        → Law f w shelf → ReadLaw f w → IsLegal f part_size w (before ++ m ∷ rest) → AreTold (before ++ m ∷ rest) → m.entry.step ≡ AskStep (Restore name place) → m.entry.reply ≡ AcceptedRestore o uuid indices
         → IsReading (world_from f w (before ++ m ∷ rest)) k q → q.op ≡ o
         → (by : RestoredBy f q files bytes) → IsOnShelf f (shelf_after shelf (committed f (world_from f w before).safe w before)) q files bytes by }
 {}
@@ -433,8 +424,8 @@ pub fn clones_are_of_shelved()
 
 /// A shard of a clone is done with files that its base has, and with two texts.
 pub fn clones_upload_nothing()
-    ensures based { (f : Formats) (w : World) (shelf : List Shelved) (k : ℕ) (t : Ticket) (r : ShardResult) (source : ℕ) → Law f w shelf → IsOut w k t → t.work ≡ Shard r.index r.shard → t.source ≡ Some source → (b : ClonedBy f t source r)
-        → (e : FileEntry) → Has b.was.files e → Has b.base.files e }
+    ensures based { (f : Formats) (w : World) (shelf : List Shelved) (k : ℕ) (t : Ticket) (r : ShardResult) (source : ℕ) → Law f w shelf → IsOut w k t → t.work ≡ Shard r.index r.shard → t.source ≡ Some source
+        → (b : ClonedBy f t source r) → (e : FileEntry) → Has b.was.files e → Has b.base.files e }
     ensures wrote { (f : Formats) (t : Ticket) (r : ShardResult) (source : ℕ) → ClonedBy f t source r → (name : BlobName) (bytes : Bytes) → Has t.wrote (name, bytes)
         → (name ≡ ShardSnap r.index r.shard t.uuid) ⊎ (name ≡ ShardIndex r.index r.shard r.generation) }
 {}
@@ -489,5 +480,6 @@ pub fn the_law_has_these_parts()
 
 /// Where no open op copies a snapshot none does after a step that asks for no clone.
 pub fn only_asks_open_clones()
-    ensures { (f : Formats) (w : World) (m : Moment) → AsksNoClone m.entry.step → ((o : ℕ) (op : Op) → fin.get w.ops o ≡ Some op → op.source ≡ None) → (o : ℕ) (op : Op) → fin.get (after f w m).ops o ≡ Some op → op.source ≡ None }
+    ensures { (f : Formats) (w : World) (m : Moment) → AsksNoClone m.entry.step → ((o : ℕ) (op : Op) → fin.get w.ops o ≡ Some op → op.source ≡ None) → (o : ℕ) (op : Op) → fin.get (after f w m).ops o ≡ Some op
+        → op.source ≡ None }
 {}

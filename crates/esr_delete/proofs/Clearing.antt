@@ -10,7 +10,7 @@ use Rattle.esr_core.specs.World.{Ticket, Work, Swap, Shard, Finalize, Deleting, 
 use Rattle.esr_core.specs.Pruning.{doomed_as, doomed_by, dooms}
 use Rattle.esr_core.specs.Past.{IsRemoval}
 use Rattle.esr_core.specs.Allowed.{HasPutLatest}
-use Rattle.esr_core.specs.Entry.{SettlePruned, RemoveDoomed, EndDelete, PruneStep, Reply, HasEnded, Moment}
+use Rattle.esr_core.specs.Entry.{SettlePruned, RemoveDoomed, EndDelete, DroppedStep, PruneStep, Reply, HasEnded, Moment}
 use Rattle.esr_formats.specs.Names.{name_of}
 use Rattle.esr_reach.specs.Members.{all_has, has_map, in_map}
 use Rattle.esr_desk.specs.declared.refusal.StepRefusal.{StepRefusal}
@@ -18,8 +18,9 @@ use Rattle.esr_desk.specs.Start.{Start, formats_of, ticket_of, world_of}
 use Rattle.esr_desk.specs.Own.{made_of}
 use Rattle.esr_desk.specs.Outcome.{Stepped, Outcome}
 use Rattle.esr_desk.specs.Taken.{HasEndedAs}
-use Rattle.esr_desk.specs.Told.{TellsAll, none_removed}
-use Rattle.esr_desk.specs.Made.{stepped_made}
+use Rattle.esr_desk.specs.Told.{TellsAll, none_removed, drop_fresh}
+use Rattle.esr_desk.specs.Made.{stepped_made, fresh_after}
+use Rattle.esr_desk.specs.Once.{IsFresh}
 use Rattle.esr_desk.specs.Delete.Conditions.{CanSettleDelete, CanEndDelete, CanEndCleanup}
 use Rattle.esr_desk.specs.Delete.Named.{AreNamed, ended_named}
 use Rattle.esr_desk.specs.Delete.Cleaned.{AreGone, NoneFailed, none_failed_yet, none_failed_on}
@@ -80,6 +81,10 @@ no_removal_step is = is
 
 pub none_failed : (s : Start) (old new : List Moment) (who : ℕ) (reply : Reply) → 1 ≤ who → TellsAll s old who → (ticket_of s old who).settled ≡ false → Stepped s old new who (PruneStep SettlePruned) reply → NoneFailed s new who
 none_failed s old new who reply ticket tells unsettled h = none_failed_on s old new who (PruneStep SettlePruned) reply ticket (none_failed_yet s old who tells unsettled) (λ is. absurd (no_removal_step is)) h
+
+-- it has not asked to drop its op
+pub still_undropped : (s : Start) (old new : List Moment) (who : ℕ) (reply : Reply) → 1 ≤ who → TellsAll s old who → Stepped s old new who (PruneStep SettlePruned) reply → IsFresh s new who DroppedStep
+still_undropped s old new who reply ticket tells h = fresh_after s old new who DroppedStep (PruneStep SettlePruned) reply ticket (λ same. same) (drop_fresh s old who tells) h
 
 pub none_named : (s : Start) (log : List Moment) (who : ℕ) (names : List BlobName) → NoneRemoved s log who → AreUnnamed s log who names
 none_named s log who names none e has was is name mine gone = none e has was is

@@ -6,7 +6,7 @@ use Rattle.esr_names.specs.Layout.{IsName}
 use Rattle.esr_model.specs.Names.{BlobName}
 use Rattle.esr_model.specs.Values.{Has}
 use Rattle.esr_core.specs.World.{Ticket}
-use Rattle.esr_core.specs.Entry.{RemoveDoomed, Step, PruneStep, Reply, Moment}
+use Rattle.esr_core.specs.Entry.{RemoveDoomed, Step, DroppedStep, PruneStep, Reply, Moment}
 use Rattle.esr_core.specs.Past.{Repeats, ShareName, removal_names}
 use Rattle.esr_formats.specs.Names.{name_of}
 use Rattle.esr_reach.specs.Names.{AreOnce}
@@ -15,7 +15,7 @@ use Rattle.esr_desk.specs.Start.{Start}
 use Rattle.esr_desk.specs.Own.{made_of}
 use Rattle.esr_desk.specs.Outcome.{Stepped}
 use Rattle.esr_desk.specs.Once.{IsFresh}
-use Rattle.esr_desk.specs.Made.{stepped_made}
+use Rattle.esr_desk.specs.Made.{stepped_made, fresh_after}
 use Rattle.esr_desk.specs.Delete.Conditions.{CanRemove}
 use Rattle.esr_desk.specs.Delete.Named.{AreNamed}
 use Rattle.esr_desk.specs.Delete.Cleaned.{AreGone, removal_gone, still_gone, none_failed_on, still_put}
@@ -145,6 +145,7 @@ none_removed clean s log who = record {
   gone = λ cleans name none. absurd none;
   well = λ cleans well. well;
   put = λ put. put;
+  undropped = λ fresh. fresh;
 }
 
 pub more_removed : (clean : Bool) (s : Start) (old mid new : List Moment) (who : ℕ) (front names : List CodeName) → 1 ≤ who → HasRemoved clean s old mid who (map name_of front) → Removed clean s mid new who (map name_of names) → HasRemoved clean s old new who (map name_of (front ++ names))
@@ -155,6 +156,7 @@ more_removed clean s old mid new who front names ticket was removed =
       gone = λ cleans. more_gone clean s mid new who front names ticket cleans (was.gone cleans) removed;
       well = λ cleans well. none_failed_on s mid new who step removed.reply ticket (was.well cleans well) (λ is. removed.well cleans) removed.step;
       put = λ put. still_put s mid new who step removed.reply ticket (was.put put) removed.step;
+      undropped = λ fresh. fresh_after s mid new who DroppedStep step removed.reply ticket (λ same. same) (was.undropped fresh) removed.step;
     }
 
 pub whole_more : (all front rest : List CodeName) (n : ℕ) → all ≡ front ++ rest → all ≡ (front ++ take n rest) ++ rest_of n rest
@@ -192,4 +194,5 @@ same_removed clean s old new who names once same removed =
       gone = λ cleans name has. removed.gone cleans name (among name has);
       well = removed.well;
       put = removed.put;
+      undropped = removed.undropped;
     }

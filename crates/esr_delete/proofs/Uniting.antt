@@ -5,9 +5,9 @@ use Rattle.esr_core.specs.World.{Ticket, Deleting}
 use Rattle.esr_core.specs.Entry.{Moment}
 use Rattle.esr_names.specs.declared.ids.Id.{Id}
 use Rattle.esr_root.specs.Root as code
-use Rattle.esr_progress.specs.declared.unit.Work.{Work}
-use Rattle.esr_progress.specs.declared.unit.Work.TheVariants as works
-use Rattle.esr_progress.specs.declared.unit.Copied.{Copied}
+use Rattle.esr_ops.specs.declared.unit.Work.{Work}
+use Rattle.esr_ops.specs.declared.unit.Work.TheVariants as works
+use Rattle.esr_ops.specs.declared.unit.Copied.{Copied}
 use Rattle.esr_formats.specs.Ids.{number_of}
 use Rattle.esr_formats.specs.Clusters.{count_of}
 use Rattle.esr_formats.specs.Roots.{root_of}

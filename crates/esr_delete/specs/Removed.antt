@@ -7,7 +7,7 @@ use Rattle.esr_core.specs.World.{Ticket, Deleting, Swap}
 use Rattle.esr_core.specs.Pruning.{dooms}
 use Rattle.esr_core.specs.Past.{removal_names}
 use Rattle.esr_core.specs.Allowed.{HasPutLatest}
-use Rattle.esr_core.specs.Entry.{RemoveDoomed, PruneStep, Reply, WasRemoved, Entry, Moment}
+use Rattle.esr_core.specs.Entry.{RemoveDoomed, DroppedStep, PruneStep, Reply, WasRemoved, Entry, Moment}
 use Rattle.esr_formats.specs.Names.{name_of}
 use Rattle.esr_desk.specs.declared.refusal.StepRefusal.{StepRefusal}
 use Rattle.esr_desk.specs.declared.refusal.StepRefusal.TheVariants as steps
@@ -15,6 +15,7 @@ use Rattle.esr_desk.specs.declared.refusal.EntryRefusal.TheVariants.{DepotFault}
 use Rattle.esr_desk.specs.Start.{Start, formats_of, ticket_of, world_of}
 use Rattle.esr_desk.specs.Own.{made_of}
 use Rattle.esr_desk.specs.Outcome.{Stepped}
+use Rattle.esr_desk.specs.Once.{IsFresh}
 use Rattle.esr_desk.specs.Delete.Named.{AreNamed}
 use Rattle.esr_desk.specs.Delete.Cleaned.{AreGone, NoneFailed}
 use Rattle.esr_delete.specs.Ticket.{HasDone}
@@ -54,6 +55,7 @@ pub record HasRemoved (clean : Bool) (s : Start) (old new : List Moment) (who : 
   pub gone : clean ≡ true → AreGone s new who names
   pub well : clean ≡ true → NoneFailed s old who → NoneFailed s new who
   pub put : HasPutLatest (world_of s old) who → HasPutLatest (world_of s new) who
+  pub undropped : IsFresh s old who DroppedStep → IsFresh s new who DroppedStep
 
 -- the ticket has ended, and all that it dooms was removed before
 pub record IsCleared (clean : Bool) (s : Start) (old new : List Moment) (who : ℕ) : Type 0 where

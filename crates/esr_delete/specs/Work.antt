@@ -1,7 +1,7 @@
 -- The units of this crate, and the root on which they are made.
 use Rattle.std.specs.Prelude.{ℕ, ℤ, pos, negsuc, Option, Some, None}
-use Rattle.esr_progress.specs.declared.unit.Work.{Work}
-use Rattle.esr_progress.specs.declared.unit.Work.TheVariants.{Delete, Cleanup}
+use Rattle.esr_ops.specs.declared.unit.Work.{Work}
+use Rattle.esr_ops.specs.declared.unit.Work.TheVariants.{Delete, Cleanup}
 
 -- the unit is that of a delete or cleanup
 abbrev pub IsPruning : Work → Type 0

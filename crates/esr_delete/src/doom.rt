@@ -35,7 +35,7 @@ use crate::root::write_root;
 use esr_desk::Desk;
 use esr_dooming::{DoomedNames, doomed, reach_set, renew, without_root};
 use esr_names::{BlobName, Ids};
-use esr_progress::Copied;
+use esr_ops::Copied;
 use esr_reach::ShardIndices;
 use esr_root::RootData;
 use esr_unit::Trouble;
@@ -100,7 +100,7 @@ pub fn write_cleanup<Q: Desk>(
     let generation = write_root(alloc, desk, ticket, true, &draft.root)?;
     let names = without_root(alloc, &listed, generation)?;
     Ok(Written {
-        root: draft.root,
+        root: draft.into_root(),
         names,
     })
 }
@@ -133,7 +133,7 @@ pub fn write_delete<Q: Desk>(
     let number = last_root(copy.safe);
     let names = doomed(alloc, number, &copy.root, &draft.root, uuids, held)?;
     Ok(Written {
-        root: draft.root,
+        root: draft.into_root(),
         names,
     })
 }

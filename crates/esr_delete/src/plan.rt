@@ -25,11 +25,35 @@ use std::alloc::Global;
 
 /// What is to be written: an index for each of these shards of which something is left, under ids from the first one on,
 /// and the root.
-#[derive(Drop)]
 pub struct Draft {
     pub shards: PrunedShards,
     pub first: Id,
     pub root: RootData,
+}
+
+impl Draft {
+    /// The root that is to be written.
+    pub fn into_root(self) -> RootData
+        ensures { result ≡ self.root }
+    {
+        let Draft {
+            shards: _shards,
+            first: _,
+            root,
+        } = self;
+        root
+    }
+}
+
+impl Drop for Draft {
+    // Not derived, so that it is one call at each early exit.
+    fn drop(self) {
+        let Draft {
+            shards: _shards,
+            first: _,
+            root: _root,
+        } = self;
+    }
 }
 
 /// Plans over what was gathered.

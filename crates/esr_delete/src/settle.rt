@@ -1,11 +1,13 @@
 //! The settle, the removal of what is doomed, and the end.
 ghost use Rattle.std.specs.Prelude.{◌≡◌, true, false, map, IfErr, OnErr, OnOk};
+ghost use Rattle.esr_core.specs.Entry.{DroppedStep};
 ghost use Rattle.esr_core.specs.Allowed.{HasPutLatest};
 ghost use Rattle.esr_core.specs.Pruning.{dooms};
 ghost use Rattle.esr_formats.specs.Names.{name_of};
 ghost use Rattle.esr_formats.specs.Roots.{root_of};
 ghost use Rattle.esr_desk.specs.Calls.{HasTaken};
 ghost use Rattle.esr_desk.specs.Start.{formats_of, ticket_of, world_of};
+ghost use Rattle.esr_desk.specs.Once.{IsFresh};
 ghost use Rattle.esr_desk.specs.Told.{TellsAll};
 ghost use Rattle.esr_desk.specs.Grew.{GrewBy};
 ghost use Rattle.esr_desk.specs.Halts.{Halts};
@@ -85,6 +87,7 @@ fn clean_up<Q: Desk>(
     requires none { NoneRemoved Q.start (Q.seen desk.old) ticket }
     requires well { NoneFailed Q.start (Q.seen desk.old) ticket }
     requires put { HasPutLatest (world_of Q.start (Q.seen desk.old)) ticket }
+    requires undropped { IsFresh Q.start (Q.seen desk.old) ticket DroppedStep }
     ensures ok { OnOk result (IsCleared true Q.start (Q.seen desk.old) (Q.seen desk.new) ticket) }
     ensures refused { IfErr result (IsCleanRefused
         (evidence Q.Stage.faults Q.Fetch.faults Q.Shard.faults Q.Target.faults Q.Shard.told Q.Target.told)
@@ -107,6 +110,7 @@ fn clean_up<Q: Desk>(
 fn end_cleanup<Q: Desk>(alloc: Global, desk: &mut Q, ticket: u64) -> Result<(), UnitRefusal>
     requires mine { HasTaken (Q.calls desk.old) ticket }
     requires may { CanEndCleanup Q.start (Q.seen desk.old) ticket }
+    requires new { IsFresh Q.start (Q.seen desk.old) ticket DroppedStep }
     ensures ok { OnOk result (IsCleared true Q.start (Q.seen desk.old) (Q.seen desk.new) ticket) }
     ensures refused { IfErr result (IsCleanRefused
         (evidence Q.Stage.faults Q.Fetch.faults Q.Shard.faults Q.Target.faults Q.Shard.told Q.Target.told)
@@ -136,6 +140,7 @@ fn finish<Q: Desk>(
     requires none { NoneRemoved Q.start (Q.seen desk.old) ticket }
     requires well { NoneFailed Q.start (Q.seen desk.old) ticket }
     requires put { clean ≡ true → HasPutLatest (world_of Q.start (Q.seen desk.old)) ticket }
+    requires undropped { IsFresh Q.start (Q.seen desk.old) ticket DroppedStep }
     ensures ok { OnOk result (IsCleared clean Q.start (Q.seen desk.old) (Q.seen desk.new) ticket) }
     ensures refused { IfErr result (IsLateRefused clean
         (evidence Q.Stage.faults Q.Fetch.faults Q.Shard.faults Q.Target.faults Q.Shard.told Q.Target.told)

@@ -30,7 +30,7 @@ use crate::settle::settle;
 use esr_desk::{Desk, Hand, Unit, UnitRefusal};
 use esr_finish::end_early;
 use esr_names::Ids;
-use esr_progress::{Copied, Work};
+use esr_ops::{Copied, Work};
 use esr_seq::Seq;
 use esr_unit::{Trouble, ending_of};
 use std::alloc::Global;

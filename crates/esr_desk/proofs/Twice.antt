@@ -2,7 +2,7 @@
 use Rattle.std.proofs.Common.{◌≡◌, ℕ, ◌≤◌, false, List, [], ◌∷◌, ◌++◌, sym, subst, inl, inr}
 use Rattle.esr_model.specs.Values.{Has, Formats}
 use Rattle.esr_core.specs.World.{World}
-use Rattle.esr_core.specs.Entry.{ReadBlob, FetchShard, PlanShards, SettlePruned, RemoveDoomed, Step, DrawStep, BeginStep, CommitStep, LatestStep, FetchStep, ListStep, RaiseStep, SettleStep, ReadStep, PruneStep, Refusal, Refused, Moment}
+use Rattle.esr_core.specs.Entry.{ReadBlob, FetchShard, PlanShards, SettlePruned, RemoveDoomed, Step, DrawStep, BeginStep, CommitStep, LatestStep, FetchStep, ListStep, RaiseStep, SettleStep, DroppedStep, ReadStep, PruneStep, Refusal, Refused, Moment}
 use Rattle.esr_core.specs.After.{after}
 use Rattle.esr_core.specs.Allowed.{Allowed, Blocks, ByFailedSwap, ByDelete}
 use Rattle.esr_core.specs.History.{world_from, IsLegal}
@@ -37,6 +37,7 @@ one_step (FetchStep n) (FetchStep k) is same = let e : n ≡ k = cc in e
 one_step (ListStep n) (ListStep k) is same = let e : n ≡ k = cc in e
 one_step RaiseStep RaiseStep is same = tt
 one_step SettleStep SettleStep is same = tt
+one_step DroppedStep DroppedStep is same = tt
 one_step (ReadStep (ReadBlob n)) (ReadStep (ReadBlob k)) is same = let e : n ≡ k = cc in e
 one_step (PruneStep (FetchShard n)) (PruneStep (FetchShard k)) is same = let e : n ≡ k = cc in e
 one_step (PruneStep (PlanShards n)) (PruneStep (PlanShards k)) is same = tt
@@ -50,6 +51,7 @@ one_step a (FetchStep k) is same = absurd cc
 one_step a (ListStep k) is same = absurd cc
 one_step a RaiseStep is same = absurd cc
 one_step a SettleStep is same = absurd cc
+one_step a DroppedStep is same = absurd cc
 one_step a (ReadStep (ReadBlob k)) is same = absurd cc
 one_step a (PruneStep (FetchShard k)) is same = absurd cc
 one_step a (PruneStep (PlanShards k)) is same = absurd cc

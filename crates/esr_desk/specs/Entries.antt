@@ -13,7 +13,7 @@ use Rattle.esr_formats.specs.Infos.{info_of_code}
 use Rattle.esr_formats.specs.Clusters.{count_of}
 use Rattle.esr_results.specs.Pruned.{pruned_of}
 use Rattle.esr_results.specs.Results.{result_of}
-use Rattle.esr_progress.specs.Asked.{asked_of}
+use Rattle.esr_ops.specs.Asked.{asked_of}
 use Rattle.esr_desk.specs.declared.entry.Why.{Why}
 use Rattle.esr_desk.specs.declared.entry.Why.TheVariants as whys
 use Rattle.esr_desk.specs.declared.entry.Read.{Read}

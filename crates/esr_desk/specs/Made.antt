@@ -133,7 +133,8 @@ keeps entries x who e old h = by (is_counted x.reply)
     by false = h
 
 -- unless who 0 begins anew
-pub kept_made : (s : Start) (old new : List Moment) (who : ℕ) (step : Step) (reply : Reply) → 1 ≤ who → begins_anew who step ≡ false → Stepped s old new who step reply → (e : Entry) → Has (made_of s old who) e → Has (made_of s new who) e
+pub kept_made : (s : Start) (old new : List Moment) (who : ℕ) (step : Step) (reply : Reply) → 1 ≤ who → begins_anew who step ≡ false → Stepped s old new who step reply → (e : Entry) → Has (made_of s old who) e
+    → Has (made_of s new who) e
 kept_made s old new who step reply ticket old_one h e has =
     let last : Entry = record { who = who; step = step; reply = reply } in
     let front : Has (made_of s h.front who) e = subst (λ (entries : List Entry). Has entries e) (sym (waited_made s old h.front who ticket h.waited)) has in

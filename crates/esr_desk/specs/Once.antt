@@ -2,7 +2,7 @@
 use Rattle.std.specs.Prelude.{◌≡◌, ℕ, ◌≤◌, List, [], ◌∷◌, ◌++◌}
 use Rattle.esr_model.specs.Names.{BlobName}
 use Rattle.esr_model.specs.Values.{Has}
-use Rattle.esr_core.specs.Entry.{Read, ReadBlob, Prune, FetchShard, PlanShards, SettlePruned, RemoveDoomed, Step, DrawStep, BeginStep, CommitStep, LatestStep, FetchStep, ListStep, RaiseStep, SettleStep, ReadStep, PruneStep, DeposedAt, Reply, Refused, Moment}
+use Rattle.esr_core.specs.Entry.{Read, ReadBlob, Prune, FetchShard, PlanShards, SettlePruned, RemoveDoomed, Step, DrawStep, BeginStep, CommitStep, LatestStep, FetchStep, ListStep, RaiseStep, SettleStep, DroppedStep, ReadStep, PruneStep, DeposedAt, Reply, Refused, Moment}
 use Rattle.esr_core.specs.Allowed.{IsMetadata}
 use Rattle.esr_core.specs.Past.{IsNewStep}
 use Rattle.esr_desk.specs.Start.{Start, ticket_of, world_of}
@@ -40,6 +40,7 @@ IsSingle (FetchStep name) = Unit {0}
 IsSingle (ListStep after) = Unit {0}
 IsSingle RaiseStep = Unit {0}
 IsSingle SettleStep = Unit {0}
+IsSingle DroppedStep = Unit {0}
 IsSingle (ReadStep read) = IsBlobRead read
 IsSingle (PruneStep prune) = IsOnePrune prune
 IsSingle step = ⊥
@@ -67,7 +68,7 @@ IsNew log who step = (m : Moment) → Has log m → m.entry.who ≡ who → WasM
 abbrev pub HasMadeNone : List Moment → ℕ → Type 0
 HasMadeNone log who = (m : Moment) → Has log m → m.entry.who ≡ who → WasMade m.entry.reply → ⊥
 
--- no ticket makes a step twice on one name, or lists twice after one, and each draws, raises, puts `index.latest` and settles at most once
+-- no ticket makes a step twice on one name, or lists twice after one, and each draws, raises, puts `index.latest`, settles and drops at most once
 abbrev pub NoneTwice : List Moment → Type 0
 NoneTwice log = (front back : List Moment) (m : Moment) → log ≡ front ++ m ∷ back → 1 ≤ m.entry.who → IsSingle m.entry.step → WasMade m.entry.reply → IsNew front m.entry.who m.entry.step
 

@@ -1,11 +1,11 @@
 -- What a desk learns by a step.
-use Rattle.std.specs.Prelude.{◌≡◌, ◌≢◌, ℕ, ◌^◌, ◌≤◌, true, false, List, [], ◌∷◌, ◌++◌, length, Option, Some, None, Result, Ok, Err}
+use Rattle.std.specs.Prelude.{◌≡◌, ◌≢◌, ℕ, ◌+◌, ◌^◌, ◌≤◌, true, false, List, [], ◌∷◌, ◌++◌, length, Option, Some, None, Result, Ok, Err}
 use Rattle.esr_core.specs.World.{Deleting, Drop, Swap}
 use Rattle.esr_core.specs.Entry.{Step, Reply, Refusal, Refused, NothingReady, Gave, WasDone, WasThere, WasFetched, WasAbsent, Moment}
 use Rattle.esr_model.specs.Image.{Image}
 use Rattle.esr_depot.specs.declared.depot.Commit.{Commit}
 use Rattle.esr_depot.specs.declared.depot.Commit.TheVariants as commits
-use Rattle.esr_progress.specs.Units.{given_of}
+use Rattle.esr_ops.specs.Units.{given_of}
 use Rattle.esr_desk.specs.declared.unit.Unit.{Unit as Given}
 use Rattle.esr_desk.specs.declared.refusal.EntryRefusal.TheVariants as refusals
 use Rattle.esr_desk.specs.declared.refusal.StepRefusal.{StepRefusal}
@@ -47,10 +47,10 @@ pub record IsOfOp (s : Start) (log : List Moment) (who : ℕ) : Type 0 where
   pub no_delete : (uuids : List ℕ) (plan : Option Swap) → (ticket_of s log who).work ≡ Deleting uuids plan → ⊥
   pub no_reader : (reader_of s log who).out ≡ false
 
--- Turns are spent only after 2 ^ 33 entries; the container fails only where it isn't quiet; and a delete aborts no other unit.
+-- Turns are spent only where 2 ^ 33 were taken, each by an entry or before the history began; the container fails only where it isn't quiet; and a delete aborts no other unit.
 abbrev pub Grounds : Start → List Moment → ℕ → StepRefusal → Type 0
 Grounds s log who steps.Memory = Unit {0}
-Grounds s log who steps.TurnsSpent = 2 ^ 33 ≤ length log
+Grounds s log who steps.TurnsSpent = 2 ^ 33 ≤ s.earlier_turns + length log
 Grounds s log who (steps.Refused refusals.DepotFault) = s.quiet ≡ false
 Grounds s log who (steps.Refused (refusals.Aborted by)) = IsOfOp s log who
 Grounds s log who (steps.Refused refusal) = Unit {0}

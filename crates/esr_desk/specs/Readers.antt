@@ -5,9 +5,9 @@ use Rattle.esr_model.specs.Values.{Bytes}
 use Rattle.esr_core.specs.World.{World, Reader}
 use Rattle.esr_core.specs.Restores.{read_more}
 use Rattle.esr_core.specs.Entry.{Moment}
-use Rattle.esr_progress.specs.Units.{IsCopyOf}
-use Rattle.esr_progress.specs.declared.unit.Work.{Work}
-use Rattle.esr_progress.specs.declared.unit.Work.TheVariants as works
+use Rattle.esr_ops.specs.Units.{IsCopyOf}
+use Rattle.esr_ops.specs.declared.unit.Work.{Work}
+use Rattle.esr_ops.specs.declared.unit.Work.TheVariants as works
 use Rattle.esr_desk.specs.declared.unit.Unit.{Unit as Given}
 use Rattle.esr_desk.specs.Start.{Start, world_of}
 use Rattle.esr_desk.specs.Own.{reader_of}

@@ -23,6 +23,8 @@ pub record Start : Type 0 where
   pub sure_targets : Bool
   -- nobody else makes a step, and there are 2^40 turns
   pub alone : Bool
+  -- how many turns were taken before the history began
+  pub earlier_turns : ℕ
   -- the opened world
   pub world : World
 

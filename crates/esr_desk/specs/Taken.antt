@@ -16,9 +16,9 @@ use Rattle.esr_formats.specs.Roots.{root_of}
 use Rattle.esr_formats.specs.Infos.{info_of_code}
 use Rattle.esr_formats.specs.Clusters.{count_of}
 use Rattle.esr_results.specs.Results.{result_of}
-use Rattle.esr_progress.specs.declared.unit.Work.{Work as CodeWork}
-use Rattle.esr_progress.specs.declared.unit.Work.TheVariants as works
-use Rattle.esr_progress.specs.declared.unit.Copied.{Copied}
+use Rattle.esr_ops.specs.declared.unit.Work.{Work as CodeWork}
+use Rattle.esr_ops.specs.declared.unit.Work.TheVariants as works
+use Rattle.esr_ops.specs.declared.unit.Copied.{Copied}
 use Rattle.esr_desk.specs.declared.unit.Unit.{Unit as Given}
 use Rattle.esr_desk.specs.declared.refusal.StepRefusal.{StepRefusal}
 use Rattle.esr_desk.specs.declared.refusal.StepRefusal.TheVariants as steps

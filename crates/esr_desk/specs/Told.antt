@@ -8,7 +8,7 @@ use Rattle.esr_model.specs.Names.{BlobName, Latest}
 use Rattle.esr_model.specs.Values.{Bytes, Has}
 use Rattle.esr_model.specs.Cleanup.{BlobSize, IsAfter, last_text, is_short, IsPage}
 use Rattle.esr_core.specs.World.{Ticket}
-use Rattle.esr_core.specs.Entry.{Step, DrawStep, BeginStep, CommitStep, LatestStep, FetchStep, RaiseStep, SettleStep, ListStep, ReadStep, PruneStep, Prune, FetchShard, PlanShards, SettlePruned, RemoveDoomed, Reply, WasBegun, WasListed, Entry, Moment}
+use Rattle.esr_core.specs.Entry.{Step, DrawStep, BeginStep, CommitStep, LatestStep, FetchStep, RaiseStep, SettleStep, DroppedStep, ListStep, ReadStep, PruneStep, Prune, FetchShard, PlanShards, SettlePruned, RemoveDoomed, Reply, WasBegun, WasListed, Entry, Moment}
 use Rattle.esr_core.specs.Past.{Repeats, RepeatsPrune}
 use Rattle.esr_core.specs.After.{fetching}
 use Rattle.esr_core.specs.Steps.{listing}
@@ -30,7 +30,7 @@ ComesBefore after (Some text) = IsAfter after text
 abbrev pub HasListed : List BlobSize → Bool → Option Bytes → Type 0
 HasListed listed whole after = (whole ≡ true) ⊎ ComesBefore after (last_text listed)
 
--- the ticket tells that it made the step
+-- the ticket tells that it made the step; of a drop none tells, so that it made none
 abbrev pub TellsStep : Ticket → Step → Type 0
 TellsStep t (DrawStep count) = t.drawn ≢ 0
 TellsStep t (BeginStep name) = ((name ≢ Latest) × Has t.noted name) ⊎ ((name ≡ Latest) × (t.tried_latest ≡ true))
@@ -39,6 +39,7 @@ TellsStep t LatestStep = t.tried_latest ≡ true
 TellsStep t (ListStep after) = HasListed t.listed t.whole after
 TellsStep t RaiseStep = t.raised ≢ None
 TellsStep t SettleStep = t.settled ≡ true
+TellsStep t DroppedStep = ⊥
 TellsStep t (PruneStep SettlePruned) = t.settled ≡ true
 TellsStep t (PruneStep (RemoveDoomed names)) = t.settled ≡ true
 TellsStep t step = Unit {0}
@@ -70,6 +71,7 @@ repeats_told t (FetchStep a) (FetchStep b) same told = tt
 repeats_told t (ListStep a) (ListStep b) same told = subst (λ (after : Option Bytes). TellsStep t (ListStep after)) same told
 repeats_told t RaiseStep RaiseStep same told = told
 repeats_told t SettleStep SettleStep same told = told
+repeats_told t DroppedStep DroppedStep same told = told
 repeats_told t (ReadStep a) (ReadStep b) same told = tt
 repeats_told t (PruneStep a) (PruneStep b) same told = prune_told t a b same told
 repeats_told t was step same told = absurd same
@@ -121,6 +123,7 @@ gone_tells old new on LatestStep h = on.tried h
 gone_tells old new on (ListStep after) h = on.listed after h
 gone_tells old new on RaiseStep h = on.raised h
 gone_tells old new on SettleStep h = on.settled h
+gone_tells old new on DroppedStep h = h
 gone_tells old new on (PruneStep SettlePruned) h = on.settled h
 gone_tells old new on (PruneStep (RemoveDoomed names)) h = on.settled h
 gone_tells old new on step h = tt
@@ -177,7 +180,8 @@ tried_on t = record { drawn = λ h. h; noted = λ name h. h; tried = λ h. refl;
 tried_much : (t u : Ticket) → u ≡ tried t → TellsAsMuch t u
 tried_much t u is = subst (TellsAsMuch t) (sym is) (gone_tells t (tried t) (tried_on t))
 
-pub latest_begin_tells : (s : Start) (old new : List Moment) (who : ℕ) (reply : Reply) → 1 ≤ who → TellsAll s old who → Stepped s old new who (BeginStep Latest) reply → ticket_of s new who ≡ tried (ticket_of s old who) → TellsAll s new who
+pub latest_begin_tells : (s : Start) (old new : List Moment) (who : ℕ) (reply : Reply) → 1 ≤ who → TellsAll s old who → Stepped s old new who (BeginStep Latest) reply → ticket_of s new who ≡ tried (ticket_of s old who)
+    → TellsAll s new who
 latest_begin_tells s old new who reply ticket tells h is =
     stepped_tells s old new who (BeginStep Latest) reply ticket tells h (tried_much (ticket_of s old who) (ticket_of s new who) is) (inr (refl, ap (λ (t : Ticket). t.tried_latest) is))
 
@@ -203,6 +207,9 @@ raise_tells s old new who n reply ticket tells h is =
   where
     some : Some n ≡ None → ⊥
     some e = cc
+
+pub drop_fresh : (s : Start) (log : List Moment) (who : ℕ) → TellsAll s log who → IsFresh s log who DroppedStep
+drop_fresh s log who tells = untold_fresh s log who DroppedStep tells (λ told. told)
 
 pub settle_fresh : (s : Start) (log : List Moment) (who : ℕ) → TellsAll s log who → (ticket_of s log who).settled ≡ false → IsFresh s log who SettleStep
 settle_fresh s log who tells unsettled = untold_fresh s log who SettleStep tells (λ told. true≢false (sym told ∙ unsettled))

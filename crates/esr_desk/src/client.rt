@@ -10,7 +10,7 @@ ghost use Rattle.esr_formats.specs.Names.{name_of, name_kind};
 ghost use Rattle.esr_formats.specs.Refs.{ref_of_code};
 ghost use Rattle.esr_formats.specs.Roots.{root_snap_of};
 ghost use Rattle.esr_formats.specs.Clusters.{count_of};
-ghost use Rattle.esr_progress.specs.Asked.{asked_of, IsAskable};
+ghost use Rattle.esr_ops.specs.Asked.{asked_of, IsAskable};
 ghost use Rattle.esr_desk.specs.Own.{caller_of};
 ghost use Rattle.esr_desk.specs.Once.{IsFresh};
 ghost use Rattle.esr_desk.specs.Caller.{drawn_by, removed_more};
@@ -23,7 +23,7 @@ ghost use Rattle.esr_desk.specs.Verify.Conditions.{CanDrawTest, IsOwn, HoldsText
 use crate::{AcceptedRestore, Desk, Look, Named, StepRefusal};
 use esr_depot::Stage;
 use esr_names::{BlobName, Id, IndexNames, SnapName, SnapNames};
-use esr_progress::Command;
+use esr_ops::Command;
 use esr_seq::{Seq, Text};
 use std::alloc::Global;
 

@@ -347,6 +347,7 @@ pub trait Desk {
     fn end_drop(&mut self, alloc: Global, ticket: u64) -> Result<(), StepRefusal>
         requires mine { HasTaken (calls self.old) ticket }
         requires may { CanDrop (ticket_of start (seen self.old) ticket) }
+        requires new { IsFresh start (seen self.old) ticket DroppedStep }
         ensures step { Outcome start (seen self.old) (seen self.new) ticket DroppedStep (λ _. HasEnded) result }
         ensures own { OnOk result (HasEndedAs (ticket_of start (seen self.old) ticket) (ticket_of start (seen self.new) ticket)) }
         ensures kept { LeftBy (HasEndedAs (ticket_of start (seen self.old) ticket)) result (ticket_of start (seen self.old) ticket) (ticket_of start (seen self.new) ticket) }
@@ -356,6 +357,7 @@ pub trait Desk {
     fn end_cleanup(&mut self, alloc: Global, ticket: u64) -> Result<(), StepRefusal>
         requires mine { HasTaken (calls self.old) ticket }
         requires may { CanEndCleanup start (seen self.old) ticket }
+        requires new { IsFresh start (seen self.old) ticket DroppedStep }
         ensures step { Outcome start (seen self.old) (seen self.new) ticket DroppedStep (λ _. HasEnded) result }
         ensures own { OnOk result (HasEndedAs (ticket_of start (seen self.old) ticket) (ticket_of start (seen self.new) ticket)) }
         ensures kept { LeftBy (HasEndedAs (ticket_of start (seen self.old) ticket)) result (ticket_of start (seen self.old) ticket) (ticket_of start (seen self.new) ticket) }

@@ -5,7 +5,7 @@ use esr_hash::Print;
 use esr_json::Reason;
 use esr_meta::SnapInfo;
 use esr_names::{BlobName, Id, Ids, IndexNames, IndexRefs, ShardId, SnapName};
-use esr_progress::Command;
+use esr_ops::Command;
 use esr_results::{PrunedShards, ShardResult, ShardResults};
 use esr_root::RootSnaps;
 use esr_seq::{Seq, Text};

@@ -9,6 +9,7 @@ mod hand;
 mod law;
 mod named;
 mod refusal;
+mod sole;
 mod target;
 mod unit;
 
@@ -20,5 +21,6 @@ pub use hand::Hand;
 pub use law::{each_ticket_is_given_once, each_ticket_is_new, no_step_is_made_twice};
 pub use named::Named;
 pub use refusal::{EntryRefusal, StepRefusal};
+pub use sole::Sole;
 pub use target::{RestoredTarget, RestoredTargets, Unended};
 pub use unit::{AcceptedRestore, Look, Planned, Unit, UnitRefusal};

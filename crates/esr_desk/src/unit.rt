@@ -4,7 +4,7 @@ ghost use Rattle.esr_desk.specs.declared.unit.UnitRefusal.TheVariants.{Stopped};
 
 use crate::{StepRefusal, Why};
 use esr_names::{Id, IndexRefs};
-use esr_progress::ReadyUnit;
+use esr_ops::ReadyUnit;
 use esr_root::{RootData, RootSnaps};
 
 /// A unit that was taken. A finalization has the root that it is to write, too.

@@ -157,6 +157,7 @@ impl<'a, R: Files<File = File> + Eprint> Folder<'a, R> {
             path,
             file,
             is_broken: false,
+            is_synced: false,
         })
     }
 

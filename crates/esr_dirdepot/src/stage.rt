@@ -12,6 +12,8 @@ pub struct StageFile {
     pub(crate) path: Text,
     pub(crate) file: File,
     pub(crate) is_broken: bool,
+    /// All that was written is on the disk.
+    pub(crate) is_synced: bool,
 }
 
 /// A blob that is being written into a file of its own, which isn't among the blobs yet.
@@ -30,18 +32,23 @@ impl StageFile {
             return Err(ErrorKind::InvalidData.into());
         }
         self.is_broken = true;
+        self.is_synced = false;
         self.file.write_all(piece)?;
         if is_last {
             self.file.sync_all()?;
         }
         self.is_broken = false;
+        self.is_synced = is_last;
         Ok(())
     }
 
-    /// Puts what was written on the disk.
+    /// Puts what was written on the disk, unless it is there.
     pub(crate) fn sync(&self) -> io::Result<()> {
         if self.is_broken {
             return Err(ErrorKind::InvalidData.into());
+        }
+        if self.is_synced {
+            return Ok(());
         }
         self.file.sync_all()
     }

@@ -3,7 +3,7 @@ use esr_depot::{PAGE, is_after};
 use esr_seq::Text;
 use std::alloc::Global;
 use std::collections::{BTreeMap, BTreeSet};
-use std::fs::{self, File};
+use std::fs::{self, File, Metadata};
 use std::io::{self, ErrorKind};
 use std::rt::Files;
 
@@ -37,15 +37,14 @@ pub fn first_below<R: Files<File = File>>(
         lengths: BTreeMap::new(alloc),
         waiting: BTreeMap::new(alloc),
     };
-    walk.look_into(files, alloc, top, "")?;
-    for _ in 0..u64::MAX {
-        match walk.next() {
-            None => return Ok(walk.lengths),
-            Some((name, Waiting::Entry)) => walk.look_at(files, alloc, top, name)?,
-            Some((name, Waiting::Rest)) => walk.look_into(files, alloc, top, name.as_str())?,
-        }
-    }
-    Err(ErrorKind::InvalidData.into())
+    walk.fill(files, alloc, top)?;
+    Ok(walk.lengths)
+}
+
+/// What stands at that name.
+fn found_at<R: Files>(files: &R, alloc: Global, top: &str, entry: &str) -> io::Result<Metadata> {
+    let path = format!(in alloc; "{top}/{entry}")?;
+    fs::symlink_metadata(files, path.as_str())
 }
 
 /// The folder that has an entry of that name, with a slash at its end, or nothing for the top.
@@ -66,8 +65,39 @@ impl Walk<'_> {
         }
     }
 
-    /// Lets the entries wait that stand from this name on in its folder: as many as a page takes, and from where on the
-    /// others stand.
+    /// Walks until the page is full, or nothing waits.
+    fn fill<R: Files<File = File>>(
+        &mut self,
+        files: &R,
+        alloc: Global,
+        top: &str,
+    ) -> io::Result<()> {
+        self.look_into(files, alloc, top, "")?;
+        for _ in 0..u64::MAX {
+            let Some((name, waiting)) = self.next() else {
+                return Ok(());
+            };
+            self.look(files, alloc, top, name, waiting)?;
+        }
+        Err(ErrorKind::InvalidData.into())
+    }
+
+    /// Looks at an entry, or into its folder from it on.
+    fn look<R: Files<File = File>>(
+        &mut self,
+        files: &R,
+        alloc: Global,
+        top: &str,
+        name: Text,
+        waiting: Waiting,
+    ) -> io::Result<()> {
+        match waiting {
+            Waiting::Entry => self.look_at(files, alloc, top, name),
+            Waiting::Rest => self.look_into(files, alloc, top, name.as_str()),
+        }
+    }
+
+    /// Lets the entries wait that stand from this name on in its folder.
     fn look_into<R: Files<File = File>>(
         &mut self,
         files: &R,
@@ -75,20 +105,63 @@ impl Walk<'_> {
         top: &str,
         from: &str,
     ) -> io::Result<()> {
+        let mut entries = BTreeSet::new(alloc);
+        self.read(files, alloc, top, from, &mut entries)?;
+        self.let_wait(entries)
+    }
+
+    /// Reads the folder of this name.
+    fn read<R: Files<File = File>>(
+        &self,
+        files: &R,
+        alloc: Global,
+        top: &str,
+        from: &str,
+        entries: &mut BTreeSet<Text>,
+    ) -> io::Result<()> {
         let folder = folder_of(from);
         let path = format!(in alloc; "{top}/{folder}")?;
-        let mut entries = BTreeSet::new(alloc);
-        for entry in fs::read_dir(&(files, alloc), path.as_str())? {
+        self.read_at(files, alloc, path.as_str(), from, entries)
+    }
+
+    /// Adds the entries of the folder at a path that stand from this name on, as many as a page takes and the next one.
+    fn read_at<R: Files<File = File>>(
+        &self,
+        files: &R,
+        alloc: Global,
+        path: &str,
+        from: &str,
+        entries: &mut BTreeSet<Text>,
+    ) -> io::Result<()> {
+        for entry in fs::read_dir(&(files, alloc), path)? {
             let entry = entry?;
-            let entry_name = entry.file_name();
-            let name = Text::from_string(format!(in alloc; "{folder}{entry_name}")?);
-            if from <= name.as_str() && self.may_have(name.as_str()) {
-                entries.insert(name)?;
-                if entries.len() > PAGE + 1 {
-                    entries.pop_last();
-                }
+            self.add(alloc, from, entry.file_name(), entries)?;
+        }
+        Ok(())
+    }
+
+    /// Adds an entry that stands from this name on, and takes the last one away where they are more than a page and one.
+    fn add(
+        &self,
+        alloc: Global,
+        from: &str,
+        entry: &str,
+        entries: &mut BTreeSet<Text>,
+    ) -> io::Result<()> {
+        let folder = folder_of(from);
+        let name = Text::from_string(format!(in alloc; "{folder}{entry}")?);
+        if from <= name.as_str() && self.may_have(name.as_str()) {
+            entries.insert(name)?;
+            if entries.len() > PAGE + 1 {
+                entries.pop_last();
             }
         }
+        Ok(())
+    }
+
+    /// Lets as many entries wait as a page takes, and from where on the others stand.
+    fn let_wait(&mut self, entries: BTreeSet<Text>) -> io::Result<()> {
+        let mut entries = entries;
         if entries.len() > PAGE
             && let Some(rest) = entries.pop_last()
         {
@@ -100,7 +173,7 @@ impl Walk<'_> {
         Ok(())
     }
 
-    /// Keeps a file that comes after the page's beginning, and lets a folder's entries wait.
+    /// Keeps a file, and lets a folder's entries wait.
     fn look_at<R: Files<File = File>>(
         &mut self,
         files: &R,
@@ -108,20 +181,29 @@ impl Walk<'_> {
         top: &str,
         name: Text,
     ) -> io::Result<()> {
-        let entry = name.as_str();
-        let path = format!(in alloc; "{top}/{entry}")?;
-        let found = fs::symlink_metadata(files, path.as_str())?;
+        let found = found_at(files, alloc, top, name.as_str())?;
         if found.is_file() {
-            if is_after(self.after, entry) {
-                self.lengths.insert(name, found.len())?;
-            }
+            self.keep(name, found.len())
         } else if found.is_dir() {
-            let inside = Text::from_string(format!(in alloc; "{entry}/")?);
-            if self.may_have(inside.as_str()) {
-                self.waiting.insert(inside, Waiting::Rest)?;
-            }
+            self.enter(alloc, name.as_str())
         } else {
-            return Err(ErrorKind::InvalidData.into());
+            Err(ErrorKind::InvalidData.into())
+        }
+    }
+
+    /// Keeps a file that comes after the page's beginning.
+    fn keep(&mut self, name: Text, length: u64) -> io::Result<()> {
+        if is_after(self.after, name.as_str()) {
+            self.lengths.insert(name, length)?;
+        }
+        Ok(())
+    }
+
+    /// Lets the entries of a folder wait of which a name may be of the page.
+    fn enter(&mut self, alloc: Global, folder: &str) -> io::Result<()> {
+        let inside = Text::from_string(format!(in alloc; "{folder}/")?);
+        if self.may_have(inside.as_str()) {
+            self.waiting.insert(inside, Waiting::Rest)?;
         }
         Ok(())
     }

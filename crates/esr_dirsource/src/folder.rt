@@ -26,10 +26,31 @@ pub(crate) fn list<R: Files>(rt: &R, alloc: Global, folder: &str) -> io::Result<
 /// The files of a folder, in any order.
 fn files_in<R: Files>(rt: &R, alloc: Global, folder: &str) -> io::Result<Vec<ListedFile>> {
     let mut files = Vec::new(alloc);
-    for entry in fs::read_dir(&(rt, alloc), folder)? {
-        files.push(listed_file(alloc, &entry?)?)?;
-    }
+    add_files(rt, alloc, folder, &mut files)?;
     Ok(files)
+}
+
+/// Adds the files of a folder, in any order.
+fn add_files<R: Files>(
+    rt: &R,
+    alloc: Global,
+    folder: &str,
+    files: &mut Vec<ListedFile>,
+) -> io::Result<()> {
+    for entry in fs::read_dir(&(rt, alloc), folder)? {
+        add_file(alloc, &entry?, files)?;
+    }
+    Ok(())
+}
+
+/// Adds what is listed of an entry.
+fn add_file<R: Files>(
+    alloc: Global,
+    entry: &DirEntry<R>,
+    files: &mut Vec<ListedFile>,
+) -> io::Result<()> {
+    files.push(listed_file(alloc, entry)?)?;
+    Ok(())
 }
 
 /// What is listed of an entry. One that isn't a plain file fails, a symbolic link too.

@@ -1,7 +1,7 @@
 -- What a take says.
 use Rattle.std.proofs.Common.{◌≡◌, List, Option, Some, None, subst}
 use Rattle.esr_core.specs.Entry.{TakeStep, NothingReady, Gave, Moment}
-use Rattle.esr_progress.specs.Units.{given_of}
+use Rattle.esr_ops.specs.Units.{given_of}
 use Rattle.esr_desk.specs.declared.unit.Unit.{Unit as Given}
 use Rattle.esr_desk.specs.Calls.{Call, with_call}
 use Rattle.esr_desk.specs.Start.{Start}

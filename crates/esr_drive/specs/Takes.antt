@@ -44,7 +44,8 @@ stepped_takes s old new step reply alone h =
     omega (arith, before, whole, one)
 
 -- by one that is refused
-pub refused_takes : (s : Start) (old new : List Moment) (step : Step) (refusal : Option Refusal) → s.alone ≡ true → ((r : Refusal) → idle_take 0 step (Refused r) ≡ 0) → Refusing s old new 0 step refusal → idle_takes new ≡ idle_takes old
+pub refused_takes : (s : Start) (old new : List Moment) (step : Step) (refusal : Option Refusal) → s.alone ≡ true → ((r : Refusal) → idle_take 0 step (Refused r) ≡ 0) → Refusing s old new 0 step refusal
+    → idle_takes new ≡ idle_takes old
 refused_takes s old new step None alone none h = ap idle_takes (h.grew ∙ ap (λ (l : List Moment). old ++ l) (h.nobody alone) ∙ append-nil old)
 refused_takes s old new step (Some r) alone none h =
     let whole : idle_takes new ≡ idle_takes old + idle_take 0 step (Refused r) = stepped_takes s old new step (Refused r) alone h in
@@ -71,8 +72,8 @@ unit_takes s who old new alone some g =
     omega (arith, whole, none)
 
 -- a unit is taken and worked
-pub round_takes : (s : Start) (old mid took new : List Moment) (ticket op : ℕ) (given : Given) → s.alone ≡ true → ticket ≢ 0 → idle_takes mid ≡ idle_takes old → Stepped s mid took 0 TakeStep (Gave ticket op given) → GrewBy s ticket took new
-    → idle_takes new ≡ idle_takes old
+pub round_takes : (s : Start) (old mid took new : List Moment) (ticket op : ℕ) (given : Given) → s.alone ≡ true → ticket ≢ 0 → idle_takes mid ≡ idle_takes old → Stepped s mid took 0 TakeStep (Gave ticket op given)
+    → GrewBy s ticket took new → idle_takes new ≡ idle_takes old
 round_takes s old mid took new ticket op given alone some was gave g =
     let one : idle_takes took ≡ idle_takes mid + 0 = stepped_takes s mid took TakeStep (Gave ticket op given) alone gave in
     let unit : idle_takes new ≡ idle_takes took = unit_takes s ticket took new alone some g in

@@ -17,7 +17,7 @@ ghost use Rattle.esr_drive.specs.Stopped.{IsDrop, IsHalted, IsUnitStopped, HasEn
 
 use crate::law::laws;
 use esr_desk::{Desk, EntryRefusal, StepRefusal, Unit, UnitRefusal};
-use esr_progress::Work;
+use esr_ops::Work;
 use esr_source::{Gate, Sources, Targets};
 use std::alloc::Global;
 
@@ -52,6 +52,7 @@ fn end_stale<Q: Desk>(alloc: Global, desk: &mut Q, ticket: u64) -> UnitRefusal
 fn drop_op<Q: Desk>(alloc: Global, desk: &mut Q, unit: &Unit) -> Result<(), UnitRefusal>
     requires mine { HasTaken (Q.calls desk.old) unit.now.ready.ticket }
     requires fresh { Took Q.start (Q.seen desk.old) unit.now }
+    requires new { made_of Q.start (Q.seen desk.old) unit.now.ready.ticket ≡ [] }
     requires work { IsDrop unit.now.ready.work }
     ensures stopped { IfErr result (IsUnitStopped Q.start (Q.seen desk.new) unit.now.ready.ticket) }
     ensures ended { HasEnded result (ticket_of Q.start (Q.seen desk.new) unit.now.ready.ticket) }

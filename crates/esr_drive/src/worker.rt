@@ -4,7 +4,6 @@ ghost use Rattle.esr_core.specs.Entry.{TakeStep, NothingReady};
 ghost use Rattle.esr_core.specs.Ready.{AnyReady};
 ghost use Rattle.esr_core.specs.Tracked.{Tracked};
 ghost use Rattle.esr_core.specs.ReadTracked.{ReadTracked};
-ghost use Rattle.esr_desk.specs.Calls.{calls_at};
 ghost use Rattle.esr_desk.specs.Last.{IsLast};
 ghost use Rattle.esr_desk.specs.Grew.{NoneOut};
 ghost use Rattle.esr_desk.specs.Outcome.{Stepped};
@@ -20,10 +19,7 @@ ghost use Rattle.esr_drive.specs.Takes.{idle_takes};
 
 use crate::law::laws;
 use crate::unit::do_next;
-use esr_depot::Depot;
-use esr_desk::{Desk, StepRefusal};
-use esr_repo::Told;
-use esr_solo::Solo;
+use esr_desk::{Desk, Sole, StepRefusal};
 use esr_source::{Gate, Sources, Targets};
 use std::alloc::Global;
 
@@ -101,27 +97,27 @@ pub fn work<Q: Desk<Shard = S::Shard, Target = T::Target>, S: Sources, T: Target
 
 /// Takes and does the units that are ready, one after another, as `work`, where nobody else makes a step. Whether one is ready is
 /// looked up before, so no take finds none.
-pub fn work_off<D: Depot, K: Told, S: Sources, T: Targets, G: Gate>(
+pub fn work_off<Q: Sole<Shard = S::Shard, Target = T::Target>, S: Sources, T: Targets, G: Gate>(
     alloc: Global,
-    desk: &mut Solo<D, K, S::Shard, T::Target>,
+    desk: &mut Q,
     sources: &S,
     targets: &T,
     gate: &G,
     part_size: u64,
 ) -> Result<(), StepRefusal>
-    requires alone { K.start.alone ≡ true }
-    requires outside { IsOutside K.start (S.told sources.now) (T.told targets.now) part_size }
-    requires tracked { ReadTracked K.start.world }
-    requires ops { Tracked K.start.world }
-    ensures ready { OnOk result (AnyReady (world_of K.start desk.new) → ⊥) }
-    ensures stopped { IfErr result (IsStopped K.start desk.new) }
-    ensures rest { OnOk result (NoneOut K.start desk.old → NoneOut K.start desk.new) }
-    ensures readers { OnOk result (NoReaderOut K.start desk.old → NoReaderOut K.start desk.new) }
-    ensures grew { GrewAsking K.start [] desk.old desk.new }
-    ensures only { WorksOnly desk.old desk.new }
-    ensures takes { idle_takes desk.new ≡ idle_takes desk.old }
-    ensures calls { TakeCalls 0 (calls_at 0 desk.old) (calls_at 0 desk.new) }
-    ensures ended { OnOk result (AllEnded K.start desk.new (calls_at 0 desk.old) (calls_at 0 desk.new)) }
+    requires alone { Q.start.alone ≡ true }
+    requires outside { IsOutside Q.start (S.told sources.now) (T.told targets.now) part_size }
+    requires tracked { ReadTracked Q.start.world }
+    requires ops { Tracked Q.start.world }
+    ensures ready { OnOk result (AnyReady (world_of Q.start (Q.seen desk.new)) → ⊥) }
+    ensures stopped { IfErr result (IsStopped Q.start (Q.seen desk.new)) }
+    ensures rest { OnOk result (NoneOut Q.start (Q.seen desk.old) → NoneOut Q.start (Q.seen desk.new)) }
+    ensures readers { OnOk result (NoReaderOut Q.start (Q.seen desk.old) → NoReaderOut Q.start (Q.seen desk.new)) }
+    ensures grew { GrewAsking Q.start [] (Q.seen desk.old) (Q.seen desk.new) }
+    ensures only { WorksOnly (Q.seen desk.old) (Q.seen desk.new) }
+    ensures takes { idle_takes (Q.seen desk.new) ≡ idle_takes (Q.seen desk.old) }
+    ensures calls { TakeCalls 0 (Q.calls desk.old) (Q.calls desk.new) }
+    ensures ended { OnOk result (AllEnded Q.start (Q.seen desk.new) (Q.calls desk.old) (Q.calls desk.new)) }
 {
     laws();
     for _round in 0..u64::MAX {

@@ -9,9 +9,9 @@ use Rattle.esr_root.specs.Root as code
 use Rattle.esr_meta.specs.Info.{Info}
 use Rattle.esr_results.specs.declared.result.ShardResult.{ShardResult}
 use Rattle.esr_results.specs.Results.{result_of}
-use Rattle.esr_progress.specs.declared.unit.Work.{Work}
-use Rattle.esr_progress.specs.declared.unit.Work.TheVariants as works
-use Rattle.esr_progress.specs.declared.unit.Copied.{Copied}
+use Rattle.esr_ops.specs.declared.unit.Work.{Work}
+use Rattle.esr_ops.specs.declared.unit.Work.TheVariants as works
+use Rattle.esr_ops.specs.declared.unit.Copied.{Copied}
 use Rattle.esr_formats.specs.Infos.{info_of_code}
 use Rattle.esr_formats.specs.Roots.{root_of}
 use Rattle.esr_core.specs.Entry.{Moment}

@@ -1,6 +1,6 @@
 -- The units of this crate.
-use Rattle.esr_progress.specs.declared.unit.Work.{Work}
-use Rattle.esr_progress.specs.declared.unit.Work.TheVariants.{Finalize}
+use Rattle.esr_ops.specs.declared.unit.Work.{Work}
+use Rattle.esr_ops.specs.declared.unit.Work.TheVariants.{Finalize}
 
 -- the unit is a finalization
 abbrev pub IsFinalize : Work → Type 0

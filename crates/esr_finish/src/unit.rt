@@ -16,7 +16,7 @@ ghost use Rattle.esr_finish.specs.Refused.{IsHalted, IsUnitRefused};
 use crate::end::{end_early, end_swap};
 use crate::root::write_swap;
 use esr_desk::{Desk, Hand, Unit, UnitRefusal};
-use esr_progress::Work;
+use esr_ops::Work;
 use esr_root::RootData;
 use esr_unit::ending_of;
 use std::alloc::Global;

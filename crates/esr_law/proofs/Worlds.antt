@@ -10,7 +10,7 @@ use Rattle.esr_core.specs.ReadTracked.{ReadTracked}
 use Rattle.esr_core.specs.Entry.{Moment}
 use Rattle.esr_core.specs.After.{after}
 use Rattle.esr_core.specs.Allowed.{Allowed}
-use Rattle.esr_core.specs.History.{world_from, IsLegal, IsHonest, TellsShards, TellsHandedOut, AreTold, AreHonest}
+use Rattle.esr_core.specs.History.{world_from, IsLegal, AreTold}
 
 -- of a world
 pub record Known (f : Formats) (w : World) : Type 0 where
@@ -33,10 +33,8 @@ Along f size w (m ∷ log) = KnownStep f size w m × Along f size (after f w m) 
 
 -- what is asked of a history
 pub record Tells (f : Formats) (size : ℕ) (w : World) (log : List Moment) : Type 0 where
-  pub handed : TellsHandedOut f w log
   pub legal : IsLegal f size w log
   pub told : AreTold log
-  pub honest : AreHonest f w log
 
 pub world_parts : (f : Formats) (xs ys : List Moment) (w : World) → world_from f w (xs ++ ys) ≡ world_from f (world_from f w xs) ys
 world_parts f [] ys w = refl
@@ -51,25 +49,17 @@ pub along_parts : (f : Formats) (size : ℕ) (xs ys : List Moment) (w : World) �
 along_parts f size [] ys w s = (known_here f size ys w s, s)
 along_parts f size (x ∷ xs) ys w s = let r = along_parts f size xs ys (after f w x) s.1 in ((s.0, r.0), r.1)
 
-shards_here : (f : Formats) (w : World) (log : List Moment) → TellsHandedOut f w log → TellsShards f w
-shards_here f w [] h = h
-shards_here f w (m ∷ log) h = h.0
-
-honest_here : (f : Formats) (w : World) (log : List Moment) → AreHonest f w log → IsHonest f w.blobs
-honest_here f w [] h = h
-honest_here f w (m ∷ log) h = h.0
-
 -- of its first part
 pub tells_front : (f : Formats) (size : ℕ) (xs ys : List Moment) (w : World) → Tells f size w (xs ++ ys) → Tells f size w xs
-tells_front f size [] ys w h = record { handed = shards_here f w ys h.handed; legal = tt; told = tt; honest = honest_here f w ys h.honest }
+tells_front f size [] ys w h = record { legal = tt; told = tt }
 tells_front f size (x ∷ xs) ys w h =
-    let r = tells_front f size xs ys (after f w x) (record { handed = h.handed.1; legal = h.legal.1; told = h.told.1; honest = h.honest.1 }) in
-    record { handed = (h.handed.0, r.handed); legal = (h.legal.0, r.legal); told = (h.told.0, r.told); honest = (h.honest.0, r.honest) }
+    let r = tells_front f size xs ys (after f w x) (record { legal = h.legal.1; told = h.told.1 }) in
+    record { legal = (h.legal.0, r.legal); told = (h.told.0, r.told) }
 
 -- of its second part
 pub tells_back : (f : Formats) (size : ℕ) (xs ys : List Moment) (w : World) → Tells f size w (xs ++ ys) → Tells f size (world_from f w xs) ys
 tells_back f size [] ys w h = h
-tells_back f size (x ∷ xs) ys w h = tells_back f size xs ys (after f w x) (record { handed = h.handed.1; legal = h.legal.1; told = h.told.1; honest = h.honest.1 })
+tells_back f size (x ∷ xs) ys w h = tells_back f size xs ys (after f w x) (record { legal = h.legal.1; told = h.told.1 })
 
 module _ (f : Formats) (size : ℕ) (w : World) (tracks : (w : World) (m : Moment) → Tracked w → Allowed f size w m → Tracked (after f w m))
     (reads : (w : World) (m : Moment) → Tracked w → ReadTracked w → Allowed f size w m → ReadTracked (after f w m)) (lawful : (log : List Moment) → Tells f size w log → (shelf : List Shelved) × Law f (world_from f w log) shelf) where

@@ -8,7 +8,7 @@ ghost use Rattle.esr_model.specs.Shelf.{Shelved};
 ghost use Rattle.esr_model.specs.Kept.{first_id, Kept};
 ghost use Rattle.esr_core.specs.World.{World, record_of, Opened};
 ghost use Rattle.esr_core.specs.Entry.{Refusal, Refused, Moment};
-ghost use Rattle.esr_core.specs.History.{world_from, IsLegal, TellsHandedOut, AreTold, AreHonest, committed};
+ghost use Rattle.esr_core.specs.History.{world_from, IsLegal, TellsHandedOut, AreTold};
 ghost use Rattle.esr_core.specs.Left.{Leaves};
 ghost use Rattle.esr_core.specs.Sources.{HonestUploads};
 ghost use Rattle.esr_core.specs.Ids.{Law};
@@ -40,10 +40,10 @@ pub fn kept_images_are_whole_by_digests()
 /// The safe root of each image that a crash might leave over a legal history is whole by its digests, whatever the sources tell and
 /// whatever the digests are. The record of the opened world can be written.
 pub fn each_image_is_whole_by_digests()
-    ensures { (f : Formats) (part_size : ℕ) (image : Image) (shelf : List Shelved) (w : World) (log : List Moment) (i : Image) → Kept f image shelf → Opened f image w → ReadsBack f.cluster (record_of w) → IsLegal f part_size w log → AreTold log
-        → Leaves f part_size w log i → IsWholeByDigests f i }
+    ensures { (f : Formats) (part_size : ℕ) (image : Image) (shelf : List Shelved) (w : World) (log : List Moment) (i : Image) → Kept f image shelf → Opened f image w → ReadsBack f.cluster (record_of w) → IsLegal f part_size w log
+        → AreTold log → Leaves f part_size w log i → IsWholeByDigests f i }
 {
-    esr_core::each_left_image_is_kept_over_any_sources();
+    esr_core::each_left_image_is_kept();
     kept_images_are_whole_by_digests();
 }
 
@@ -76,8 +76,8 @@ pub fn each_cleanup_lists_first()
 
 /// Where a cleanup comes to its end, `index.latest` is there and holds the number of the safe root.
 pub fn a_cleanup_leaves_latest()
-    ensures { (f : Formats) (part_size : ℕ) (image : Image) (shelf : List Shelved) (w : World) (before : List Moment) (last : Moment) (k : ℕ) → Kept f image shelf → Opened f image w → Tracked w → TellsHandedOut f w (before ++ last ∷ [])
-        → IsLegal f part_size w (before ++ last ∷ []) → AreTold (before ++ last ∷ []) → AreHonest f w (before ++ last ∷ []) → IsEndedCleanup before last k → HasLatest f (world_from f w (before ++ last ∷ [])) }
+    ensures { (f : Formats) (part_size : ℕ) (image : Image) (shelf : List Shelved) (w : World) (before : List Moment) (last : Moment) (k : ℕ) → Kept f image shelf → Opened f image w → Tracked w
+        → IsLegal f part_size w (before ++ last ∷ []) → AreTold (before ++ last ∷ []) → IsEndedCleanup before last k → HasLatest f (world_from f w (before ++ last ∷ [])) }
 {
     esr_core::opened_worlds_track_restores();
     esr_core::each_history_is_lawful();
@@ -93,8 +93,8 @@ pub fn a_cleanup_leaves_latest()
 /// A cleanup that came to its end was told a first page. Where no test blob was committed from then on until its end, it leaves
 /// exactly what the safe root reaches, and `index.latest`; so it stays until a blob is committed, replaced or removed.
 pub fn a_cleanup_leaves_exactly_the_reach()
-    ensures { (f : Formats) (part_size : ℕ) (image : Image) (shelf : List Shelved) (w : World) (before rest : List Moment) (last : Moment) (k : ℕ) → Kept f image shelf → Opened f image w → Tracked w → TellsHandedOut f w (before ++ last ∷ rest)
-        → IsLegal f part_size w (before ++ last ∷ rest) → AreTold (before ++ last ∷ rest) → AreHonest f w (before ++ last ∷ rest) → IsEndedCleanup before last k
+    ensures { (f : Formats) (part_size : ℕ) (image : Image) (shelf : List Shelved) (w : World) (before rest : List Moment) (last : Moment) (k : ℕ) → Kept f image shelf → Opened f image w → Tracked w
+        → IsLegal f part_size w (before ++ last ∷ rest) → AreTold (before ++ last ∷ rest) → IsEndedCleanup before last k
         → (page : HasFirstPage before k) × (NoneOf IsTestCommit page.back → NoneOf ChangesBlobs rest → HoldsExactly f (world_from f w (before ++ last ∷ rest))) }
 {
     esr_core::each_history_is_lawful();
@@ -110,7 +110,8 @@ pub fn a_cleanup_leaves_exactly_the_reach()
 /// A step is refused since a number is spent only where the history asks for so many: its elections take the term of the world past
 /// the last one, its raises the generation, or it asks for all the ids of a term. The world is one whose term has just begun.
 pub fn only_spent_numbers_refuse()
-    ensures { (f : Formats) (part_size : ℕ) (w : World) (log : List Moment) (m : Moment) (refusal : Refusal) → w.next_id ≡ first_id w.term → IsLegal f part_size w log → Has log m → m.entry.reply ≡ Refused refusal → SpentSo w log refusal }
+    ensures { (f : Formats) (part_size : ℕ) (w : World) (log : List Moment) (m : Moment) (refusal : Refusal) → w.next_id ≡ first_id w.term → IsLegal f part_size w log → Has log m → m.entry.reply ≡ Refused refusal
+        → SpentSo w log refusal }
 {
     esr_core::each_step_has_its_maker();
 }

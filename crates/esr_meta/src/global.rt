@@ -47,8 +47,7 @@ fn global_value(alloc: Global, meta: &GlobalMeta) -> Result<Value, AllocError>
     ensures value { IfOk result (λ v. view v ≡ global_data meta.now) }
     ensures valid { IfOk result (λ _. IsGlobal meta.now) }
 {
-    let uuid = id_value(alloc, meta.uuid)?;
-    json!(in alloc; {"moment": meta.moment, "name": meta.name.as_str(), "uuid": uuid})
+    json!(in alloc; {"moment": meta.moment, "name": meta.name.as_str(), "uuid": id_value(alloc, meta.uuid)?})
 }
 
 /// The text of global metadata, which reads as it.

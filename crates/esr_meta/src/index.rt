@@ -62,9 +62,7 @@ fn index_meta_value(alloc: Global, meta: &IndexMeta) -> Result<Value, AllocError
     ensures value { IfOk result (λ v. view v ≡ index_meta_data meta.now) }
     ensures valid { IfOk result (λ _. IsIndexMeta meta.now) }
 {
-    let id = id_value(alloc, meta.id)?;
-    let uuid = id_value(alloc, meta.uuid)?;
-    json!(in alloc; {"id": id, "name": meta.name.as_str(), "shards": meta.shards, "uuid": uuid})
+    json!(in alloc; {"id": id_value(alloc, meta.id)?, "name": meta.name.as_str(), "shards": meta.shards, "uuid": id_value(alloc, meta.uuid)?})
 }
 
 /// The text of an index's metadata, which reads as it.

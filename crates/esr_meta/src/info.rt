@@ -71,9 +71,7 @@ fn info_value(alloc: Global, info: &SnapInfo) -> Result<Value, AllocError>
     ensures value { IfOk result (λ v. view v ≡ info_data info.now) }
     ensures valid { IfOk result (λ _. IsInfo info.now) }
 {
-    let indices = indices_value(alloc, &info.indices)?;
-    let uuid = id_value(alloc, info.uuid)?;
-    json!(in alloc; {"bytes": info.bytes, "files": info.files, "indices": indices, "moment": info.moment, "name": info.name.as_str(), "state": info.state, "uuid": uuid})
+    json!(in alloc; {"bytes": info.bytes, "files": info.files, "indices": indices_value(alloc, &info.indices)?, "moment": info.moment, "name": info.name.as_str(), "state": info.state, "uuid": id_value(alloc, info.uuid)?})
 }
 
 /// The text of a snapshot's info.

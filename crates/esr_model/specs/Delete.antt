@@ -208,5 +208,6 @@ pub record Deletes (f : Formats) (has : BlobName → Bytes → Type 0) (root : R
       → ((fresh i k ≡ None) × Generation new i k g) ⊎ ((now : ℕ) × (fresh i k ≡ Some (Some now)) × Generation new i k now)
   -- each new index is one of the unit's blobs, pruned, under an id above the old one
   pub pruned : (i k now : ℕ) → fresh i k ≡ Some (Some now)
-      → (g : ℕ) × (was : ShardFiles) × (held : ShardFiles) × Generation root i k g × Reads has (ShardIndex i k g) f.shard_index was × Has own (ShardIndex i k now, f.shard_index.text held) × ReadsBack f.shard_index held × Prunes was held uuids
+      → (g : ℕ) × (was : ShardFiles) × (held : ShardFiles) × Generation root i k g × Reads has (ShardIndex i k g) f.shard_index was × Has own (ShardIndex i k now, f.shard_index.text held) × ReadsBack f.shard_index held
+      × Prunes was held uuids
       × (g < now)

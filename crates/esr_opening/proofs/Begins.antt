@@ -12,7 +12,7 @@ use Rattle.esr_record.specs.Record.{Record}
 use Rattle.esr_root.specs.Root.{Root}
 use Rattle.esr_meta.specs.Info.{Info}
 use Rattle.esr_formats.specs.Clusters.{cluster_of, cluster_kind}
-use Rattle.esr_progress.specs.Plan.{Plan, RestorePlan, seat_of, restore_plan, reader_seat, IsPlanOf}
+use Rattle.esr_ops.specs.Plan.{Plan, RestorePlan, seat_of, restore_plan, reader_seat, IsPlanOf}
 use Rattle.esr_opening.specs.Found.{Obstacle, Damage, found}
 use Rattle.esr_opening.specs.Hindrances.{IsNoDamage}
 use Rattle.esr_opening.specs.Opening.{IsKeptOf, world_in, opened_text, IsInOrder, IsLeftOf, IsOpening, IsAsBefore, SparesKept, IsOpenRefused}

@@ -31,10 +31,10 @@ use Rattle.esr_formats.specs.Ids.{number_of}
 use Rattle.esr_formats.specs.Roots.{root_of, root_snap_of, root_index_of}
 use Rattle.esr_formats.specs.Clusters.{count_of, work_of_code, op_of, cluster_of, cluster_kind}
 use Rattle.esr_results.proofs.Choices.{named_so, below}
-use Rattle.esr_progress.specs.Deletes.{deletion_entry, kept_delete, kept_from}
-use Rattle.esr_progress.specs.Inside.{numbers_of, Rise}
-use Rattle.esr_progress.proofs.Entries.{find-cons, get_from, get_put, same_maps}
-use Rattle.esr_progress.proofs.Numbers.{entries_from}
+use Rattle.esr_ops.specs.Deletes.{deletion_entry, kept_delete, kept_from}
+use Rattle.esr_ops.specs.Inside.{numbers_of, Rise}
+use Rattle.esr_ops.specs.Entries.{find-cons, get_from, get_put, same_maps}
+use Rattle.esr_ops.specs.Numbers.{entries_from}
 use Rattle.esr_opening.specs.Foreign.{snapshot_ids, index_ids, root_ids, first_from}
 use Rattle.esr_opening.specs.Found.{Obstacle, ◌>>=◌, known_by, known_ids, safe_number}
 use Rattle.esr_opening.specs.Opening.{known_blobs, world_in, IsInOrder}

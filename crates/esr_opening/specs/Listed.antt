@@ -20,7 +20,8 @@ pub record IsInfoOf (held : Option Held) (root : Root) (s : RootSnap) (info : In
   pub agrees : Agrees (root_of root) (root_snap_of s) (info_of_code info)
   pub apart : AreApart (map ref_of_code info.indices)
   -- where the container tells, the blob of the snapshot's info reads as it
-  pub there : (i : Held) (known : Bytes → Bytes → ℕ → Bool) (told : Bytes → Bytes → ℕ → Option (List (Bytes × Bytes))) → held ≡ Some i → Reads (At (formats known told) i.blobs) (Snap s.uuid.number) (formats known told).info (info_of_code info)
+  pub there : (i : Held) (known : Bytes → Bytes → ℕ → Bool) (told : Bytes → Bytes → ℕ → Option (List (Bytes × Bytes))) → held ≡ Some i
+      → Reads (At (formats known told) i.blobs) (Snap s.uuid.number) (formats known told).info (info_of_code info)
 
 -- each info is of a snapshot that is listed
 abbrev pub AreListed : RootData → List Info → Type 0

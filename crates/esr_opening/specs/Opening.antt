@@ -19,7 +19,7 @@ use Rattle.esr_meta.specs.Info.{Info}
 use Rattle.esr_formats.specs.Formats.{formats}
 use Rattle.esr_formats.specs.Roots.{root_of}
 use Rattle.esr_formats.specs.Clusters.{cluster_of, cluster_kind}
-use Rattle.esr_progress.specs.Plan.{Plan, IsPlanOf}
+use Rattle.esr_ops.specs.Plan.{Plan, IsPlanOf}
 use Rattle.esr_progress.specs.Infos.{AreInfosOf}
 use Rattle.esr_opening.specs.Found.{Damage, LastTerm, found}
 use Rattle.esr_opening.specs.declared.refusal.OpenRefusal.{OpenRefusal}

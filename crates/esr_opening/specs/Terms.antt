@@ -11,8 +11,8 @@ use Rattle.esr_record.specs.declared.op.OpWork.{OpWork}
 use Rattle.esr_record.specs.declared.op.OpWork.TheVariants as works
 use Rattle.esr_root.specs.Root.{Root, IsRoot}
 use Rattle.esr_formats.specs.Clusters.{op_of, cluster_of, cluster_kind}
-use Rattle.esr_progress.specs.Plan.{Plan}
-use Rattle.esr_progress.specs.Deletes.{kept_plan}
+use Rattle.esr_ops.specs.Plan.{Plan}
+use Rattle.esr_ops.specs.Deletes.{kept_plan}
 use Rattle.esr_opening.specs.Found.{Obstacle, ◌>>=◌, root_in, infos_in, safe_number, known_ids, has_term}
 use Rattle.esr_opening.specs.Opening.{IsAsBefore}
 use Rattle.esr_opening.specs.declared.refusal.OpenRefusal.{OpenRefusal}

@@ -8,20 +8,22 @@ use Rattle.std.proofs.Math.ListN.{set}
 use Rattle.esr_model.specs.Values.{Has, ShardResult}
 use Rattle.esr_core.specs.World.{Op, Deletion}
 use Rattle.esr_core.specs.Steps.{all_done}
-use Rattle.esr_progress.specs.declared.unit.Seat.{Seat as CodeSeat}
-use Rattle.esr_progress.specs.declared.unit.ReaderSeat.{ReaderSeat as CodeReader}
-use Rattle.esr_progress.specs.declared.unit.Slot.{Slot}
-use Rattle.esr_progress.specs.declared.unit.Slot.TheVariants as slots
-use Rattle.esr_progress.specs.Plan.{Plan, Seat, seat_of_code, ReaderSeat, reader_of_code, RestorePlan}
-use Rattle.esr_progress.specs.Seats.{seat_at, seat_in, reader_in, told_in}
-use Rattle.esr_progress.specs.Inside.{plan_with, seats_with, readers_with, numbers_of, AreNumbers, IsProgress}
-use Rattle.esr_progress.specs.Restores.{is_waiting}
-use Rattle.esr_progress.specs.Changes.{with_seat, without_snap, without_op, with_completed, op_changed, op_marked, op_failed, seat_ended, done_by, failed_by, with_reader, reader_ended, restore_over, restore_changed, restore_kept, read_by, delete_changed}
-use Rattle.esr_progress.proofs.Lists.{none_some, some_same}
-use Rattle.esr_progress.proofs.Entries.{FirstAt, position_found, position_missed, get_from, get_put, get_left, same_maps, from_set, from_filter}
+use Rattle.esr_ops.specs.declared.unit.Seat.{Seat as CodeSeat}
+use Rattle.esr_ops.specs.declared.unit.ReaderSeat.{ReaderSeat as CodeReader}
+use Rattle.esr_ops.specs.declared.unit.Slot.{Slot}
+use Rattle.esr_ops.specs.declared.unit.Slot.TheVariants as slots
+use Rattle.esr_ops.specs.Plan.{Plan, Seat, seat_of_code, ReaderSeat, reader_of_code, RestorePlan}
+use Rattle.esr_ops.specs.Seats.{seat_at, seat_in, reader_in, told_in, seat_ended, reader_ended}
+use Rattle.esr_ops.specs.Inside.{plan_with, seats_with, readers_with, numbers_of, AreNumbers, IsProgress}
+use Rattle.esr_ops.specs.Restores.{is_waiting}
+use Rattle.esr_progress.specs.Changes.{with_seat, without_snap, without_op, with_completed, op_changed, op_marked, done_by, with_reader, restore_over, restore_changed, restore_kept, read_by, delete_changed}
+use Rattle.esr_ops.specs.Entries.{get_from, get_put, same_maps, get_left}
+use Rattle.esr_ops.specs.Lists.{none_some, some_same}
+use Rattle.esr_progress.specs.SeatMaps.{get-seats}
+use Rattle.esr_progress.proofs.Entries.{position_missed, position_found, FirstAt, from_set, from_filter}
 use Rattle.esr_progress.proofs.Numbers.{numbers-set, numbers-filter, kept_number}
-use Rattle.esr_progress.proofs.SeatMaps.{get-seats, get-readers, seat_at_within}
 use Rattle.esr_progress.proofs.Plans.{plan-seat, plan-reader}
+use Rattle.esr_progress.proofs.SeatMaps.{seat_at_within, get-readers}
 
 -- ---- a seat
 
@@ -241,12 +243,6 @@ module _ (ops : List (ℕ × Op)) (deletes : List (ℕ × Deletion)) (completed 
       ∙ sym (ap (restore_kept (plan_with ops deletes completed seats next restores) o) (found_restore restores o i x found is)
       ∙ (λ j. record (plan_with ops deletes completed seats next restores) { restores = cond (over j) (fin.from_entries restores) (fin.remove (fin.from_entries restores) o) }))
 
--- ---- what each report changes
-
-pub is_there_by : (b : Bool) → not b ≡ false → b ≡ true
-is_there_by true e = refl
-is_there_by false e = absurd (true≢false e)
-
 remove_put : {A : Type 0} (m : fin.FinMap nat_cmp A) (k : ℕ) (v : A) → fin.remove (fin.insert m k v) k ≡ fin.remove m k
 remove_put {A} m k v = same_maps _ _ (λ q. get_left (fin.insert m k v) k q ∙ ap (cond (eqb q k) None) (get_put m k v q) ∙ past (eqb q k) q ∙ sym (get_left m k q))
   where
@@ -281,20 +277,6 @@ read_missed p k s none = go (fin.get p.restores s.op) none
     go : (o : Option RestorePlan) → is_some o ≡ false → p ≡ read_by p k s o
     go None e = refl
     go (Some r) e = absurd (true≢false e)
-
-pub failed_put : (p q new : Plan) (k : ℕ) (s : Seat) → is_some (fin.get p.ops s.op) ≡ true → q ≡ with_seat p k (seat_ended s) → new ≡ op_changed (op_failed k) q s.op (fin.get q.ops s.op) → new ≡ failed_by p k s (fin.get p.ops s.op)
-failed_put p q new k s there q_is new_is = new_is ∙ ap (λ (r : Plan). op_changed (op_failed k) r s.op (fin.get r.ops s.op)) q_is ∙ go (fin.get p.ops s.op) there
-  where
-    go : (o : Option Op) → is_some o ≡ true → op_changed (op_failed k) (with_seat p k (seat_ended s)) s.op o ≡ failed_by p k s o
-    go None e = absurd (true≢false (sym e))
-    go (Some op) e = refl
-
-pub failed_missed : (p : Plan) (k : ℕ) (s : Seat) → is_some (fin.get p.ops s.op) ≡ false → p ≡ failed_by p k s (fin.get p.ops s.op)
-failed_missed p k s none = go (fin.get p.ops s.op) none
-  where
-    go : (o : Option Op) → is_some o ≡ false → p ≡ failed_by p k s o
-    go None e = refl
-    go (Some op) e = absurd (true≢false e)
 
 pub done_put : (p q t new : Plan) (k : ℕ) (r : ShardResult) (s : Seat) (b : Bool) → Some b ≡ option_map (λ (op : Op). all_done (op_marked k r op).shards) (fin.get p.ops s.op) → q ≡ with_completed b p s.op → t ≡ with_seat q k (seat_ended s)
     → new ≡ op_changed (op_marked k r) t s.op (fin.get t.ops s.op) → new ≡ done_by p k r s (fin.get p.ops s.op)

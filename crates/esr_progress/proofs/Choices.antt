@@ -4,8 +4,7 @@ use Rattle.std.specs.Prelude.{not, is_some, nat_lt, slice_get, ◌==◌}
 use Rattle.std.specs.List.{list_any, position}
 use Rattle.std.specs.FinMap as fin
 use Rattle.std.proofs.lemmas.Bool.{cases_lt, lt-ltb, ltb-true}
-use Rattle.std.proofs.lemmas.List.Quantifiers.{position-Some}
-use Rattle.std.proofs.lemmas.Option.{slice_get_read, slice_get_within, slice_get-get_or, get_or_from_slice_get}
+use Rattle.std.proofs.lemmas.Option.{slice_get_read, slice_get_within}
 use Rattle.esr_model.specs.Values.{Has, ShardResult}
 use Rattle.esr_core.specs.World.{Op, Deletion, ShardState, Pending, Out, Done, GivenUp, ShardWork, AllDone}
 use Rattle.esr_core.specs.Ready.{Goes, Stopped, Waits, Before}
@@ -14,15 +13,16 @@ use Rattle.esr_core.specs.Allowed.{StandsBefore}
 use Rattle.esr_core.specs.After.{shard_of}
 use Rattle.esr_progress.specs.declared.ready.Kind.{Kind}
 use Rattle.esr_progress.specs.declared.ready.Kind.TheVariants as ready
-use Rattle.esr_progress.specs.declared.unit.Slot.{Slot}
-use Rattle.esr_progress.specs.Plan.{RestorePlan}
-use Rattle.esr_progress.specs.Shards.{is_pending, waits, waits_for, op_before, restore_before}
-use Rattle.esr_progress.specs.Ops.{has_stopped, is_free}
-use Rattle.esr_progress.specs.Inside.{numbers_of, Rise}
+use Rattle.esr_ops.specs.declared.unit.Slot.{Slot}
+use Rattle.esr_ops.specs.Plan.{RestorePlan}
+use Rattle.esr_ops.specs.Shards.{is_pending, waits, waits_for, op_before, restore_before}
+use Rattle.esr_ops.specs.Ops.{has_stopped, is_free}
+use Rattle.esr_ops.specs.Inside.{numbers_of, Rise}
 use Rattle.esr_progress.specs.Choice.{barred, is_going, goes_in, is_first_at, is_earliest, is_out_of, ready_by, is_final, ready_of, NoneBefore, IsReadyAt, IsPossible}
-use Rattle.esr_progress.proofs.Lists.{Has-at, Has-map, position-None, some_same, none_some}
-use Rattle.esr_progress.proofs.Entries.{eqb_is, find-member}
-use Rattle.esr_progress.proofs.Numbers.{found_member}
+use Rattle.esr_ops.specs.Entries.{find-member, eqb_is}
+use Rattle.esr_ops.specs.Lists.{some_same, none_some, Has-map, Has-at, position-None}
+use Rattle.esr_ops.specs.Numbers.{found_member}
+use Rattle.esr_ops.specs.Tests.{or_left, or_right, both_true, clash, any_here, and_true, any_true, not_true, is_true, first_place, place_within}
 
 -- ---- the search
 
@@ -42,82 +42,19 @@ module _ (ops : List (ℕ × Op)) (deletes : List (ℕ × Deletion)) (completed 
       lt_or_same : (k at : ℕ) → k < at + 1 → (k < at) ⊎ (k ≡ at)
       lt_or_same k at lt = elim (cases_lt k at) [ inl less ↦ inl less | inr le ↦ inr (omega arith) ]
 
--- ---- tests over lists
-
-pub or_true : (a b : Bool) → (a || b) ≡ true → (a ≡ true) ⊎ (b ≡ true)
-or_true true b e = inl refl
-or_true false b e = inr e
-
-pub or_left : (a b : Bool) → a ≡ true → (a || b) ≡ true
-or_left a b e = ap (λ c. c || b) e
-
-pub or_right : (a b : Bool) → b ≡ true → (a || b) ≡ true
-or_right true b e = refl
-or_right false b e = e
-
-pub both_true : (a b : Bool) → a ≡ true → b ≡ true → (a && b) ≡ true
-both_true a b p q = λ i. p i && q i
-
-pub and_true : (a b : Bool) → (a && b) ≡ true → (a ≡ true) × (b ≡ true)
-and_true true b e = (refl, e)
-and_true false b e = absurd (true≢false (sym e))
-
-pub not_true : (b : Bool) → not b ≡ true → b ≡ false
-not_true true e = absurd (true≢false (sym e))
-not_true false e = refl
-
 pub is_false : (b : Bool) → (b ≡ true → ⊥) → b ≡ false
 is_false true h = absurd (h refl)
 is_false false h = refl
 
-pub is_true : (b : Bool) → (b ≡ false → ⊥) → b ≡ true
-is_true true h = refl
-is_true false h = absurd (h refl)
-
-pub clash : (b : Bool) → b ≡ true → b ≡ false → ⊥
-clash b p q = true≢false (sym p ∙ q)
-
-module _ {A : Type 0} (p : A → Bool) where
-  pub any_true : (xs : List A) → list_any p xs ≡ true → (x : A) × Has xs x × (p x ≡ true)
-  any_true [] e = absurd (true≢false (sym e))
-  any_true (x ∷ xs) e = elim (or_true (p x) (list_any p xs) e) [ inl h ↦ (x, inl refl, h) | inr h ↦ let (y, m, is) = any_true xs h in (y, inr m, is) ]
-
-  pub any_here : (xs : List A) (x : A) → Has xs x → p x ≡ true → list_any p xs ≡ true
-  any_here [] x m e = absurd m
-  any_here (y ∷ xs) x (inl is) e = or_left (p y) (list_any p xs) (ap p is ∙ e)
-  any_here (y ∷ xs) x (inr m) e = or_right (p y) (list_any p xs) (any_here xs x m e)
-
 -- ---- members by their places
 
 module _ {A : Type 0} where
-  pub place_of : (xs : List A) (x : A) → Has xs x → (k : ℕ) × (slice_get xs k ≡ Some x)
-  place_of [] x m = absurd m
-  place_of (y ∷ xs) x (inl is) = (0, ap (λ z. Some z) is)
-  place_of (y ∷ xs) x (inr m) = let (k, e) = place_of xs x m in (suc k, e)
-
-  pub place_below : (xs : List A) (n : ℕ) (x : A) → Has (take n xs) x → (k : ℕ) × (k < n) × (slice_get xs k ≡ Some x)
-  place_below [] zero x m = absurd m
-  place_below [] (suc n) x m = absurd m
-  place_below (y ∷ xs) zero x m = absurd m
-  place_below (y ∷ xs) (suc n) x (inl is) = (0, omega arith, ap (λ z. Some z) is)
-  place_below (y ∷ xs) (suc n) x (inr m) = let (k, lt, e) = place_below xs n x m in (suc k, omega (arith, lt), e)
-
   pub Has-taken : (xs : List A) (n : ℕ) (x : A) → Has (take n xs) x → Has xs x
   Has-taken [] zero x m = m
   Has-taken [] (suc n) x m = m
   Has-taken (y ∷ xs) zero x m = absurd m
   Has-taken (y ∷ xs) (suc n) x (inl is) = inl is
   Has-taken (y ∷ xs) (suc n) x (inr m) = inr (Has-taken xs n x m)
-
--- the first place at which a test passes
-pub first_place : {A : Type 0} (p : A → Bool) (xs : List A) (i : ℕ) (x : A) → position p xs ≡ Some i → slice_get xs i ≡ Some x → (p x ≡ true) × ((z : A) → Has (take i xs) z → p z ≡ false)
-first_place p xs i x e there =
-    let (lt, here, before) = position-Some p xs i x e in
-    (ap p (sym (get_or_from_slice_get xs i x x there)) ∙ here, λ z m. let (k, below, is) = place_below xs i z m in ap p (sym (get_or_from_slice_get xs k z x is)) ∙ before k below)
-
-pub place_within : {A : Type 0} (p : A → Bool) (xs : List A) (i : ℕ) → position p xs ≡ Some i → (i < length xs) × ((x : A) × (slice_get xs i ≡ Some x))
-place_within p [] i e = absurd (none_some i e)
-place_within p (y ∷ xs) i e = let lt = (position-Some p (y ∷ xs) i y e).0 in (lt, (get_or (y ∷ xs) i y, slice_get-get_or (y ∷ xs) i y lt))
 
 -- ---- entries below a place have the lower numbers
 

@@ -1,41 +1,19 @@
 -- Maps by their lists of entries.
-use Rattle.std.proofs.Common.{◌≡◌, ◌≢◌, ℕ, zero, suc, ◌<◌, Bool, true, false, cond, eqb, List, [], ◌∷◌, ◌++◌, Option, Some, None, length, get_or, refl, sym, ap, ◌∙◌, inl, inr, true≢false, arith, slice_get, nat_cmp}
+use Rattle.std.proofs.Common.{◌≡◌, ◌≢◌, ℕ, zero, suc, ◌<◌, Bool, true, false, cond, eqb, List, [], ◌∷◌, Option, Some, None, length, get_or, refl, sym, ap, ◌∙◌, inl, inr, true≢false, arith, slice_get, nat_cmp}
 use Rattle.std.specs.Prelude.{not}
 use Rattle.std.specs.List.{position, filter}
-use Rattle.std.specs.Cmp.{nat_cmp_total, unsigned_tied}
-use Rattle.std.specs.FinMap.{FinMap, nat_cmp-IsAntisymmetric}
 use Rattle.std.specs.FinMap as fin
 use Rattle.std.proofs.lemmas.Bool.Decides.{eqb_tells}
 use Rattle.std.proofs.lemmas.List.Quantifiers.{position-Some}
 use Rattle.std.proofs.Math.ListN.{set}
 use Rattle.esr_model.specs.Values.{Has}
-use Rattle.esr_progress.proofs.Lists.{position-None, some_same, none_some}
-
-pub eqb_is : (a b : ℕ) → eqb a b ≡ true → a ≡ b
-eqb_is a b e = elim (eqb_tells a b) [ inl t ↦ t.1 | inr t ↦ absurd (true≢false (sym e ∙ t.0)) ]
+use Rattle.esr_ops.specs.Entries.{find-past, eqb_is, find-cons, find-here, get_from, get_put, same_maps, get_left}
+use Rattle.esr_ops.specs.Lists.{position-None}
 
 module _ {A : Type 0} where
-  -- a look-up at the first entry, and past it
-  pub find-cons : (q : ℕ) (e : ℕ × A) (es : List (ℕ × A)) → fin.find nat_cmp q (e ∷ es) ≡ cond (eqb q e.0) (Some e.1) (fin.find nat_cmp q es)
-  find-cons q e es = ap (λ b. cond b (Some e.1) (fin.find nat_cmp q es)) (unsigned_tied q e.0)
-
-  pub find-here : (q : ℕ) (e : ℕ × A) (es : List (ℕ × A)) → e.0 ≡ q → fin.find nat_cmp q (e ∷ es) ≡ Some e.1
-  find-here q e es is = find-cons q e es ∙ elim (eqb_tells q e.0) [ inl t ↦ ap (λ b. cond b (Some e.1) (fin.find nat_cmp q es)) t.0 | inr t ↦ absurd (t.1 (sym is)) ]
-
-  pub find-past : (q : ℕ) (e : ℕ × A) (es : List (ℕ × A)) → e.0 ≢ q → fin.find nat_cmp q (e ∷ es) ≡ fin.find nat_cmp q es
-  find-past q e es apart = find-cons q e es ∙ elim (eqb_tells q e.0) [ inl t ↦ absurd (apart (sym t.1)) | inr t ↦ ap (λ b. cond b (Some e.1) (fin.find nat_cmp q es)) t.0 ]
-
   pub find-none : (q : ℕ) (es : List (ℕ × A)) → ((e : ℕ × A) → Has es e → e.0 ≢ q) → fin.find nat_cmp q es ≡ None
   find-none q [] h = refl
   find-none q (e ∷ es) h = find-past q e es (h e (inl refl)) ∙ find-none q es (λ x m. h x (inr m))
-
-  -- what is found is an entry
-  pub find-member : (q : ℕ) (es : List (ℕ × A)) (v : A) → fin.find nat_cmp q es ≡ Some v → Has es (q, v)
-  find-member q [] v e = absurd (none_some v e)
-  find-member q (x ∷ es) v e = elim (eqb_tells q x.0) [
-    | inl t ↦ inl (λ i. (sym t.1 i, some_same x.1 v (sym (find-here q x es (sym t.1)) ∙ e) i))
-    | inr t ↦ inr (find-member q es v (sym (find-past q x es (λ s. t.1 (sym s))) ∙ e))
-  ]
 
   -- ---- by the place of a key
 
@@ -90,22 +68,8 @@ module _ {A : Type 0} where
   pub position_missed : (es : List (ℕ × A)) (k : ℕ) → position (λ e. eqb e.0 k) es ≡ None → fin.find nat_cmp k es ≡ None
   position_missed es k e = find-none k es (λ x m is. elim (eqb_tells x.0 k) [ inl t ↦ true≢false (sym t.0 ∙ position-None (λ (y : ℕ × A). eqb y.0 k) es e x m) | inr t ↦ t.1 is ])
 
-  -- ---- as maps
-
-  pub get_from : (es : List (ℕ × A)) (q : ℕ) → fin.get (fin.from_entries {R = nat_cmp} es) q ≡ fin.find nat_cmp q es
-  get_from es q = fin.get-from_entries nat_cmp_total es q
-
-  pub get_put : (m : FinMap nat_cmp A) (k : ℕ) (v : A) (q : ℕ) → fin.get (fin.insert m k v) q ≡ cond (eqb q k) (Some v) (fin.get m q)
-  get_put m k v q = fin.get-insert nat_cmp_total m k v q ∙ ap (λ b. cond b (Some v) (fin.get m q)) (unsigned_tied q k)
-
-  pub same_maps : (m n : FinMap nat_cmp A) → ((q : ℕ) → fin.get m q ≡ fin.get n q) → m ≡ n
-  same_maps m n h = fin.same_map nat_cmp_total nat_cmp-IsAntisymmetric m n h
-
   pub from_set : (es : List (ℕ × A)) (k i : ℕ) (v : A) → FirstAt es k i → fin.from_entries {R = nat_cmp} (set es i (k, v)) ≡ fin.insert (fin.from_entries es) k v
   from_set es k i v at = same_maps _ _ (λ q. get_from _ q ∙ at.set_is v q ∙ sym (get_put _ k v q ∙ ap (cond (eqb q k) (Some v)) (get_from es q)))
-
-  pub from_push : (es : List (ℕ × A)) (k : ℕ) (v : A) → fin.find nat_cmp k es ≡ None → fin.from_entries {R = nat_cmp} (es ++ (k, v) ∷ []) ≡ fin.insert (fin.from_entries es) k v
-  from_push es k v none = fin.from_entries_push nat_cmp_total nat_cmp-IsAntisymmetric es k v none
 
   find-filter : (k q : ℕ) (es : List (ℕ × A)) → fin.find nat_cmp q (filter (λ e. not (eqb e.0 k)) es) ≡ cond (eqb q k) None (fin.find nat_cmp q es)
   find-filter k q [] = elim (eqb q k) as (λ b. ◌≡◌ {A = Option A} None (cond b None None)) [ true ↦ refl | false ↦ refl ]
@@ -119,9 +83,6 @@ module _ {A : Type 0} where
         ∙ find-cons q e _ ∙ ap (cond (eqb q e.0) (Some e.1)) (find-filter k q es)
         ∙ swaps (eqb q e.0) (eqb q k) (Some e.1) None (fin.find nat_cmp q es) (λ a b. t.1 (sym (eqb_is q e.0 a) ∙ eqb_is q k b)) ∙ ap (cond (eqb q k) None) (sym (find-cons q e es))
   ]
-
-  pub get_left : (m : FinMap nat_cmp A) (k q : ℕ) → fin.get (fin.remove m k) q ≡ cond (eqb q k) None (fin.get m q)
-  get_left m k q = fin.get-remove nat_cmp_total m k q ∙ ap (λ b. cond b None (fin.get m q)) (unsigned_tied q k)
 
   pub from_filter : (es : List (ℕ × A)) (k : ℕ) → fin.from_entries {R = nat_cmp} (filter (λ e. not (eqb e.0 k)) es) ≡ fin.remove (fin.from_entries es) k
   from_filter es k = same_maps _ _ (λ q. get_from _ q ∙ find-filter k q es ∙ sym (get_left _ k q ∙ ap (cond (eqb q k) None) (get_from es q)))

@@ -12,24 +12,26 @@ use Rattle.esr_core.specs.After.{taken_by}
 use Rattle.esr_formats.specs.Ids.{number_of}
 use Rattle.esr_formats.specs.Roots.{root_of}
 use Rattle.esr_formats.specs.Clusters.{count_of}
-use Rattle.esr_progress.specs.declared.unit.Seat.{Seat as CodeSeat}
-use Rattle.esr_progress.specs.declared.unit.Slot.{Slot}
-use Rattle.esr_progress.specs.declared.unit.SeatKind.{SeatKind}
-use Rattle.esr_progress.specs.declared.unit.SeatKind.TheVariants as kinds
-use Rattle.esr_progress.specs.declared.unit.Work.{Work as CodeWork}
-use Rattle.esr_progress.specs.declared.unit.Work.TheVariants as works
-use Rattle.esr_progress.specs.declared.unit.Copied.{Copied}
-use Rattle.esr_progress.specs.Plan.{Plan, OfDelete, OfDrop, seat_of_code, RestorePlan, IsPlanOf, IsGivenIn}
-use Rattle.esr_progress.specs.Inside.{plan_with, numbers_of, Rise, IsProgress}
-use Rattle.esr_progress.specs.Units.{given_by, GivesWork, LeavesDelete, HasDeleteReady, IsLowest, LowestUnit}
+use Rattle.esr_ops.specs.declared.unit.Seat.{Seat as CodeSeat}
+use Rattle.esr_ops.specs.declared.unit.Slot.{Slot}
+use Rattle.esr_ops.specs.declared.unit.SeatKind.{SeatKind}
+use Rattle.esr_ops.specs.declared.unit.SeatKind.TheVariants as kinds
+use Rattle.esr_ops.specs.declared.unit.Work.{Work as CodeWork}
+use Rattle.esr_ops.specs.declared.unit.Work.TheVariants as works
+use Rattle.esr_ops.specs.declared.unit.Copied.{Copied}
+use Rattle.esr_ops.specs.Plan.{Plan, OfDelete, OfDrop, seat_of_code, RestorePlan, IsPlanOf, IsGivenIn}
+use Rattle.esr_ops.specs.Inside.{plan_with, numbers_of, Rise, IsProgress}
+use Rattle.esr_ops.specs.Units.{given_by, GivesWork, LeavesDelete, HasDeleteReady, IsLowest, LowestUnit}
 use Rattle.esr_progress.specs.Choice.{barred, is_out_of, is_swapping, cleanup_waits, delete_ready}
-use Rattle.esr_progress.specs.Deletes.{IsWorkBy, IsDeleteWork, delete_kind, gives_cleanup}
-use Rattle.esr_progress.proofs.Lists.{Has-at, position-None, some_same}
-use Rattle.esr_progress.proofs.Entries.{find-member}
-use Rattle.esr_progress.proofs.Numbers.{found_member, entries_from}
-use Rattle.esr_progress.proofs.Choices.{and_true, not_true, is_false, clash, any_true, any_here, first_place, place_lower}
+use Rattle.esr_ops.specs.Deletes.{IsWorkBy, IsDeleteWork, delete_kind, gives_cleanup}
+use Rattle.esr_ops.specs.Entries.{find-member}
+use Rattle.esr_ops.specs.Lists.{some_same, position-None, Has-at}
+use Rattle.esr_progress.specs.Lookups.{find_delete, find_op}
+use Rattle.esr_ops.specs.Numbers.{entries_from, found_member}
+use Rattle.esr_ops.specs.Tests.{and_true, not_true, any_true, clash, any_here, first_place}
+use Rattle.esr_progress.proofs.Choices.{is_false, place_lower}
 use Rattle.esr_progress.proofs.Cleanups.{cleanup_tested, cleanup_by}
-use Rattle.esr_progress.proofs.NextUnits.{find_op, find_delete, none_barred, some_barred, none_out, some_out, none_swapping, some_swapping, ticketed, ops_is}
+use Rattle.esr_progress.proofs.NextUnits.{some_out, some_barred, some_swapping, none_out, none_barred, none_swapping, ops_is, ticketed}
 
 -- ---- the test
 
@@ -70,7 +72,6 @@ module _ (ops : List (ℕ × Op)) (deletes : List (ℕ × Deletion)) (completed 
   rise = h.deletes_numbered.rise
 
   -- ---- a listed delete
-
   module _ (d : ℕ × Deletion) (m : Has deletes d) where
     got : fin.get w.deletes d.0 ≡ Some d.1
     got = find_delete ops deletes completed seats next restores now view h root safe term w is d.0 ∙ found_member deletes rise d m
@@ -137,7 +138,6 @@ module _ (ops : List (ℕ × Op)) (deletes : List (ℕ × Deletion)) (completed 
   no_delete e o r = let (x, m) = listed o r in clash _ (is_tested (o, x) m r) (position-None (delete_ready ops deletes seats term) deletes e (o, x) m)
 
   -- ---- the first of which one is ready
-
   module _ (at : ℕ) (d : ℕ × Deletion) (found : position (delete_ready ops deletes seats term) deletes ≡ Some at) (there : slice_get deletes at ≡ Some d) where
     member : Has deletes d
     member = Has-at deletes at d there

@@ -1,5 +1,5 @@
 -- The unit that is given, in a world of which the list tells.
-use Rattle.std.proofs.Common.{◌≡◌, ℕ, suc, zero, ◌<◌, Bool, true, false, ◌||◌, List, [], ◌∷◌, Option, Some, None, option_map, map, length, get_or, take, refl, sym, ap, ◌∙◌, subst, inl, inr, true≢false, arith, eq-eqb, nat_cmp}
+use Rattle.std.proofs.Common.{◌≡◌, ℕ, suc, zero, ◌<◌, true, false, ◌||◌, List, [], ◌∷◌, Option, Some, None, option_map, map, length, get_or, take, refl, sym, ap, ◌∙◌, subst, inl, inr, true≢false, arith, eq-eqb, nat_cmp}
 use Rattle.std.specs.Prelude.{not, nat_lt, slice_get, ◌==◌, IfSome}
 use Rattle.std.specs.List.{position}
 use Rattle.std.specs.FinMap as fin
@@ -24,27 +24,32 @@ use Rattle.esr_formats.specs.Clusters.{count_of}
 use Rattle.esr_results.specs.Results.{result_of}
 use Rattle.esr_progress.specs.declared.ready.Kind.{Kind}
 use Rattle.esr_progress.specs.declared.ready.Kind.TheVariants as ready
-use Rattle.esr_progress.specs.declared.unit.Seat.{Seat as CodeSeat}
-use Rattle.esr_progress.specs.declared.unit.Slot.{Slot}
-use Rattle.esr_progress.specs.declared.unit.SeatKind.{SeatKind}
-use Rattle.esr_progress.specs.declared.unit.SeatKind.TheVariants as kinds
-use Rattle.esr_progress.specs.declared.unit.Work.{Work as CodeWork}
-use Rattle.esr_progress.specs.declared.unit.Work.TheVariants as works
-use Rattle.esr_progress.specs.declared.unit.Copied.{Copied}
-use Rattle.esr_progress.specs.Plan.{Plan, Seat, OfShard, OfFinalize, OfDrop, kind_of, seat_of, seat_of_code, RestorePlan, read_state, read_work, restore_plan, IsPlanOf, IsGivenIn}
-use Rattle.esr_progress.specs.Seats.{seat_at, seat_in, told_in, holds, is_swap_out, is_unit_out, is_master, is_of_shard}
-use Rattle.esr_progress.specs.Ops.{has_stopped, is_free, IsMost, IsShardWork, IsFinalWork}
-use Rattle.esr_progress.specs.Inside.{plan_with, numbers_of, Rise, IsProgress}
-use Rattle.esr_progress.specs.Units.{given_by, ShardGiven, CloneGiven, GivesWork, LeavesSnap, HasSnapReady, LowestUnit, IsLowest}
-use Rattle.esr_progress.specs.Choice.{barred, is_out_of, is_swapping, is_final, ready_of, NoneBefore, IsReadyAt, IsWorkFor, IsSeatOf, IsSeatFor, IsLiveIn, IsBaseFor, given_entry, AreShards}
-use Rattle.esr_progress.proofs.Lists.{Has-at, Has-map, Has-mapped, position-None, some_same, none_some}
-use Rattle.esr_progress.proofs.Entries.{FirstAt, first_at, from_set, get_from, find-member, eqb_is}
-use Rattle.esr_progress.proofs.Numbers.{found_member, entries_from, numbers-set}
-use Rattle.esr_progress.proofs.SeatMaps.{get-seats}
-use Rattle.esr_progress.proofs.Plans.{ticket_of, seats_put, restore_of_plan}
-use Rattle.esr_progress.proofs.Results.{most_like}
+use Rattle.esr_ops.specs.declared.unit.Seat.{Seat as CodeSeat}
+use Rattle.esr_ops.specs.declared.unit.Slot.{Slot}
+use Rattle.esr_ops.specs.declared.unit.SeatKind.{SeatKind}
+use Rattle.esr_ops.specs.declared.unit.SeatKind.TheVariants as kinds
+use Rattle.esr_ops.specs.declared.unit.Work.{Work as CodeWork}
+use Rattle.esr_ops.specs.declared.unit.Work.TheVariants as works
+use Rattle.esr_ops.specs.declared.unit.Copied.{Copied}
+use Rattle.esr_ops.specs.Plan.{Plan, Seat, OfShard, OfFinalize, OfDrop, kind_of, seat_of, seat_of_code, RestorePlan, read_state, read_work, restore_plan, IsPlanOf, IsGivenIn}
+use Rattle.esr_ops.specs.Seats.{seat_in, holds, is_swap_out, is_unit_out, is_master, is_of_shard}
+use Rattle.esr_ops.specs.Ops.{has_stopped, is_free, IsMost, IsShardWork, IsFinalWork}
+use Rattle.esr_ops.specs.Inside.{plan_with, numbers_of, Rise, IsProgress}
+use Rattle.esr_ops.specs.Units.{given_by, ShardGiven, CloneGiven, GivesWork, LeavesSnap, HasSnapReady, LowestUnit, IsLowest}
+use Rattle.esr_progress.specs.Choice.{barred, is_out_of, is_swapping, is_final, ready_of, NoneBefore, IsReadyAt, IsWorkFor, IsSeatOf, IsSeatFor, IsLiveIn, IsBaseFor, given_entry}
+use Rattle.esr_ops.specs.Shards.{AreShards}
+use Rattle.esr_ops.specs.Entries.{get_from, find-member, eqb_is}
+use Rattle.esr_ops.specs.Lists.{some_same, none_some, Has-map, Has-mapped, Has-at, position-None}
+use Rattle.esr_progress.specs.Lookups.{find_op as law-find_op, find_delete as law-find_delete, seat_by as law-seat_by, by_seat as law-by_seat, held}
+use Rattle.esr_ops.specs.Most.{most_like}
+use Rattle.esr_ops.specs.Numbers.{entries_from, found_member}
+use Rattle.esr_progress.specs.Plans.{restore_of_plan}
+use Rattle.esr_ops.specs.Tests.{and_true, clash, any_here, any_true, or_left, or_right, both_true, or_true, not_true, is_true, place_below, first_place, place_within, place_of}
+use Rattle.esr_progress.proofs.Choices.{number_below, is_false, NoneWaits, says_free, goes_by, free_says, not_earliest, all_done_by, goes_on, none_earlier, has_by, stopped_by, picked, place_lower, Has-taken, shard_found, free_alike, stands_taken}
+use Rattle.esr_progress.proofs.Entries.{FirstAt, first_at, from_set}
+use Rattle.esr_progress.proofs.Numbers.{numbers-set}
+use Rattle.esr_progress.proofs.Plans.{seats_put}
 use Rattle.esr_progress.proofs.Takes.{set_same}
-use Rattle.esr_progress.proofs.Choices.{Has-taken, or_true, or_left, or_right, both_true, and_true, not_true, is_false, is_true, clash, any_true, any_here, place_of, place_below, first_place, place_within, number_below, place_lower, goes_by, goes_on, stopped_by, has_by, NoneWaits, free_says, says_free, not_earliest, none_earlier, all_done_by, picked, shard_found, stands_taken, free_alike}
 
 -- ---- kinds of work
 
@@ -101,20 +106,6 @@ waits_read (BeingRead k) e = tt
 waits_read (Restored files bytes) e = true≢false (sym e)
 waits_read (NotRestored why) e = true≢false (sym e)
 
--- ---- seats by their tickets
-
-pub coded : (o : Option Slot) (s : Seat) → told_in seat_in o ≡ Some s → (c : Slot) × (o ≡ Some c) × (seat_in c ≡ Some s)
-coded None s e = absurd (none_some s e)
-coded (Some c) s e = (c, refl, e)
-
-pub held : (p : Seat → Bool) (o : Option Seat) → holds p o ≡ true → (s : Seat) × (o ≡ Some s) × (p s ≡ true)
-held p None e = absurd (true≢false (sym e))
-held p (Some s) e = (s, refl, e)
-
-pub seat_member : (seats : List Slot) (k : ℕ) (c : Slot) → seat_at seats k ≡ Some c → Has seats c
-seat_member seats zero c e = absurd (none_some c e)
-seat_member seats (suc k) c e = Has-at seats k c e
-
 if_some : {A : Type 0} (o : Option A) (P : A → Type 0) (x : A) → o ≡ Some x → IfSome o P → P x
 if_some {A} o P x e h = subst (λ (z : Option A). IfSome z P) e h
 
@@ -151,11 +142,11 @@ module _ (ops : List (ℕ × Op)) (deletes : List (ℕ × Deletion)) (completed 
   rise : Rise (numbers_of ops)
   rise = h.ops_numbered.rise
 
-  pub find_op : (q : ℕ) → fin.get w.ops q ≡ fin.find nat_cmp q ops
-  find_op q = ap (λ m. fin.get m q) (sym is.plan.ops) ∙ ap (λ (p : Plan). fin.get p.ops q) (sym view) ∙ get_from ops q
+  find_op : (q : ℕ) → fin.get w.ops q ≡ fin.find nat_cmp q ops
+  find_op = law-find_op ops deletes completed seats next restores now view h root safe term w is
 
-  pub find_delete : (d : ℕ) → fin.get w.deletes d ≡ fin.find nat_cmp d deletes
-  find_delete d = ap (λ m. fin.get m d) (sym is.plan.deletes) ∙ ap (λ (p : Plan). fin.get p.deletes d) (sym view) ∙ get_from deletes d
+  find_delete : (d : ℕ) → fin.get w.deletes d ≡ fin.find nat_cmp d deletes
+  find_delete = law-find_delete ops deletes completed seats next restores now view h root safe term w is
 
   find_restore : (q : ℕ) → fin.get now.restores q ≡ fin.find nat_cmp q restores
   find_restore q = ap (λ (p : Plan). fin.get p.restores q) (sym view) ∙ get_from restores q
@@ -187,18 +178,11 @@ module _ (ops : List (ℕ × Op)) (deletes : List (ℕ × Deletion)) (completed 
   completed_is : completed ≡ w.completed
   completed_is = ap (λ (p : Plan). p.completed) view ∙ is.plan.completed
 
-  -- ---- tickets that are out
+  seat_by : (k : ℕ) (t : Ticket) → fin.get w.tickets k ≡ Some t → (c : Slot) × Has seats c × (seat_in c ≡ Some (seat_of t))
+  seat_by = law-seat_by ops deletes completed seats next restores now view h root safe term w is
 
-  seat_is : (k : ℕ) → fin.get now.seats k ≡ told_in seat_in (seat_at seats k)
-  seat_is k = ap (λ (p : Plan). fin.get p.seats k) (sym view) ∙ get-seats seats k
-
-  pub seat_by : (k : ℕ) (t : Ticket) → fin.get w.tickets k ≡ Some t → (c : Slot) × Has seats c × (seat_in c ≡ Some (seat_of t))
-  seat_by k t e =
-      let (c, at, same) = coded (seat_at seats k) (seat_of t) (sym (seat_is k) ∙ is.plan.seats k ∙ ap (option_map seat_of) e) in
-      (c, seat_member seats k c at, same)
-
-  pub by_seat : (c : Slot) (s : Seat) → seat_in c ≡ Some s → Has seats c → (k : ℕ) × ((t : Ticket) × (fin.get w.tickets k ≡ Some t) × (seat_of t ≡ s))
-  by_seat c s e m = let (k, at) = place_of seats c m in (suc k, ticket_of w now is.plan (suc k) s (seat_is (suc k) ∙ ap (told_in seat_in) at ∙ e))
+  by_seat : (c : Slot) (s : Seat) → seat_in c ≡ Some s → Has seats c → (k : ℕ) × ((t : Ticket) × (fin.get w.tickets k ≡ Some t) × (seat_of t ≡ s))
+  by_seat = law-by_seat ops deletes completed seats next restores now view h root safe term w is
 
   pub none_out : (o : ℕ) → is_out_of seats term o ≡ false → (k : ℕ) → UnitIsOut w.tickets w.term o k → ⊥
   none_out o e k u =
@@ -239,7 +223,6 @@ module _ (ops : List (ℕ × Op)) (deletes : List (ℕ × Deletion)) (completed 
       (k, record { t = t; there = found.1; out = out; unsettled = not_true _ unsettled; present = eqb_is t.term term present ∙ sym is.term_is; swaps = kind_master t.work swaps })
 
   -- ---- units of the op at a place
-
   module _ (at : ℕ) (e : ℕ × Op) (there : slice_get ops at ≡ Some e) where
     found : fin.find nat_cmp e.0 ops ≡ Some e.1
     found = found_member ops rise e (Has-at ops at e there)

@@ -1,5 +1,5 @@
 -- What the steps of restores make of a plan.
-use Rattle.std.proofs.Common.{◌≡◌, ℕ, Bool, true, false, cond, ◌||◌, eqb, List, [], ◌∷◌, Option, Some, None, option_map, map, refl, sym, ap, ◌∙◌, subst, true≢false}
+use Rattle.std.proofs.Common.{◌≡◌, ℕ, Bool, true, false, cond, eqb, List, [], ◌∷◌, Option, Some, None, option_map, map, refl, sym, ap, ◌∙◌, subst, true≢false}
 use Rattle.std.specs.Prelude.{◌&&◌, ◌==◌}
 use Rattle.std.specs.List.{list_any}
 use Rattle.std.specs.FinMap as fin
@@ -8,11 +8,12 @@ use Rattle.esr_core.specs.World.{World, Out, GivenUp, ShardWork, ReadState, Unre
 use Rattle.esr_core.specs.Restores.{waits, any_waits, handed, ended, ended_by}
 use Rattle.esr_core.specs.Steps.{given}
 use Rattle.esr_core.specs.After.{shard_over, read_over}
-use Rattle.esr_progress.specs.Plan.{Plan, read_state, read_work, restore_plan, reader_seat, IsPlanOf}
-use Rattle.esr_progress.specs.Shards as shards
-use Rattle.esr_progress.specs.Restores.{is_waiting}
-use Rattle.esr_progress.specs.Changes.{reader_ended, restore_over, read_by, read_in}
-use Rattle.esr_progress.proofs.Plans.{readers_put, restores_put, restores_put_count, restores_left, restores_left_count}
+use Rattle.esr_ops.specs.Plan.{Plan, read_state, read_work, restore_plan, reader_seat, IsPlanOf}
+use Rattle.esr_ops.specs.Restores.{is_waiting}
+use Rattle.esr_progress.specs.Changes.{restore_over, read_by, read_in}
+use Rattle.esr_ops.specs.Seats.{reader_ended}
+use Rattle.esr_progress.specs.Plans.{restores_put, restores_put_count, restores_left, restores_left_count, any_waits-works}
+use Rattle.esr_progress.proofs.Plans.{readers_put}
 
 module _ (place : Bytes) where
   handed_one : (k : ℕ) (s : RestoreShard) (b : Bool)
@@ -45,16 +46,6 @@ module _ (place : Bytes) where
     pub works-ended : (xs : List RestoreShard) → map (read_work place) (map (ended k new) xs) ≡ map (marked k GivenUp) (map (read_work place) xs)
     works-ended [] = refl
     works-ended (s ∷ xs) = λ j. ended_one s s.state j ∷ works-ended xs j
-
-  waits_one : (state : ReadState) → waits state ≡ shards.waits (read_state state)
-  waits_one Unread = refl
-  waits_one (BeingRead k) = refl
-  waits_one (Restored files bytes) = refl
-  waits_one (NotRestored why) = refl
-
-  pub any_waits-works : (xs : List RestoreShard) → any_waits xs ≡ list_any is_waiting (map (read_work place) xs)
-  any_waits-works [] = refl
-  any_waits-works (s ∷ xs) = λ j. waits_one s.state j || any_waits-works xs j
 
 module _ (w : World) (p : Plan) (is : IsPlanOf w p) (k : ℕ) (state : ReadState) (over : waits state ≡ false) where
   -- its shard is over

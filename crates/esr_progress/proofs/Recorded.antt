@@ -1,21 +1,27 @@
 -- The ops as a record tells them: snapshots and deletes, by number.
-use Rattle.std.proofs.Common.{◌≡◌, ◌≢◌, ◌⊎◌, ℕ, ◌+◌, ◌<◌, ◌≤◌, ◌^◌, Bool, true, List, [], ◌∷◌, ◌++◌, Option, Some, None, map, length, get_or, drop, refl, sym, ap, ◌∙◌, subst, inl, inr, arith, nat_cmp}
-use Rattle.std.specs.Prelude.{filter}
-use Rattle.std.specs.FinMap as fin
-use Rattle.std.proofs.lemmas.Bool.{cases_Bool, cases_lt}
-use Rattle.std.proofs.lemmas.Bool.Decides.{eqb_tells}
+use Rattle.std.proofs.Common.{◌≡◌, ℕ, ◌<◌, true, ◌≢◌, ◌⊎◌, ◌+◌, ◌≤◌, ◌^◌, Bool, List, [], ◌∷◌, ◌++◌, Option, Some, None, map, length, get_or, drop, refl, sym, ap, ◌∙◌, subst, inl, inr, arith, nat_cmp}
+use Rattle.std.specs.Prelude.{nat_lt, filter}
+use Rattle.std.proofs.lemmas.Bool.{lt-ltb, cases_Bool, cases_lt}
 use Rattle.std.proofs.lemmas.List.{append_assoc, map-append, drop_all}
 use Rattle.esr_model.specs.Values.{Has, RecordWork}
 use Rattle.esr_record.specs.declared.op.RecordOp.{RecordOp}
 use Rattle.esr_record.specs.Op.{IsWork, IsOp, last_op}
 use Rattle.esr_core.specs.World.{Op, Deletion, work_of, record_ops}
 use Rattle.esr_formats.specs.Clusters.{op_of}
-use Rattle.esr_progress.specs.Deletes.{deletion_entry, lies_between, between}
-use Rattle.esr_progress.specs.Inside.{numbers_of, Rise, AreNumbers}
-use Rattle.esr_progress.proofs.Lists.{Has-map, Has-mapped, Has-filter, Has-left, Has-right, Has-either, none_some}
-use Rattle.esr_progress.proofs.Entries.{find-here, find-past, find-none, find-member, get_from, same_maps}
-use Rattle.esr_progress.proofs.Numbers.{entries_from, found_member}
-use Rattle.esr_progress.proofs.Between.{lies_after, lies_before, so_lies, between_kept, between_left, last_pushed, from_place}
+use Rattle.esr_ops.specs.Deletes.{lies_between, deletion_entry, between}
+use Rattle.esr_ops.specs.Inside.{numbers_of, Rise, AreNumbers}
+use Rattle.std.specs.FinMap as fin
+use Rattle.std.proofs.lemmas.Bool.Decides.{eqb_tells}
+use Rattle.esr_ops.specs.Between.{lies_after, lies_before, between_kept, between_left, from_place, last_pushed}
+use Rattle.esr_ops.specs.Entries.{find-here, find-past, find-member, get_from, same_maps}
+use Rattle.esr_ops.specs.Lists.{Has-map, Has-mapped, Has-either, Has-right, Has-left, none_some}
+use Rattle.esr_ops.specs.Numbers.{found_member, entries_from}
+use Rattle.esr_ops.specs.Tests.{both_true}
+use Rattle.esr_progress.proofs.Entries.{find-none}
+use Rattle.esr_progress.proofs.Lists.{Has-filter}
+
+pub so_lies : (after before n : ℕ) → after < n → n < before → lies_between after before n ≡ true
+so_lies after before n a b = both_true (nat_lt after n) (nat_lt n before) (lt-ltb after n a) (lt-ltb n before b)
 
 abbrev pub told : ℕ × Op → ℕ × RecordWork
 told e = (e.0, work_of e.1)

@@ -10,13 +10,13 @@ use Rattle.esr_record.specs.declared.op.OpWork.TheVariants as works
 use Rattle.esr_record.specs.Op.{IsWork, AreOps}
 use Rattle.esr_core.specs.World.{Op, Deletion, kept_deletes, numbered_deletes}
 use Rattle.esr_formats.specs.Clusters.{op_of, work_of_code}
-use Rattle.esr_progress.specs.declared.unit.Slot.{Slot}
-use Rattle.esr_progress.specs.Plan.{RestorePlan, no_plan}
-use Rattle.esr_progress.specs.Deletes.{kept_delete, with_kept, kept_from, kept_plan}
-use Rattle.esr_progress.specs.Inside.{plan_with, numbers_of, Rise, AreNumbers, IsProgress}
-use Rattle.esr_progress.proofs.Entries.{find-cons, get_from, get_put, same_maps}
-use Rattle.esr_progress.proofs.Lists.{Has-at}
-use Rattle.esr_progress.proofs.Between.{from_place}
+use Rattle.esr_ops.specs.declared.unit.Slot.{Slot}
+use Rattle.esr_ops.specs.Plan.{RestorePlan, no_plan}
+use Rattle.esr_ops.specs.Deletes.{kept_delete, with_kept, kept_from, kept_plan}
+use Rattle.esr_ops.specs.Inside.{plan_with, numbers_of, Rise, AreNumbers, IsProgress}
+use Rattle.esr_ops.specs.Between.{from_place}
+use Rattle.esr_ops.specs.Entries.{find-cons, get_from, get_put, same_maps}
+use Rattle.esr_ops.specs.Lists.{Has-at}
 
 -- ---- their numbers
 

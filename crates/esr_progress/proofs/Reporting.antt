@@ -7,9 +7,9 @@ use Rattle.esr_core.specs.World.{World, Op, Deletion, Ticket, Swap, swap, Work, 
 use Rattle.esr_core.specs.Steps.{completing}
 use Rattle.esr_core.specs.After.{with_given, change, raised, settled_by, settled_of, done_of, failed_of, is_stale, dropped_of, delete_failed_by, delete_failed, delete_settled_by, delete_settled}
 use Rattle.esr_core.specs.After as after
-use Rattle.esr_progress.specs.Plan.{Plan, Seat, seat_of, kind_of, IsPlanOf}
-use Rattle.esr_progress.specs.Seats.{is_of_shard}
-use Rattle.esr_progress.specs.Changes.{with_seat, op_marked, op_failed, seat_ended, seat_settled, seat_raised, seat_changed, op_left, delete_left, is_stale_seat, done_by, done_in, failed_by, failed_in, delete_failing, deletion_failed_by, deletion_failed_in}
+use Rattle.esr_ops.specs.Plan.{Plan, Seat, seat_of, kind_of, IsPlanOf}
+use Rattle.esr_ops.specs.Seats.{is_of_shard, seat_ended, is_stale_seat}
+use Rattle.esr_progress.specs.Changes.{with_seat, op_marked, op_failed, seat_settled, seat_raised, seat_changed, op_left, delete_left, done_by, done_in, failed_by, failed_in, delete_failing, deletion_failed_by, deletion_failed_in}
 use Rattle.esr_progress.proofs.Plans.{seats_put}
 
 module _ (w : World) (p : Plan) (is : IsPlanOf w p) (k : ℕ) where

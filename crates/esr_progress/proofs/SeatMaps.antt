@@ -1,18 +1,20 @@
 -- The maps of what is kept under numbers, by its list: tickets are numbered from 1 on.
-use Rattle.std.proofs.Common.{◌≡◌, ◌≢◌, ℕ, zero, suc, ◌+◌, ◌-◌, ◌<◌, ◌≤◌, Bool, true, false, cond, eqb, List, [], ◌∷◌, ◌++◌, Option, Some, None, length, refl, sym, ap, ◌∙◌, inl, inr, arith, slice_get, nat_cmp}
+use Rattle.std.proofs.Common.{◌≡◌, ℕ, zero, suc, ◌+◌, ◌-◌, ◌<◌, ◌≤◌, Bool, true, false, cond, eqb, List, [], ◌∷◌, ◌++◌, Option, Some, None, length, refl, sym, ap, ◌∙◌, inl, inr, arith, slice_get, nat_cmp}
 use Rattle.std.specs.FinMap as fin
 use Rattle.std.proofs.lemmas.Bool.Decides.{eqb_tells}
 use Rattle.std.proofs.lemmas.Option.{slice_get_within}
 use Rattle.std.proofs.Math.ListN.{set}
-use Rattle.esr_progress.specs.declared.unit.Seat.{Seat as CodeSeat}
-use Rattle.esr_progress.specs.declared.unit.ReaderSeat.{ReaderSeat as CodeReader}
-use Rattle.esr_progress.specs.declared.unit.Slot.{Slot}
-use Rattle.esr_progress.specs.declared.unit.Slot.TheVariants as slots
-use Rattle.esr_progress.specs.Plan.{seat_of_code, reader_of_code}
-use Rattle.esr_progress.specs.Seats.{seat_at, seat_in, reader_in, told_in}
-use Rattle.esr_progress.specs.Inside.{slot_entry, slot_entries, seats_with, readers_with}
-use Rattle.esr_progress.proofs.Lists.{none_some, slice_get-set, slice_get-push, eqb_sucs}
-use Rattle.esr_progress.proofs.Entries.{eqb_is, find-here, find-past, get_from, get_put, same_maps}
+use Rattle.esr_ops.specs.declared.unit.Seat.{Seat as CodeSeat}
+use Rattle.esr_ops.specs.declared.unit.ReaderSeat.{ReaderSeat as CodeReader}
+use Rattle.esr_ops.specs.declared.unit.Slot.{Slot}
+use Rattle.esr_ops.specs.declared.unit.Slot.TheVariants as slots
+use Rattle.esr_ops.specs.Plan.{seat_of_code, reader_of_code}
+use Rattle.esr_ops.specs.Seats.{seat_at, seat_in, reader_in, told_in}
+use Rattle.esr_ops.specs.Inside.{slot_entries, seats_with, readers_with}
+use Rattle.esr_ops.specs.Entries.{get_put, same_maps, eqb_is}
+use Rattle.esr_ops.specs.Lists.{none_some}
+use Rattle.esr_progress.specs.SeatMaps.{get-slot as law-get-slot}
+use Rattle.esr_progress.proofs.Lists.{slice_get-set, eqb_sucs, slice_get-push}
 
 -- there is nothing past the end
 past_end : {A : Type 0} (xs : List A) → slice_get xs (length xs) ≡ None
@@ -28,29 +30,8 @@ same_either true a o h = h refl
 same_either false a o h = refl
 
 module _ {A B : Type 0} (f : A → Option B) where
-  past_entry : (o : Option B) (n q : ℕ) (rest : List (ℕ × B)) → n ≢ q → fin.find nat_cmp q (slot_entry o n rest) ≡ fin.find nat_cmp q rest
-  past_entry None n q rest apart = refl
-  past_entry (Some x) n q rest apart = find-past q (n, x) rest apart
-
-  at_entry : (o : Option B) (n q : ℕ) (rest : List (ℕ × B)) → n ≡ q → fin.find nat_cmp q rest ≡ None → fin.find nat_cmp q (slot_entry o n rest) ≡ o
-  at_entry None n q rest is none = none
-  at_entry (Some x) n q rest is none = find-here q (n, x) rest is
-
-  find-below : (n q : ℕ) (xs : List A) → q < n → fin.find nat_cmp q (slot_entries f n xs) ≡ None
-  find-below n q [] lt = refl
-  find-below n q (x ∷ xs) lt = past_entry (f x) n q (slot_entries f (suc n) xs) (λ e. absurd (omega (arith, e))) ∙ find-below (suc n) q xs (omega arith)
-
-  find-slot : (n k : ℕ) (xs : List A) → fin.find nat_cmp (n + k) (slot_entries f n xs) ≡ told_in f (slice_get xs k)
-  find-slot n k [] = refl
-  find-slot n zero (x ∷ xs) = at_entry (f x) n (n + 0) (slot_entries f (suc n) xs) (omega arith) (find-below (suc n) (n + 0) xs (omega arith))
-  find-slot n (suc k) (x ∷ xs) =
-      let same : n + suc k ≡ suc n + k = omega arith in
-      past_entry (f x) n (n + suc k) (slot_entries f (suc n) xs) (λ e. absurd (omega (arith, e))) ∙ ap (λ q. fin.find nat_cmp q (slot_entries f (suc n) xs)) same ∙ find-slot (suc n) k xs
-
-  -- what is told of a number
-  pub get-slot : (k : ℕ) (xs : List A) → fin.get (fin.from_entries {R = nat_cmp} (slot_entries f 1 xs)) k ≡ told_in f (seat_at xs k)
-  get-slot zero xs = get_from (slot_entries f 1 xs) 0 ∙ find-below 1 0 xs (omega arith)
-  get-slot (suc k) xs = let one : suc k ≡ 1 + k = omega arith in get_from (slot_entries f 1 xs) (suc k) ∙ ap (λ q. fin.find nat_cmp q (slot_entries f 1 xs)) one ∙ find-slot 1 k xs
+  get-slot : (k : ℕ) (xs : List A) → fin.get (fin.from_entries {R = nat_cmp} (slot_entries f 1 xs)) k ≡ told_in f (seat_at xs k)
+  get-slot = law-get-slot f
 
   told-either : (b : Bool) (y : A) (o : Option A) → told_in f (cond b (Some y) o) ≡ cond b (f y) (told_in f o)
   told-either true y o = refl
@@ -98,9 +79,6 @@ module _ {A B : Type 0} (f : A → Option B) where
 pub seat_at_within : {A : Type 0} (xs : List A) (k : ℕ) (c : A) → seat_at xs k ≡ Some c → (1 ≤ k) × (k - 1 < length xs)
 seat_at_within xs zero c e = absurd (none_some c e)
 seat_at_within xs (suc k) c e = let lt = slice_get_within xs k c e in (omega arith, omega arith)
-
-pub get-seats : (seats : List Slot) (k : ℕ) → fin.get (seats_with seats) k ≡ told_in seat_in (seat_at seats k)
-get-seats seats k = get-slot seat_in k seats
 
 pub get-readers : (seats : List Slot) (k : ℕ) → fin.get (readers_with seats) k ≡ told_in reader_in (seat_at seats k)
 get-readers seats k = get-slot reader_in k seats

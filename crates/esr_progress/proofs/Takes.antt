@@ -6,47 +6,28 @@ use Rattle.std.specs.List.{slice_index_or}
 use Rattle.std.proofs.lemmas.Option.{slice_get_read}
 use Rattle.std.proofs.Math.ListN.{set}
 use Rattle.esr_names.specs.declared.ids.Id.{Id}
-use Rattle.esr_record.specs.declared.op.Making.{Making}
 use Rattle.esr_root.specs.declared.indices.RootIndex.{RootIndex as CodeIndex}
-use Rattle.esr_model.specs.Values.{Bytes, Has}
+use Rattle.esr_model.specs.Values.{Has, RootData}
 use Rattle.esr_model.specs.Image.{index_at, at_shard, at_shard_of}
-use Rattle.esr_core.specs.World.{Op, Deletion, ShardWork}
+use Rattle.esr_core.specs.World.{Op, Deletion}
 use Rattle.esr_formats.specs.Ids.{number_of}
 use Rattle.esr_formats.specs.Roots.{root_index_of}
-use Rattle.esr_progress.specs.declared.shard.OpenShard.{OpenShard}
-use Rattle.esr_progress.specs.declared.unit.Seat.{Seat as CodeSeat}
-use Rattle.esr_progress.specs.declared.unit.ReaderSeat.{ReaderSeat as CodeReader}
-use Rattle.esr_progress.specs.declared.unit.Slot.{Slot}
-use Rattle.esr_progress.specs.declared.unit.Slot.TheVariants as slots
-use Rattle.esr_progress.specs.Plan.{Plan, seat_of_code, reader_of_code, RestorePlan}
-use Rattle.esr_progress.specs.Seats.{seat_in, reader_in}
-use Rattle.esr_progress.specs.Shards.{work_of_shard, state_of}
-use Rattle.esr_progress.specs.Ops.{IsOpenOp, Within, IsMost, Among, IsDoneAt, later_of}
-use Rattle.esr_progress.specs.Inside.{plan_with, seats_with, readers_with, numbers_of, AreNumbers, IsProgress}
-use Rattle.esr_progress.specs.declared.unit.SeatKind.{SeatKind}
-use Rattle.esr_progress.specs.declared.unit.SeatKind.TheVariants as kinds
+use Rattle.esr_ops.specs.declared.unit.Seat.{Seat as CodeSeat}
+use Rattle.esr_ops.specs.declared.unit.ReaderSeat.{ReaderSeat as CodeReader}
+use Rattle.esr_ops.specs.declared.unit.Slot.{Slot}
+use Rattle.esr_ops.specs.declared.unit.Slot.TheVariants as slots
+use Rattle.esr_ops.specs.Plan.{Plan, seat_of_code, reader_of_code, RestorePlan}
+use Rattle.esr_ops.specs.Seats.{seat_in, reader_in}
+use Rattle.esr_ops.specs.Ops.{IsMost, Among, IsDoneAt, later_of}
+use Rattle.esr_ops.specs.Inside.{plan_with, seats_with, readers_with, numbers_of, AreNumbers, IsProgress}
+use Rattle.esr_ops.specs.declared.unit.SeatKind.{SeatKind}
+use Rattle.esr_ops.specs.declared.unit.SeatKind.TheVariants as kinds
 use Rattle.esr_names.specs.declared.blob.ShardId.{ShardId}
-use Rattle.esr_model.specs.Values.{RootData}
-use Rattle.esr_progress.specs.Choice.{AreShards, IsLiveIn, IsBaseFor, given_entry}
-use Rattle.esr_progress.proofs.Lists.{Has-mapped, all_member, some_same, none_some}
-use Rattle.esr_progress.proofs.Searches.{left_from}
-use Rattle.esr_progress.proofs.Numbers.{entries_from}
+use Rattle.esr_progress.specs.Choice.{IsLiveIn, IsBaseFor, given_entry}
+use Rattle.esr_ops.specs.Lists.{left_from, some_same, none_some}
+use Rattle.esr_ops.specs.Most.{most_more, most_either}
+use Rattle.esr_ops.specs.Numbers.{entries_from}
 use Rattle.esr_progress.proofs.SeatMaps.{slot-push, slot-push_none}
-use Rattle.esr_progress.proofs.Results.{most_more, most_either}
-
--- what holds of the shards of an open op
-pub works_rule : (m : Making) (places : List Bytes) (xs : List OpenShard) → IsOpenOp m places xs → AreShards (map (work_of_shard m.indices places) xs)
-works_rule m places xs h = record {
-  few = λ s has.
-      let (x, hx, e) = Has-mapped (work_of_shard m.indices places) xs s has in
-      subst (λ (z : ShardWork). z.number < 1024) e (all_member (Within places) xs h.within x hx).1;
-  alike = λ a b ha hb i n.
-      let (x, hx, ex) = Has-mapped (work_of_shard m.indices places) xs a ha in
-      let (y, hy, ey) = Has-mapped (work_of_shard m.indices places) xs b hb in
-      let id : x.shard.index.number ≡ y.shard.index.number = ap (λ (s : ShardWork). s.ref.id) ex ∙ i ∙ sym (ap (λ (s : ShardWork). s.ref.id) ey) in
-      let number : x.shard.number ≡ y.shard.number = ap (λ (s : ShardWork). s.number) ex ∙ n ∙ sym (ap (λ (s : ShardWork). s.number) ey) in
-      sym (ap (λ (s : ShardWork). s.state) ex) ∙ ap state_of (h.alike x y hx hy id number) ∙ ap (λ (s : ShardWork). s.state) ey;
-}
 
 -- ---- a ticket more
 

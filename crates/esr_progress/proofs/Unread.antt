@@ -17,23 +17,27 @@ use Rattle.esr_core.specs.Allowed.{GivesRestore}
 use Rattle.esr_core.specs.After.{taken_by, taken_restore, taken_restore_shard}
 use Rattle.esr_formats.specs.Roots.{root_of}
 use Rattle.esr_formats.specs.Clusters.{count_of}
-use Rattle.esr_progress.specs.declared.unit.Slot.{Slot}
-use Rattle.esr_progress.specs.declared.unit.Work.{Work as CodeWork}
-use Rattle.esr_progress.specs.declared.unit.Work.TheVariants as works
-use Rattle.esr_progress.specs.declared.unit.Copied.{Copied}
-use Rattle.esr_progress.specs.Plan.{Plan, RestorePlan, read_state, read_work, restore_plan, reader_of_code, IsPlanOf}
-use Rattle.esr_progress.specs.Shards.{is_pending}
-use Rattle.esr_progress.specs.Restores.{is_unread, IsRestoreWork}
-use Rattle.esr_progress.specs.Inside.{plan_with, numbers_of, Rise, IsProgress}
-use Rattle.esr_progress.specs.Units.{given_by, GivesWork, HasUnread, IsLowest, LowestUnit}
-use Rattle.esr_progress.specs.Choice.{NoneUnread, IsUnreadAt, given_restore, AreShards}
-use Rattle.esr_progress.proofs.Lists.{Has-at, Has-map, position-None, position-map, some_same, none_some}
-use Rattle.esr_progress.proofs.Entries.{from_set, get_from, find-member, eqb_is}
-use Rattle.esr_progress.proofs.Numbers.{found_member, entries_from, numbers-set}
-use Rattle.esr_progress.proofs.Plans.{readers_put, restores_put, restores_put_count, restore_of_plan}
-use Rattle.esr_progress.proofs.Reading.{works-handed}
+use Rattle.esr_ops.specs.declared.unit.Slot.{Slot}
+use Rattle.esr_ops.specs.declared.unit.Work.{Work as CodeWork}
+use Rattle.esr_ops.specs.declared.unit.Work.TheVariants as works
+use Rattle.esr_ops.specs.declared.unit.Copied.{Copied}
+use Rattle.esr_ops.specs.Plan.{Plan, RestorePlan, read_state, read_work, restore_plan, reader_of_code, IsPlanOf}
+use Rattle.esr_ops.specs.Shards.{is_pending, AreShards}
+use Rattle.esr_ops.specs.Restores.{is_unread, IsRestoreWork}
+use Rattle.esr_ops.specs.Inside.{plan_with, numbers_of, Rise, IsProgress}
+use Rattle.esr_ops.specs.Units.{given_by, GivesWork, HasUnread, IsLowest, LowestUnit}
+use Rattle.esr_progress.specs.Choice.{NoneUnread, IsUnreadAt, given_restore}
+use Rattle.esr_ops.specs.Entries.{eqb_is, get_from, find-member}
+use Rattle.esr_ops.specs.Lists.{some_same, none_some, Has-map, position-None, Has-at, position-map}
+use Rattle.esr_ops.specs.Numbers.{entries_from, found_member}
+use Rattle.esr_progress.specs.Plans.{restore_of_plan, restores_put, restores_put_count}
+use Rattle.esr_ops.specs.Tests.{place_within, both_true, and_true, clash, place_of, place_below, first_place}
+use Rattle.esr_progress.proofs.Choices.{is_false, place_lower, Has-taken, stands_taken}
+use Rattle.esr_progress.proofs.Entries.{from_set}
 use Rattle.esr_progress.proofs.NextUnits.{entry_at}
-use Rattle.esr_progress.proofs.Choices.{place_of, place_below, place_lower, first_place, place_within, stands_taken, both_true, and_true, is_false, clash, Has-taken}
+use Rattle.esr_progress.proofs.Numbers.{numbers-set}
+use Rattle.esr_progress.proofs.Plans.{readers_put}
+use Rattle.esr_progress.proofs.Reading.{works-handed}
 
 -- ---- the search
 
@@ -81,11 +85,6 @@ restore_found index number (x ∷ xs) zero s there id n other =
 restore_found index number (x ∷ xs) (suc i) s there id n other =
     let not_this : ((x.ref.id == index) && (x.number == number)) ≡ false = is_false _ (λ e. let (a, b) = and_true _ _ e in other x (inl refl) (eqb_is _ _ a) (eqb_is _ _ b)) in
     ap (λ c. cond c (Some x) (restore_shard xs index number)) not_this ∙ restore_found index number xs i s there id n (λ z m. other z (inr m))
-
-mapped_at : {A B : Type 0} (f : A → B) (xs : List A) (i : ℕ) (y : B) → slice_get (map f xs) i ≡ Some y → (x : A) × (slice_get xs i ≡ Some x) × (f x ≡ y)
-mapped_at f [] i y e = absurd (none_some y e)
-mapped_at f (x ∷ xs) zero y e = (x, refl, some_same (f x) y e)
-mapped_at f (x ∷ xs) (suc i) y e = mapped_at f xs i y e
 
 if_some : {A : Type 0} (o : Option A) (P : A → Type 0) (x : A) → o ≡ Some x → IfSome o P → P x
 if_some {A} o P x e h = subst (λ (z : Option A). IfSome z P) e h

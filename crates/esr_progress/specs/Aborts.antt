@@ -4,8 +4,8 @@ use Rattle.std.specs.Ordering.{nat_cmp}
 use Rattle.std.specs.FinMap.{FinMap}
 use Rattle.std.specs.FinMap as fin
 use Rattle.esr_core.specs.World.{Op}
-use Rattle.esr_progress.specs.Plan.{Seat}
-use Rattle.esr_progress.specs.Seats.{can_abort}
+use Rattle.esr_ops.specs.Plan.{Seat}
+use Rattle.esr_ops.specs.Seats.{can_abort}
 
 -- the delete that aborted the op, where there is one
 abbrev pub op_aborter : Option Op → Option ℕ

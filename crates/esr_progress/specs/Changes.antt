@@ -1,5 +1,5 @@
 -- What the reports of units change in a plan.
-use Rattle.std.specs.Prelude.{ℕ, Bool, true, false, not, ◌&&◌, ◌==◌, [], ◌∷◌, ◌++◌, Option, Some, None, map, if◌then◌else◌}
+use Rattle.std.specs.Prelude.{ℕ, Bool, true, [], ◌∷◌, ◌++◌, Option, Some, None, map, if◌then◌else◌}
 use Rattle.std.specs.Ordering.{nat_cmp}
 use Rattle.std.specs.FinMap as fin
 use Rattle.esr_model.specs.Values.{ShardResult}
@@ -7,9 +7,9 @@ use Rattle.std.specs.List.{list_any}
 use Rattle.esr_core.specs.World.{Op, Deletion, Done, GivenUp, marked}
 use Rattle.esr_core.specs.Steps.{completing}
 use Rattle.esr_core.specs.Turns.{fails}
-use Rattle.esr_progress.specs.Plan.{Seat, ReaderSeat, RestorePlan, Plan}
-use Rattle.esr_progress.specs.Restores.{is_waiting}
-use Rattle.esr_progress.specs.Seats.{is_of_shard}
+use Rattle.esr_ops.specs.Plan.{Seat, ReaderSeat, RestorePlan, Plan}
+use Rattle.esr_ops.specs.Restores.{is_waiting}
+use Rattle.esr_ops.specs.Seats.{seat_ended, is_stale_seat, reader_ended}
 
 abbrev pub with_seat : Plan → ℕ → Seat → Plan
 with_seat p k s = record p { seats = fin.insert p.seats k s }
@@ -37,26 +37,16 @@ op_marked k r op = record op { shards = map (marked k (Done r)) op.shards }
 abbrev pub op_failed : ℕ → Op → Op
 op_failed k op = record op { shards = map (fails k) op.shards; failed = true }
 
-abbrev pub seat_ended : Seat → Seat
-seat_ended s = record s { out = false }
-
 abbrev pub seat_settled : Seat → Seat
 seat_settled s = record s { settled = true }
 
 abbrev pub seat_raised : ℕ → Seat → Seat
 seat_raised n s = record s { raised = Some n }
 
--- a unit of a master that is none any more
-abbrev pub is_stale_seat : ℕ → Seat → Bool
-is_stale_seat term s = not (is_of_shard s.kind) && not (s.term == term)
-
 -- ---- restores
 
 abbrev pub with_reader : Plan → ℕ → ReaderSeat → Plan
 with_reader p k q = record p { readers = fin.insert p.readers k q }
-
-abbrev pub reader_ended : ReaderSeat → ReaderSeat
-reader_ended q = record q { out = false }
 
 -- what a ticket has is over
 abbrev pub restore_over : ℕ → RestorePlan → RestorePlan

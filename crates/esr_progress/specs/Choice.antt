@@ -3,22 +3,22 @@ use Rattle.std.specs.Prelude.{◌≡◌, ◌⊎◌, ◌<◌, ℕ, Bool, true, fa
 use Rattle.std.specs.List.{list_any}
 use Rattle.esr_names.specs.declared.ids.Id.{Id}
 use Rattle.esr_names.specs.declared.blob.ShardId.{ShardId}
-use Rattle.esr_progress.specs.Plan.{RestorePlan}
-use Rattle.esr_progress.specs.Restores.{is_unread}
-use Rattle.esr_model.specs.Values.{Has, RootData}
+use Rattle.esr_ops.specs.Plan.{RestorePlan}
+use Rattle.esr_ops.specs.Restores.{is_unread}
+use Rattle.esr_model.specs.Values.{RootData}
 use Rattle.esr_model.specs.Image.{Generation}
 use Rattle.esr_core.specs.World.{Op, Deletion, ShardWork}
 use Rattle.esr_core.specs.Steps.{given, all_done}
 use Rattle.esr_formats.specs.Ids.{number_of}
 use Rattle.esr_progress.specs.declared.ready.Kind.{Kind}
 use Rattle.esr_progress.specs.declared.ready.Kind.TheVariants as ready
-use Rattle.esr_progress.specs.declared.unit.Slot.{Slot}
-use Rattle.esr_progress.specs.declared.unit.SeatKind.{SeatKind}
-use Rattle.esr_progress.specs.declared.unit.SeatKind.TheVariants as kinds
-use Rattle.esr_progress.specs.declared.unit.Work.{Work}
-use Rattle.esr_progress.specs.declared.unit.Work.TheVariants as works
-use Rattle.esr_progress.specs.Seats.{seat_in, holds, is_out, is_swap_out, is_unit_out}
-use Rattle.esr_progress.specs.Ops.{has_stopped, is_free, IsDoneAt, Among, IsMost, IsShardWork, IsFinalWork}
+use Rattle.esr_ops.specs.declared.unit.Slot.{Slot}
+use Rattle.esr_ops.specs.declared.unit.SeatKind.{SeatKind}
+use Rattle.esr_ops.specs.declared.unit.SeatKind.TheVariants as kinds
+use Rattle.esr_ops.specs.declared.unit.Work.{Work}
+use Rattle.esr_ops.specs.declared.unit.Work.TheVariants as works
+use Rattle.esr_ops.specs.Seats.{seat_in, holds, is_out, is_swap_out, is_unit_out}
+use Rattle.esr_ops.specs.Ops.{has_stopped, is_free, IsDoneAt, Among, IsMost, IsShardWork, IsFinalWork}
 
 -- ---- which
 
@@ -167,8 +167,3 @@ is_before (Some m) (Some n) = nat_lt m n
 -- the lower of two numbers, or the one that is there
 abbrev pub lower_of : Option ℕ → Option ℕ → Option ℕ
 lower_of a b = if is_before a b then a else b
-
--- what holds of the shards of every open op: their numbers are of the layout, and those of one id and number are equally far
-pub record AreShards (shards : List ShardWork) : Type 0 where
-  pub few : (s : ShardWork) → Has shards s → s.number < 1024
-  pub alike : (a b : ShardWork) → Has shards a → Has shards b → a.ref.id ≡ b.ref.id → a.number ≡ b.number → a.state ≡ b.state

@@ -7,7 +7,7 @@ use Rattle.std.specs.FinMap.{FinMap}
 use Rattle.std.specs.FinMap as fin
 use Rattle.esr_model.specs.Values.{IndexRef, ShardResult}
 use Rattle.esr_core.specs.World.{ShardState, Pending, Out, Done, GivenUp, ShardWork, Op, Deletion}
-use Rattle.esr_progress.specs.Plan.{UnitKind, OfShard, OfFinalize, OfDelete, OfDrop, Seat, ReaderSeat, RestorePlan, Plan}
+use Rattle.esr_ops.specs.Plan.{UnitKind, OfShard, OfFinalize, OfDelete, OfDrop, Seat, ReaderSeat, RestorePlan, Plan}
 
 abbrev pub coded_text : Coded (List ℕ)
 coded_text = coded_list coded_ℕ
@@ -84,7 +84,10 @@ seat_code =
     (λ p. record { kind = p.0; op = p.1.0; term = p.1.1.0; raised = p.1.1.1.0; settled = p.1.1.1.1.0; out = p.1.1.1.1.1.0; clean = p.1.1.1.1.1.1 }) (λ _. refl)
 
 abbrev pub reader_code : Coded ReaderSeat
-reader_code = code_by (ℕ × (ℕ × (ℕ × Bool))) (coded× coded_ℕ (coded× coded_ℕ (coded× coded_ℕ coded_bool))) (λ q. (q.op, (q.index, (q.number, q.out)))) (λ p. record { op = p.0; index = p.1.0; number = p.1.1.0; out = p.1.1.1 }) (λ _. refl)
+reader_code =
+    code_by (ℕ × (ℕ × (ℕ × Bool))) (coded× coded_ℕ (coded× coded_ℕ (coded× coded_ℕ coded_bool)))
+    (λ q. (q.op, (q.index, (q.number, q.out))))
+    (λ p. record { op = p.0; index = p.1.0; number = p.1.1.0; out = p.1.1.1 }) (λ _. refl)
 
 abbrev pub restore_code : Coded RestorePlan
 restore_code = code_by (ℕ × List ShardWork) (coded× coded_ℕ (coded_list work_code)) (λ r. (r.uuid, r.shards)) (λ p. record { uuid = p.0; shards = p.1 }) (λ _. refl)
@@ -92,6 +95,7 @@ restore_code = code_by (ℕ × List ShardWork) (coded× coded_ℕ (coded_list wo
 abbrev pub plan_code : Coded Plan
 plan_code =
     code_by (FinMap nat_cmp Op × (FinMap nat_cmp Deletion × (List ℕ × (FinMap nat_cmp Seat × (FinMap nat_cmp RestorePlan × (FinMap nat_cmp ReaderSeat × (ℕ × ℕ)))))))
-    (coded× (fin.code coded_ℕ op_code) (coded× (fin.code coded_ℕ deletion_code) (coded× coded_text (coded× (fin.code coded_ℕ seat_code) (coded× (fin.code coded_ℕ restore_code) (coded× (fin.code coded_ℕ reader_code) (coded× coded_ℕ coded_ℕ)))))))
+    (coded× (fin.code coded_ℕ op_code) (coded× (fin.code coded_ℕ deletion_code) (coded× coded_text (coded× (fin.code coded_ℕ seat_code)
+    (coded× (fin.code coded_ℕ restore_code) (coded× (fin.code coded_ℕ reader_code) (coded× coded_ℕ coded_ℕ)))))))
     (λ p. (p.ops, (p.deletes, (p.completed, (p.seats, (p.restores, (p.readers, (p.next_op, p.next_ticket))))))))
     (λ p. record { ops = p.0; deletes = p.1.0; completed = p.1.1.0; seats = p.1.1.1.0; restores = p.1.1.1.1.0; readers = p.1.1.1.1.1.0; next_op = p.1.1.1.1.1.1.0; next_ticket = p.1.1.1.1.1.1.1 }) (λ _. refl)

@@ -4,40 +4,15 @@ ghost use Rattle.std.specs.FinMap as fin;
 ghost use Rattle.esr_core.specs.Steps.{all_done};
 ghost use Rattle.esr_model.specs.Values.{ShardResult as Outcome};
 ghost use Rattle.esr_results.specs.Results.{result_of};
-ghost use Rattle.esr_progress.specs.Plan.{seat_of_code, reader_of_code};
-ghost use Rattle.esr_progress.specs.Changes.{with_seat, without_snap, without_op, without_settled, delete_left, with_completed, op_changed, op_marked, op_failed, seat_ended, seat_changed, seat_settled, seat_raised, op_left, done_in, failed_by, failed_in, delete_changed, delete_failing, deletion_failed_by, deletion_failed_in, is_stale_seat, reader_ended, with_reader, restore_changed, restore_over, restore_kept, read_by, read_in};
+ghost use Rattle.esr_ops.specs.Plan.{seat_of_code, reader_of_code};
+ghost use Rattle.esr_progress.specs.Changes.{with_seat, without_snap, without_op, without_settled, delete_left, with_completed, op_changed, op_marked, op_failed, seat_changed, seat_settled, seat_raised, op_left, done_in, failed_by, failed_in, delete_changed, delete_failing, deletion_failed_by, deletion_failed_in, with_reader, restore_changed, restore_over, restore_kept, read_by, read_in};
+ghost use Rattle.esr_ops.specs.Seats.{seat_ended};
 
+use crate::Progress;
 use crate::progress::{delete_place, place, restore_place};
-use crate::shard::ShardState;
-use crate::unit::Slot;
-use crate::{Progress, ReaderSeat, Seat};
+use esr_ops::{ReaderSeat, Seat, ShardState, Slot};
 use esr_results::ShardResult;
 use std::alloc::AllocError;
-
-impl Seat {
-    /// The ticket has ended.
-    pub(crate) fn ended(self) -> Seat
-        ensures { seat_of_code result ≡ seat_ended (seat_of_code self) }
-    {
-        Seat { out: false, ..self }
-    }
-
-    /// Whether it is of a master that is none any more: a shard's unit never is.
-    pub(crate) fn is_stale(&self, term: u64) -> bool
-        ensures { result ≡ is_stale_seat term (seat_of_code self.now) }
-    {
-        !self.kind.is_of_shard() && self.term != term
-    }
-}
-
-impl ReaderSeat {
-    /// The ticket has ended.
-    pub(crate) fn ended(self) -> ReaderSeat
-        ensures { reader_of_code result ≡ reader_ended (reader_of_code self) }
-    {
-        ReaderSeat { out: false, ..self }
-    }
-}
 
 impl Progress {
     /// Keeps this of a restore's ticket.

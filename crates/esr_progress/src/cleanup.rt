@@ -1,10 +1,24 @@
 //! What stands against a cleanup: open ops, and tickets that are out. Restores and their tickets don't.
 ghost use Rattle.std.specs.Prelude.{◌≡◌};
+ghost use Rattle.esr_core.specs.World.{World};
+ghost use Rattle.esr_core.specs.Allowed.{HasTicket};
+ghost use Rattle.esr_ops.specs.Plan.{IsPlanOf};
+ghost use Rattle.esr_ops.specs.Units.{IsLowest};
 ghost use Rattle.esr_progress.specs.Choice.{first_number, place_out, has_other, cleanup_waits, lower_of};
 
+use crate::Progress;
 use crate::ready::lower;
-use crate::unit::Slot;
-use crate::{OpenDelete, OpenOp};
+use esr_ops::{OpenDelete, OpenOp, Slot};
+
+impl Progress {
+    /// The lowest ticket that is out.
+    pub fn first_out(&self) -> Option<u64>
+        ensures { (w : World) → IsPlanOf w self.now → IsLowest (HasTicket w) result }
+    {
+        let at = place_out(&self.seats)?;
+        Some(at as u64 + 1)
+    }
+}
 
 /// The number of the first op.
 fn first_op(ops: &[OpenOp]) -> Option<u64>
@@ -27,14 +41,14 @@ fn first_delete(deletes: &[OpenDelete]) -> Option<u64>
 }
 
 /// The lowest number of an op or delete.
-pub(crate) fn lowest_open(ops: &[OpenOp], deletes: &[OpenDelete]) -> Option<u64>
+pub fn lowest_open(ops: &[OpenOp], deletes: &[OpenDelete]) -> Option<u64>
     ensures { result ≡ lower_of (first_number ops.now) (first_number deletes.now) }
 {
     lower(first_op(ops), first_delete(deletes))
 }
 
 /// Where the lowest ticket that is out stands.
-pub(crate) fn place_out(seats: &[Slot]) -> Option<usize>
+fn place_out(seats: &[Slot]) -> Option<usize>
     ensures { result ≡ place_out seats.now }
 {
     seats.iter().position(|slot| slot.is_out())

@@ -5,9 +5,10 @@ ghost use Rattle.esr_model.specs.Values.{ShardResult};
 ghost use Rattle.esr_core.specs.World.{Op, AllDone, info_of};
 ghost use Rattle.esr_formats.specs.Infos.{info_of_code};
 
+use crate::Progress;
 use crate::progress::place;
-use crate::{Progress, Work};
 use esr_meta::SnapInfo;
+use esr_ops::Work;
 use std::alloc::{AllocError, Global};
 
 impl Progress {

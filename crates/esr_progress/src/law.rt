@@ -3,7 +3,7 @@ ghost use Rattle.std.specs.Prelude.{ℕ, List};
 ghost use Rattle.esr_model.specs.Image.{Blobs};
 ghost use Rattle.esr_core.specs.Entry.{Entry};
 ghost use Rattle.esr_core.specs.World.{World, Caller};
-ghost use Rattle.esr_progress.specs.Plan.{Plan, IsPlanOf};
+ghost use Rattle.esr_ops.specs.Plan.{Plan, IsPlanOf};
 
 /// An election leaves the list, and so does what changes no op and no ticket: blobs, what who 0 has done, what was done so far.
 pub fn others_leave_the_list()

@@ -4,15 +4,14 @@ ghost use Rattle.std.specs.List.{list_any};
 ghost use Rattle.esr_core.specs.World.{World};
 ghost use Rattle.esr_formats.specs.Roots.{root_of};
 ghost use Rattle.esr_formats.specs.Clusters.{count_of};
-ghost use Rattle.esr_progress.specs.Plan.{IsGivenIn, IsPlanOf};
-ghost use Rattle.esr_progress.specs.Units.{HasDeleteReady, IsLowest, LowestUnit};
+ghost use Rattle.esr_ops.specs.Plan.{IsGivenIn, IsPlanOf};
+ghost use Rattle.esr_ops.specs.Units.{HasDeleteReady, IsLowest, LowestUnit};
 ghost use Rattle.esr_progress.specs.Choice.{barred, delete_ready};
 
+use crate::Progress;
 use crate::cleanup::cleanup_waits;
 use crate::ready::copy_ops;
-use crate::seats::{swap_is_out, unit_is_out};
-use crate::unit::Slot;
-use crate::{Copied, OpenDelete, OpenOp, Progress, ReadyUnit};
+use esr_ops::{Copied, OpenDelete, OpenOp, ReadyUnit, Slot, swap_is_out, unit_is_out};
 use esr_root::RootData;
 use std::alloc::{AllocError, Global};
 

@@ -1,9 +1,9 @@
 //! The list of open ops and their tickets.
-ghost use Rattle.std.specs.Prelude.{◌≡◌, ◌==◌, IfOk, position};
-ghost use Rattle.esr_progress.specs.Plan.{no_plan};
+ghost use Rattle.std.specs.Prelude.{◌≡◌, ◌==◌, ◌<◌, ◌+◌, ◌^◌, length, IfOk, position};
+ghost use Rattle.esr_ops.specs.Plan.{no_plan};
+ghost use Rattle.esr_ops.specs.Inside.{plan_with, IsProgress};
 
-use crate::unit::Slot;
-use crate::{OpenDelete, OpenOp, OpenRestore};
+use esr_ops::{OpenDelete, OpenOp, OpenRestore, Slot};
 use std::alloc::{AllocError, Global};
 use std::marker::Model;
 
@@ -19,15 +19,26 @@ pub struct Progress {
     pub(crate) restores: Vec<OpenRestore>,
 }
 
+/// What a list holds, to be looked up.
+#[derive(Clone, Copy)]
+pub struct OpenLists<'a> {
+    pub ops: &'a [OpenOp],
+    pub deletes: &'a [OpenDelete],
+    pub completed: &'a [u64],
+    pub seats: &'a [Slot],
+    pub next_op: u64,
+    pub restores: &'a [OpenRestore],
+}
+
 impl Model for Progress {
-    ghost use Rattle.esr_progress.specs.Plan.{Plan};
+    ghost use Rattle.esr_ops.specs.Plan.{Plan};
     ghost use Rattle.esr_progress.specs.Codes.{plan_code};
 
     ghost Value = { Plan };
 
     ghost coded = { plan_code };
 
-    ghost use Rattle.esr_progress.specs.Inside.{plan_with, IsProgress};
+    ghost use Rattle.esr_ops.specs.Inside.{plan_with, IsProgress};
 
     ghost view = { λ a. plan_with a.ops.items a.deletes.items a.completed.items a.seats.items a.next_op a.restores.items };
 
@@ -56,6 +67,23 @@ impl Progress {
         self.next_op
     }
 
+    /// What it holds.
+    pub fn lists(&self) -> OpenLists<'_>
+        ensures view { plan_with result.ops.now result.deletes.now result.completed.now result.seats.now result.next_op result.restores.now ≡ self.now }
+        ensures valid { IsProgress result.ops.now result.deletes.now result.next_op result.restores.now }
+        ensures next { result.next_op ≡ self.now.next_op }
+        ensures few { length result.ops.now + length result.deletes.now < 2 ^ 64 }
+    {
+        OpenLists {
+            ops: self.ops.as_slice(),
+            deletes: self.deletes.as_slice(),
+            completed: self.completed.as_slice(),
+            seats: self.seats.as_slice(),
+            next_op: self.next_op,
+            restores: self.restores.as_slice(),
+        }
+    }
+
     /// A copy.
     pub fn copy(&self, alloc: Global) -> Result<Progress, AllocError>
         ensures { IfOk result (λ p. p ≡ self.now) }
@@ -77,10 +105,8 @@ impl Progress {
     }
 }
 
-pub(crate) fn copy_deletes(
-    alloc: Global,
-    deletes: &[OpenDelete],
-) -> Result<Vec<OpenDelete>, AllocError>
+/// A copy of these deletes.
+pub fn copy_deletes(alloc: Global, deletes: &[OpenDelete]) -> Result<Vec<OpenDelete>, AllocError>
     ensures { IfOk result (λ v. v.items ≡ deletes.now) }
 {
     let mut copy = Vec::with_capacity(alloc, deletes.len())?;

@@ -7,21 +7,20 @@ ghost use Rattle.esr_core.specs.World.{World};
 ghost use Rattle.esr_formats.specs.Ids.{number_of};
 ghost use Rattle.esr_formats.specs.Roots.{root_of};
 ghost use Rattle.esr_formats.specs.Clusters.{count_of};
-ghost use Rattle.esr_progress.specs.Plan.{IsGivenIn, IsPlanOf, seat_of_code, reader_of_code};
-ghost use Rattle.esr_progress.specs.Inside.{numbers_of};
-ghost use Rattle.esr_progress.specs.Ops.{IsMost, Among, IsDoneAt};
-ghost use Rattle.esr_progress.specs.Units.{NextUnit, HasSnapReady, HasUnread, IsLowest, LowestUnit};
+ghost use Rattle.esr_ops.specs.Plan.{IsGivenIn, IsPlanOf, seat_of_code, reader_of_code};
+ghost use Rattle.esr_ops.specs.Inside.{numbers_of};
+ghost use Rattle.esr_ops.specs.Ops.{IsMost, Among, IsDoneAt};
+ghost use Rattle.esr_ops.specs.Units.{NextUnit, HasSnapReady, HasUnread, IsLowest, LowestUnit};
 ghost use Rattle.esr_progress.specs.Choice.{is_going, goes_in, is_earliest, ready_of, IsFirstReady, IsPossible, IsWorkFor, IsSeatFor, IsBaseFor, given_entry, IsFirstUnread, given_restore, is_before, lower_of};
 
+use crate::Progress;
 use crate::next_delete::barred;
-use crate::open_op::later;
 use crate::progress::{copy_deletes, copy_restores};
-use crate::seats::{swap_is_out, unit_is_out};
-use crate::unit::Slot;
-use crate::{
-    Copied, OpenDelete, OpenOp, OpenRestore, Progress, ReaderSeat, ReadyUnit, Seat, SeatKind, Work,
-};
 use esr_names::{Id, ShardId};
+use esr_ops::{
+    Copied, OpenDelete, OpenOp, OpenRestore, ReaderSeat, ReadyUnit, Seat, SeatKind, Slot, Work,
+    later, swap_is_out, unit_is_out,
+};
 use esr_root::RootData;
 use std::alloc::{AllocError, Global};
 
@@ -436,7 +435,8 @@ fn given_ops(
     Ok(copy)
 }
 
-pub(crate) fn copy_ops(alloc: Global, ops: &[OpenOp]) -> Result<Vec<OpenOp>, AllocError>
+/// A copy of these ops.
+pub fn copy_ops(alloc: Global, ops: &[OpenOp]) -> Result<Vec<OpenOp>, AllocError>
     ensures { IfOk result (λ v. v.items ≡ ops.now) }
 {
     let mut copy = Vec::with_capacity(alloc, ops.len())?;

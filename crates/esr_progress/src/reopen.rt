@@ -3,10 +3,11 @@ ghost use Rattle.std.specs.Prelude.{◌≡◌, ◌≤◌, ◌^◌, length, map, 
 ghost use Rattle.esr_core.specs.World.{kept_deletes};
 ghost use Rattle.esr_formats.specs.Clusters.{op_of, work_of_code};
 ghost use Rattle.esr_record.specs.Op.{IsWork, AreOps};
-ghost use Rattle.esr_progress.specs.Deletes.{with_kept, kept_from, kept_plan};
+ghost use Rattle.esr_ops.specs.Deletes.{with_kept, kept_from, kept_plan};
 
-use crate::{OpenDelete, Progress};
+use crate::Progress;
 use esr_names::Ids;
+use esr_ops::OpenDelete;
 use esr_record::{OpWork, RecordOp, RecordOps};
 use std::alloc::{AllocError, Global};
 

@@ -7,12 +7,12 @@ ghost use Rattle.esr_core.specs.After.{change, raised, settled_of, done_of, fail
 ghost use Rattle.esr_core.specs.Restores.{waits};
 ghost use Rattle.esr_formats.specs.Clusters.{op_of};
 ghost use Rattle.esr_results.specs.Results.{result_of};
-ghost use Rattle.esr_progress.specs.Plan.{seat_of_code, reader_of_code, IsPlanOf};
+ghost use Rattle.esr_ops.specs.Plan.{seat_of_code, reader_of_code, IsPlanOf};
 ghost use Rattle.esr_progress.specs.Aborts.{op_aborter, seat_aborter, aborter};
 
-use crate::delete::push_between;
+use crate::Progress;
 use crate::progress::place;
-use crate::{Progress, ReaderSeat, Seat};
+use esr_ops::{ReaderSeat, Seat, push_between};
 use esr_record::RecordOps;
 use esr_results::ShardResult;
 use std::alloc::{AllocError, Global};
@@ -22,7 +22,7 @@ impl Progress {
     pub fn seat(&self, ticket: u64) -> Option<Seat>
         ensures { option_map seat_of_code result ≡ fin.get self.now.seats ticket }
     {
-        match crate::seats::slot_at(&self.seats, ticket) {
+        match esr_ops::slot_at(&self.seats, ticket) {
             Some(slot) => slot.seat(),
             None => None,
         }
@@ -32,7 +32,7 @@ impl Progress {
     pub fn reader(&self, ticket: u64) -> Option<ReaderSeat>
         ensures { option_map reader_of_code result ≡ fin.get self.now.readers ticket }
     {
-        match crate::seats::slot_at(&self.seats, ticket) {
+        match esr_ops::slot_at(&self.seats, ticket) {
             Some(slot) => slot.reader(),
             None => None,
         }

@@ -8,7 +8,7 @@ use Rattle.esr_core.specs.World.{World, Opened, OpenedEmpty, OpenedRecord}
 use Rattle.esr_core.specs.Entry.{Moment}
 use Rattle.esr_core.specs.After.{after}
 use Rattle.esr_core.specs.Allowed.{Allowed}
-use Rattle.esr_core.specs.History.{world_from, IsLegal, AllKnown, all_handed_out, AreTold, IsHonest, AreHonest}
+use Rattle.esr_core.specs.History.{world_from, IsLegal, AreTold}
 use Rattle.esr_core.proofs.Opening.{nothing}
 use Rattle.esr_quiet.specs.Free.{Free}
 use Rattle.esr_quiet.specs.Smooth.{AreCalm}
@@ -35,14 +35,6 @@ told_front (m ∷ log) rest told = (told.0, told_front log rest told.1)
 told_next : (log rest : List Moment) (m : Moment) → AreTold (log ++ m ∷ rest) → (image : Image) × (m.image ≡ Some image)
 told_next [] rest m told = told.0
 told_next (x ∷ log) rest m told = told_next log rest m told.1
-
-honest_now : (f : Formats) (w : World) (log : List Moment) → AreHonest f w log → IsHonest f w.blobs
-honest_now f w [] honest = honest
-honest_now f w (m ∷ log) honest = honest.0
-
-honest_front : (f : Formats) (w : World) (log rest : List Moment) → AreHonest f w (log ++ rest) → AreHonest f w log
-honest_front f w [] rest honest = honest_now f w rest honest
-honest_front f w (m ∷ log) rest honest = (honest.0, honest_front f (after f w m) log rest honest.1)
 
 has_next : (log rest : List Moment) (m : Moment) → Has (log ++ m ∷ rest) m
 has_next [] rest m = inl refl
@@ -82,19 +74,19 @@ opened_free f image w (OpenedRecord cluster text root there reads is) =
 abbrev pub AreAlone : Formats → World → List Moment → Type 0
 AreAlone f w log = (front back : List Moment) → log ≡ front ++ back → IsAlone (world_from f w front)
 
-module _ (laws : CoreLaws) (f : Formats) (part_size : ℕ) (image : Image) (shelf : List Shelved) (w : World) (known : AllKnown f) (kept : Kept f image shelf) (opens : Opened f image w) where
+module _ (laws : CoreLaws) (f : Formats) (part_size : ℕ) (image : Image) (shelf : List Shelved) (w : World) (kept : Kept f image shelf) (opens : Opened f image w) where
   -- after the front of a history, over the rest of it
-  free_from : (rest log : List Moment) → IsFree f (world_from f w log) → IsLegal f part_size w (log ++ rest) → AreTold (log ++ rest) → AreHonest f w (log ++ rest) → AreCalm (log ++ rest) → AreAlone f w (log ++ rest) → IsFree f (world_from f w (log ++ rest))
-  free_from [] log l legal told honest calm alone = subst (λ xs. IsFree f (world_from f w xs)) (sym (no_more log)) l
-  free_from (m ∷ rest) log l legal told honest calm alone =
-      let law = laws.lawful f part_size image shelf w log (all_handed_out f w log known) kept opens (legal_front f part_size w log (m ∷ rest) legal) (told_front log (m ∷ rest) told) (honest_front f w log (m ∷ rest) honest) in
+  free_from : (rest log : List Moment) → IsFree f (world_from f w log) → IsLegal f part_size w (log ++ rest) → AreTold (log ++ rest) → AreCalm (log ++ rest) → AreAlone f w (log ++ rest) → IsFree f (world_from f w (log ++ rest))
+  free_from [] log l legal told calm alone = subst (λ xs. IsFree f (world_from f w xs)) (sym (no_more log)) l
+  free_from (m ∷ rest) log l legal told calm alone =
+      let law = laws.lawful f part_size image shelf w log kept opens (legal_front f part_size w log (m ∷ rest) legal) (told_front log (m ∷ rest) told) in
       let (i, is) = told_next log rest m told in
       let next = step_free f part_size (world_from f w log) _ law l (alone log (m ∷ rest) refl) m (calm m (has_next log rest m)) i is (legal_next f part_size w log rest m legal) in
       let same : log ++ m ∷ rest ≡ (log ++ m ∷ []) ++ rest = sym (one_more log rest m) in
       subst (λ xs. IsFree f (world_from f w xs)) (sym same)
-      (free_from rest (log ++ m ∷ []) (subst (IsFree f) (sym (world_next f w log m)) next) (subst (IsLegal f part_size w) same legal) (subst AreTold same told) (subst (AreHonest f w) same honest) (subst AreCalm same calm) (subst (AreAlone f w) same alone))
+      (free_from rest (log ++ m ∷ []) (subst (IsFree f) (sym (world_next f w log m)) next) (subst (IsLegal f part_size w) same legal) (subst AreTold same told) (subst AreCalm same calm) (subst (AreAlone f w) same alone))
 
-pub histories_free : CoreLaws → (f : Formats) (part_size : ℕ) (image : Image) (shelf : List Shelved) (w : World) (log : List Moment) → AllKnown f → Kept f image shelf → Opened f image w → IsLegal f part_size w log → AreTold log → AreHonest f w log
+pub histories_free : CoreLaws → (f : Formats) (part_size : ℕ) (image : Image) (shelf : List Shelved) (w : World) (log : List Moment) → Kept f image shelf → Opened f image w → IsLegal f part_size w log → AreTold log
     → AreCalm log → AreAlone f w log → Free f (world_from f w log)
-histories_free laws f part_size image shelf w log known kept opens legal told honest calm alone =
-    (free_from laws f part_size image shelf w known kept opens log [] (opened_free f image w opens) legal told honest calm alone).free
+histories_free laws f part_size image shelf w log kept opens legal told calm alone =
+    (free_from laws f part_size image shelf w kept opens log [] (opened_free f image w opens) legal told calm alone).free

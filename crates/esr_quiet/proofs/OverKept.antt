@@ -5,37 +5,27 @@ use Rattle.esr_core.specs.World.{World}
 use Rattle.esr_core.specs.Entry.{Refusal, HasEnded, Refused, Moment}
 use Rattle.esr_core.specs.After.{after}
 use Rattle.esr_core.specs.Allowed.{Allowed}
-use Rattle.esr_core.specs.History.{world_from, IsLegal, TellsHandedOut, all_handed_out, AreTold, AreHonest}
+use Rattle.esr_core.specs.History.{world_from, IsLegal, AreTold}
 use Rattle.esr_core.proofs.Blocked.{blocked_stays}
 use Rattle.esr_desk.specs.Start.{Start, formats_of, world_of}
 use Rattle.esr_quiet.specs.Smooth.{IsSmooth}
 use Rattle.esr_quiet.specs.Prefixes.{Prefixes}
 use Rattle.esr_quiet.specs.OverKept.{OverKept, IsLawful}
-use Rattle.esr_quiet.proofs.Prefixes.{world_both, legal_rest, legal_front, told_front, honest_front}
+use Rattle.esr_quiet.proofs.Prefixes.{world_both, legal_rest, legal_front, told_front}
 use Rattle.esr_quiet.proofs.Passing.{quiet_at}
 
 -- ---- its fronts
-
-handed_now : (f : Formats) (log : List Moment) (w : World) → TellsHandedOut f w log → TellsHandedOut f w []
-handed_now f [] w known = known
-handed_now f (m ∷ log) w known = known.0
-
-handed_front : (f : Formats) (front back : List Moment) (w : World) → TellsHandedOut f w (front ++ back) → TellsHandedOut f w front
-handed_front f [] back w known = handed_now f back w known
-handed_front f (m ∷ front) back w known = (known.0, handed_front f front back (after f w m) known.1)
 
 pub kept_front : (s : Start) (log : List Moment) → OverKept s log → (front back : List Moment) → log ≡ front ++ back → OverKept s front
 kept_front s log h front back is =
     record {
       tells = h.tells;
-      known = handed_front (formats_of s) front back s.world (subst (TellsHandedOut (formats_of s) s.world) is h.known);
       image = h.image;
       shelf = h.shelf;
       kept = h.kept;
       opened = h.opened;
       legal = legal_front (formats_of s) s.part_size front back s.world (subst (IsLegal (formats_of s) s.part_size s.world) is h.legal);
       told = told_front front back (subst AreTold is h.told);
-      honest = honest_front (formats_of s) front back s.world (subst (AreHonest (formats_of s) s.world) is h.honest);
     }
 
 pub lawful_front : (s : Start) (log : List Moment) → IsLawful s log → (front back : List Moment) → log ≡ front ++ back → IsLawful s front
@@ -55,14 +45,12 @@ smooth_lawful s log smooth prefixes =
     record {
       over = record {
         tells = smooth.tells;
-        known = all_handed_out (formats_of s) s.world log smooth.known;
         image = smooth.image;
         shelf = smooth.shelf;
         kept = smooth.kept;
         opened = smooth.opened;
         legal = smooth.legal;
         told = smooth.told;
-        honest = smooth.honest;
       };
       lawful = prefixes.lawful;
     }

@@ -3,11 +3,11 @@ use Rattle.std.proofs.Common.{◌≡◌, List, ◌∷◌, ◌++◌, append_assoc
 use Rattle.esr_model.specs.Values.{Has}
 use Rattle.esr_core.specs.Entry.{Moment}
 use Rattle.esr_core.specs.Allowed.{Allowed}
-use Rattle.esr_core.specs.History.{IsLegal, AreTold, AreHonest}
+use Rattle.esr_core.specs.History.{IsLegal, AreTold}
 use Rattle.esr_desk.specs.Start.{Start, formats_of, world_of}
 use Rattle.esr_quiet.specs.Smooth.{IsSmooth}
 use Rattle.esr_quiet.specs.Refusals.{HasAskedCleanup}
-use Rattle.esr_quiet.proofs.Prefixes.{legal_rest, legal_front, told_front, honest_front, has_front}
+use Rattle.esr_quiet.proofs.Prefixes.{legal_rest, legal_front, told_front, has_front}
 use Rattle.esr_quiet.proofs.Quiet.{IsQuiet, quiet_history, quiet_opened}
 
 module _ (s : Start) (log : List Moment) (smooth : IsSmooth s log) where
@@ -35,7 +35,6 @@ module _ (s : Start) (log : List Moment) (smooth : IsSmooth s log) where
         opened = smooth.opened;
         legal = legal_front (formats_of s) s.part_size front back s.world (subst (IsLegal (formats_of s) s.part_size s.world) is smooth.legal);
         told = told_front front back (subst AreTold is smooth.told);
-        honest = honest_front (formats_of s) front back s.world (subst (AreHonest (formats_of s) s.world) is smooth.honest);
         once = λ a b m name e. smooth.once a (b ++ back) m name (is ∙ ap (λ (l : List Moment). l ++ back) e ∙ append_assoc a (m ∷ b) back);
         tested = λ a b m name e. smooth.tested a (b ++ back) m name (is ∙ ap (λ (l : List Moment). l ++ back) e ∙ append_assoc a (m ∷ b) back);
         steady = λ m name indices moment h. smooth.steady m name indices moment (within m h);

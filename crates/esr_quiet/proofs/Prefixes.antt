@@ -5,7 +5,7 @@ use Rattle.esr_model.specs.Image.{Image}
 use Rattle.esr_core.specs.World.{World}
 use Rattle.esr_core.specs.Entry.{Moment}
 use Rattle.esr_core.specs.After.{after}
-use Rattle.esr_core.specs.History.{world_from, IsLegal, AreTold, AreHonest, IsHonest}
+use Rattle.esr_core.specs.History.{world_from, IsLegal, AreTold}
 
 pub world_both : (f : Formats) (front back : List Moment) (w : World) → world_from f w (front ++ back) ≡ world_from f (world_from f w front) back
 world_both f [] back w = refl
@@ -22,14 +22,6 @@ legal_front f size (m ∷ front) back w legal = (legal.0, legal_front f size fro
 pub told_front : (front back : List Moment) → AreTold (front ++ back) → AreTold front
 told_front [] back told = tt
 told_front (m ∷ front) back told = (told.0, told_front front back told.1)
-
-honest_now : (f : Formats) (log : List Moment) (w : World) → AreHonest f w log → IsHonest f w.blobs
-honest_now f [] w honest = honest
-honest_now f (m ∷ log) w honest = honest.0
-
-pub honest_front : (f : Formats) (front back : List Moment) (w : World) → AreHonest f w (front ++ back) → AreHonest f w front
-honest_front f [] back w honest = honest_now f back w honest
-honest_front f (m ∷ front) back w honest = (honest.0, honest_front f front back (after f w m) honest.1)
 
 -- a moment of it tells its image
 pub told_at : (log : List Moment) (m : Moment) → AreTold log → Has log m → (image : Image) × (m.image ≡ Some image)

@@ -14,7 +14,7 @@ use Rattle.esr_core.specs.Restores.{IsReading, WasRead}
 use Rattle.esr_core.specs.Entry.{Reason, Why, OfDepot, OfSource, OfChange, OfAbsence, OfUnreadable, OfAhead, OfTaken, OfAbort, OfIdsSpent, OfGenerationsSpent, OfTarget, OfPrint, OfDisagreement, Read, ReadBlob, ReadFails, Step, ReadStep, Reply, WasAbsent, HasEnded, Moment, Refusal, Refused}
 use Rattle.esr_core.specs.Allowed as allowed
 use Rattle.esr_core.specs.Allowed.{Told, MayRead, Fetcher, ByReader, ByCheck, ByVerify, ReadAllows, ReadMissing, ReaderFailing, CheckFailing, VerifyAllows, VerifyFailing, Allows, Allowed}
-use Rattle.esr_core.specs.History.{world_from, IsLegal, TellsHandedOut, AreTold, AreHonest}
+use Rattle.esr_core.specs.History.{world_from, IsLegal, AreTold}
 use Rattle.esr_core.specs.Ids.{Law}
 use Rattle.esr_core.specs.ReadLaw.{ReadLaw}
 use Rattle.esr_core.specs.Restored.{IsServed}
@@ -162,7 +162,7 @@ module _ (f : Formats) (w : World) (serving : IsServing f w) (k : ℕ) (q : Read
 -- what the laws of the core say of restores
 pub record ReadCoreLaws : Type 0 where
   pub opened : (f : Formats) (blobs : Blobs) (cluster : ClusterRecord) (root : RootData) → ReadLaw f (opened blobs cluster root)
-  pub kept : (f : Formats) (part_size : ℕ) (shelf : List Shelved) (w : World) (log : List Moment) → TellsHandedOut f w log → Law f w shelf → ReadLaw f w → IsLegal f part_size w log → AreTold log → AreHonest f w log → ReadLaw f (world_from f w log)
+  pub kept : (f : Formats) (part_size : ℕ) (shelf : List Shelved) (w : World) (log : List Moment) → Law f w shelf → ReadLaw f w → IsLegal f part_size w log → AreTold log → ReadLaw f (world_from f w log)
   pub served : (f : Formats) (w : World) (shelf : List Shelved) (k : ℕ) (q : Reader) → Law f w shelf → ReadLaw f w → IsReading w k q → IsServed f w q
 
 module _ (laws : ReadCoreLaws) where
@@ -175,7 +175,7 @@ module _ (laws : ReadCoreLaws) where
       let h = kept_front s log lawful.over front back is in
       let first = lawful.lawful [] log refl in
       let here = lawful.lawful front back is in
-      let law : ReadLaw (formats_of s) (world_of s front) = laws.kept (formats_of s) s.part_size first.0 s.world front h.known first.1 (opened_law (formats_of s) h.image s.world h.opened) h.legal h.told h.honest in
+      let law : ReadLaw (formats_of s) (world_of s front) = laws.kept (formats_of s) s.part_size first.0 s.world front first.1 (opened_law (formats_of s) h.image s.world h.opened) h.legal h.told in
       record { law = law; served = λ k q reading. laws.served (formats_of s) (world_of s front) here.0 k q here.1 law reading }
 
 -- ---- each cause

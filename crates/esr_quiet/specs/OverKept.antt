@@ -5,22 +5,19 @@ use Rattle.esr_model.specs.Image.{Image}
 use Rattle.esr_model.specs.Kept.{Kept}
 use Rattle.esr_core.specs.World.{Opened}
 use Rattle.esr_core.specs.Entry.{Moment}
-use Rattle.esr_core.specs.History.{TellsHandedOut, AreTold, AreHonest}
+use Rattle.esr_core.specs.History.{AreTold}
 use Rattle.esr_core.specs.Ids.{Law}
 use Rattle.esr_desk.specs.Start.{Start, formats_of, world_of, Legal}
 
--- The container told its image, which was kept, at the start and at each moment; the sources tell the files of each shard that was
--- handed out, and what they tell and what stands have equal bytes where they have equal length and digest.
+-- the container told its image, which was kept, at the start and at each moment
 pub record OverKept (s : Start) (log : List Moment) : Type 0 where
   pub tells : s.tells ≡ true
-  pub known : TellsHandedOut (formats_of s) s.world log
   pub image : Image
   pub shelf : List Shelved
   pub kept : Kept (formats_of s) image shelf
   pub opened : Opened (formats_of s) image s.world
   pub legal : Legal s log
   pub told : AreTold log
-  pub honest : AreHonest (formats_of s) s.world log
 
 -- and each world that it passes is lawful
 pub record IsLawful (s : Start) (log : List Moment) : Type 0 where

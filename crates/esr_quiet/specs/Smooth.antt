@@ -6,7 +6,7 @@ use Rattle.esr_model.specs.Image.{Image}
 use Rattle.esr_model.specs.Kept.{Kept}
 use Rattle.esr_core.specs.World.{Opened}
 use Rattle.esr_core.specs.Entry.{Asked, Restore, GivenCleanup, AskStep, FailedStep, Why, ElectStep, ReadStep, PruneStep, DeleteFails, CheckedAll, DrawTest, ReadFails, Reply, Gave, HasEnded, Refused, DepotFault, IdsSpent, GenerationsSpent, TermsSpent, Moment}
-use Rattle.esr_core.specs.History.{AllKnown, AreTold, AreHonest}
+use Rattle.esr_core.specs.History.{AllKnown, AreTold}
 use Rattle.esr_desk.specs.Start.{Start, formats_of, world_of, Legal, ticket_of}
 use Rattle.esr_desk.specs.Once.{AreOnce}
 use Rattle.esr_desk.specs.Grew.{NoneOut}
@@ -63,7 +63,6 @@ pub record IsSmooth (s : Start) (log : List Moment) : Type 0 where
   pub opened : Opened (formats_of s) image s.world
   pub legal : Legal s log
   pub told : AreTold log
-  pub honest : AreHonest (formats_of s) s.world log
   pub once : AreOnce s log
   pub tested : AreTested s log
   pub steady : AreSteady s log

@@ -28,4 +28,5 @@ NoDeleteFindsDamage s log = (front back : List Moment) (m : Moment) (why : Why) 
 
 -- nor a check, which a look began
 abbrev pub NoCheckFindsDamage : List Moment → Type 0
-NoCheckFindsDamage log = (front back : List Moment) (m : Moment) (why : Why) → log ≡ front ++ m ∷ back → SinceLook front → m.entry.who ≡ 0 → m.entry.step ≡ ReadStep (ReadFails why) → m.entry.reply ≡ HasEnded → IsDamage why → ⊥
+NoCheckFindsDamage log = (front back : List Moment) (m : Moment) (why : Why) → log ≡ front ++ m ∷ back → SinceLook front → m.entry.who ≡ 0 → m.entry.step ≡ ReadStep (ReadFails why) → m.entry.reply ≡ HasEnded → IsDamage why
+    → ⊥

@@ -76,7 +76,8 @@ once_both (x ∷ xs) ys one two apart = (
 )
 
 -- pieces in which none stands twice, and that are told apart by a key
-pub once_flat : {A B K : Type 0} (key : A → K) (f : A → List B) (xs : List A) → AreOnce (map key xs) → ((x : A) → Has xs x → AreOnce (f x)) → ((x y : A) (z : B) → Has (f x) z → Has (f y) z → key x ≡ key y) → AreOnce (flat_map f xs)
+pub once_flat : {A B K : Type 0} (key : A → K) (f : A → List B) (xs : List A) → AreOnce (map key xs) → ((x : A) → Has xs x → AreOnce (f x)) → ((x y : A) (z : B) → Has (f x) z → Has (f y) z → key x ≡ key y)
+    → AreOnce (flat_map f xs)
 once_flat key f [] keys each apart = tt
 once_flat {A} {B} {K} key f (x ∷ xs) keys each apart =
     once_both (f x) (flat_map f xs) (each x (inl refl)) (once_flat key f xs keys.1 (λ y has. each y (inr has)) apart)

@@ -60,7 +60,8 @@ module _ (shard : ShardId) (e : CodeEntry) (some : 1 ≤ e.part_size) where
     | inr cut ↦ many k cut (subst (λ (n : ℕ). k < n) (count_same e.print.len e.part_size some) less)
   ]
     where
-      one : (k : ℕ) → leb e.print.len e.part_size ≡ true → k < 1 → take (k + 1) (part_names shard.index.number shard.number (entry_of e)) ≡ take k (part_names shard.index.number shard.number (entry_of e)) ++ name_of (code_part_name shard e k) ∷ []
+      one : (k : ℕ) → leb e.print.len e.part_size ≡ true → k < 1
+          → take (k + 1) (part_names shard.index.number shard.number (entry_of e)) ≡ take k (part_names shard.index.number shard.number (entry_of e)) ++ name_of (code_part_name shard e k) ∷ []
       one zero whole below = rw whole refl
       one (suc k) whole below = absurd (omega arith)
 

@@ -30,7 +30,8 @@ pub fn readers_are_of_their_ask()
         → Has indices r → Has indices q → r.name ≡ q.name → r ≡ q }
     ensures one_id { (f : Formats) (part_size : ℕ) (w : World) (m : Moment) (o uuid : ℕ) (indices : List IndexRef) (r q : IndexRef) → Allowed f part_size w m → m.entry.reply ≡ AcceptedRestore o uuid indices
         → Has indices r → Has indices q → r.id ≡ q.id → r ≡ q }
-    ensures numbered { (f : Formats) (part_size : ℕ) (w : World) (m : Moment) (o uuid : ℕ) (indices : List IndexRef) → Allowed f part_size w m → m.entry.reply ≡ AcceptedRestore o uuid indices → (o ≡ w.next_op) × (o < (after f w m).next_op) }
+    ensures numbered { (f : Formats) (part_size : ℕ) (w : World) (m : Moment) (o uuid : ℕ) (indices : List IndexRef) → Allowed f part_size w m → m.entry.reply ≡ AcceptedRestore o uuid indices
+        → (o ≡ w.next_op) × (o < (after f w m).next_op) }
     ensures rises { (f : Formats) (part_size : ℕ) (w : World) (log : List Moment) → Tracked w → IsLegal f part_size w log → w.next_op ≤ (world_from f w log).next_op }
 {}
 

@@ -18,18 +18,13 @@ use std::alloc::{AllocError, Global};
 fn create_value(alloc: Global, op: u64, info: &Making) -> Result<Value, AllocError>
     ensures { IfOk result (λ v. view v ≡ create_data op info.now) }
 {
-    let indices = indices_value(alloc, &info.indices)?;
-    let uuid = id_value(alloc, info.uuid)?;
-    json!(in alloc; {"indices": indices, "kind": "create", "moment": info.moment, "name": info.name.as_str(), "op": op, "uuid": uuid})
+    json!(in alloc; {"indices": indices_value(alloc, &info.indices)?, "kind": "create", "moment": info.moment, "name": info.name.as_str(), "op": op, "uuid": id_value(alloc, info.uuid)?})
 }
 
 fn clone_value(alloc: Global, op: u64, info: &Making, source: Id) -> Result<Value, AllocError>
     ensures { IfOk result (λ v. view v ≡ clone_data op info.now source) }
 {
-    let indices = indices_value(alloc, &info.indices)?;
-    let source = id_value(alloc, source)?;
-    let uuid = id_value(alloc, info.uuid)?;
-    json!(in alloc; {"indices": indices, "kind": "clone", "moment": info.moment, "name": info.name.as_str(), "op": op, "source": source, "uuid": uuid})
+    json!(in alloc; {"indices": indices_value(alloc, &info.indices)?, "kind": "clone", "moment": info.moment, "name": info.name.as_str(), "op": op, "source": id_value(alloc, source)?, "uuid": id_value(alloc, info.uuid)?})
 }
 
 fn uuids_value(alloc: Global, uuids: &Ids) -> Result<Value, AllocError>
@@ -49,8 +44,7 @@ fn op_value(alloc: Global, op: &RecordOp) -> Result<Value, AllocError>
         OpWork::Create { info } => create_value(alloc, op.op, info),
         OpWork::Clone { info, source } => clone_value(alloc, op.op, info, *source),
         OpWork::Delete { uuids } => {
-            let uuids = uuids_value(alloc, uuids)?;
-            json!(in alloc; {"kind": "delete", "op": op.op, "uuids": uuids})
+            json!(in alloc; {"kind": "delete", "op": op.op, "uuids": uuids_value(alloc, uuids)?})
         }
         OpWork::Cleanup => json!(in alloc; {"kind": "cleanup", "op": op.op}),
     }

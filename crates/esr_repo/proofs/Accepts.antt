@@ -11,12 +11,12 @@ use Rattle.esr_record.specs.Record.{Record}
 use Rattle.esr_root.specs.Root.{Root}
 use Rattle.esr_formats.specs.Roots.{root_of}
 use Rattle.esr_formats.specs.Clusters.{op_of, cluster_of}
-use Rattle.esr_progress.specs.Asked.{IsAskable}
-use Rattle.esr_progress.specs.Plan.{Plan, IsPlanOf, IsAskedIn}
-use Rattle.esr_progress.specs.Accepting.{drawn_by, MayAccept, IsAccepted, IsRefused, name_asked}
-use Rattle.esr_progress.specs.declared.refusal.Refusal.{Refusal as ListRefusal}
-use Rattle.esr_progress.specs.declared.refusal.Refusal.TheVariants as refusals
-use Rattle.esr_progress.specs.declared.command.Accepted.{Accepted as CodeAccepted}
+use Rattle.esr_ops.specs.Asked.{IsAskable}
+use Rattle.esr_ops.specs.Plan.{Plan, IsPlanOf, IsAskedIn}
+use Rattle.esr_accept.specs.Accepting.{drawn_by, MayAccept, IsAccepted, IsRefused, name_asked}
+use Rattle.esr_ops.specs.declared.refusal.Refusal.{Refusal as ListRefusal}
+use Rattle.esr_ops.specs.declared.refusal.Refusal.TheVariants as refusals
+use Rattle.esr_ops.specs.declared.command.Accepted.{Accepted as CodeAccepted}
 use Rattle.esr_desk.specs.Refusals.{refusal_of}
 use Rattle.esr_desk.specs.Start.{Start, world_of}
 use Rattle.esr_repo.specs.Asked.{entry_of}

@@ -9,10 +9,10 @@ use Rattle.esr_core.specs.Tracked.{Tracked}
 use Rattle.esr_core.specs.Allowed.{NoCleanup, IsLowest, HasTicket, NoneOpen, AcceptsCleanup, CleanupAllows, OpeningCleanup, OpStands, TicketStands, AskingCleanup, Cleaning}
 use Rattle.esr_record.specs.Record.{Record}
 use Rattle.esr_formats.specs.Clusters.{op_of, cluster_of}
-use Rattle.esr_progress.specs.Plan.{Plan, IsPlanOf}
-use Rattle.esr_progress.specs.Accepting.{IsCleanupRefused}
-use Rattle.esr_progress.specs.declared.refusal.Refusal.{Refusal as ListRefusal}
-use Rattle.esr_progress.specs.declared.refusal.Refusal.TheVariants as refusals
+use Rattle.esr_ops.specs.Plan.{Plan, IsPlanOf}
+use Rattle.esr_accept.specs.Accepting.{IsCleanupRefused}
+use Rattle.esr_ops.specs.declared.refusal.Refusal.{Refusal as ListRefusal}
+use Rattle.esr_ops.specs.declared.refusal.Refusal.TheVariants as refusals
 use Rattle.esr_desk.specs.Refusals.{refusal_of}
 use Rattle.esr_desk.specs.Start.{Start, world_of}
 use Rattle.esr_repo.specs.Asked.{entry_of}

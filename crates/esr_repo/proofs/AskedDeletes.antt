@@ -10,10 +10,10 @@ use Rattle.esr_core.specs.Allowed.{NoCleanup, open_count, AreNamed, IsFirstUnuse
 use Rattle.esr_core.proofs.AskedDeletes.{delete_leaves}
 use Rattle.esr_record.specs.Record.{Record}
 use Rattle.esr_formats.specs.Clusters.{op_of, cluster_of}
-use Rattle.esr_progress.specs.Plan.{Plan, IsPlanOf}
-use Rattle.esr_progress.specs.Accepting.{IsDeleteRefused}
-use Rattle.esr_progress.specs.declared.refusal.Refusal.{Refusal as ListRefusal}
-use Rattle.esr_progress.specs.declared.refusal.Refusal.TheVariants as refusals
+use Rattle.esr_ops.specs.Plan.{Plan, IsPlanOf}
+use Rattle.esr_accept.specs.Accepting.{IsDeleteRefused}
+use Rattle.esr_ops.specs.declared.refusal.Refusal.{Refusal as ListRefusal}
+use Rattle.esr_ops.specs.declared.refusal.Refusal.TheVariants as refusals
 use Rattle.esr_desk.specs.Refusals.{refusal_of}
 use Rattle.esr_desk.specs.Start.{Start, world_of}
 use Rattle.esr_repo.specs.Asked.{entry_of}

@@ -29,7 +29,7 @@ use Rattle.esr_formats.proofs.NameTexts.{name_reads_back}
 use Rattle.esr_names.specs.Layout.{IsName, HasIds}
 use Rattle.esr_names.specs.declared.blob.BlobName.{BlobName as CodeName}
 use Rattle.esr_names.specs.declared.blob.BlobName.TheVariants as code
-use Rattle.esr_progress.specs.Plan.{Plan, seat_of, reader_seat, IsPlanOf}
+use Rattle.esr_ops.specs.Plan.{Plan, seat_of, reader_seat, IsPlanOf}
 use Rattle.esr_desk.specs.Start.{Start, formats_of, world_of, Legal}
 use Rattle.esr_desk.specs.Own.{caller_of}
 use Rattle.esr_desk.specs.Conditions.{Holds}

@@ -10,8 +10,8 @@ use Rattle.esr_core.specs.World.{World, Op, Ticket, Work, Shard, Finalize, Delet
 use Rattle.esr_core.specs.Entry.{Step, FailedStep, Refusal, Refused}
 use Rattle.esr_core.specs.After.{answered}
 use Rattle.esr_core.specs.Allowed.{IsFailure, IsAborted, Blocks, ByFailedSwap, ByDelete}
-use Rattle.esr_progress.specs.Plan.{Plan, kind_of, seat_of, IsPlanOf}
-use Rattle.esr_progress.specs.Seats.{is_drop}
+use Rattle.esr_ops.specs.Plan.{Plan, kind_of, seat_of, IsPlanOf}
+use Rattle.esr_ops.specs.Seats.{is_drop}
 use Rattle.esr_progress.specs.Aborts.{op_aborter, aborter}
 use Rattle.esr_desk.specs.declared.refusal.EntryRefusal.{EntryRefusal}
 use Rattle.esr_desk.specs.declared.refusal.EntryRefusal.TheVariants as refusals

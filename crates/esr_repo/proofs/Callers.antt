@@ -20,7 +20,7 @@ use Rattle.esr_desk.specs.Caller.{drawn_by}
 use Rattle.esr_repo.specs.Repo.{IsTest, AreTests}
 use Rattle.esr_repo.specs.Next.{Added, AddedOr, Did}
 use Rattle.esr_repo.specs.Grown.{added_world}
-use Rattle.esr_progress.specs.Plan.{Plan}
+use Rattle.esr_ops.specs.Plan.{Plan}
 use Rattle.esr_repo.proofs.Blocked.{Tells, OfSwap, OfDelete}
 use Rattle.esr_repo.proofs.Frames.{caller_stays}
 

@@ -14,10 +14,10 @@ use Rattle.esr_record.specs.Record.{Record}
 use Rattle.esr_formats.specs.Refs.{AreApart}
 use Rattle.esr_formats.specs.Clusters.{op_of, cluster_of}
 use Rattle.esr_progress.specs.Infos.{HasIndices}
-use Rattle.esr_progress.specs.Plan.{Plan, IsPlanOf}
-use Rattle.esr_progress.specs.Accepting.{IsCloneRefused}
-use Rattle.esr_progress.specs.declared.refusal.Refusal.{Refusal as ListRefusal}
-use Rattle.esr_progress.specs.declared.refusal.Refusal.TheVariants as refusals
+use Rattle.esr_ops.specs.Plan.{Plan, IsPlanOf}
+use Rattle.esr_accept.specs.Accepting.{IsCloneRefused}
+use Rattle.esr_ops.specs.declared.refusal.Refusal.{Refusal as ListRefusal}
+use Rattle.esr_ops.specs.declared.refusal.Refusal.TheVariants as refusals
 use Rattle.esr_desk.specs.declared.refusal.StepRefusal.{StepRefusal}
 use Rattle.esr_desk.specs.declared.refusal.StepRefusal.TheVariants as steps
 use Rattle.esr_desk.specs.Refusals.{refusal_of}

@@ -21,7 +21,7 @@ use Rattle.esr_meta.specs.Info.{Info}
 use Rattle.esr_formats.specs.Formats.{formats}
 use Rattle.esr_formats.specs.Roots.{root_of, root_kind}
 use Rattle.esr_formats.specs.Clusters.{cluster_of, op_of}
-use Rattle.esr_progress.specs.Plan.{Plan, Seat, UnitKind, kind_of, seat_of, IsPlanOf}
+use Rattle.esr_ops.specs.Plan.{Plan, Seat, UnitKind, kind_of, seat_of, IsPlanOf}
 use Rattle.esr_desk.specs.Start.{Start, formats_of, world_of, ticket_of}
 use Rattle.esr_desk.specs.Delete.Conditions.{CanFetchShard, CanPlan, CanSettleDelete, CanRemove, CanEndDelete, CanFailDelete}
 use Rattle.esr_repo.specs.Repo.{OwnIndices, HasInfos}

@@ -8,7 +8,7 @@ use Rattle.esr_core.specs.Entry.{DoneStep, HasEnded, Moment}
 use Rattle.esr_core.specs.After.{done_by, done_of}
 use Rattle.esr_core.specs.Allowed.{Allows, SameBlobs, Doing}
 use Rattle.esr_core.specs.Tracked.{Tracked}
-use Rattle.esr_progress.specs.Plan.{Plan, IsPlanOf}
+use Rattle.esr_ops.specs.Plan.{Plan, IsPlanOf}
 use Rattle.esr_desk.specs.Conditions.{CanEnd}
 use Rattle.esr_desk.specs.Start.{Start, formats_of, world_of, or_no_ticket, ticket_of}
 use Rattle.esr_repo.specs.Next.{Added}

@@ -7,7 +7,7 @@ use Rattle.esr_core.specs.Entry.{DrawStep, LookStep, DrawnFrom, Looked, Refused,
 use Rattle.esr_core.specs.After.{change, with_given}
 use Rattle.esr_core.specs.Allowed.{MayDraw, Allows, Looking, Drawing, DrawSpent}
 use Rattle.std.specs.FinMap as fin
-use Rattle.esr_progress.specs.Plan.{Plan, seat_of, IsPlanOf}
+use Rattle.esr_ops.specs.Plan.{Plan, seat_of, IsPlanOf}
 use Rattle.esr_repo.proofs.Stepping.{same_seats}
 use Rattle.esr_desk.specs.Conditions.{CanDraw}
 use Rattle.esr_desk.specs.Start.{Start, formats_of, world_of, ticket_of}

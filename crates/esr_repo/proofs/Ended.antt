@@ -12,7 +12,7 @@ use Rattle.esr_core.specs.Steps.{with_ticket}
 use Rattle.esr_core.specs.After.{change, is_stale, failed_by, failed_of}
 use Rattle.esr_core.specs.Allowed.{Finishes, Failing, Finishing}
 use Rattle.esr_core.specs.Tracked.{Tracked}
-use Rattle.esr_progress.specs.Plan.{Plan, IsPlanOf}
+use Rattle.esr_ops.specs.Plan.{Plan, IsPlanOf}
 use Rattle.esr_desk.specs.Conditions.{CanFail, CanFinish}
 use Rattle.esr_desk.specs.Start.{Start, world_of, or_no_ticket, ticket_of}
 use Rattle.esr_repo.specs.Next.{Added}

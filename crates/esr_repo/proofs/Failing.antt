@@ -12,7 +12,7 @@ use Rattle.esr_core.specs.Allowed as allowed
 use Rattle.esr_depot.specs.declared.error.CallError.{CallError}
 use Rattle.esr_depot.specs.declared.error.CallError.TheVariants.{Failed}
 use Rattle.esr_depot.specs.Calls.{up, HasCause, has_failed}
-use Rattle.esr_progress.specs.Plan.{Plan}
+use Rattle.esr_ops.specs.Plan.{Plan}
 use Rattle.esr_desk.specs.Start.{Start, formats_of, world_of}
 use Rattle.esr_repo.specs.Log.{calls}
 use Rattle.esr_repo.specs.May.{is_refused, MayNote}

@@ -13,7 +13,7 @@ use Rattle.esr_core.specs.Steps.{with_ticket}
 use Rattle.esr_core.specs.After.{with_given, change, fetching, told_blob, is_stale, failed_by, failed_of, delete_failed_by, delete_failed, read_told, shard_over, read_over, faulted}
 use Rattle.esr_core.specs.Tracked.{Tracked}
 use Rattle.esr_core.specs.ReadTracked.{ReadTracked}
-use Rattle.esr_progress.specs.Plan.{Plan}
+use Rattle.esr_ops.specs.Plan.{Plan}
 use Rattle.esr_desk.specs.declared.hand.Hand.{Hand}
 use Rattle.esr_desk.specs.declared.hand.Hand.TheVariants as hands
 use Rattle.esr_desk.specs.declared.refusal.StepRefusal.{StepRefusal}

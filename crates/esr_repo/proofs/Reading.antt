@@ -10,7 +10,7 @@ use Rattle.esr_core.specs.Entry.{Why, ReadBlob, RestoredShard, ReadFails, Step, 
 use Rattle.esr_core.specs.After.{told_blob, read_told, shard_over, read_over, faulted, answered}
 use Rattle.esr_core.specs.Allowed.{Told, SameBlobs, MayRead, Fetcher, ByReader, ReadFound, ReadMissing, ReadFault, RestoringShard, ReaderFailing, Reading}
 use Rattle.esr_core.specs.ReadTracked.{ReadTracked}
-use Rattle.esr_progress.specs.Plan.{Plan, IsPlanOf}
+use Rattle.esr_ops.specs.Plan.{Plan, IsPlanOf}
 use Rattle.esr_desk.specs.Own.{or_no_reader, reader_of}
 use Rattle.esr_desk.specs.Readers.{with_read, read_by}
 use Rattle.esr_desk.specs.Refusals.{refusal_of}

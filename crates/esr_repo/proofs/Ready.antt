@@ -6,12 +6,12 @@ use Rattle.esr_core.specs.Ready.{AnyReady, AShard, AFinalize, ADrop, ADelete, AC
 use Rattle.esr_core.specs.Entry.{Entry, Moment}
 use Rattle.esr_results.specs.Results.{result_of}
 use Rattle.esr_depot.specs.Look.{Look}
-use Rattle.esr_progress.specs.Plan.{Plan}
-use Rattle.esr_progress.specs.Units.{GivesWork, NextUnit}
-use Rattle.esr_progress.specs.declared.unit.Work.{Work}
-use Rattle.esr_progress.specs.declared.unit.Work.TheVariants as works
-use Rattle.esr_progress.specs.declared.unit.Copied.{Copied}
-use Rattle.esr_progress.specs.declared.unit.ReadyUnit.{ReadyUnit}
+use Rattle.esr_ops.specs.Plan.{Plan}
+use Rattle.esr_ops.specs.Units.{GivesWork, NextUnit}
+use Rattle.esr_ops.specs.declared.unit.Work.{Work}
+use Rattle.esr_ops.specs.declared.unit.Work.TheVariants as works
+use Rattle.esr_ops.specs.declared.unit.Copied.{Copied}
+use Rattle.esr_ops.specs.declared.unit.ReadyUnit.{ReadyUnit}
 use Rattle.esr_desk.specs.Start.{Start, world_of}
 use Rattle.esr_repo.specs.Log.{log_of}
 use Rattle.esr_repo.specs.Next.{IsLive}

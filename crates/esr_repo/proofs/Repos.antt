@@ -24,7 +24,7 @@ use Rattle.esr_formats.specs.Formats.{formats}
 use Rattle.esr_formats.specs.Clusters.{cluster_kind}
 use Rattle.esr_formats.specs.Refs.{ref_of_code}
 use Rattle.esr_formats.specs.Names.{name_kind}
-use Rattle.esr_progress.specs.Plan.{Plan, IsPlanOf}
+use Rattle.esr_ops.specs.Plan.{Plan, IsPlanOf}
 use Rattle.esr_desk.specs.Start.{Start, formats_of, world_of, Legal}
 use Rattle.esr_repo.specs.Log.{image_of, tick, ticks, log_of}
 use Rattle.esr_repo.specs.Repo.{Kept, IsKeptOf, TellsSo, OwnIndices, Gone, AreListed, FoundBy, AreTests, HasInfos, IsSteady, IsRepo}

@@ -18,10 +18,10 @@ use Rattle.esr_formats.specs.Refs.{ref_of_code, AreApart}
 use Rattle.esr_results.proofs.Choices.{differ}
 use Rattle.esr_results.proofs.Refs.{one_name, one_id, names_distinct, ids_distinct, other_later}
 use Rattle.esr_progress.specs.Infos.{HasIndices}
-use Rattle.esr_progress.specs.Plan.{Plan, IsPlanOf}
-use Rattle.esr_progress.specs.Accepting.{IsRestoreRefused}
-use Rattle.esr_progress.specs.declared.refusal.Refusal.{Refusal as ListRefusal}
-use Rattle.esr_progress.specs.declared.refusal.Refusal.TheVariants as refusals
+use Rattle.esr_ops.specs.Plan.{Plan, IsPlanOf}
+use Rattle.esr_accept.specs.Accepting.{IsRestoreRefused}
+use Rattle.esr_ops.specs.declared.refusal.Refusal.{Refusal as ListRefusal}
+use Rattle.esr_ops.specs.declared.refusal.Refusal.TheVariants as refusals
 use Rattle.esr_desk.specs.Refusals.{refusal_of}
 use Rattle.esr_desk.specs.Start.{Start, formats_of, world_of}
 use Rattle.esr_repo.specs.Repo.{HasInfos}

@@ -4,7 +4,7 @@ use Rattle.std.specs.Ordering.{eq_by_cmp}
 use Rattle.std.specs.Cmp.{nat_cmp_total}
 use Rattle.std.specs.FinMap.{FinMap, nat_cmp-IsAntisymmetric}
 use Rattle.std.specs.FinMap as fin
-use Rattle.esr_progress.specs.Plan.{seat_of}
+use Rattle.esr_ops.specs.Plan.{seat_of}
 use Rattle.esr_model.specs.Image.{Image}
 use Rattle.esr_core.specs.World.{World, Ticket}
 use Rattle.esr_core.specs.Entry.{Step, Reply, Refused, DepotFault, Moment}

@@ -28,7 +28,7 @@ use Rattle.esr_formats.specs.Infos.{info_of_code, info_kind}
 use Rattle.esr_formats.specs.Refs.{ref_of_code}
 use Rattle.esr_formats.specs.Roots.{root_of}
 use Rattle.esr_formats.specs.Clusters.{count_of, cluster_of, op_of}
-use Rattle.esr_progress.specs.Plan.{Plan, Seat, seat_of, IsPlanOf}
+use Rattle.esr_ops.specs.Plan.{Plan, Seat, seat_of, IsPlanOf}
 use Rattle.esr_desk.specs.Conditions.{CanRaise, IsUnpruned, CanSettle}
 use Rattle.esr_desk.specs.Refusals.{refusal_of}
 use Rattle.esr_desk.specs.Taken.{LeftBy, HasRaised, IsSettled, HasEndedAs}

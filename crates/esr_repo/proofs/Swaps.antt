@@ -27,7 +27,7 @@ use Rattle.esr_depot.specs.Calls.{Passed, Called}
 use Rattle.esr_depot.specs.Changes.{Swapped, SwapMay}
 use Rattle.esr_formats.specs.Roots.{root_of}
 use Rattle.esr_formats.specs.Clusters.{cluster_of, cluster_kind}
-use Rattle.esr_progress.specs.Plan.{Plan, IsPlanOf}
+use Rattle.esr_ops.specs.Plan.{Plan, IsPlanOf}
 use Rattle.esr_desk.specs.Start.{Start, formats_of, world_of}
 use Rattle.esr_repo.specs.Log.{image_of, asks_container, calls}
 use Rattle.esr_repo.specs.Repo.{Kept, TellsSo, HasInfos, IsSteady}

@@ -21,12 +21,12 @@ use Rattle.esr_formats.specs.Roots.{root_of, root_kind}
 use Rattle.esr_formats.specs.Infos.{info_of_code}
 use Rattle.esr_results.specs.Results.{result_of}
 use Rattle.esr_results.specs.NewRoot.{MayFinalize}
-use Rattle.esr_progress.specs.declared.unit.Work.{Work}
-use Rattle.esr_progress.specs.declared.unit.Work.TheVariants as works
-use Rattle.esr_progress.specs.declared.unit.ReadyUnit.{ReadyUnit}
-use Rattle.esr_progress.specs.declared.unit.Copied.{Copied}
-use Rattle.esr_progress.specs.Plan.{Plan, IsPlanOf, IsGivenIn}
-use Rattle.esr_progress.specs.Units.{given_by, given_of, GivesWork, GivesUnit}
+use Rattle.esr_ops.specs.declared.unit.Work.{Work}
+use Rattle.esr_ops.specs.declared.unit.Work.TheVariants as works
+use Rattle.esr_ops.specs.declared.unit.ReadyUnit.{ReadyUnit}
+use Rattle.esr_ops.specs.declared.unit.Copied.{Copied}
+use Rattle.esr_ops.specs.Plan.{Plan, IsPlanOf, IsGivenIn}
+use Rattle.esr_ops.specs.Units.{given_by, given_of, GivesWork, GivesUnit}
 use Rattle.esr_desk.specs.Start.{Start, formats_of, world_of, or_no_ticket, ticket_of}
 use Rattle.esr_desk.specs.Taken.{fresh, NewRoot, TookWork}
 use Rattle.esr_desk.specs.Own.{or_no_reader, reader_of}

@@ -17,7 +17,7 @@ use Rattle.esr_names.specs.declared.blob.BlobName.TheVariants as code
 use Rattle.esr_names.specs.Layout.{IsName}
 use Rattle.esr_names.specs.declared.ids.Id.{Id}
 use Rattle.esr_formats.specs.Names.{name_of}
-use Rattle.esr_progress.specs.Plan.{Plan, IsPlanOf}
+use Rattle.esr_ops.specs.Plan.{Plan, IsPlanOf}
 use Rattle.esr_desk.specs.Conditions.{Holds}
 use Rattle.esr_desk.specs.declared.refusal.StepRefusal.{StepRefusal}
 use Rattle.esr_desk.specs.Start.{Start, formats_of, world_of}

@@ -1,7 +1,7 @@
 -- Why a command is not accepted.
 use Rattle.std.specs.Prelude.{Option, Some, None}
-use Rattle.esr_progress.specs.declared.refusal.Refusal.{Refusal}
-use Rattle.esr_progress.specs.declared.refusal.Refusal.TheVariants as refusals
+use Rattle.esr_ops.specs.declared.refusal.Refusal.{Refusal}
+use Rattle.esr_ops.specs.declared.refusal.Refusal.TheVariants as refusals
 use Rattle.esr_desk.specs.declared.refusal.EntryRefusal.{EntryRefusal}
 use Rattle.esr_desk.specs.declared.refusal.EntryRefusal.TheVariants as entries
 

@@ -11,9 +11,9 @@ use Rattle.esr_formats.specs.Infos.{info_of_code}
 use Rattle.esr_results.specs.declared.result.ShardResult.{ShardResult}
 use Rattle.esr_results.specs.Results.{result_of}
 use Rattle.esr_results.specs.NewRoot.{MayFinalize}
-use Rattle.esr_progress.specs.declared.unit.Work.{Work}
-use Rattle.esr_progress.specs.declared.unit.Work.TheVariants as works
-use Rattle.esr_progress.specs.declared.unit.ReadyUnit.{ReadyUnit}
+use Rattle.esr_ops.specs.declared.unit.Work.{Work}
+use Rattle.esr_ops.specs.declared.unit.Work.TheVariants as works
+use Rattle.esr_ops.specs.declared.unit.ReadyUnit.{ReadyUnit}
 
 -- only the unit of a shard has a base, or that of a clone's
 abbrev pub base_for : Work → Option Id → Option Id

@@ -17,7 +17,7 @@ use Rattle.esr_meta.specs.Info.{Info, IsInfo}
 use Rattle.esr_formats.specs.Roots.{root_of}
 use Rattle.esr_formats.specs.Clusters.{cluster_of}
 use Rattle.esr_formats.specs.Infos.{info_of_code, info_kind}
-use Rattle.esr_progress.specs.Plan.{Plan, IsPlanOf}
+use Rattle.esr_ops.specs.Plan.{Plan, IsPlanOf}
 use Rattle.esr_desk.specs.Start.{Start, formats_of, world_of, ticket_of}
 use Rattle.esr_desk.specs.Conditions.{CanDrop}
 use Rattle.esr_desk.specs.Delete.Conditions.{CanEndCleanup}

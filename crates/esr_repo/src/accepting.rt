@@ -1,8 +1,8 @@
 //! What a repository keeps after a command was accepted, or why it is not.
 ghost use Rattle.std.specs.Prelude.{◌≡◌, ◌<◌, ◌^◌, length, IfOk, IfErr, IfSome};
 ghost use Rattle.esr_core.specs.Entry.{DeleteSnapshots, Cleanup, AskStep, Accepted};
-ghost use Rattle.esr_progress.specs.Asked.{asked_of, IsAskable};
-ghost use Rattle.esr_progress.specs.Accepting.{IsRefused, IsDeleteRefused, IsCleanupRefused, name_asked};
+ghost use Rattle.esr_ops.specs.Asked.{asked_of, IsAskable};
+ghost use Rattle.esr_accept.specs.Accepting.{IsRefused, IsDeleteRefused, IsCleanupRefused, name_asked};
 ghost use Rattle.esr_desk.specs.Entries.{step_of};
 ghost use Rattle.esr_desk.specs.Refusals.{refusal_of};
 ghost use Rattle.esr_desk.specs.Start.{world_of};
@@ -12,10 +12,11 @@ ghost use Rattle.esr_repo.specs.May.{MaySwap, MayRefuse};
 
 use crate::swap::Renewed;
 use crate::{Repo, Told};
+use esr_accept::{accept, accept_cleanup, accept_delete};
 use esr_depot::Depot;
 use esr_desk::{EntryRefusal, Step, StepRefusal};
 use esr_names::{Id, IndexNames, SnapNames};
-use esr_progress::{AskedIndex, AskedIndices, Command, Refusal};
+use esr_ops::{AskedIndex, AskedIndices, Command, Refusal};
 use std::alloc::{AllocError, Global};
 
 /// A copy of the indices of a command.
@@ -143,9 +144,14 @@ impl<D: Depot, K: Told> Repo<D, K> {
     {
         self.rules();
         let first = self.next_id();
-        let (progress, accepted) = self
-            .plan()
-            .accept(alloc, self.safe_root(), self.term(), first, command)?;
+        let (progress, accepted) = accept(
+            self.plan(),
+            alloc,
+            self.safe_root(),
+            self.term(),
+            first,
+            command,
+        )?;
         let mut cluster = self.record().try_clone(alloc)?;
         cluster.ops = progress.record_ops(alloc)?;
         let next = Id {
@@ -174,9 +180,7 @@ impl<D: Depot, K: Told> Repo<D, K> {
         ensures err { IfErr result (λ e. IsDeleteRefused (world_of K.start self.now) names.now e) }
     {
         self.rules();
-        let (list, op) = self
-            .plan()
-            .accept_delete(alloc, self.safe_root(), self.term(), names)?;
+        let (list, op) = accept_delete(self.plan(), alloc, self.safe_root(), self.term(), names)?;
         let mut cluster = self.record().try_clone(alloc)?;
         cluster.ops = list.record_ops(alloc)?;
         let next = self.next_id();
@@ -199,7 +203,7 @@ impl<D: Depot, K: Told> Repo<D, K> {
         ensures err { IfErr result (λ e. IsCleanupRefused (world_of K.start self.now) e) }
     {
         self.rules();
-        let (progress, op) = self.plan().accept_cleanup(alloc)?;
+        let (progress, op) = accept_cleanup(self.plan(), alloc)?;
         let mut cluster = self.record().try_clone(alloc)?;
         cluster.ops = progress.record_ops(alloc)?;
         let next = self.next_id();

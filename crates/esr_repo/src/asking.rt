@@ -3,7 +3,7 @@ ghost use Rattle.std.specs.Prelude.{length, ◌≡◌, ◌<◌, ◌^◌, ◌≤�
 ghost use Rattle.esr_core.specs.Entry.{DeleteSnapshots, Cleanup, AskStep, TakeStep, LookStep, Accepted, Looked};
 ghost use Rattle.esr_formats.specs.Roots.{root_snap_of};
 ghost use Rattle.esr_formats.specs.Clusters.{count_of};
-ghost use Rattle.esr_progress.specs.Asked.{asked_of, IsAskable};
+ghost use Rattle.esr_ops.specs.Asked.{asked_of, IsAskable};
 ghost use Rattle.esr_desk.specs.Entries.{step_of};
 ghost use Rattle.esr_desk.specs.Outcome.{take_reply};
 ghost use Rattle.esr_desk.specs.Readers.{TookUnit, IsBare};
@@ -15,7 +15,7 @@ use crate::{Repo, Told};
 use esr_depot::Depot;
 use esr_desk::{Answer, Look, Step, StepRefusal, Unit};
 use esr_names::SnapNames;
-use esr_progress::Command;
+use esr_ops::Command;
 use std::alloc::{AllocError, Global};
 
 /// The step that asks for a delete.

@@ -2,7 +2,7 @@
 ghost use Rattle.std.specs.Prelude.{◌≡◌, ◌<◌, ◌^◌, Option, Some, None, length, IfOk};
 ghost use Rattle.esr_core.specs.Restores.{AreOnce};
 ghost use Rattle.esr_core.specs.Entry.{CloneOf as Taken, Clone, AskStep, Accepted};
-ghost use Rattle.esr_progress.specs.Accepting.{IsCloneRefused, Clonable};
+ghost use Rattle.esr_accept.specs.Accepting.{IsCloneRefused, Clonable};
 ghost use Rattle.esr_desk.specs.Entries.{cloned_of, step_of};
 ghost use Rattle.esr_desk.specs.Start.{world_of};
 ghost use Rattle.esr_repo.specs.Next.{IsLive, GoesOn, AddedOr, Did};
@@ -11,10 +11,11 @@ ghost use Rattle.esr_repo.specs.May.{MaySwap};
 use crate::accepting::index_names_copy;
 use crate::swap::Renewed;
 use crate::{Repo, Told};
+use esr_accept::{chosen, clonable, open_clone};
 use esr_depot::Depot;
 use esr_desk::{Answer, CloneOf, Step, StepRefusal};
 use esr_names::{Id, IndexNames, SnapName};
-use esr_progress::{Command, Refusal, chosen};
+use esr_ops::{Command, Refusal};
 use std::alloc::{AllocError, Global};
 
 /// The step that asks for a clone, without what it takes.
@@ -98,8 +99,15 @@ impl<D: Depot, K: Told> Repo<D, K> {
         ensures { Clonable (world_of K.start self.now) source.now name.now indices.now result }
     {
         let next = self.next_id();
-        self.plan()
-            .clonable(self.safe_root(), self.term(), next, source, name, indices)
+        clonable(
+            self.plan(),
+            self.safe_root(),
+            self.term(),
+            next,
+            source,
+            name,
+            indices,
+        )
     }
 
     /// A clone is not accepted, which changes nothing.
@@ -166,9 +174,7 @@ impl<D: Depot, K: Told> Repo<D, K> {
         let first = self.next_id();
         let all = self.indices_of(alloc, uuid)?;
         let refs = chosen(alloc, &all, indices)?;
-        let progress = self
-            .plan()
-            .cloning(alloc, first, uuid, name, &refs, moment)?;
+        let progress = open_clone(self.plan(), alloc, first, uuid, name, &refs, moment)?;
         let mut cluster = self.record().try_clone(alloc)?;
         cluster.ops = progress.record_ops(alloc)?;
         let taken = CloneOf {

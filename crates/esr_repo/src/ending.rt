@@ -93,7 +93,8 @@ impl<D: Depot, K: Told> Repo<D, K> {
 
     /// The op of the ticket leaves the list; the ticket ends.
     fn end_op(&mut self, alloc: Global, ticket: u64) -> Result<(), StepRefusal>
-        requires { CanLeave K.start self.old ticket }
+        requires may { CanLeave K.start self.old ticket }
+        requires new { IsFresh K.start self.old ticket DroppedStep }
         ensures step { Did K.start self.old self.new ticket DroppedStep (λ _. HasEnded) result }
         ensures own { OnOk result (ticket_of K.start self.new ticket
             ≡ record (ticket_of K.start self.old ticket) { out = false }) }
@@ -114,6 +115,7 @@ impl<D: Depot, K: Told> Repo<D, K> {
     /// An op that failed leaves the list; its ticket ends.
     pub fn end_drop(&mut self, alloc: Global, ticket: u64) -> Result<(), StepRefusal>
         requires may { CanDrop (ticket_of K.start self.old ticket) }
+        requires new { IsFresh K.start self.old ticket DroppedStep }
         ensures step { Did K.start self.old self.new ticket DroppedStep (λ _. HasEnded) result }
         ensures own { OnOk result (ticket_of K.start self.new ticket
             ≡ record (ticket_of K.start self.old ticket) { out = false }) }
@@ -125,6 +127,7 @@ impl<D: Depot, K: Told> Repo<D, K> {
     /// A cleanup is over: its removals took away all that it dooms. Its op leaves the list; its ticket ends.
     pub fn end_cleanup(&mut self, alloc: Global, ticket: u64) -> Result<(), StepRefusal>
         requires may { CanEndCleanup K.start self.old ticket }
+        requires new { IsFresh K.start self.old ticket DroppedStep }
         ensures step { Did K.start self.old self.new ticket DroppedStep (λ _. HasEnded) result }
         ensures own { OnOk result (ticket_of K.start self.new ticket
             ≡ record (ticket_of K.start self.old ticket) { out = false }) }

@@ -9,7 +9,7 @@ ghost use Rattle.esr_core.specs.ReadTracked.{ReadTracked};
 ghost use Rattle.esr_formats.specs.Roots.{root_of};
 ghost use Rattle.esr_formats.specs.Clusters.{count_of, cluster_of};
 ghost use Rattle.esr_record.specs.Record.{AreNumbers};
-ghost use Rattle.esr_progress.specs.Plan.{IsPlanOf, seat_of, seat_of_code};
+ghost use Rattle.esr_ops.specs.Plan.{IsPlanOf, seat_of, seat_of_code};
 ghost use Rattle.esr_desk.specs.Numbered.{Numbered};
 ghost use Rattle.esr_desk.specs.Outcome.{Grounds};
 ghost use Rattle.esr_desk.specs.Last.{IsLast};
@@ -27,7 +27,8 @@ use crate::{Repo, Told};
 use esr_depot::Depot;
 use esr_meta::SnapInfo;
 use esr_names::Id;
-use esr_progress::{Progress, Seat};
+use esr_ops::Seat;
+use esr_progress::Progress;
 use esr_record::ClusterRecord;
 use esr_root::RootData;
 

@@ -12,11 +12,12 @@ ghost use Rattle.esr_desk.specs.Restore.Conditions.{CanEndRestore};
 ghost use Rattle.esr_repo.specs.Next.{IsLive, Did};
 
 use crate::{Repo, Told};
+use esr_accept::{open_restore, restorable};
 use esr_depot::Depot;
 use esr_desk::{AcceptedRestore, Answer, Read, Step, StepRefusal};
 use esr_meta::{SnapInfo, indices_copy};
 use esr_names::{Id, IndexRefs, SnapName};
-use esr_progress::Command;
+use esr_ops::Command;
 use esr_seq::Text;
 use std::alloc::{AllocError, Global};
 
@@ -51,7 +52,7 @@ impl<D: Depot, K: Told> Repo<D, K> {
     {
         self.check(0, asks(alloc, name, place)?)?;
         self.rules();
-        let uuid = match self.plan().restorable(self.safe_root(), name) {
+        let uuid = match restorable(self.plan(), self.safe_root(), name) {
             Ok(uuid) => uuid,
             Err(refusal) => {
                 let refused = asks(alloc, name, place)?;
@@ -59,7 +60,7 @@ impl<D: Depot, K: Told> Repo<D, K> {
             }
         };
         let indices = self.indices_of(alloc, uuid)?;
-        let progress = self.plan().restoring(alloc, uuid, place, &indices)?;
+        let progress = open_restore(self.plan(), alloc, uuid, place, &indices)?;
         let told = indices_copy(alloc, &indices)?;
         let step = asks(alloc, name, place)?;
         let op = self.next_op();

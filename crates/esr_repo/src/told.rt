@@ -32,6 +32,7 @@ impl Told for Brand {
       targets_tell = false;
       sure_targets = false;
       alone = false;
+      earlier_turns = 0;
       world = opened fin.empty no_record no_root;
     } };
 

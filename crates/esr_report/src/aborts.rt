@@ -10,7 +10,7 @@ ghost use Rattle.esr_report.specs.Aborts.{asks_delete, accepted_by, if_named, un
 use crate::tickets::{End, OpEnd, end_of_op, keep};
 use esr_desk::{Answer, Entry, Given, Step};
 use esr_names::SnapName;
-use esr_progress::Command;
+use esr_ops::Command;
 use std::alloc::AllocError;
 
 /// The name under which a snapshot or a clone was accepted as this op.

@@ -3,7 +3,7 @@ ghost use Rattle.std.specs.Prelude.{◌≡◌, map, IfOk, option_map};
 ghost use Rattle.esr_report.specs.Replies.{fails_swap, has_fallen, is_end, is_line_read, is_of_line, from_line, falls_before, deposed_by, refused_reply, ask_reply, is_failover, is_election, from_election, before_election, election_reply, failover_reply, past_first, look_reply, ended_reply, read_reply, answer_at, is_check, is_looked, is_look_answered, past_look, checked_reply, check_ended, down_reply, check_answer, line_answer, is_wait, is_short, has_none, is_cut, wait_answer, replies};
 ghost use Rattle.esr_core.specs.After.{or_else, swaps_record};
 ghost use Rattle.esr_core.specs.Entry.{is_recorded};
-ghost use Rattle.esr_progress.specs.Asked.{asked_of};
+ghost use Rattle.esr_ops.specs.Asked.{asked_of};
 ghost use Rattle.esr_desk.specs.Refusals.{refusal_of};
 ghost use Rattle.esr_desk.specs.Entries.{read_of, step_of, answer_of};
 ghost use Rattle.esr_report.specs.Ends.{AreAllEnds};
@@ -12,7 +12,7 @@ ghost use Rattle.esr_report.specs.Code.{reply_of};
 use crate::told::{ToldEnds, op_reply, restore_reply, told_ends};
 use crate::{Replies, Reply};
 use esr_desk::{Answer, Entry, EntryRefusal, History, Prune, Read, Step, Why};
-use esr_progress::Command;
+use esr_ops::Command;
 use esr_script::{Item, Script};
 use std::alloc::{AllocError, Global};
 

@@ -15,8 +15,8 @@ use Rattle.esr_source.specs.declared.address.Address.{Address}
 use Rattle.esr_shardidx.specs.declared.entry.FileEntry.{FileEntry as CodeEntry}
 use Rattle.esr_shardidx.specs.Snapshots.{SnapValue}
 use Rattle.esr_formats.specs.Shards.{entry_of, shard_snap_of}
-use Rattle.esr_progress.specs.declared.unit.Work.{Work}
-use Rattle.esr_progress.specs.declared.unit.Work.TheVariants as works
+use Rattle.esr_ops.specs.declared.unit.Work.{Work}
+use Rattle.esr_ops.specs.declared.unit.Work.TheVariants as works
 use Rattle.esr_desk.specs.Start.{Start, formats_of}
 use Rattle.esr_desk.specs.Own.{reader_of}
 use Rattle.esr_desk.specs.Readers.{fresh_reader, TookWork}

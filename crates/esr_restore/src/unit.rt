@@ -26,7 +26,7 @@ use esr_desk::{
     By, Desk, FailedObject, Hand, RestoredTarget, StepRefusal, Unended, Unit, UnitRefusal, Why,
 };
 use esr_names::{Id, ShardId};
-use esr_progress::{ReadyUnit, Work};
+use esr_ops::Work;
 use esr_shardidx::ShardSnap;
 use esr_source::{Target, Targets};
 use esr_unit::{Ending, Trouble, ending_of, give_up};
@@ -187,12 +187,8 @@ pub fn run_unit<Q: Desk, T: Targets<Target = Q::Target>>(
 {
     esr_core::refusals_are_of_their_steps();
     let Unit { ready, .. } = unit;
-    let ReadyUnit {
-        ticket,
-        op,
-        work,
-        ..
-    } = ready;
+    let (ticket, op) = (ready.ticket, ready.op);
+    let work = ready.into_work();
     let Work::RestoreShard {
         uuid,
         shard: at,

@@ -27,8 +27,7 @@ fn id_value(alloc: Global, id: Id) -> Result<Value, AllocError>
 fn snap_value(alloc: Global, snap: &RootSnap) -> Result<Value, AllocError>
     ensures { IfOk result (λ v. view v ≡ snap_data snap.now) }
 {
-    let uuid = id_value(alloc, snap.uuid)?;
-    json!(in alloc; {"name": snap.name.as_str(), "state": snap.state, "uuid": uuid})
+    json!(in alloc; {"name": snap.name.as_str(), "state": snap.state, "uuid": id_value(alloc, snap.uuid)?})
 }
 
 fn snaps_value(alloc: Global, snaps: &[RootSnap]) -> Result<Value, AllocError>
@@ -73,10 +72,7 @@ fn ids_value(alloc: Global, ids: &[Id]) -> Result<Value, AllocError>
 fn index_value(alloc: Global, index: &RootIndex) -> Result<Value, AllocError>
     ensures { IfOk result (λ v. view v ≡ index_data index.now) }
 {
-    let id = id_value(alloc, index.id)?;
-    let snapshots = ids_value(alloc, index.snapshots.as_slice())?;
-    let generations = generations_value(alloc, index.generations.as_slice())?;
-    json!(in alloc; {"id": id, "shard_generations": generations, "snapshots": snapshots})
+    json!(in alloc; {"id": id_value(alloc, index.id)?, "shard_generations": generations_value(alloc, index.generations.as_slice())?, "snapshots": ids_value(alloc, index.snapshots.as_slice())?})
 }
 
 fn indices_value(alloc: Global, indices: &[RootIndex]) -> Result<Value, AllocError>

@@ -7,7 +7,7 @@ use Rattle.esr_model.specs.Values.{Bytes, Has}
 use Rattle.esr_core.specs.Entry.{AskedIndex}
 use Rattle.esr_core.specs.Allowed.{AreDistinct}
 use Rattle.esr_core.specs.Restores.{AreOnce}
-use Rattle.esr_progress.specs.Asked.{HasShards, IsAskable}
+use Rattle.esr_ops.specs.Asked.{HasShards, IsAskable}
 use Rattle.esr_script.specs.declared.item.AskedIndex.{AskedIndex as LineIndex}
 use Rattle.esr_run.specs.Script.{has_shards, have_shards, is_named, has_name, have_own_names, is_askable, is_same_name, names_one, have_names_once}
 use Rattle.esr_complete.specs.Lines.{index_of_line, command_of_line}

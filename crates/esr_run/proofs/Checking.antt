@@ -34,7 +34,7 @@ use Rattle.esr_run.specs.Checked.{AreChecked, HasLooked}
 use Rattle.esr_run.specs.Made.{MadeFirst, AreIn, LineMade, LineRests, LineSpends, WasLookRefused, CheckEnds}
 use Rattle.esr_run.specs.Verified.{AreVerified, AreBegun, AreClosed, AreWhole, MayVerify, VerifiesOn}
 use Rattle.esr_run.proofs.Completing.{in_front, in_middle}
-use Rattle.esr_run.proofs.Making.{world_one, legal_one, legal_front, same_or_not}
+use Rattle.esr_run.proofs.Making.{world_one, legal_one, legal_front, same_or_not, all_entries}
 use Rattle.esr_run.proofs.Taking.{no_take, no_elect}
 use Rattle.esr_run.proofs.Checks.{split_end, IsNoCheckEnd, checked_more}
 use Rattle.esr_run.proofs.Verifying.{NoShard, AllRead, StandsAfter, TurnsAre, all_asked, none_asked, reads_in, reads_takes, reads_elect, same_read, none_idle, closed_one, begun_one, verified_more}
@@ -141,21 +141,21 @@ module _ (laws : StepsStay) (s : Start) (numbered : HasNoTickets s) (ops : Track
       let one : Legal s (old ++ h.look ∷ []) = legal_front (formats_of s) s.part_size (old ++ h.look ∷ []) h.rest s.world whole in
       subst (AreIn s) both (reads_in laws s numbered (old ++ h.look ∷ []) h.rest (check_reads h.rest h.all) whole (look_in old h.look h.looker h.looks one rest))
 
-  pub check_rests : (X : Type 0) (old new : List Moment) (r : Result X UnitRefusal) → AsksOne old new r → Legal s new → s.alone ≡ true → IfErr r (TurnsAre s new) → AreIn s old → LineRests s new (check_result r)
-  check_rests X old new (Ok x) asks legal alone turns rest = begun_in old new asks legal rest
-  check_rests X old new (Err (units.Failed why)) asks legal alone turns rest = begun_in old new asks legal rest
-  check_rests X old new (Err (units.Stopped (steps.Refused refusal))) asks legal alone turns rest = inl (begun_in old new asks legal rest)
-  check_rests X old new (Err (units.Stopped steps.Memory)) asks legal alone turns rest = tt
-  check_rests X old new (Err (units.Stopped steps.TurnsSpent)) asks legal alone turns rest = turns
-  check_rests X old new (Err units.Stale) asks legal alone turns rest = absurd asks
+  pub check_rests : (X : Type 0) (old new : List Moment) (r : Result X UnitRefusal) → AsksOne old new r → Legal s new → s.earlier_turns ≡ 0 → IfErr r (TurnsAre s new) → AreIn s old → LineRests s new (check_result r)
+  check_rests X old new (Ok x) asks legal earlier turns rest = begun_in old new asks legal rest
+  check_rests X old new (Err (units.Failed why)) asks legal earlier turns rest = begun_in old new asks legal rest
+  check_rests X old new (Err (units.Stopped (steps.Refused refusal))) asks legal earlier turns rest = inl (begun_in old new asks legal rest)
+  check_rests X old new (Err (units.Stopped steps.Memory)) asks legal earlier turns rest = tt
+  check_rests X old new (Err (units.Stopped steps.TurnsSpent)) asks legal earlier turns rest = all_entries s new earlier turns
+  check_rests X old new (Err units.Stale) asks legal earlier turns rest = absurd asks
 
-pub check_spends : {X : Type 0} (s : Start) (new : List Moment) (r : Result X UnitRefusal) → s.alone ≡ true → IfErr r (TurnsAre s new) → LineSpends new (check_result r)
-check_spends s new (Ok x) alone t = tt
-check_spends s new (Err (units.Failed why)) alone t = tt
-check_spends s new (Err (units.Stopped (steps.Refused refusal))) alone t = tt
-check_spends s new (Err (units.Stopped steps.Memory)) alone t = tt
-check_spends s new (Err (units.Stopped steps.TurnsSpent)) alone t = t
-check_spends s new (Err units.Stale) alone t = tt
+pub check_spends : {X : Type 0} (s : Start) (new : List Moment) (r : Result X UnitRefusal) → s.earlier_turns ≡ 0 → IfErr r (TurnsAre s new) → LineSpends new (check_result r)
+check_spends s new (Ok x) earlier t = tt
+check_spends s new (Err (units.Failed why)) earlier t = tt
+check_spends s new (Err (units.Stopped (steps.Refused refusal))) earlier t = tt
+check_spends s new (Err (units.Stopped steps.Memory)) earlier t = tt
+check_spends s new (Err (units.Stopped steps.TurnsSpent)) earlier t = all_entries s new earlier t
+check_spends s new (Err units.Stale) earlier t = tt
 
 pub check_turns : {X S F H T : Type 0} (evidence : Evidence S F H T) (s : Start) (old new : List Moment) (r : Result X UnitRefusal) → IfErr r (IsCheckRefused evidence s old new) → IfErr r (TurnsAre s new)
 check_turns evidence s old new (Ok x) h = tt

@@ -3,7 +3,7 @@ use Rattle.std.proofs.Common.{ℕ, Bool, List, ◌∷◌, ◌++◌, sym, subst}
 use Rattle.esr_model.specs.Values.{Formats}
 use Rattle.esr_core.specs.World.{World}
 use Rattle.esr_core.specs.Entry.{Entry, Moment}
-use Rattle.esr_core.specs.History.{world_from, IsLegal, TellsHandedOut, AreTold, AreHonest}
+use Rattle.esr_core.specs.History.{world_from, IsLegal, AreTold}
 use Rattle.esr_depot.specs.Look.{Look}
 use Rattle.esr_opening.specs.Opening.{image_of, Kept, IsOpening}
 use Rattle.esr_repo.specs.Log.{log_of}
@@ -22,9 +22,8 @@ cleaned_by files w exact = record { reach = exact.all (refuses_unlisted files); 
 pub cleanups_leave_reach : (laws : Laws) (files : Telling) (size : ℕ) (quiet : Bool) (before mid after : Look) (k : Kept) (history : List Entry) (o : IsOpening before mid k)
     → LegalRun (start_at files size quiet before mid k o) mid.clock after history → IsPast (start_at files size quiet before mid k o) mid.clock mid.since after history
     → CleanupsLeaveReach (formats_by files) (world_at before mid k o) (log_of after mid.clock history) before
-cleanups_leave_reach laws files size quiet before mid after k history o run past shelf h t front back last ticket split ended =
-    let left = laws.cleaned f size (image_of h.image) shelf w front back last ticket r.kept r.opened o.order.tracked (subst (TellsHandedOut f w) split t.known) (subst (IsLegal f size w) split r.legal) (subst AreTold split r.told)
-    (subst (AreHonest f w) split t.honest) ended in
+cleanups_leave_reach laws files size quiet before mid after k history o run past shelf h front back last ticket split ended =
+    let left = laws.cleaned f size (image_of h.image) shelf w front back last ticket r.kept r.opened o.order.tracked (subst (IsLegal f size w) split r.legal) (subst AreTold split r.told) ended in
     (left.0, λ untested unchanged. subst (λ (l : List Moment). IsCleaned f (world_from f w l)) (sym split) (cleaned_by files (world_from f w (front ++ last ∷ back)) (left.1 untested unchanged)))
   where
     f : Formats

@@ -9,7 +9,7 @@ use Rattle.esr_model.specs.Image.{Image}
 use Rattle.esr_model.specs.Kept.{first_id}
 use Rattle.esr_core.specs.World.{World, Caller, Opened, OpenedEmpty, OpenedRecord}
 use Rattle.esr_core.specs.Entry.{AskedIndex, Snapshot, Restore, GivenCleanup, Step, AskStep, TakeStep, ElectStep, Refusal, Reply, Gave, Refused, DepotFault, DeposedAt, IdsSpent, GenerationsSpent, TermsSpent, Entry, Moment}
-use Rattle.esr_core.specs.History.{AreTold}
+use Rattle.esr_core.specs.History.{AllKnown, AreTold}
 use Rattle.esr_law.specs.Spent.{terms_by, terms_in, SpentSo}
 use Rattle.esr_depot.specs.Image.{Image as Held}
 use Rattle.esr_depot.specs.Look.{Look, now}
@@ -39,7 +39,6 @@ use Rattle.esr_complete.specs.InTurn.{IsInTurn, AreChecksInTurn}
 use Rattle.esr_complete.specs.Answers.{AreAnswered, EndsWell}
 use Rattle.esr_complete.specs.FaultFree.{IsFaultFreeRun}
 use Rattle.esr_run.specs.Start.{Telling, formats_by, steady_by, start_of}
-use Rattle.esr_run.specs.Images.{TellsAll}
 use Rattle.esr_run.specs.Complete.{AsksRestore, IsQuietFor, SpentBy, IsAnsweredWell, Completes}
 use Rattle.esr_run.specs.Laws.{QuietLaws}
 use Rattle.esr_run.specs.Verified.{AreClosed}
@@ -348,7 +347,7 @@ module _ {S F H T : Type 0} (laws : QuietLaws S F H T) (evidence : Evidence S F 
   log = log_of after clock history
 
   module _ (legal : Legal s log) (told : s.tells ≡ true → AreTold log) (shown : AreShown {S = S} {F = F} {H = H} {T = T} evidence s log faults) (once : AreOnce s log) (tested : AreTested s log) (calm : IsCalm true after.sure history) (named : AreDeposedSo history)
-      (made : MadeFirst s (steps_of moment lines) [] log) (apart : AreClosed s log) (quiet_for : IsQuietFor telling before lines) (tells_all : TellsAll (formats_by telling) world log) (few : length history < 2 ^ 33) (unspent : (e : Entry) → Has history e → IsSpent e.reply → ⊥) where
+      (made : MadeFirst s (steps_of moment lines) [] log) (apart : AreClosed s log) (quiet_for : IsQuietFor telling before lines) (known : AllKnown (formats_by telling)) (few : length history < 2 ^ 33) (unspent : (e : Entry) → Has history e → IsSpent e.reply → ⊥) where
     entries : entries_of log ≡ history
     entries = entries_are (image_at after) clock history
 
@@ -393,14 +392,13 @@ module _ {S F H T : Type 0} (laws : QuietLaws S F H T) (evidence : Evidence S F 
     smooth asked_apart = record {
       tells = tells;
       quiet = refl;
-      known = tells_all.known;
+      known = known;
       image = image_of quiet_for.holds.image;
       shelf = quiet_for.shelf;
       kept = quiet_for.holds.kept;
       opened = opened quiet_for.holds.image quiet_for.holds.told;
       legal = legal;
       told = told tells;
-      honest = tells_all.honest;
       once = once;
       tested = tested;
       steady = steady;
@@ -492,7 +490,7 @@ module _ {S F H T : Type 0} (laws : QuietLaws S F H T) (evidence : Evidence S F 
   pub completes : (status : ℕ) → Legal s log → (s.tells ≡ true → AreTold log) → AreShown {S = S} {F = F} {H = H} {T = T} evidence s log faults → AreOnce s log → AreTested s log → IsCalm true after.sure history → AreDeposedSo history
       → MadeFirst s (steps_of moment lines) [] log → AreClosed s log → AreDone s moment lines [] log ⊎ HasFallen s moment lines [] log → status ≡ status_of (ending lines history) → elections log ≤ failovers_of lines → IsQuietFor telling before lines
       → Completes telling size moment lines before world clock after history status
-  completes status legal told shown once tested calm named made apart done is elects quiet_for tells_all =
+  completes status legal told shown once tested calm named made apart done is elects quiet_for known =
       ⊎_elim
       (λ (spent : Spent history).
       let found = moment_of log spent.0 (subst (λ (es : List Entry). Has es spent.0) (sym (entries_are (image_at after) clock history)) spent.1) in
@@ -511,8 +509,8 @@ module _ {S F H T : Type 0} (laws : QuietLaws S F H T) (evidence : Evidence S F 
       (λ (few : length history < 2 ^ 33).
       inr (
         ⊎_elim
-            (λ (all : AreDone s moment lines [] log). well legal told shown once tested calm named made apart quiet_for tells_all few unspent all)
-            (λ (stopped : HasFallen s moment lines [] log). absurd (not_stopped legal told shown once tested calm named made apart quiet_for tells_all few unspent stopped))
+            (λ (all : AreDone s moment lines [] log). well legal told shown once tested calm named made apart quiet_for known few unspent all)
+            (λ (stopped : HasFallen s moment lines [] log). absurd (not_stopped legal told shown once tested calm named made apart quiet_for known few unspent stopped))
             done,
         is,
       ))

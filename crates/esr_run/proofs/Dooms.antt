@@ -7,7 +7,7 @@ use Rattle.esr_model.specs.Shelf.{Shelved}
 use Rattle.esr_core.specs.World.{World, record_of, no_record, no_root, opened, Opened, OpenedEmpty, OpenedRecord}
 use Rattle.esr_core.specs.World as core
 use Rattle.esr_core.specs.Entry.{Entry, Moment}
-use Rattle.esr_core.specs.History.{IsLegal, TellsHandedOut, AreTold, AreHonest}
+use Rattle.esr_core.specs.History.{IsLegal, AreTold}
 use Rattle.esr_core.specs.Left.{Leaves}
 use Rattle.esr_core.specs.Tidy.{TidyRoot, TidyImage}
 use Rattle.esr_depot.specs.Image.{Image as Held}
@@ -21,7 +21,7 @@ use Rattle.esr_opening.specs.declared.refusal.OpenRefusal.TheVariants as refusal
 use Rattle.esr_repo.specs.Log.{log_of}
 use Rattle.esr_repo.specs.Past.{IsPast}
 use Rattle.esr_run.specs.Start.{Telling, known_by, told_by, formats_by, LegalRun}
-use Rattle.esr_run.specs.Images.{Holds, HonestWork}
+use Rattle.esr_run.specs.Images.{Holds}
 use Rattle.esr_run.specs.Tidy.{IsTidyAt, StaysTidy, EveryImageTidy, EndTidy, EachDoomsExactly}
 use Rattle.esr_run.specs.Laws.{Laws}
 use Rattle.esr_run.proofs.Worlds.{opened_image}
@@ -86,10 +86,10 @@ refused_tidy files count before after old_faults new_faults (refusals.TermsSpent
 -- what a crash may leave over the history
 left_tidy : (laws : Laws) (files : Telling) (size : ℕ) (quiet : Bool) (before mid after : Look) (k : Kept) (history : List Entry) (o : IsOpening before mid k)
     → LegalRun (start_at files size quiet before mid k o) mid.clock after history → IsPast (start_at files size quiet before mid k o) mid.clock mid.since after history
-    → (shelf : List Shelved) → Holds (formats_by files) before shelf → IsTidyAt (formats_by files) before → HonestWork (formats_by files) (world_at before mid k o) (log_of after mid.clock history)
+    → (shelf : List Shelved) → Holds (formats_by files) before shelf → IsTidyAt (formats_by files) before
     → (i : Image) → Leaves (formats_by files) size (world_at before mid k o) (log_of after mid.clock history) i → TidyImage (formats_by files) i
-left_tidy laws files size quiet before mid after k history o run past shelf h tidy t i leaves =
-    laws.tidy.left f size shelf w log i t.known (laws.lawful f (image_of h.image) shelf w r.kept r.opened) (laws.tidy.opened f (image_of h.image) w (tidy h.image h.told) r.opened) r.back r.legal r.told t.honest leaves
+left_tidy laws files size quiet before mid after k history o run past shelf h tidy i leaves =
+    laws.tidy.left f size shelf w log i (laws.lawful f (image_of h.image) shelf w r.kept r.opened) (laws.tidy.opened f (image_of h.image) w (tidy h.image h.told) r.opened) r.back r.legal r.told leaves
   where
     f : Formats
     f = formats_by files
@@ -105,27 +105,27 @@ left_tidy laws files size quiet before mid after k history o run past shelf h ti
 
 pub every_image_tidy : (laws : Laws) (files : Telling) (size : ℕ) (quiet : Bool) (before mid after : Look) (k : Kept) (history : List Entry) (o : IsOpening before mid k)
     → LegalRun (start_at files size quiet before mid k o) mid.clock after history → IsPast (start_at files size quiet before mid k o) mid.clock mid.since after history
-    → EveryImageTidy (formats_by files) (world_at before mid k o) (log_of after mid.clock history) before after
-every_image_tidy laws files size quiet before mid after k history o run past shelf h tidy t i left =
+    → EveryImageTidy (formats_by files) before after
+every_image_tidy laws files size quiet before mid after k history o run past shelf h tidy i left =
     ⊎_elim
     (λ was. opening_tidy files before o.cluster o.root (λ j e. o.opens j (known_by files) (told_by files) e) o.order.record_back tidy i (o.left.each i was))
-    (λ leaves. left_tidy laws files size quiet before mid after k history o run past shelf h tidy t (image_of i) leaves)
+    (λ leaves. left_tidy laws files size quiet before mid after k history o run past shelf h tidy (image_of i) leaves)
     (past.before before.clock i o.left.later left)
 
 pub end_tidy : (laws : Laws) (files : Telling) (size : ℕ) (quiet : Bool) (before mid after : Look) (k : Kept) (history : List Entry) (o : IsOpening before mid k)
     → LegalRun (start_at files size quiet before mid k o) mid.clock after history → IsPast (start_at files size quiet before mid k o) mid.clock mid.since after history
-    → EndTidy (formats_by files) (world_at before mid k o) (log_of after mid.clock history) before after
-end_tidy laws files size quiet before mid after k history o run past shelf h tidy t i now_is =
+    → EndTidy (formats_by files) before after
+end_tidy laws files size quiet before mid after k history o run past shelf h tidy i now_is =
     let f : Formats = formats_by files in
     let w : World = world_at before mid k o in
     let log : List Moment = log_of after mid.clock history in
-    left_tidy laws files size quiet before mid after k history o run past shelf h tidy t (image_of i) (subst (Leaves f size w log) (sym (run.image i now_is)) (leaves_last f size w log))
+    left_tidy laws files size quiet before mid after k history o run past shelf h tidy (image_of i) (subst (Leaves f size w log) (sym (run.image i now_is)) (leaves_last f size w log))
 
 pub each_dooms_exactly : (laws : Laws) (files : Telling) (size : ℕ) (quiet : Bool) (before mid after : Look) (k : Kept) (history : List Entry) (o : IsOpening before mid k)
     → LegalRun (start_at files size quiet before mid k o) mid.clock after history → IsPast (start_at files size quiet before mid k o) mid.clock mid.since after history
     → EachDoomsExactly (formats_by files) (world_at before mid k o) (log_of after mid.clock history) before
-each_dooms_exactly laws files size quiet before mid after k history o run past shelf h tidy t front back m split step counted =
-    laws.tidy.dooms f size (image_of h.image) shelf w front back m (subst (TellsHandedOut f w) split t.known) r.kept (tidy h.image h.told) r.opened (subst (IsLegal f size w) split r.legal) (subst AreTold split r.told) (subst (AreHonest f w) split t.honest) step counted
+each_dooms_exactly laws files size quiet before mid after k history o run past shelf h tidy front back m split step counted =
+    laws.tidy.dooms f size (image_of h.image) shelf w front back m r.kept (tidy h.image h.told) r.opened (subst (IsLegal f size w) split r.legal) (subst AreTold split r.told) step counted
   where
     f : Formats
     f = formats_by files

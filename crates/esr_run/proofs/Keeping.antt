@@ -168,8 +168,14 @@ pub snapshots_of_sources : (laws : Laws) (files : Telling) (size : ℕ) (quiet :
     → LegalRun (start_at files size quiet before mid k o) mid.clock after history → IsPast (start_at files size quiet before mid k o) mid.clock mid.since after history
     → SnapshotsOfSources (formats_by files) (world_at before mid k o) (log_of after mid.clock history) before
 snapshots_of_sources laws files size quiet before mid after k history o run past shelf h t =
-    let r = ran files size quiet before mid after k history o run past shelf h in
-    laws.sourced (formats_by files) size (image_of h.image) shelf (world_at before mid k o) (log_of after mid.clock history) t.known t.honest r.kept r.opened r.legal r.told
+    let f : Formats = formats_by files in
+    let w : World = world_at before mid k o in
+    let log : List Moment = log_of after mid.clock history in
+    let r : Ran f size (image_of h.image) shelf w log = ran files size quiet before mid after k history o run past shelf h in
+    record {
+      given = laws.sourced f size (image_of h.image) shelf w log t.known t.honest r.kept r.opened r.legal r.told;
+      counted = laws.counted f size (image_of h.image) shelf w log t.known t.honest r.kept r.opened r.legal r.told;
+    }
 
 -- ---- the image at the end
 

@@ -75,6 +75,13 @@ pub legal_front : (f : Formats) (size : ℕ) (front back : List Moment) (w : Wor
 legal_front f size [] back w legal = tt
 legal_front f size (m ∷ front) back w legal = (legal.0, legal_front f size front back (after f w m) legal.1)
 
+-- where no turn was taken before, each of them added an entry
+pub all_entries : (s : Start) (log : List Moment) → s.earlier_turns ≡ 0 → 2 ^ 33 ≤ s.earlier_turns + length log → 2 ^ 33 ≤ length log
+all_entries s log none spent =
+    let most : 2 ^ 33 ≤ s.earlier_turns + length log = spent in
+    let zero_turns : s.earlier_turns ≡ 0 = none in
+    omega (arith, most, zero_turns)
+
 module _ (laws : StepsStay) (s : Start) (numbered : HasNoTickets s) (ops : Tracked s.world) (alone : s.alone ≡ true) where
   stepped_rests : (old new : List Moment) (step : Step) (reply : Reply) → GivesNone reply → Stepped s old new 0 step reply → NoneOut s old → NoneOut s new
   stepped_rests old new step reply none h rest k =
@@ -109,19 +116,19 @@ module _ (laws : StepsStay) (s : Start) (numbered : HasNoTickets s) (ops : Track
   stepped_in : (old new : List Moment) (step : Step) (reply : Reply) → AsksLine step → GivesNone reply → Stepped s old new 0 step reply → AreIn s old → AreIn s new
   stepped_in old new step reply asks none h rest = record { tickets = stepped_rests old new step reply none h rest.tickets; readers = stepped_readers old new step reply asks h rest.readers }
 
-  pub rests_by : {X : Type 0} (old new : List Moment) (step : Step) (ok : X → Reply) (result : Result X StepRefusal) → AsksLine step → ((x : X) → GivesNone (ok x)) → Outcome s old new 0 step ok result → AreIn s old → LineRests s new result
-  rests_by old new step ok (Ok x) asks none h rest = stepped_in old new step (ok x) asks (none x) h rest
-  rests_by old new step ok (Err steps.Memory) asks none h rest = tt
-  rests_by old new step ok (Err steps.TurnsSpent) asks none h rest = h.1
-  rests_by old new step ok (Err (steps.Refused refusal)) asks none h rest = inl (stepped_in old new step (Refused (refusal_of refusal)) asks (refused_none (refusal_of refusal)) h.0 rest)
+  pub rests_by : {X : Type 0} (earlier : s.earlier_turns ≡ 0) (old new : List Moment) (step : Step) (ok : X → Reply) (result : Result X StepRefusal) → AsksLine step → ((x : X) → GivesNone (ok x)) → Outcome s old new 0 step ok result → AreIn s old → LineRests s new result
+  rests_by earlier old new step ok (Ok x) asks none h rest = stepped_in old new step (ok x) asks (none x) h rest
+  rests_by earlier old new step ok (Err steps.Memory) asks none h rest = tt
+  rests_by earlier old new step ok (Err steps.TurnsSpent) asks none h rest = all_entries s new earlier h.1
+  rests_by earlier old new step ok (Err (steps.Refused refusal)) asks none h rest = inl (stepped_in old new step (Refused (refusal_of refusal)) asks (refused_none (refusal_of refusal)) h.0 rest)
 
 -- ---- turns that are spent
 
-pub spent_by : {X : Type 0} (s : Start) (old new : List Moment) (step : Step) (ok : X → Reply) (result : Result X StepRefusal) → s.alone ≡ true → Outcome s old new 0 step ok result → LineSpends new result
-spent_by s old new step ok (Ok x) alone h = tt
-spent_by s old new step ok (Err steps.Memory) alone h = tt
-spent_by s old new step ok (Err steps.TurnsSpent) alone h = h.1
-spent_by s old new step ok (Err (steps.Refused refusal)) alone h = tt
+pub spent_by : {X : Type 0} (s : Start) (old new : List Moment) (step : Step) (ok : X → Reply) (result : Result X StepRefusal) → s.earlier_turns ≡ 0 → Outcome s old new 0 step ok result → LineSpends new result
+spent_by s old new step ok (Ok x) earlier h = tt
+spent_by s old new step ok (Err steps.Memory) earlier h = tt
+spent_by s old new step ok (Err steps.TurnsSpent) earlier h = all_entries s new earlier h.1
+spent_by s old new step ok (Err (steps.Refused refusal)) earlier h = tt
 
 -- ---- a line that was refused
 
@@ -150,17 +157,17 @@ made_none s old new (Err (steps.Refused refusal)) h = h
 
 -- ---- a wait
 
-pub rests_waiting : (s : Start) (old new : List Moment) (result : Result Unit StepRefusal) → OnOk result (NoneOut s old → NoReaderOut s old → NoneOut s new) → OnOk result (NoneOut s old → NoReaderOut s old → NoReaderOut s new) → IfErr result (StoppedIn s new) → AreIn s old → LineRests s new result
-rests_waiting s old new (Ok x) rest readers stopped none = record { tickets = rest none.tickets none.readers; readers = readers none.tickets none.readers }
-rests_waiting s old new (Err steps.Memory) rest readers stopped none = tt
-rests_waiting s old new (Err steps.TurnsSpent) rest readers stopped none = stopped
-rests_waiting s old new (Err (steps.Refused refusal)) rest readers stopped none = inr (inl stopped)
+pub rests_waiting : (s : Start) (old new : List Moment) (result : Result Unit StepRefusal) → s.earlier_turns ≡ 0 → OnOk result (NoneOut s old → NoReaderOut s old → NoneOut s new) → OnOk result (NoneOut s old → NoReaderOut s old → NoReaderOut s new) → IfErr result (StoppedIn s new) → AreIn s old → LineRests s new result
+rests_waiting s old new (Ok x) earlier rest readers stopped none = record { tickets = rest none.tickets none.readers; readers = readers none.tickets none.readers }
+rests_waiting s old new (Err steps.Memory) earlier rest readers stopped none = tt
+rests_waiting s old new (Err steps.TurnsSpent) earlier rest readers stopped none = all_entries s new earlier stopped
+rests_waiting s old new (Err (steps.Refused refusal)) earlier rest readers stopped none = inr (inl stopped)
 
-pub spends_waiting : (s : Start) (new : List Moment) (result : Result Unit StepRefusal) → IfErr result (StoppedIn s new) → LineSpends new result
-spends_waiting s new (Ok x) stopped = tt
-spends_waiting s new (Err steps.Memory) stopped = tt
-spends_waiting s new (Err steps.TurnsSpent) stopped = stopped
-spends_waiting s new (Err (steps.Refused refusal)) stopped = tt
+pub spends_waiting : (s : Start) (new : List Moment) (result : Result Unit StepRefusal) → s.earlier_turns ≡ 0 → IfErr result (StoppedIn s new) → LineSpends new result
+spends_waiting s new (Ok x) earlier stopped = tt
+spends_waiting s new (Err steps.Memory) earlier stopped = tt
+spends_waiting s new (Err steps.TurnsSpent) earlier stopped = all_entries s new earlier stopped
+spends_waiting s new (Err (steps.Refused refusal)) earlier stopped = tt
 
 pub made_waiting : (s : Start) (old new : List Moment) (result : Result Unit StepRefusal) → GrewAsking s [] old new → LineMade s [] old new result
 made_waiting s old new (Ok x) g = g

@@ -14,7 +14,7 @@ use Rattle.esr_quiet.specs.OverKept.{OverKept}
 use Rattle.esr_desk.specs.Evidence.{Evidence}
 use Rattle.esr_desk.specs.Shown.{AreShown}
 use Rattle.esr_run.specs.Start.{Telling, formats_by, start_of}
-use Rattle.esr_run.specs.Images.{Holds, HonestWork}
+use Rattle.esr_run.specs.Images.{Holds}
 use Rattle.esr_run.specs.Laws.{KeptLaws}
 use Rattle.esr_run.specs.Told.{StaysTold}
 use Rattle.esr_run.specs.Undamaged.{FindsNoDamage, StaysUndamaged}
@@ -28,17 +28,15 @@ module _ {S F H T : Type 0} (laws : KeptLaws S F H T) (evidence : Evidence S F H
   log = log_of after clock history
 
   module _ (legal : Legal s log) (told : StaysTold before clock history after) (shown : AreShown {S = S} {F = F} {H = H} {T = T} evidence s log faults) (single : NoneTwice log) where
-    over : (shelf : List Shelved) → Holds (formats_by files) before shelf → HonestWork (formats_by files) world log → OverKept s log
-    over shelf holds work = record {
+    over : (shelf : List Shelved) → Holds (formats_by files) before shelf → OverKept s log
+    over shelf holds = record {
       tells = ap is_some holds.told;
-      known = work.known;
       image = image_of holds.image;
       shelf = shelf;
       kept = holds.kept;
       opened = opened holds.image holds.told;
       legal = legal;
       told = (told (ap is_some holds.told)).moments;
-      honest = work.honest;
     }
 
     finds_none : OverKept s log → FindsNoDamage s log
@@ -50,5 +48,5 @@ module _ {S F H T : Type 0} (laws : KeptLaws S F H T) (evidence : Evidence S F H
       names = laws.names s log kept single;
     }
 
-    pub stays_undamaged : StaysUndamaged s (formats_by files) world log before
-    stays_undamaged shelf holds work = finds_none (over shelf holds work)
+    pub stays_undamaged : StaysUndamaged s (formats_by files) log before
+    stays_undamaged shelf holds = finds_none (over shelf holds)

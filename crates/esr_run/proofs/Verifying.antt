@@ -36,7 +36,7 @@ use Rattle.esr_check.specs.Began.{IsOfCheck}
 use Rattle.esr_run.specs.Checked.{HasLooked}
 use Rattle.esr_run.specs.Verified.{AreVerified, AreBegun, AreClosed, AreWhole, MayVerify, VerifiesOn}
 use Rattle.esr_run.proofs.Completing.{in_front, in_middle}
-use Rattle.esr_run.proofs.Making.{world_one, legal_front, same_or_not}
+use Rattle.esr_run.proofs.Making.{world_one, legal_front, same_or_not, all_entries}
 use Rattle.esr_run.proofs.Callers.{caller_end, caller_worked}
 use Rattle.esr_run.proofs.Checks.{NoneZero, no_cons, split_end, Never, NamesFirst, fails_other, begun_fails, maybe_fails, begun_checked, maybe_checked}
 
@@ -315,9 +315,9 @@ asked_reads old new (Err units.Stale) h = absurd h
 
 -- ---- it leaves tickets
 
--- turns are spent only after 2 ^ 33 entries
+-- turns are spent only where 2 ^ 33 were taken
 abbrev pub TurnsAre : Start → List Moment → UnitRefusal → Type 0
-TurnsAre s new (units.Stopped steps.TurnsSpent) = 2 ^ 33 ≤ length new
+TurnsAre s new (units.Stopped steps.TurnsSpent) = 2 ^ 33 ≤ s.earlier_turns + length new
 TurnsAre s new (units.Stopped steps.Memory) = Unit {0}
 TurnsAre s new (units.Stopped (steps.Refused refusal)) = Unit {0}
 TurnsAre s new (units.Failed why) = Unit {0}
@@ -349,8 +349,8 @@ module _ (laws : StepsStay) (s : Start) (numbered : HasNoTickets s) where
       let one : Legal s (log ++ m ∷ []) = legal_front (formats_of s) s.part_size (log ++ m ∷ []) more s.world both in
       subst (AreIn s) whole (reads_in (log ++ m ∷ []) more all.2 both (read_in log m all.1.0 all.0 all.1.1 one rest))
 
-  pub verify_rests : (old new : List Moment) (r : Result Unit UnitRefusal) → AsksOne old new r → Legal s new → s.alone ≡ true → IfErr r (TurnsAre s new) → AreIn s old → LineRests s new (line_result r)
-  verify_rests old new r asks legal alone turns rest =
+  pub verify_rests : (old new : List Moment) (r : Result Unit UnitRefusal) → AsksOne old new r → Legal s new → s.earlier_turns ≡ 0 → IfErr r (TurnsAre s new) → AreIn s old → LineRests s new (line_result r)
+  verify_rests old new r asks legal earlier turns rest =
       let h = asked_reads old new r asks in
       by r turns (subst (AreIn s) (sym h.is) (reads_in old h.more h.all (subst (Legal s) h.is legal) rest))
     where
@@ -359,16 +359,16 @@ module _ (laws : StepsStay) (s : Start) (numbered : HasNoTickets s) where
       by (Err (units.Failed why)) t now = now
       by (Err (units.Stopped (steps.Refused refusal))) t now = inl now
       by (Err (units.Stopped steps.Memory)) t now = tt
-      by (Err (units.Stopped steps.TurnsSpent)) t now = t
+      by (Err (units.Stopped steps.TurnsSpent)) t now = all_entries s new earlier t
       by (Err units.Stale) t now = now
 
-pub verify_spends : (s : Start) (new : List Moment) (r : Result Unit UnitRefusal) → s.alone ≡ true → IfErr r (TurnsAre s new) → LineSpends new (line_result r)
-verify_spends s new (Ok x) alone t = tt
-verify_spends s new (Err (units.Failed why)) alone t = tt
-verify_spends s new (Err (units.Stopped (steps.Refused refusal))) alone t = tt
-verify_spends s new (Err (units.Stopped steps.Memory)) alone t = tt
-verify_spends s new (Err (units.Stopped steps.TurnsSpent)) alone t = t
-verify_spends s new (Err units.Stale) alone t = tt
+pub verify_spends : (s : Start) (new : List Moment) (r : Result Unit UnitRefusal) → s.earlier_turns ≡ 0 → IfErr r (TurnsAre s new) → LineSpends new (line_result r)
+verify_spends s new (Ok x) earlier t = tt
+verify_spends s new (Err (units.Failed why)) earlier t = tt
+verify_spends s new (Err (units.Stopped (steps.Refused refusal))) earlier t = tt
+verify_spends s new (Err (units.Stopped steps.Memory)) earlier t = tt
+verify_spends s new (Err (units.Stopped steps.TurnsSpent)) earlier t = all_entries s new earlier t
+verify_spends s new (Err units.Stale) earlier t = tt
 
 -- ---- it takes no unit
 

@@ -16,7 +16,7 @@ use Rattle.esr_formats.specs.Roots.{root_of}
 use Rattle.esr_formats.specs.Formats.{formats}
 use Rattle.esr_formats.specs.Clusters.{cluster_of}
 use Rattle.esr_progress.specs.Infos.{AreInfosOf}
-use Rattle.esr_progress.specs.Plan.{Plan}
+use Rattle.esr_ops.specs.Plan.{Plan}
 use Rattle.esr_desk.specs.Start.{Start}
 use Rattle.esr_opening.specs.Listed.{AreListed}
 use Rattle.esr_opening.specs.Opening.{image_of, Kept, IsKeptOf, IsInOrder, known_blobs, is_told, world_in, opened_text, IsOpening}

@@ -163,19 +163,19 @@ pub record IsOpenedRun {S F H T : Type 0} (evidence : Evidence S F H T) (files :
   pub every_image : EveryImageKept (formats_by files) world (log_of after clock history) before after
   pub whole : EveryImageWhole (formats_by files) before after
   pub end_kept : EndKept (formats_by files) world (log_of after clock history) before after
-  -- each finalization that was given has the command of a snapshot with the files that the sources tell
+  -- the snapshots of the run, and those among the commands that count, have the files that the sources tell
   pub sourced : SnapshotsOfSources (formats_by files) world (log_of after clock history) before
   -- where no line asks for a snapshot, whatever the sources and the digests are
   pub sourceless : NeedsNoSource (formats_by files) world lines (log_of after clock history)
   pub answered : AnsweredStay (start_of files size quiet before world) clock history after
   -- from a tidy image on each image since the entry is tidy, also that at the end, and each delete dooms exactly what it leaves
-  pub tidy : EveryImageTidy (formats_by files) world (log_of after clock history) before after
-  pub end_tidy : EndTidy (formats_by files) world (log_of after clock history) before after
+  pub tidy : EveryImageTidy (formats_by files) before after
+  pub end_tidy : EndTidy (formats_by files) before after
   pub dooms : EachDoomsExactly (formats_by files) world (log_of after clock history) before
   -- a cleanup that came to its end left exactly what the safe root reaches, and `index.latest`
   pub cleaned : CleanupsLeaveReach (formats_by files) world (log_of after clock history) before
   -- over a kept container that tells nothing is found damaged and no name taken, whatever calls fail
-  pub undamaged : StaysUndamaged (start_of files size quiet before world) (formats_by files) world (log_of after clock history) before
+  pub undamaged : StaysUndamaged (start_of files size quiet before world) (formats_by files) (log_of after clock history) before
   -- each failure of a unit that the history tells has its cause, and the objects that failed are listed
   pub shown : AreShown evidence (start_of files size quiet before world) (log_of after clock history) faults
   -- no blob is committed twice, but for the metadata of a finalization

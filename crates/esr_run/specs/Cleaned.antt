@@ -6,7 +6,7 @@ use Rattle.esr_model.specs.Shelf.{Shelved}
 use Rattle.esr_model.specs.Kept.{Kept}
 use Rattle.esr_core.specs.World.{World, Opened}
 use Rattle.esr_core.specs.Entry.{Moment}
-use Rattle.esr_core.specs.History.{world_from, IsLegal, TellsHandedOut, AreTold, AreHonest}
+use Rattle.esr_core.specs.History.{world_from, IsLegal, AreTold}
 use Rattle.esr_core.specs.Tracked.{Tracked}
 use Rattle.esr_core.specs.Cleaned.{HoldsReachAlone, ListsListedAlone, IsTestCommit, ChangesBlobs, NoneOf}
 use Rattle.esr_law.specs.Cleanups.{HasFirstPage, IsEndedCleanup}
@@ -14,7 +14,7 @@ use Rattle.esr_law.specs.Latest.{HasLatest}
 use Rattle.esr_law.specs.Reach.{HoldsReach}
 use Rattle.esr_law.specs.Exact.{HoldsExactly}
 use Rattle.esr_depot.specs.Look.{Look}
-use Rattle.esr_run.specs.Images.{Holds, HonestWork}
+use Rattle.esr_run.specs.Images.{Holds}
 
 -- the container holds exactly the safe root, all that it reaches, and `index.latest` with its number; and the indices of its shards
 -- list listed snapshots alone
@@ -29,12 +29,12 @@ pub record IsCleaned (f : Formats) (w : World) : Type 0 where
 -- the end of the run, unless something was committed, replaced or removed since.
 abbrev pub CleanupsLeaveReach : Formats → World → List Moment → Look → Type 0
 CleanupsLeaveReach f world log before =
-    (shelf : List Shelved) → Holds f before shelf → HonestWork f world log → (front back : List Moment) (last : Moment) (k : ℕ) → log ≡ front ++ last ∷ back → IsEndedCleanup front last k
+    (shelf : List Shelved) → Holds f before shelf → (front back : List Moment) (last : Moment) (k : ℕ) → log ≡ front ++ last ∷ back → IsEndedCleanup front last k
     → (page : HasFirstPage front k) × (NoneOf IsTestCommit page.back → NoneOf ChangesBlobs back → IsCleaned f (world_from f world log))
 
 -- the law on it
 abbrev pub CleanedLaw : Type 0
 CleanedLaw =
-    (f : Formats) (part_size : ℕ) (image : Image) (shelf : List Shelved) (w : World) (before rest : List Moment) (last : Moment) (k : ℕ) → Kept f image shelf → Opened f image w → Tracked w → TellsHandedOut f w (before ++ last ∷ rest)
-    → IsLegal f part_size w (before ++ last ∷ rest) → AreTold (before ++ last ∷ rest) → AreHonest f w (before ++ last ∷ rest) → IsEndedCleanup before last k
+    (f : Formats) (part_size : ℕ) (image : Image) (shelf : List Shelved) (w : World) (before rest : List Moment) (last : Moment) (k : ℕ) → Kept f image shelf → Opened f image w → Tracked w
+    → IsLegal f part_size w (before ++ last ∷ rest) → AreTold (before ++ last ∷ rest) → IsEndedCleanup before last k
     → (page : HasFirstPage before k) × (NoneOf IsTestCommit page.back → NoneOf ChangesBlobs rest → HoldsExactly f (world_from f w (before ++ last ∷ rest)))

@@ -4,6 +4,7 @@ use Rattle.esr_model.specs.Values.{Bytes, Has}
 use Rattle.esr_model.specs.Shelf.{Shelved}
 use Rattle.esr_core.specs.World.{World}
 use Rattle.esr_core.specs.Entry.{GenerationsSpent, TermsSpent, IdsSpent, Reply, Refused, Entry, Moment}
+use Rattle.esr_core.specs.History.{AllKnown}
 use Rattle.esr_law.specs.Spent.{generations_in, ids_in}
 use Rattle.esr_depot.specs.Image.{Image as Held}
 use Rattle.esr_depot.specs.Look.{Look, now}
@@ -18,7 +19,7 @@ use Rattle.esr_repo.specs.Log.{log_of}
 use Rattle.esr_complete.specs.Answers.{AreAnswered, EndsWell}
 use Rattle.esr_complete.specs.Lines.{failovers_of}
 use Rattle.esr_run.specs.Start.{Telling, formats_by, start_of}
-use Rattle.esr_run.specs.Images.{Holds, TellsAll}
+use Rattle.esr_run.specs.Images.{Holds}
 use Rattle.esr_run.specs.Made.{WaitsEnded}
 
 -- each shard for which the lines ask is there
@@ -63,8 +64,8 @@ pub record IsAnsweredWell (s : Start) (moment : ℕ) (lines : List ScriptLine) (
   pub ends : EndsWell lines history
   pub waits : WaitsEnded s moment lines [] log
 
--- each line is answered well, unless a number was spent, where the digests are honest
+-- each line is answered well, unless a number was spent, where the sources tell all files
 abbrev pub Completes : Telling → ℕ → ℕ → List ScriptLine → Look → World → ℕ → Look → List Entry → ℕ → Type 0
 Completes telling size moment lines before world clock after history status =
-    TellsAll (formats_by telling) world (log_of after clock history)
+    AllKnown (formats_by telling)
     → HasSpent world lines (log_of after clock history) history status ⊎ (IsAnsweredWell (start_of telling size true before world) moment lines (log_of after clock history) history × (status ≡ status_of (ending lines history)))

@@ -6,9 +6,9 @@ use Rattle.esr_model.specs.Shelf.{Shelved, shelf_after}
 use Rattle.esr_model.specs.Kept.{Kept}
 use Rattle.esr_core.specs.World.{World, Ticket}
 use Rattle.esr_core.specs.Entry.{Entry, SettlePruned, SettleStep, PruneStep, WasSettled, Moment}
-use Rattle.esr_core.specs.History.{AllKnown, TellsHandedOut, AreHonest, committed}
+use Rattle.esr_core.specs.History.{TellsHandedOut, committed}
 use Rattle.esr_core.specs.Left.{safe_in}
-use Rattle.esr_core.specs.Sources.{HonestUploads, AreOfSources}
+use Rattle.esr_core.specs.Sources.{HonestUploads, AreOfSources, AreOfOps}
 use Rattle.esr_law.specs.Digests.{IsWholeByDigests}
 use Rattle.esr_depot.specs.Image.{Image as Held}
 use Rattle.esr_depot.specs.Look.{Look, now}
@@ -21,23 +21,11 @@ pub record Holds (f : Formats) (l : Look) (shelf : List Shelved) : Type 0 where
   pub told : now l ≡ Some image
   pub kept : Kept f (image_of image) shelf
 
--- the sources tell all files, and what they tell and what stands in the container have equal bytes where they have equal
--- length and digest
-pub record TellsAll (f : Formats) (world : World) (log : List Moment) : Type 0 where
-  pub known : AllKnown f
-  pub honest : AreHonest f world log
-
 -- the sources tell each shard that the run handed out, and while one is out what they tell and what stands in the container have
 -- equal bytes where they have equal length and digest
 pub record TellsWork (f : Formats) (world : World) (log : List Moment) : Type 0 where
   pub known : TellsHandedOut f world log
   pub honest : HonestUploads f world log
-
--- the sources tell each shard that the run handed out, and at each moment what they tell and what stands in the container have equal
--- bytes where they have equal length and digest
-pub record HonestWork (f : Formats) (world : World) (log : List Moment) : Type 0 where
-  pub known : TellsHandedOut f world log
-  pub honest : AreHonest f world log
 
 -- no command was carried out: each image since the entry is kept for the shelf of the entry
 abbrev pub StaysKept : Formats → Look → Look → Type 0
@@ -54,9 +42,14 @@ EveryImageKept f world log before after =
 abbrev pub EveryImageWhole : Formats → Look → Look → Type 0
 EveryImageWhole f before after = (shelf : List Shelved) → Holds f before shelf → (i : Held) → after.since before.clock i → IsWholeByDigests f (image_of i)
 
--- each finalization that was given makes a snapshot of the files that the sources tell
+-- Each finalization that was given makes a snapshot of the files that the sources tell; and each snapshot among the commands that
+-- count, in whatever image, is that of an op of the run, with exactly these files.
+pub record AreOfTheirSources (f : Formats) (world : World) (log : List Moment) : Type 0 where
+  pub given : AreOfSources f world log
+  pub counted : AreOfOps f world log
+
 abbrev pub SnapshotsOfSources : Formats → World → List Moment → Look → Type 0
-SnapshotsOfSources f world log before = (shelf : List Shelved) → Holds f before shelf → TellsWork f world log → AreOfSources f world log
+SnapshotsOfSources f world log before = (shelf : List Shelved) → Holds f before shelf → TellsWork f world log → AreOfTheirSources f world log
 
 -- in this world the entry is a settle that was answered, of a finalization's or a delete's ticket that had raised that root
 pub record Settles (world : World) (e : Entry) (n : ℕ) : Type 0 where

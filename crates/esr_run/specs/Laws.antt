@@ -9,7 +9,7 @@ use Rattle.esr_core.specs.World.{World, Ticket, image_of, record_of, opened, Ope
 use Rattle.esr_core.specs.Entry.{Asked, Read, AskStep, TakeStep, ElectStep, LookStep, ReadStep, Refusal, Refused, Given, Gave, Moment, SettleStep, SettlePruned, PruneStep, WasSettled}
 use Rattle.esr_core.specs.After.{after}
 use Rattle.esr_core.specs.History.{world_from, IsLegal, TellsHandedOut, AreTold, committed}
-use Rattle.esr_core.specs.Sources.{HonestUploads, AreOfSources}
+use Rattle.esr_core.specs.Sources.{HonestUploads, AreOfSources, AreOfOps}
 use Rattle.esr_law.specs.Digests.{AskNoSnapshot, AreClones, IsWholeByDigests}
 use Rattle.esr_law.specs.Spent.{SpentSo}
 use Rattle.esr_core.specs.Ids.{Law}
@@ -50,6 +50,8 @@ pub record Laws : Type 0 where
   pub whole : (f : Formats) (image : Image) (shelf : List Shelved) → Kept f image shelf → IsWholeByDigests f image
   pub sourced : (f : Formats) (part_size : ℕ) (image : Image) (shelf : List Shelved) (w : World) (log : List Moment) → TellsHandedOut f w log → HonestUploads f w log → Kept f image shelf → Opened f image w
       → IsLegal f part_size w log → AreTold log → AreOfSources f w log
+  pub counted : (f : Formats) (part_size : ℕ) (image : Image) (shelf : List Shelved) (w : World) (log : List Moment) → TellsHandedOut f w log → HonestUploads f w log → Kept f image shelf → Opened f image w
+      → IsLegal f part_size w log → AreTold log → AreOfOps f w log
   pub stays : (f : Formats) (part_size : ℕ) (w : World) (before rest : List Moment) (m : Moment) (t : Ticket) (n : ℕ) (i : Image) → Tracked w → Ranked w → IsLegal f part_size w (before ++ m ∷ rest)
       → (m.entry.step ≡ SettleStep) ⊎ (m.entry.step ≡ PruneStep SettlePruned)
       → m.entry.reply ≡ WasSettled → fin.get (world_from f w before).tickets m.entry.who ≡ Some t → t.raised ≡ Some n → Leaves f part_size (after f (world_from f w before) m) rest i → suc n ≤ safe_in f i
@@ -61,7 +63,8 @@ pub record Laws : Type 0 where
 
 -- what steps leave of tickets
 pub record StepsStay : Type 0 where
-  pub nothing : (s : Start) (log : List Moment) (m : Moment) (k : ℕ) → Legal s (log ++ m ∷ []) → m.entry.who ≡ 0 → ((ticket op : ℕ) (unit : Given) → m.entry.reply ≢ Gave ticket op unit) → k ≢ 0 → ticket_of s (log ++ m ∷ []) k ≡ ticket_of s log k
+  pub nothing : (s : Start) (log : List Moment) (m : Moment) (k : ℕ) → Legal s (log ++ m ∷ []) → m.entry.who ≡ 0 → ((ticket op : ℕ) (unit : Given) → m.entry.reply ≢ Gave ticket op unit) → k ≢ 0
+      → ticket_of s (log ++ m ∷ []) k ≡ ticket_of s log k
   pub none : (s : Start) (log : List Moment) → HasNoTickets s → ticket_of s log 0 ≡ no_ticket
   pub tracked : (f : Formats) (part_size : ℕ) (w : World) (log : List Moment) → Tracked w → IsLegal f part_size w log → Tracked (world_from f w log)
   pub asks : (f : Formats) (part_size : ℕ) (w : World) (m : Moment) (command : Asked) → Tracked w → Allowed f part_size w m → m.entry.step ≡ AskStep command → (after f w m).readers ≡ w.readers
@@ -97,7 +100,8 @@ pub record QuietLaws (S F H T : Type 0) : Type 0 where
   pub answered : (s : Start) (log : List Moment) (lines : List ScriptLine) (moment : ℕ) → IsFaultFreeRun s log lines moment → AreAnswered lines (replies lines (entries_of log))
   pub ends : (s : Start) (log : List Moment) (lines : List ScriptLine) (moment : ℕ) → IsFaultFreeRun s log lines moment → EndsWell lines (entries_of log)
   -- which number is spent where a step is refused so
-  pub spent : (f : Formats) (part_size : ℕ) (w : World) (log : List Moment) (m : Moment) (refusal : Refusal) → w.next_id ≡ first_id w.term → IsLegal f part_size w log → Has log m → m.entry.reply ≡ Refused refusal → SpentSo w log refusal
+  pub spent : (f : Formats) (part_size : ℕ) (w : World) (log : List Moment) (m : Moment) (refusal : Refusal) → w.next_id ≡ first_id w.term → IsLegal f part_size w log → Has log m → m.entry.reply ≡ Refused refusal
+      → SpentSo w log refusal
   -- a unit is given by a take, and the work of units leaves verifications
   pub gave : (f : Formats) (part_size : ℕ) (w : World) (m : Moment) (k o : ℕ) (unit : Given) → Allowed f part_size w m → m.entry.reply ≡ Gave k o unit → TakeGave f w m.entry.who m.entry.step k o unit
   pub leaves : WorkLeaves

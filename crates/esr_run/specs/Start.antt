@@ -61,6 +61,7 @@ start_of telling size quiet l world =
       targets_tell = telling.targets_told;
       sure_targets = telling.targets_quiet;
       alone = true;
+      earlier_turns = 0;
       world = world;
     }
 

@@ -16,7 +16,8 @@ use Rattle.esr_run.specs.Checked.{AreChecked, NoCheckFails, HasLooked}
 
 -- each that ended well is whole, with the test blobs of so many workers: the steps up to its end, that among them, are just those of a good verification, from its draw on
 abbrev pub AreVerified : Start → ℕ → List Moment → Type 0
-AreVerified s workers log = (front back : List Moment) (m : Moment) → log ≡ front ++ m ∷ back → m.entry.who ≡ 0 → m.entry.step ≡ ReadStep VerifiedAll → m.entry.reply ≡ HasEnded → (old : List Moment) × HasVerified s old (front ++ m ∷ []) workers
+AreVerified s workers log = (front back : List Moment) (m : Moment) → log ≡ front ++ m ∷ back → m.entry.who ≡ 0 → m.entry.step ≡ ReadStep VerifiedAll → m.entry.reply ≡ HasEnded
+    → (old : List Moment) × HasVerified s old (front ++ m ∷ []) workers
 
 -- Each step of who 0 that reads, but for a draw, is a further step of a verification, with a draw before it; or, where lines ask for
 -- checks, of a check, with a look before it.

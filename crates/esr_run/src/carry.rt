@@ -46,6 +46,7 @@ fn ask<Q: Client>(
     requires askable { is_askable indices.now ≡ true }
     requires numbered { HasNoTickets Q.start }
     requires ops { Tracked Q.start.world }
+    requires earlier { Q.start.earlier_turns ≡ 0 }
     ensures made { LineMade Q.start (AskStep (command_of_line name.now indices.now moment) ∷ []) (Q.seen desk.old) (Q.seen desk.new) result }
     ensures asked { Q.start.alone ≡ true → LineAsked Q.start (Q.seen desk.old) (Q.seen desk.new) result }
 {
@@ -71,6 +72,7 @@ fn make_clone<Q: Client>(
     requires once { AreOnce indices.now }
     requires numbered { HasNoTickets Q.start }
     requires ops { Tracked Q.start.world }
+    requires earlier { Q.start.earlier_turns ≡ 0 }
     ensures made { LineMade Q.start (AskStep (Clone source.now name.now indices.now moment None) ∷ []) (Q.seen desk.old) (Q.seen desk.new) result }
     ensures asked { Q.start.alone ≡ true → LineAsked Q.start (Q.seen desk.old) (Q.seen desk.new) result }
 {
@@ -85,6 +87,7 @@ fn make_clone<Q: Client>(
 fn delete<Q: Client>(alloc: Global, desk: &mut Q, names: &SnapNames) -> Result<(), StepRefusal>
     requires numbered { HasNoTickets Q.start }
     requires ops { Tracked Q.start.world }
+    requires earlier { Q.start.earlier_turns ≡ 0 }
     ensures made { LineMade Q.start (AskStep (DeleteSnapshots names.now) ∷ []) (Q.seen desk.old) (Q.seen desk.new) result }
     ensures asked { Q.start.alone ≡ true → LineAsked Q.start (Q.seen desk.old) (Q.seen desk.new) result }
 {
@@ -99,6 +102,7 @@ fn delete<Q: Client>(alloc: Global, desk: &mut Q, names: &SnapNames) -> Result<(
 fn cleanup<Q: Client>(alloc: Global, desk: &mut Q) -> Result<(), StepRefusal>
     requires numbered { HasNoTickets Q.start }
     requires ops { Tracked Q.start.world }
+    requires earlier { Q.start.earlier_turns ≡ 0 }
     ensures made { LineMade Q.start (AskStep Cleanup ∷ []) (Q.seen desk.old) (Q.seen desk.new) result }
     ensures asked { Q.start.alone ≡ true → LineAsked Q.start (Q.seen desk.old) (Q.seen desk.new) result }
 {
@@ -118,6 +122,7 @@ fn restore<Q: Client>(
 ) -> Result<(), StepRefusal>
     requires numbered { HasNoTickets Q.start }
     requires ops { Tracked Q.start.world }
+    requires earlier { Q.start.earlier_turns ≡ 0 }
     ensures made { LineMade Q.start (AskStep (Restore name.now place.now) ∷ []) (Q.seen desk.old) (Q.seen desk.new) result }
     ensures asked { Q.start.alone ≡ true → LineAsked Q.start (Q.seen desk.old) (Q.seen desk.new) result }
 {
@@ -132,6 +137,7 @@ fn restore<Q: Client>(
 fn list<Q: Client>(alloc: Global, desk: &mut Q) -> Result<(), StepRefusal>
     requires numbered { HasNoTickets Q.start }
     requires ops { Tracked Q.start.world }
+    requires earlier { Q.start.earlier_turns ≡ 0 }
     ensures made { LineMade Q.start (LookStep ∷ []) (Q.seen desk.old) (Q.seen desk.new) result }
     ensures asked { Q.start.alone ≡ true → LineAsked Q.start (Q.seen desk.old) (Q.seen desk.new) result }
 {
@@ -147,6 +153,7 @@ fn verify<Q: Client>(alloc: Global, desk: &mut Q, workers: u32) -> Result<(), St
     requires alone { Q.start.alone ≡ true }
     requires numbered { HasNoTickets Q.start }
     requires ops { Tracked Q.start.world }
+    requires earlier { Q.start.earlier_turns ≡ 0 }
     requires some { 0 < workers }
     requires few { workers ≤ 64 }
     requires idle { NoneOpen Q.start (Q.seen desk.old) }
@@ -173,6 +180,7 @@ fn check<Q: Client>(alloc: Global, desk: &mut Q) -> Result<(), StepRefusal>
     requires alone { Q.start.alone ≡ true }
     requires numbered { HasNoTickets Q.start }
     requires ops { Tracked Q.start.world }
+    requires earlier { Q.start.earlier_turns ≡ 0 }
     requires legal { Legal Q.start (Q.seen desk.old) }
     ensures made { LineMade Q.start (LookStep ∷ []) (Q.seen desk.old) (Q.seen desk.new) result }
     ensures rests { AreIn Q.start (Q.seen desk.old) → LineRests Q.start (Q.seen desk.new) result }
@@ -208,6 +216,7 @@ fn carry_step<Q: Client>(
     requires legal { Legal Q.start (Q.seen desk.old) }
     requires numbered { HasNoTickets Q.start }
     requires ops { Tracked Q.start.world }
+    requires earlier { Q.start.earlier_turns ≡ 0 }
     ensures made { LineMade Q.start (steps_of_item moment item.now) (Q.seen desk.old) (Q.seen desk.new) result }
     ensures rests { AreIn Q.start (Q.seen desk.old) → LineRests Q.start (Q.seen desk.new) result }
     ensures spent { LineSpends (Q.seen desk.new) result }
@@ -256,6 +265,7 @@ where
     D::Fetch: Send,
     requires waits { MayWait K.start (S.told outside.now.sources.now) (T.told outside.now.targets.now) outside.now.part_size crew.workers }
     requires legal { Legal K.start desk }
+    requires earlier { K.start.earlier_turns ≡ 0 }
     ensures made { LineMade K.start [] desk result.0 result.1 }
     ensures rests { AreIn K.start desk → LineRests K.start result.0 result.1 }
     ensures spent { LineSpends result.0 result.1 }
@@ -302,6 +312,7 @@ where
     requires idle { NoneOpen K.start desk }
     requires legal { Legal K.start desk }
     requires numbered { HasNoTickets K.start }
+    requires earlier { K.start.earlier_turns ≡ 0 }
     ensures made { LineMade K.start (steps_of_item moment item.now) desk result.0 result.1 }
     ensures rests { AreIn K.start desk → LineRests K.start result.0 result.1 }
     ensures spent { LineSpends result.0 result.1 }
@@ -363,6 +374,7 @@ where
     requires waits { MayWait K.start (S.told outside.now.sources.now) (T.told outside.now.targets.now) outside.now.part_size workers }
     requires may { MayVerify K.start workers (asks_check lines.now) desk }
     requires numbered { HasNoTickets K.start }
+    requires earlier { K.start.earlier_turns ≡ 0 }
     ensures made { MadeFirst K.start (steps_of moment lines.now) desk result.0 }
     ensures rests { IfOk result.1 (λ owed. AreIn K.start desk → AreMade K.start moment owed lines.now desk result.0 ⊎ WasLeft K.start moment owed lines.now desk result.0) }
     ensures whole { AreWhole K.start workers (asks_check lines.now) result.0 }
@@ -416,6 +428,7 @@ where
     D::Fetch: Send,
     requires waits { MayWait K.start (S.told outside.now.sources.now) (T.told outside.now.targets.now) outside.now.part_size crew.workers }
     requires legal { Legal K.start desk }
+    requires earlier { K.start.earlier_turns ≡ 0 }
     ensures grew { GrewAsking K.start [] desk result.0 }
     ensures done { OnOk result.1 (AreIn K.start desk → IsIdle K.start result.0 ⊎ HasStopped result.0) }
     ensures whole { (workers : ℕ) (checks : Bool) → AreWhole K.start workers checks desk → AreWhole K.start workers checks result.0 }
@@ -460,6 +473,7 @@ where
     requires waits { MayWait K.start (S.told outside.now.sources.now) (T.told outside.now.targets.now) outside.now.part_size workers }
     requires may { MayVerify K.start workers (asks_check lines.now) desk }
     requires numbered { HasNoTickets K.start }
+    requires earlier { K.start.earlier_turns ≡ 0 }
     ensures made { MadeFirst K.start (steps_of moment lines.now) desk result.0 }
     ensures done { OnOk result.1 (AreIn K.start desk → AreDone K.start moment lines.now desk result.0 ⊎ WasLeft K.start moment 0 lines.now desk result.0) }
     ensures whole { AreWhole K.start workers (asks_check lines.now) result.0 }

@@ -1,10 +1,10 @@
 //! The command that a line asks for.
 ghost use Rattle.std.specs.Prelude.{◌≡◌, map, IfOk};
-ghost use Rattle.esr_progress.specs.Asked.{asked_of, asked_index_of};
+ghost use Rattle.esr_ops.specs.Asked.{asked_of, asked_index_of};
 ghost use Rattle.esr_complete.specs.Lines.{index_of_line, command_of_line};
 
 use esr_names::SnapName;
-use esr_progress::{AskedIndex, AskedIndices, Command};
+use esr_ops::{AskedIndex, AskedIndices, Command};
 use esr_script::AskedIndex as LineIndex;
 use esr_seq::Seq;
 use std::alloc::{AllocError, Global};

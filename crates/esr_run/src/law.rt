@@ -24,9 +24,10 @@ pub(crate) fn laws()
     esr_core::opening_is_lawful();
     esr_core::lawful_image_is_kept();
     esr_core::shelf_is_determined();
-    esr_core::each_left_image_is_kept_over_any_sources();
+    esr_core::each_left_image_is_kept();
     esr_law::kept_images_are_whole_by_digests();
     esr_core::snapshots_are_of_their_sources();
+    esr_core::counted_snapshots_are_of_their_sources();
     esr_law::no_snapshot_asks_nothing_of_sources();
     esr_core::answered_settles_stay();
     tidy_laws();

@@ -133,6 +133,7 @@ where
     requires readers { HasNoReaders K.start }
     requires nobody { K.start.world.caller ≡ no_caller }
     requires alive { K.start.world.deposed ≡ false }
+    requires earlier { K.start.earlier_turns ≡ 0 }
     ensures shown { AreShown (evidence D.Stage.faults D.Fetch.faults S.Shard.faults T.Target.faults S.Shard.told T.Target.told) K.start result.repo result.faults }
     ensures once { AreOnce K.start result.repo }
     ensures tested { AreTested K.start result.repo }
@@ -192,6 +193,7 @@ where
     requires counted { K.faults ≤ D.faults opening.depot }
     requires calm { K.start.quiet ≡ true → 2 ^ 41 ≤ (D.look opening.depot).sure }
     requires alone { K.start.alone ≡ true }
+    requires earlier { K.start.earlier_turns ≡ 0 }
     requires readers { HasNoReaders K.start }
     requires outside { IsOutside K.start (S.told sources.now) (T.told targets.now) asked.now.part_size }
     requires good { first_bad asked.now.script ≡ None }

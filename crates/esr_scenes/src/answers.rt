@@ -16,6 +16,14 @@ pub fn say_number(line: &mut String, number: u64) {
     let _ = write!(line, "{number}");
 }
 
+/// Adds a name and its length to a line.
+pub fn say_length(line: &mut String, name: &str, length: u64) {
+    say(line, name);
+    say(line, ":");
+    say_number(line, length);
+    say(line, " ");
+}
+
 /// Adds to a line how often an object has failed.
 pub fn say_faults(line: &mut String, count: u64) {
     say(line, "faults ");

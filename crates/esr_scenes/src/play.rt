@@ -1,12 +1,19 @@
 //! A scene is played.
-use crate::scene::{FIRST_LINE, Scene, unquoted};
+use crate::scene::{FIRST_LINE, Scene, scene_of, unquoted};
 use std::alloc::Global;
 use std::io;
+use std::process::ExitCode;
 
 /// What a scene is played over.
 pub trait Subject {
     /// Makes a call, and adds what it answers to a line: nothing, where the call only prepares later ones.
     fn call(&mut self, alloc: Global, call: &str, line: &mut String);
+}
+
+/// A program that plays scenes.
+pub trait Player {
+    /// Plays a scene that is over one subject.
+    fn play_over(&self, scene: Scene<'_>, tally: &mut Tally) -> io::Result<()>;
 }
 
 /// How many scenes were played, how many lines these have, and how much didn't hold.
@@ -84,6 +91,17 @@ impl Tally {
         Ok(())
     }
 
+    /// Plays a scene over a subject, which goes then.
+    pub fn play_once<S: Subject + Drop>(
+        &mut self,
+        rt: &impl Print,
+        alloc: Global,
+        scene: Scene<'_>,
+        mut subject: S,
+    ) -> io::Result<()> {
+        self.play(rt, alloc, scene, &mut subject)
+    }
+
     /// Says how many scenes and lines there were, and answers whether all held.
     pub fn end(self, rt: &impl Print) -> io::Result<bool> {
         let (scenes, lines) = (self.scenes, self.lines);
@@ -96,5 +114,62 @@ impl Tally {
             self.failures
         )?;
         Ok(false)
+    }
+}
+
+/// Plays a scene over each subject that it names.
+fn play_each<P: Player>(
+    rt: &impl Print,
+    player: &P,
+    scene: Scene<'_>,
+    tally: &mut Tally,
+) -> io::Result<()> {
+    if scene.shows.is_empty() || scene.over.is_empty() {
+        return tally.refuse(
+            rt,
+            scene,
+            "it doesn't say what it shows, or is over nothing",
+        );
+    }
+    for over in scene.over.split_whitespace() {
+        player.play_over(Scene { over, ..scene }, tally)?;
+    }
+    Ok(())
+}
+
+/// Plays the scenes of a text, and answers whether all held.
+fn play_all<P: Player>(rt: &impl Print, player: &P, text: &str) -> io::Result<bool> {
+    let mut tally = Tally::new();
+    for block in text.split("\nscene ").skip(1) {
+        play_each(rt, player, scene_of(block), &mut tally)?;
+    }
+    tally.end(rt)
+}
+
+/// Plays the scenes of a text, if it was read. Answers the exit status: it isn't 0 where a line doesn't hold, or a stream fails.
+pub fn play_scenes<P: Player>(rt: &impl Print, player: &P, text: io::Result<String>) -> ExitCode {
+    let played = match text {
+        Ok(text) => play_all(rt, player, text.as_str()),
+        Err(error) => Err(error),
+    };
+    match played {
+        Ok(true) => ExitCode::SUCCESS,
+        Ok(false) => ExitCode::FAILURE,
+        Err(error) => {
+            let _ = println!(rt; "{error}");
+            ExitCode::FAILURE
+        }
+    }
+}
+
+/// The exit status where so many scenes failed. Where they can't be played on it says why.
+pub fn exit_of(rt: &impl Eprint, failed: Result<u64, &str>) -> ExitCode {
+    match failed {
+        Ok(0) => ExitCode::SUCCESS,
+        Ok(_) => ExitCode::FAILURE,
+        Err(why) => {
+            let _ = eprintln!(rt; "{why}");
+            ExitCode::FAILURE
+        }
     }
 }

@@ -18,7 +18,7 @@ fn cut_line(text: &str) -> (&str, &str) {
 }
 
 /// The scene of this text, which begins with its name. What its head lacks is empty.
-pub fn scene_of(text: &str) -> Scene<'_> {
+pub(crate) fn scene_of(text: &str) -> Scene<'_> {
     let (name, rest) = cut_line(text);
     let (shows, rest) = cut_line(rest);
     let (over, lines) = cut_line(rest);

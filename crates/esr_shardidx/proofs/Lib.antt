@@ -14,4 +14,5 @@ pub mod Repeats
 pub mod Rising
 pub mod SnapTexts
 pub mod Tested
+pub mod Trails
 pub mod Unrefused

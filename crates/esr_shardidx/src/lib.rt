@@ -10,6 +10,7 @@ mod parts;
 mod physical;
 mod reading;
 mod snap;
+mod trail;
 mod writing;
 
 pub use entry::{FileEntries, FileEntry};

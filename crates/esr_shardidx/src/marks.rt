@@ -10,6 +10,7 @@ ghost use Rattle.esr_shardidx.specs.declared.entry.FileEntry.{FileEntry as Entry
 ghost use Rattle.esr_shardidx.specs.Indices.{repeats, has_file, Rises, place_of, is_at, checked};
 ghost use Rattle.esr_shardidx.specs.Marks.{AreMarked, marked_of, is_among, AreMarks, files_checked, IsNamed};
 
+use crate::trail::Trail;
 use crate::{FileEntries, FileEntry, SnapList};
 use esr_json::{ReadRefusal, Reason};
 use esr_names::Id;
@@ -116,6 +117,7 @@ fn mark_list(
     entries: &[FileEntry],
     before: &[SnapList],
     marks: &mut Vec<usize>,
+    trail: &mut Trail,
     names: &[Id],
 ) -> Result<(), ReadRefusal>
     requires rises { Rises entries.now }
@@ -124,8 +126,9 @@ fn mark_list(
     ensures marks { OnOk result (AreMarks entries.now before.now names.now (length before.now + 1) marks.new.items) }
 {
     let turn = before.len() + 1;
-    let mut near = 0;
+    let mut last = None;
     for name in names {
+        let near = trail.place_after(last, *name);
         let Some(place) = find_place(entries, near, *name) else {
             return Err(absent(alloc, names));
         };
@@ -135,7 +138,8 @@ fn mark_list(
             });
         }
         marks[place] = turn;
-        near = place + 1;
+        trail.step(last, place);
+        last = Some(place);
     }
     Ok(())
 }
@@ -173,6 +177,7 @@ impl Named {
         &mut self,
         alloc: Global,
         entries: &[FileEntry],
+        trail: &mut Trail,
         before: &[SnapList],
         list: SnapList,
     ) -> Result<SnapList, ReadRefusal>
@@ -191,6 +196,7 @@ impl Named {
             entries,
             before,
             &mut self.marks,
+            trail,
             list.files.as_slice(),
         )?;
         Ok(list)

@@ -9,6 +9,7 @@ ghost use Rattle.esr_shardidx.specs.Indices.{has_uuid, has_file, is_at, index_fi
 ghost use Rattle.esr_shardidx.specs.Marks.{AreMarks, IsNamed};
 
 use crate::marks::{Named, marked};
+use crate::trail::Trail;
 use crate::{
     FileEntries, FileEntry, PhysicalName, PhysicalRefusal, ShardIndex, ShardSnap, SnapList,
     SnapLists,
@@ -198,7 +199,7 @@ fn index_files_of(alloc: Global, values: &[Value]) -> Result<FileEntries, ReadRe
     ensures gives { Gives (λ v. v) result (index_files_from [] (map view values.now)) }
     ensures rises { IfOk result Rises }
 {
-    let mut files = Seq::new(alloc);
+    let mut files = Seq::with_capacity(alloc, values.len())?;
     for value in values {
         let entry = entry_of(alloc, files.as_slice(), &[], value)?;
         if id_stays(files.as_slice(), entry.name) {
@@ -212,28 +213,35 @@ fn index_files_of(alloc: Global, values: &[Value]) -> Result<FileEntries, ReadRe
 }
 
 #[tactic(auto, unfolding(crate::specs::Indices::file_item))]
-fn file_item(value: &Value) -> Result<Id, Reason>
+fn file_item(trail: &Trail, last: Option<usize>, value: &Value) -> Result<Id, Reason>
     ensures { result ≡ file_item (view value.now) }
 {
-    read_file(text_item(value, Key::Files)?.as_bytes()).ok_or(Reason::BadId)
+    let name = text_item(value, Key::Files)?.as_bytes();
+    match trail.id_after(last, name) {
+        Some(id) => Ok(id),
+        None => read_file(name).ok_or(Reason::BadId),
+    }
 }
 
 #[tactic(auto, unfolding(crate::specs::Indices::file_ids_from))]
-fn file_ids_of(alloc: Global, values: &[Value]) -> Result<Ids, ReadRefusal>
+fn file_ids_of(alloc: Global, trail: &Trail, values: &[Value]) -> Result<Ids, ReadRefusal>
     ensures { Gives (λ v. v) result (file_ids_from [] (map view values.now)) }
 {
-    let mut ids = Seq::new(alloc);
+    let mut ids = Seq::with_capacity(alloc, values.len())?;
+    let mut last = None;
     for value in values {
-        ids.push(file_item(value)?)?;
+        let id = file_item(trail, last, value)?;
+        last = Some(trail.place_after(last, id));
+        ids.push(id)?;
     }
     Ok(ids)
 }
 
 #[tactic(auto, unfolding(crate::specs::Indices::list_of))]
-fn list_of(alloc: Global, value: &Value) -> Result<SnapList, ReadRefusal>
+fn list_of(alloc: Global, trail: &Trail, value: &Value) -> Result<SnapList, ReadRefusal>
     ensures { Gives (λ l. l) result (list_of (view value.now)) }
 {
-    let files = file_ids_of(alloc, items(value, Key::Files)?)?;
+    let files = file_ids_of(alloc, trail, items(value, Key::Files)?)?;
     let uuid = id_at(value, Key::Uuid)?;
     Ok(SnapList { files, uuid })
 }
@@ -257,9 +265,10 @@ fn lists_of(
     ensures named { IfOk result (λ ls. IsNamed entries.now ls named.new) }
 {
     let mut lists = Seq::new(alloc);
+    let mut trail = Trail::straight(alloc, entries)?;
     for value in values {
-        let list = list_of(alloc, value)?;
-        let list = named.checked(alloc, entries, lists.as_slice(), list)?;
+        let list = list_of(alloc, &trail, value)?;
+        let list = named.checked(alloc, entries, &mut trail, lists.as_slice(), list)?;
         lists.push(list)?;
     }
     Ok(lists)

@@ -36,7 +36,7 @@ fn put_text(out: &mut Writer, name: &str, value: &str) -> Result<(), AllocError>
 }
 
 /// The name of a file.
-fn file_name(file: Id) -> [u8; 24]
+pub fn file_name(file: Id) -> [u8; 24]
     ensures text { result ≡ file_text file }
     ensures utf8 { IsUtf8 result }
 {

@@ -20,8 +20,8 @@ use Rattle.esr_drive.specs.Stopped.{IsStopped, StoppedIn, stopped_in}
 use Rattle.esr_drive.specs.Takes.{idle_take, idle_takes, idle_call, takes_more}
 use Rattle.esr_drive.specs.Works.{WorksOnly}
 use Rattle.esr_drive.specs.Elections.{IsOfWait, AllOfWait, WaitsOnly, election, elections, HasElected, elections_more, waits_on, works_wait, works_elect_none}
-use Rattle.esr_shared.specs.Owned.{calls_in}
-use Rattle.esr_shared.specs.Turned.{Seen}
+use Rattle.esr_handle.specs.Owned.{calls_in}
+use Rattle.esr_handle.specs.Turned.{Seen}
 use Rattle.esr_shared.specs.Worked.{weigh, election_call, IsCrewCall, Answer, AreElected, AreWorked, OutWasGiven, ReaderWasGiven, IsBack, HasSat, HasWaited}
 use Rattle.esr_shared.proofs.Weights.{weigh_both, has_front, has_back, calls_whole}
 use Rattle.esr_shared.proofs.Working.{ok_by, err_by}

@@ -14,8 +14,8 @@ use Rattle.esr_drive.specs.Over.{IsOver}
 use Rattle.esr_drive.specs.Ended.{EachOver}
 use Rattle.esr_drive.specs.Stopped.{StoppedIn}
 use Rattle.esr_drive.specs.Takes.{idle_call}
-use Rattle.esr_shared.specs.Owned.{AreBelow, calls_in}
-use Rattle.esr_shared.specs.Turned.{Seen, IsFit}
+use Rattle.esr_handle.specs.Owned.{AreBelow, calls_in}
+use Rattle.esr_handle.specs.Turned.{Seen, IsFit}
 use Rattle.esr_shared.specs.Worked.{weigh, election_call, Answer, AreElected, AreWorked, graver, OverStays, IsBack}
 use Rattle.esr_shared.proofs.Places.{below_merged, below_more, longer_has}
 use Rattle.esr_shared.proofs.Weights.{weigh_merged, has_merged, calls_stay}

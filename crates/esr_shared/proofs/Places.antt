@@ -4,7 +4,7 @@ use mathlib.Core.Logic.{dite}
 use native.Mathlib.Decide.{dec_le}
 use Rattle.esr_turns.specs.Places.{times, inserted, merged}
 use Rattle.esr_turns.specs.Histories.{longer}
-use Rattle.esr_shared.specs.Owned.{AreBelow}
+use Rattle.esr_handle.specs.Owned.{AreBelow}
 
 times_first : (x : ℕ) (p : List ℕ) → times x (x ∷ p) ≡ 1 + times x p
 times_first x p = ap (λ (b : Bool). cond b 1 0 + times x p) (eq-eqb x x refl)

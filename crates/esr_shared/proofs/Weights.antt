@@ -6,7 +6,7 @@ use Rattle.esr_turns.specs.Histories.{StartsWith}
 use Rattle.esr_core.specs.Entry.{Moment}
 use Rattle.esr_desk.specs.Calls.{Call, call_at, calls_at}
 use Rattle.esr_drive.specs.Takes.{idle_call, idle_calls}
-use Rattle.esr_shared.specs.Owned.{AreBelow, call_in, calls_in}
+use Rattle.esr_handle.specs.Owned.{AreBelow, call_in, calls_in}
 use Rattle.esr_shared.specs.Worked.{weigh}
 use Rattle.esr_shared.proofs.Places.{below_first, below_rest}
 

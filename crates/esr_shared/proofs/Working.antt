@@ -16,8 +16,8 @@ use Rattle.esr_drive.specs.Ended.{EachOver, AllEnded}
 use Rattle.esr_drive.specs.Stopped.{IsStopped, StoppedIn, stopped_in}
 use Rattle.esr_drive.specs.Takes.{idle_call, idle_calls}
 use Rattle.esr_drive.specs.Elections.{election}
-use Rattle.esr_shared.specs.Owned.{calls_in}
-use Rattle.esr_shared.specs.Turned.{shared, Seen, IsFit}
+use Rattle.esr_handle.specs.Owned.{calls_in}
+use Rattle.esr_handle.specs.Turned.{shared, Seen, IsFit}
 use Rattle.esr_shared.specs.Worked.{weigh, election_call, Answer, AreElected, AreWorked, AreMade, HasElectedBy, IsNewPass, IsBack}
 use Rattle.esr_shared.proofs.Weights.{weigh_both, has_either, weigh_idle}
 

@@ -20,8 +20,8 @@ use Rattle.esr_drive.specs.Ended.{WasGiven, EachOver}
 use Rattle.esr_drive.specs.Stopped.{StoppedIn}
 use Rattle.esr_drive.specs.Takes.{idle_call, idle_takes}
 use Rattle.esr_drive.specs.Elections.{election, HasElected, WaitsOnly}
-use Rattle.esr_shared.specs.Owned.{calls_in}
-use Rattle.esr_shared.specs.Turned.{Seen, IsFit}
+use Rattle.esr_handle.specs.Owned.{calls_in}
+use Rattle.esr_handle.specs.Turned.{Seen, IsFit}
 
 -- ---- calls
 

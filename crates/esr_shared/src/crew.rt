@@ -1,16 +1,14 @@
-//! A sitting: the desk of one thread goes into a lock, workers do its units, and it comes back.
+//! A sitting: a desk goes into a lock, workers do its units, and it comes back.
 ghost use Rattle.std.specs.Prelude.{◌≡◌, ◌+◌, ◌≤◌, ◌^◌, ◌++◌};
 ghost use Rattle.esr_turns.specs.Places.{places_from};
 ghost use Rattle.esr_shared.specs.Worked.{IsWorkable, IsNewPass, MayWait, HasSat, HasWaited};
 
 use crate::workers::drive_and_elect;
-use crate::{Crew, Outside, Since, Sitting};
-use esr_depot::Depot;
-use esr_desk::{Desk, StepRefusal};
+use crate::{Crew, Outside};
+use esr_desk::{Desk, Sole, StepRefusal};
 use esr_drive::{ended_tickets_stay, work_alone, work_off};
-use esr_repo::Told;
-use esr_solo::{Lawful, Solo};
-use esr_source::{Gate, Shard, Sources, Target, Targets};
+use esr_handle::{Lawful, Since, Sitting};
+use esr_source::{Gate, Sources, Targets};
 use esr_turns::{Pass, TurnLock};
 use std::alloc::Global;
 use std::marker::Brand;
@@ -18,13 +16,10 @@ use std::sync::Wait;
 use std::thread::Threads;
 
 /// The desk, once all passes were joined.
-fn close<D: Depot, K: Told, H: Shard, T: Target, B: Since>(
-    lock: TurnLock<Sitting<D, K, H, T, B>>,
-    pass: Pass<Sitting<D, K, H, T, B>>,
-) -> Solo<D, K, H, T>
+fn close<Q: Sole, B: Since>(lock: TurnLock<Sitting<Q, B>>, pass: Pass<Sitting<Q, B>>) -> Q
     requires own { pass.lock ≡ lock }
     requires all { pass.left + pass.used ≡ 2 ^ 40 }
-    ensures whole { result ≡ B.before ++ pass.seen }
+    ensures whole { Q.seen result ≡ B.before ++ pass.seen }
     ensures mine { pass.mine ≡ places_from 0 pass.seen }
 {
     let sitting = lock.close(pass);
@@ -34,44 +29,43 @@ fn close<D: Depot, K: Told, H: Shard, T: Target, B: Since>(
 
 /// Works with the crew at the lock, and closes it.
 fn work_at<
-    D: Depot + Send,
-    K: Told + Send + Sync,
-    S: Sources,
-    T: Targets,
+    Q: Sole + Send,
+    S: Sources<Shard = Q::Shard>,
+    T: Targets<Target = Q::Target>,
     G: Gate,
     B: Since + Send + Sync,
     R: Threads + Wait + Sync,
 >(
     rt: &R,
     alloc: Global,
-    lock: TurnLock<Sitting<D, K, S::Shard, T::Target, B>>,
-    pass: Pass<Sitting<D, K, S::Shard, T::Target, B>>,
+    lock: TurnLock<Sitting<Q, B>>,
+    pass: Pass<Sitting<Q, B>>,
     outside: &Outside<'_, S, T, G>,
     crew: Crew,
-) -> (Solo<D, K, S::Shard, T::Target>, Result<(), StepRefusal>)
+) -> (Q, Result<(), StepRefusal>)
 where
-    D::Stage: Send,
-    D::Fetch: Send,
+    Q::Stage: Send,
+    Q::Fetch: Send,
     requires some { 1 ≤ crew.workers }
     requires few { crew.workers ≤ 64 }
-    requires new { IsNewPass K.start B.before lock (2 ^ 40) pass }
+    requires new { IsNewPass Q.start B.before lock (2 ^ 40) pass }
     requires all { pass.left ≡ 2 ^ 40 }
-    requires workable { IsWorkable K.start (S.told outside.now.sources.now) (T.told outside.now.targets.now) outside.now.part_size }
-    ensures { HasSat K.start B.before result.0 crew.workers crew.elections result.1 }
+    requires workable { IsWorkable Q.start (S.told outside.now.sources.now) (T.told outside.now.targets.now) outside.now.part_size }
+    ensures { HasSat Q.start B.before (Q.seen result.0) crew.workers crew.elections result.1 }
 {
     let (pass, answer) = drive_and_elect(rt, alloc, &lock, pass, outside, crew);
     (close(lock, pass), answer)
 }
 
 /// Works alone: the elections come first, and then all units, one after another.
-fn work_one<D: Depot, K: Told, S: Sources, T: Targets, G: Gate>(
+fn work_one<Q: Sole, S: Sources<Shard = Q::Shard>, T: Targets<Target = Q::Target>, G: Gate>(
     alloc: Global,
-    desk: Solo<D, K, S::Shard, T::Target>,
+    desk: Q,
     outside: &Outside<'_, S, T, G>,
     crew: Crew,
-) -> (Solo<D, K, S::Shard, T::Target>, Result<(), StepRefusal>)
-    requires { MayWait K.start (S.told outside.now.sources.now) (T.told outside.now.targets.now) outside.now.part_size crew.workers }
-    ensures { HasWaited K.start desk result.0 crew.workers crew.elections result.1 }
+) -> (Q, Result<(), StepRefusal>)
+    requires { MayWait Q.start (S.told outside.now.sources.now) (T.told outside.now.targets.now) outside.now.part_size crew.workers }
+    ensures { HasWaited Q.start (Q.seen desk) (Q.seen result.0) crew.workers crew.elections result.1 }
 {
     desk.is_legal();
     let mut desk = desk;
@@ -89,31 +83,30 @@ fn work_one<D: Depot, K: Told, S: Sources, T: Targets, G: Gate>(
 
 /// Works with the crew at a lock round the desk, where there is memory for it, and else alone.
 fn sit_told<
-    D: Depot + Send,
-    K: Told + Send + Sync,
-    S: Sources,
-    T: Targets,
+    Q: Sole + Send,
+    S: Sources<Shard = Q::Shard>,
+    T: Targets<Target = Q::Target>,
     G: Gate,
     B: Since + Send + Sync,
     R: Threads + Wait + Sync,
 >(
     rt: &R,
     alloc: Global,
-    desk: Solo<D, K, S::Shard, T::Target>,
+    desk: Q,
     outside: &Outside<'_, S, T, G>,
     crew: Crew,
-) -> (Solo<D, K, S::Shard, T::Target>, Result<(), StepRefusal>)
+) -> (Q, Result<(), StepRefusal>)
 where
-    D::Stage: Send,
-    D::Fetch: Send,
-    requires picked { B.before ≡ desk }
-    requires waits { MayWait K.start (S.told outside.now.sources.now) (T.told outside.now.targets.now) outside.now.part_size crew.workers }
-    ensures { HasWaited K.start desk result.0 crew.workers crew.elections result.1 }
+    Q::Stage: Send,
+    Q::Fetch: Send,
+    requires picked { B.before ≡ Q.seen desk }
+    requires waits { MayWait Q.start (S.told outside.now.sources.now) (T.told outside.now.targets.now) outside.now.part_size crew.workers }
+    ensures { HasWaited Q.start (Q.seen desk) (Q.seen result.0) crew.workers crew.elections result.1 }
 {
     ended_tickets_stay();
     desk.is_legal();
     desk.never_fails();
-    match TurnLock::new(alloc, Sitting::<D, K, S::Shard, T::Target, B>::new(desk)) {
+    match TurnLock::new(alloc, Sitting::<Q, B>::new(desk)) {
         Ok((lock, pass)) => {
             let (mut desk, answer) = work_at(rt, alloc, lock, pass, outside, crew);
             match answer {
@@ -141,27 +134,26 @@ where
 /// Does the units of the desk with a crew, until none is ready: its workers each in a thread of its own, beside a thread that elects
 /// so often. Of one worker, and where there is no memory for that, the elections come first, and then all units, one after another.
 pub fn sit<
-    D: Depot + Send,
-    K: Told + Send + Sync,
-    S: Sources,
-    T: Targets,
+    Q: Sole + Send,
+    S: Sources<Shard = Q::Shard>,
+    T: Targets<Target = Q::Target>,
     G: Gate,
     R: Threads + Wait + Sync,
 >(
     rt: &R,
     alloc: Global,
-    desk: Solo<D, K, S::Shard, T::Target>,
+    desk: Q,
     outside: &Outside<'_, S, T, G>,
     crew: Crew,
-) -> (Solo<D, K, S::Shard, T::Target>, Result<(), StepRefusal>)
+) -> (Q, Result<(), StepRefusal>)
 where
-    D::Stage: Send,
-    D::Fetch: Send,
-    requires { MayWait K.start (S.told outside.now.sources.now) (T.told outside.now.targets.now) outside.now.part_size crew.workers }
-    ensures { HasWaited K.start desk result.0 crew.workers crew.elections result.1 }
+    Q::Stage: Send,
+    Q::Fetch: Send,
+    requires { MayWait Q.start (S.told outside.now.sources.now) (T.told outside.now.targets.now) outside.now.part_size crew.workers }
+    ensures { HasWaited Q.start (Q.seen desk) (Q.seen result.0) crew.workers crew.elections result.1 }
 {
     if crew.workers == 1 {
         return work_one(alloc, desk, outside, crew);
     }
-    sit_told::<D, K, S, T, G, Brand, R>(rt, alloc, desk, outside, crew)
+    sit_told::<Q, S, T, G, Brand, R>(rt, alloc, desk, outside, crew)
 }

@@ -4,12 +4,11 @@ ghost use Rattle.std.specs.Thread.{IsSync};
 ghost use Rattle.esr_drive.specs.Stopped.{StoppedIn};
 ghost use Rattle.esr_shared.specs.Worked.{HasElectedBy, IsWorkable, IsNewPass, IsBack, graver};
 
-use crate::{Crew, Handle, Outside, Share, Since, Sitting};
-use esr_depot::Depot;
-use esr_desk::{Desk, StepRefusal};
+use crate::{Crew, Outside};
+use esr_desk::{Desk, Sole, StepRefusal};
 use esr_drive::{ended_tickets_stay, work};
-use esr_repo::Told;
-use esr_source::{Gate, Shard, Sources, Target, Targets};
+use esr_handle::{Handle, Share, Since, Sitting};
+use esr_source::{Gate, Sources, Targets};
 use esr_turns::{Pass, TurnLock};
 use std::alloc::Global;
 use std::marker::Brand;
@@ -21,7 +20,7 @@ use std::thread::Threads;
 const TURNS: u64 = 1 << 33;
 
 /// The pass of a worker that is back, and what it answers.
-type Back<D, K, H, T, B> = (Pass<Sitting<D, K, H, T, B>>, Result<(), StepRefusal>);
+type Back<Q, B> = (Pass<Sitting<Q, B>>, Result<(), StepRefusal>);
 
 /// The graver of two answers: what the history doesn't tell goes before a refusal that it tells.
 fn graver(one: Result<(), StepRefusal>, other: Result<(), StepRefusal>) -> Result<(), StepRefusal>
@@ -40,10 +39,9 @@ fn graver(one: Result<(), StepRefusal>, other: Result<(), StepRefusal>) -> Resul
 
 /// Works until no unit is ready.
 fn worker_told<
-    D: Depot,
-    K: Told,
-    S: Sources,
-    T: Targets,
+    Q: Sole,
+    S: Sources<Shard = Q::Shard>,
+    T: Targets<Target = Q::Target>,
     G: Gate,
     B: Since,
     W: Share,
@@ -51,16 +49,16 @@ fn worker_told<
 >(
     rt: &R,
     alloc: Global,
-    lock: &TurnLock<Sitting<D, K, S::Shard, T::Target, B>>,
-    pass: Pass<Sitting<D, K, S::Shard, T::Target, B>>,
+    lock: &TurnLock<Sitting<Q, B>>,
+    pass: Pass<Sitting<Q, B>>,
     outside: &Outside<'_, S, T, G>,
-) -> Back<D, K, S::Shard, T::Target, B>
+) -> Back<Q, B>
     requires picked { (lock.now ≡ W.lock) × (pass.left ≡ W.total) }
-    requires new { IsNewPass K.start B.before lock.now (2 ^ 33) pass }
-    requires workable { IsWorkable K.start (S.told outside.now.sources.now) (T.told outside.now.targets.now) outside.now.part_size }
-    ensures { IsBack K.start B.before lock.now pass result.0 1 0 result.1 }
+    requires new { IsNewPass Q.start B.before lock.now (2 ^ 33) pass }
+    requires workable { IsWorkable Q.start (S.told outside.now.sources.now) (T.told outside.now.targets.now) outside.now.part_size }
+    ensures { IsBack Q.start B.before lock.now pass result.0 1 0 result.1 }
 {
-    let mut desk: Handle<'_, D, K, S::Shard, T::Target, B, W, R> = Handle::new(lock, rt, pass);
+    let mut desk: Handle<'_, Q, B, W, R> = Handle::new(lock, rt, pass);
     let answer = work(
         alloc,
         &mut desk,
@@ -72,18 +70,25 @@ fn worker_told<
     (desk.into_pass(), answer)
 }
 
-fn worker<D: Depot, K: Told, S: Sources, T: Targets, G: Gate, B: Since, R: Wait + Sync>(
+fn worker<
+    Q: Sole,
+    S: Sources<Shard = Q::Shard>,
+    T: Targets<Target = Q::Target>,
+    G: Gate,
+    B: Since,
+    R: Wait + Sync,
+>(
     rt: &R,
     alloc: Global,
-    lock: &TurnLock<Sitting<D, K, S::Shard, T::Target, B>>,
-    pass: Pass<Sitting<D, K, S::Shard, T::Target, B>>,
+    lock: &TurnLock<Sitting<Q, B>>,
+    pass: Pass<Sitting<Q, B>>,
     outside: &Outside<'_, S, T, G>,
-) -> Back<D, K, S::Shard, T::Target, B>
-    requires new { IsNewPass K.start B.before lock.now (2 ^ 33) pass }
-    requires workable { IsWorkable K.start (S.told outside.now.sources.now) (T.told outside.now.targets.now) outside.now.part_size }
-    ensures { IsBack K.start B.before lock.now pass result.0 1 0 result.1 }
+) -> Back<Q, B>
+    requires new { IsNewPass Q.start B.before lock.now (2 ^ 33) pass }
+    requires workable { IsWorkable Q.start (S.told outside.now.sources.now) (T.told outside.now.targets.now) outside.now.part_size }
+    ensures { IsBack Q.start B.before lock.now pass result.0 1 0 result.1 }
 {
-    worker_told::<D, K, S, T, G, B, Brand, R>(rt, alloc, lock, pass, outside)
+    worker_told::<Q, S, T, G, B, Brand, R>(rt, alloc, lock, pass, outside)
 }
 
 /// Elects a master. A refusal that the history tells is no reason to stop.
@@ -113,60 +118,59 @@ fn elect_often<Q: Desk>(alloc: Global, desk: &mut Q, times: u64) -> Result<(), S
     Ok(())
 }
 
-fn elector_told<D: Depot, K: Told, H: Shard, T: Target, B: Since, W: Share, R: Wait + Sync>(
+fn elector_told<Q: Sole, B: Since, W: Share, R: Wait + Sync>(
     rt: &R,
     alloc: Global,
-    lock: &TurnLock<Sitting<D, K, H, T, B>>,
-    pass: Pass<Sitting<D, K, H, T, B>>,
+    lock: &TurnLock<Sitting<Q, B>>,
+    pass: Pass<Sitting<Q, B>>,
     times: u64,
-) -> Back<D, K, H, T, B>
+) -> Back<Q, B>
     requires picked { (lock.now ≡ W.lock) × (pass.left ≡ W.total) }
-    requires new { IsNewPass K.start B.before lock.now (2 ^ 33) pass }
-    ensures { IsBack K.start B.before lock.now pass result.0 0 times result.1 }
+    requires new { IsNewPass Q.start B.before lock.now (2 ^ 33) pass }
+    ensures { IsBack Q.start B.before lock.now pass result.0 0 times result.1 }
 {
-    let mut desk: Handle<'_, D, K, H, T, B, W, R> = Handle::new(lock, rt, pass);
+    let mut desk: Handle<'_, Q, B, W, R> = Handle::new(lock, rt, pass);
     let answer = elect_often(alloc, &mut desk, times);
     (desk.into_pass(), answer)
 }
 
-fn elector<D: Depot, K: Told, H: Shard, T: Target, B: Since, R: Wait + Sync>(
+fn elector<Q: Sole, B: Since, R: Wait + Sync>(
     rt: &R,
     alloc: Global,
-    lock: &TurnLock<Sitting<D, K, H, T, B>>,
-    pass: Pass<Sitting<D, K, H, T, B>>,
+    lock: &TurnLock<Sitting<Q, B>>,
+    pass: Pass<Sitting<Q, B>>,
     times: u64,
-) -> Back<D, K, H, T, B>
-    requires new { IsNewPass K.start B.before lock.now (2 ^ 33) pass }
-    ensures { IsBack K.start B.before lock.now pass result.0 0 times result.1 }
+) -> Back<Q, B>
+    requires new { IsNewPass Q.start B.before lock.now (2 ^ 33) pass }
+    ensures { IsBack Q.start B.before lock.now pass result.0 0 times result.1 }
 {
-    elector_told::<D, K, H, T, B, Brand, R>(rt, alloc, lock, pass, times)
+    elector_told::<Q, B, Brand, R>(rt, alloc, lock, pass, times)
 }
 
 /// Works with so many workers, each in a thread of its own.
 fn drive<
-    D: Depot + Send,
-    K: Told + Send + Sync,
-    S: Sources,
-    T: Targets,
+    Q: Sole + Send,
+    S: Sources<Shard = Q::Shard>,
+    T: Targets<Target = Q::Target>,
     G: Gate,
     B: Since + Send + Sync,
     R: Threads + Wait + Sync,
 >(
     rt: &R,
     alloc: Global,
-    lock: &TurnLock<Sitting<D, K, S::Shard, T::Target, B>>,
-    pass: Pass<Sitting<D, K, S::Shard, T::Target, B>>,
+    lock: &TurnLock<Sitting<Q, B>>,
+    pass: Pass<Sitting<Q, B>>,
     outside: &Outside<'_, S, T, G>,
     workers: u32,
-) -> Back<D, K, S::Shard, T::Target, B>
+) -> Back<Q, B>
 where
-    D::Stage: Send,
-    D::Fetch: Send,
+    Q::Stage: Send,
+    Q::Fetch: Send,
     requires some { 1 ≤ workers }
     requires few { workers ≤ 64 }
-    requires new { IsNewPass K.start B.before lock.now (workers * 2 ^ 33) pass }
-    requires workable { IsWorkable K.start (S.told outside.now.sources.now) (T.told outside.now.targets.now) outside.now.part_size }
-    ensures { IsBack K.start B.before lock.now pass result.0 workers 0 result.1 }
+    requires new { IsNewPass Q.start B.before lock.now (workers * 2 ^ 33) pass }
+    requires workable { IsWorkable Q.start (S.told outside.now.sources.now) (T.told outside.now.targets.now) outside.now.part_size }
+    ensures { IsBack Q.start B.before lock.now pass result.0 workers 0 result.1 }
 {
     ended_tickets_stay();
     if workers == 1 {
@@ -176,15 +180,15 @@ where
     let (rest, one) = lock.split(pass, TURNS);
     let (one, rest) = thread::join(
         rt,
-        move || -> Back<D, K, S::Shard, T::Target, B>
-            requires { IsSync R.row × IsNewPass K.start B.before lock.now (2 ^ 33) one
-                × IsWorkable K.start (S.told outside.now.sources.now) (T.told outside.now.targets.now) outside.now.part_size }
-            ensures { IsBack K.start B.before lock.entry.now one result.0 1 0 result.1 }
+        move || -> Back<Q, B>
+            requires { IsSync R.row × IsNewPass Q.start B.before lock.now (2 ^ 33) one
+                × IsWorkable Q.start (S.told outside.now.sources.now) (T.told outside.now.targets.now) outside.now.part_size }
+            ensures { IsBack Q.start B.before lock.entry.now one result.0 1 0 result.1 }
         { worker(rt, alloc, lock, one, outside) },
-        move || -> Back<D, K, S::Shard, T::Target, B>
-            requires { IsSync R.row × (1 ≤ others) × (others ≤ 64) × IsNewPass K.start B.before lock.now (others * 2 ^ 33) rest
-                × IsWorkable K.start (S.told outside.now.sources.now) (T.told outside.now.targets.now) outside.now.part_size }
-            ensures { IsBack K.start B.before lock.entry.now rest result.0 others 0 result.1 }
+        move || -> Back<Q, B>
+            requires { IsSync R.row × (1 ≤ others) × (others ≤ 64) × IsNewPass Q.start B.before lock.now (others * 2 ^ 33) rest
+                × IsWorkable Q.start (S.told outside.now.sources.now) (T.told outside.now.targets.now) outside.now.part_size }
+            ensures { IsBack Q.start B.before lock.entry.now rest result.0 others 0 result.1 }
         { drive(rt, alloc, lock, rest, outside, others) },
     );
     let answer = graver(one.1, rest.1);
@@ -193,29 +197,28 @@ where
 
 /// Works with a crew: its workers, and a thread that elects.
 pub(crate) fn drive_and_elect<
-    D: Depot + Send,
-    K: Told + Send + Sync,
-    S: Sources,
-    T: Targets,
+    Q: Sole + Send,
+    S: Sources<Shard = Q::Shard>,
+    T: Targets<Target = Q::Target>,
     G: Gate,
     B: Since + Send + Sync,
     R: Threads + Wait + Sync,
 >(
     rt: &R,
     alloc: Global,
-    lock: &TurnLock<Sitting<D, K, S::Shard, T::Target, B>>,
-    pass: Pass<Sitting<D, K, S::Shard, T::Target, B>>,
+    lock: &TurnLock<Sitting<Q, B>>,
+    pass: Pass<Sitting<Q, B>>,
     outside: &Outside<'_, S, T, G>,
     crew: Crew,
-) -> Back<D, K, S::Shard, T::Target, B>
+) -> Back<Q, B>
 where
-    D::Stage: Send,
-    D::Fetch: Send,
+    Q::Stage: Send,
+    Q::Fetch: Send,
     requires some { 1 ≤ crew.workers }
     requires few { crew.workers ≤ 64 }
-    requires new { IsNewPass K.start B.before lock.now (2 ^ 40) pass }
-    requires workable { IsWorkable K.start (S.told outside.now.sources.now) (T.told outside.now.targets.now) outside.now.part_size }
-    ensures { IsBack K.start B.before lock.now pass result.0 crew.workers crew.elections result.1 }
+    requires new { IsNewPass Q.start B.before lock.now (2 ^ 40) pass }
+    requires workable { IsWorkable Q.start (S.told outside.now.sources.now) (T.told outside.now.targets.now) outside.now.part_size }
+    ensures { IsBack Q.start B.before lock.now pass result.0 crew.workers crew.elections result.1 }
 {
     ended_tickets_stay();
     let workers = crew.workers;
@@ -226,14 +229,14 @@ where
     let (rest, one) = lock.split(pass, TURNS);
     let (one, rest) = thread::join(
         rt,
-        move || -> Back<D, K, S::Shard, T::Target, B>
-            requires { IsSync R.row × IsNewPass K.start B.before lock.now (2 ^ 33) one }
-            ensures { IsBack K.start B.before lock.entry.now one result.0 0 elections result.1 }
+        move || -> Back<Q, B>
+            requires { IsSync R.row × IsNewPass Q.start B.before lock.now (2 ^ 33) one }
+            ensures { IsBack Q.start B.before lock.entry.now one result.0 0 elections result.1 }
         { elector(rt, alloc, lock, one, elections) },
-        move || -> Back<D, K, S::Shard, T::Target, B>
-            requires { IsSync R.row × (1 ≤ workers) × (workers ≤ 64) × IsNewPass K.start B.before lock.now (workers * 2 ^ 33) rest
-                × IsWorkable K.start (S.told outside.now.sources.now) (T.told outside.now.targets.now) outside.now.part_size }
-            ensures { IsBack K.start B.before lock.entry.now rest result.0 workers 0 result.1 }
+        move || -> Back<Q, B>
+            requires { IsSync R.row × (1 ≤ workers) × (workers ≤ 64) × IsNewPass Q.start B.before lock.now (workers * 2 ^ 33) rest
+                × IsWorkable Q.start (S.told outside.now.sources.now) (T.told outside.now.targets.now) outside.now.part_size }
+            ensures { IsBack Q.start B.before lock.entry.now rest result.0 workers 0 result.1 }
         { drive(rt, alloc, lock, rest, outside, workers) },
     );
     let answer = graver(one.1, rest.1);

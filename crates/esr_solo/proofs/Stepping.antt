@@ -41,11 +41,11 @@ pub waited_as : (s : Start) (own log : List Moment) (who : ℕ) → own ≡ log 
 waited_as s own log who e l = subst (λ (x : List Moment). Waited s log x who) (sym e) (waited s own log who e l)
 
 -- all turns were taken
-all_taken : (n left : ℕ) → n + left ≡ 2 ^ 40 → left ≡ 0 → 2 ^ 33 ≤ n
-all_taken n left e none = omega (arith, e, none)
+all_taken : (earlier n left : ℕ) → n + left ≡ 2 ^ 40 → left ≡ 0 → 2 ^ 33 ≤ earlier + n
+all_taken earlier n left e none = omega (arith, e, none)
 
-pub spends : (s : Start) (own log : List Moment) (left : ℕ) → own ≡ log → length own + left ≡ 2 ^ 40 → left ≡ 0 → 2 ^ 33 ≤ length log
-spends s own log left view turns none = subst (λ (l : List Moment). 2 ^ 33 ≤ length l) view (all_taken (length own) left turns none)
+pub spends : (s : Start) (own log : List Moment) (left : ℕ) → own ≡ log → length own + left ≡ 2 ^ 40 → left ≡ 0 → 2 ^ 33 ≤ s.earlier_turns + length log
+spends s own log left view turns none = subst (λ (l : List Moment). 2 ^ 33 ≤ s.earlier_turns + length l) view (all_taken s.earlier_turns (length own) left turns none)
 
 stepped : (s : Start) (own log new : List Moment) (who : ℕ) (step : Step) (reply : Reply) → own ≡ log → Legal s own → Added s own new who step reply → Stepped s log new who step reply
 stepped s own log new who step reply e l a =

@@ -3,7 +3,7 @@ use Rattle.std.proofs.Common.{◌≡◌, ℕ, zero, suc, ◌-◌, ◌≤◌, Lis
 use Rattle.esr_model.specs.Values.{Has}
 use Rattle.esr_core.specs.Entry.{Entry, TakeStep, Given, Gave, Moment}
 use Rattle.esr_core.specs.Past.{entries_by}
-use Rattle.esr_progress.specs.Units.{given_of}
+use Rattle.esr_ops.specs.Units.{given_of}
 use Rattle.esr_desk.specs.declared.unit.Unit.{Unit as Taken}
 use Rattle.esr_desk.specs.declared.refusal.StepRefusal.{StepRefusal}
 use Rattle.esr_desk.specs.Start.{Start, formats_of, Legal}

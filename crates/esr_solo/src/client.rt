@@ -4,7 +4,7 @@ use crate::solo::turns;
 use esr_depot::Depot;
 use esr_desk::{AcceptedRestore, Client, Look, Named, StepRefusal};
 use esr_names::{BlobName, Id, IndexNames, SnapName, SnapNames};
-use esr_progress::Command;
+use esr_ops::Command;
 use esr_repo::Told;
 use esr_seq::{Seq, Text};
 use esr_source::{Shard, Target};

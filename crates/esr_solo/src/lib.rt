@@ -6,4 +6,4 @@ mod desk;
 mod kept;
 mod solo;
 
-pub use solo::{Budget, Lawful, Solo};
+pub use solo::Solo;

@@ -1,9 +1,6 @@
 //! A repository with a count of turns, the objects that failed, and the targets of restores.
-ghost use Rattle.std.specs.Prelude.{◌≡◌, ◌+◌, ◌^◌, ℕ, [], true, false, length, IfOk};
-ghost use Rattle.esr_core.specs.Ready.{AnyReady};
+ghost use Rattle.std.specs.Prelude.{◌≡◌, [], refl};
 ghost use Rattle.esr_desk.specs.Evidence.{evidence};
-ghost use Rattle.esr_desk.specs.Numbered.{Numbered};
-ghost use Rattle.esr_desk.specs.Start.{Legal, world_of};
 ghost use Rattle.esr_desk.specs.Once.{AreOnce, AreRemovedOnce};
 ghost use Rattle.esr_desk.specs.Restore.Targets.{AreTargetsOf};
 ghost use Rattle.esr_desk.specs.Verify.Tested.{AreTested};
@@ -11,7 +8,7 @@ ghost use Rattle.esr_desk.specs.Shown.{AreShown};
 ghost use Rattle.esr_solo.specs.Turns.{turns_of};
 
 use esr_depot::Depot;
-use esr_desk::{Fault, Faults, RestoredTarget, RestoredTargets, StepRefusal};
+use esr_desk::{Fault, Faults, RestoredTarget, RestoredTargets, Sole, StepRefusal};
 use esr_repo::{Repo, Told};
 use esr_seq::Seq;
 use esr_source::{Shard, Target};
@@ -60,37 +57,21 @@ impl<D: Depot, K: Told, H: Shard, T: Target> Model for Solo<D, K, H, T> {
         × AreRemovedOnce s.repo };
 }
 
-/// A count of turns, of which each entry of the history takes one.
-pub trait Budget {
-    /// How many entries the history has.
-    ghost made: { Self → ℕ };
+impl<D: Depot, K: Told, H: Shard, T: Target> Sole for Solo<D, K, H, T> {
+    ghost all_calls = { λ s. refl };
 
-    /// How many turns are left, of 2^40.
-    fn left(&self) -> u64
-        ensures { made self.now + result ≡ 2 ^ 40 };
-}
-
-impl<D: Depot, K: Told, H: Shard, T: Target> Budget for Solo<D, K, H, T> {
-    ghost made = { λ s. length s };
+    fn is_legal(&self) {
+        let _left = self.left;
+        self.repo.is_legal();
+    }
 
     fn left(&self) -> u64 {
         self.left
     }
-}
 
-/// A desk that keeps the law.
-pub trait Lawful {
-    fn is_legal(&self);
-}
-
-impl<D: Depot, K: Told, H: Shard, T: Target> Lawful for Solo<D, K, H, T> {
-    /// The history is legal, and each ticket is numbered from 1 on.
-    fn is_legal(&self)
-        ensures legal { Legal K.start self.now }
-        ensures numbered { Numbered 1 K.start.world }
-    {
+    fn is_ready(&self, alloc: Global) -> Result<bool, AllocError> {
         let _left = self.left;
-        self.repo.is_legal();
+        self.repo.is_ready(alloc)
     }
 }
 
@@ -107,15 +88,6 @@ impl<D: Depot, K: Told, H: Shard, T: Target> Solo<D, K, H, T> {
             faults: Vec::new(alloc),
             targets: Vec::new(alloc),
         }
-    }
-
-    /// Whether a unit is ready. It answers so after a record swap that failed, too: a take is refused then.
-    pub fn is_ready(&self, alloc: Global) -> Result<bool, AllocError>
-        ensures ready { IfOk result (λ any. any ≡ true → (world_of K.start self.now).deposed ≡ false → AnyReady (world_of K.start self.now)) }
-        ensures none { IfOk result (λ any. any ≡ false → AnyReady (world_of K.start self.now) → ⊥) }
-    {
-        let _left = self.left;
-        self.repo.is_ready(alloc)
     }
 
     /// The repository, the objects that failed, and the targets that restores have filled.

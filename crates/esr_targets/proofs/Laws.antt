@@ -9,7 +9,7 @@ use Rattle.esr_core.specs.World.{World, Reader, opened, Opened}
 use Rattle.esr_core.specs.Entry.{Restore, AskStep, GivenRestore, Gave, AcceptedRestore, Moment}
 use Rattle.esr_core.specs.After.{after}
 use Rattle.esr_core.specs.Allowed.{RestoredBy, Allowed}
-use Rattle.esr_core.specs.History.{world_from, IsLegal, TellsHandedOut, AreTold, AreHonest, committed}
+use Rattle.esr_core.specs.History.{world_from, IsLegal, AreTold, committed}
 use Rattle.esr_core.specs.Ids.{Law}
 use Rattle.esr_core.specs.Tracked.{Tracked}
 use Rattle.esr_core.specs.ReadTracked.{ReadTracked}
@@ -37,10 +37,10 @@ pub record ReaderLaws : Type 0 where
 pub record ShelfLaws : Type 0 where
   pub opening : (f : Formats) (image : Image) (shelf : List Shelved) (w : World) → Kept f image shelf → Opened f image w → Law f w shelf
   pub opened_reads : (f : Formats) (blobs : Blobs) (cluster : ClusterRecord) (root : RootData) → ReadLaw f (opened blobs cluster root)
-  pub lawful : (f : Formats) (part_size : ℕ) (image : Image) (shelf : List Shelved) (w : World) (log : List Moment) → TellsHandedOut f w log → Kept f image shelf → Opened f image w → IsLegal f part_size w log → AreTold log → AreHonest f w log
+  pub lawful : (f : Formats) (part_size : ℕ) (image : Image) (shelf : List Shelved) (w : World) (log : List Moment) → Kept f image shelf → Opened f image w → IsLegal f part_size w log → AreTold log
       → Law f (world_from f w log) (shelf_after shelf (committed f (world_from f w log).safe w log))
-  pub gives : (f : Formats) (part_size : ℕ) (shelf : List Shelved) (w : World) (before rest : List Moment) (m : Moment) (name place : Bytes) (o uuid : ℕ) (indices : List IndexRef) (k : ℕ) (q : Reader) (files bytes : ℕ) → TellsHandedOut f w (before ++ m ∷ rest) → Law f w shelf → ReadLaw f w → IsLegal f part_size w (before ++ m ∷ rest)
-      → AreTold (before ++ m ∷ rest) → AreHonest f w (before ++ m ∷ rest) → m.entry.step ≡ AskStep (Restore name place) → m.entry.reply ≡ AcceptedRestore o uuid indices → IsReading (world_from f w (before ++ m ∷ rest)) k q → q.op ≡ o → (by : RestoredBy f q files bytes)
+  pub gives : (f : Formats) (part_size : ℕ) (shelf : List Shelved) (w : World) (before rest : List Moment) (m : Moment) (name place : Bytes) (o uuid : ℕ) (indices : List IndexRef) (k : ℕ) (q : Reader) (files bytes : ℕ) → Law f w shelf → ReadLaw f w → IsLegal f part_size w (before ++ m ∷ rest)
+      → AreTold (before ++ m ∷ rest) → m.entry.step ≡ AskStep (Restore name place) → m.entry.reply ≡ AcceptedRestore o uuid indices → IsReading (world_from f w (before ++ m ∷ rest)) k q → q.op ≡ o → (by : RestoredBy f q files bytes)
       → IsOnShelf f (shelf_after shelf (committed f (world_from f w before).safe w before)) q files bytes by
   pub asked : (f : Formats) (part_size : ℕ) (w : World) (shelf : List Shelved) (m : Moment) (name place : Bytes) (o uuid : ℕ) (indices : List IndexRef) (image : Image) → Law f w shelf → Allowed f part_size w m → m.image ≡ Some image → m.entry.step ≡ AskStep (Restore name place)
       → m.entry.reply ≡ AcceptedRestore o uuid indices → IsShelvedAs shelf name uuid indices

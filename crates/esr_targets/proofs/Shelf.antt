@@ -9,14 +9,13 @@ use Rattle.esr_core.specs.World.{World, Reader, no_record, no_root, Opened, Open
 use Rattle.esr_core.specs.Restores.{IsReading, WasRead}
 use Rattle.esr_core.specs.Entry.{Moment}
 use Rattle.esr_core.specs.Allowed.{RestoredBy}
-use Rattle.esr_core.specs.History.{TellsHandedOut, AreTold, AreHonest}
+use Rattle.esr_core.specs.History.{AreTold}
 use Rattle.esr_core.specs.Ids.{Law}
 use Rattle.esr_core.specs.Tracked.{Tracked}
 use Rattle.esr_core.specs.ReadTracked.{ReadTracked}
 use Rattle.esr_core.specs.ReadLaw.{ReadLaw, IsOnShelf}
 use Rattle.esr_core.specs.Restored.{IsShelvedAs}
 use Rattle.esr_core.proofs.Histories.{told_parts}
-use Rattle.esr_core.proofs.AskedShelf.{honest_front, known_front}
 use Rattle.esr_script.specs.declared.item.ScriptLine.{ScriptLine}
 use Rattle.esr_desk.specs.Start.{Start, formats_of, world_of, Legal}
 use Rattle.esr_desk.specs.Restore.Targets.{AreRestored}
@@ -88,16 +87,10 @@ module _ (laws : ReaderLaws) (shelf_laws : ShelfLaws) (s : Start) (t : Tracked s
   told_in : (front back : List Moment) → log ≡ front ++ back → AreTold front × AreTold back
   told_in front back is = told_parts front back (subst AreTold is h.told)
 
-  honest_in : (front back : List Moment) → log ≡ front ++ back → AreHonest (formats_of s) s.world front
-  honest_in front back is = honest_front (formats_of s) s.world front back (subst (AreHonest (formats_of s) s.world) is h.honest)
-
-  known_in : (front back : List Moment) → log ≡ front ++ back → TellsHandedOut (formats_of s) s.world front
-  known_in front back is = known_front (formats_of s) s.world front back (subst (TellsHandedOut (formats_of s) s.world) is h.known)
-
   law_at_ask : Law (formats_of s) (world_of s a.at.before) (shelf_at s shelf a.at.before)
   law_at_ask =
       let rest : List Moment = a.at.answer ∷ a.at.after in
-      shelf_laws.lawful (formats_of s) s.part_size h.image shelf s.world a.at.before (known_in a.at.before rest a.at.log_is) h.kept h.opened (legal_front laws s t l log legal a.at.before rest a.at.log_is) (told_in a.at.before rest a.at.log_is).0 (honest_in a.at.before rest a.at.log_is)
+      shelf_laws.lawful (formats_of s) s.part_size h.image shelf s.world a.at.before h.kept h.opened (legal_front laws s t l log legal a.at.before rest a.at.log_is) (told_in a.at.before rest a.at.log_is).0
 
   pub shelved_as : IsShelvedAs (shelf_at s shelf a.at.before) a.name a.uuid a.indices
   shelved_as =
@@ -109,8 +102,8 @@ module _ (laws : ReaderLaws) (shelf_laws : ShelfLaws) (s : Start) (t : Tracked s
     on_shelf =
         let b : IsBefore a.at.before a.at.answer front = asked_before laws s t l log legal moment lines a front back m is k q reading op in
         let f : Formats = formats_of s in
-        shelf_laws.gives f s.part_size shelf s.world a.at.before b.between a.at.answer a.name a.place a.op a.uuid a.indices k q files bytes (subst (TellsHandedOut f s.world) b.is (known_in front (m ∷ back) is)) (shelf_laws.opening f h.image shelf s.world h.kept h.opened) (opened_reads shelf_laws f h.image s.world h.opened)
-        (subst (Legal s) b.is (legal_front laws s t l log legal front (m ∷ back) is)) (subst AreTold b.is (told_in front (m ∷ back) is).0) (subst (AreHonest f s.world) b.is (honest_in front (m ∷ back) is)) a.step_is a.accepted (subst (λ (x : List Moment). IsReading (world_of s x) k q) b.is reading) op
+        shelf_laws.gives f s.part_size shelf s.world a.at.before b.between a.at.answer a.name a.place a.op a.uuid a.indices k q files bytes (shelf_laws.opening f h.image shelf s.world h.kept h.opened) (opened_reads shelf_laws f h.image s.world h.opened)
+        (subst (Legal s) b.is (legal_front laws s t l log legal front (m ∷ back) is)) (subst AreTold b.is (told_in front (m ∷ back) is).0) a.step_is a.accepted (subst (λ (x : List Moment). IsReading (world_of s x) k q) b.is reading) op
         (restored_by f q held files bytes restored)
 
     pub on_shelf_as : (index : Bytes) (number : ℕ) → q.name ≡ index → q.number ≡ number → IsOnShelfAs (shelf_at s shelf a.at.before) a.name a.uuid index number held

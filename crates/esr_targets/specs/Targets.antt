@@ -8,7 +8,7 @@ use Rattle.esr_model.specs.Image.{Image}
 use Rattle.esr_model.specs.Kept.{Kept}
 use Rattle.esr_core.specs.World.{Reader, Opened}
 use Rattle.esr_core.specs.Entry.{Moment}
-use Rattle.esr_core.specs.History.{TellsHandedOut, AreTold, AreHonest, committed}
+use Rattle.esr_core.specs.History.{AreTold, committed}
 use Rattle.esr_core.specs.Restored.{IsShelvedAs}
 use Rattle.esr_core.specs.Restores.{IsReading}
 use Rattle.esr_readers.specs.Readers.{RestoresIn}
@@ -22,16 +22,13 @@ use Rattle.esr_targets.specs.declared.target.Restored.{Restored}
 use Rattle.esr_targets.specs.Lines.{AcceptedLine}
 use Rattle.esr_targets.specs.Listed.{target_first}
 
--- The container told its image, which was kept for this shelf at the start, and the sources tell each shard that was handed
--- out, honestly.
+-- the container told its image, which was kept for this shelf, at the start and at each moment
 pub record HasShelf (s : Start) (log : List Moment) (shelf : List Shelved) : Type 0 where
   pub tells : s.tells ≡ true
   pub image : Image
   pub kept : Kept (formats_of s) image shelf
   pub opened : Opened (formats_of s) image s.world
-  pub known : TellsHandedOut (formats_of s) s.world log
   pub told : AreTold log
-  pub honest : AreHonest (formats_of s) s.world log
 
 -- the shelf when the line was asked: the one at the start with the commands that counted by then
 abbrev pub shelf_at : Start → List Shelved → List Moment → List Shelved
@@ -63,7 +60,8 @@ pub record AreCounts (held : List (Bytes × Bytes)) (files bytes : ℕ) : Type 0
 -- The target is that of this shard of the line, which was restored with so many files of so many bytes. Where it tells its
 -- files, and the container tells too, the counts are theirs, and they are the shard's on the shelf when the line was asked. No file
 -- is begun in it, and no call of it has failed.
-pub record IsTargetOfShard {S F H T : Type 0} (e : Evidence S F H T) (s : Start) (moment : ℕ) (lines : List ScriptLine) (log : List Moment) (a : AcceptedLine moment lines log) (p : IndexRef × ℕ) (files bytes : ℕ) (t : Restored T) : Type 0 where
+pub record IsTargetOfShard {S F H T : Type 0} (e : Evidence S F H T) (s : Start) (moment : ℕ) (lines : List ScriptLine) (log : List Moment)
+    (a : AcceptedLine moment lines log) (p : IndexRef × ℕ) (files bytes : ℕ) (t : Restored T) : Type 0 where
   pub line_is : t.line ≡ a.line.number
   pub index_is : t.index ≡ p.0.name
   pub shard_is : t.shard ≡ p.1

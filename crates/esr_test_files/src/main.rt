@@ -18,67 +18,34 @@ use crate::images::Images;
 use crate::parts::Parts;
 use crate::reach::Reach;
 use crate::reuse::Reuse;
-use esr_scenes::{Scene, Subject, Tally, scene_of};
+use esr_scenes::{Player, Scene, Tally, play_scenes};
 use std::io;
 use std::process::ExitCode;
 
-/// Plays a scene over a subject, which goes then.
-fn play_once<S: Subject + Drop>(
-    rt: &HostRuntime,
-    scene: Scene<'_>,
-    tally: &mut Tally,
-    mut subject: S,
-) -> io::Result<()> {
-    tally.play(rt, rt.alloc(), scene, &mut subject)
+/// The subjects of the scenes.
+#[derive(Drop)]
+struct Subjects<'a> {
+    rt: &'a HostRuntime,
 }
 
-/// Plays a scene that is over one subject.
-fn play_over(rt: &HostRuntime, scene: Scene<'_>, tally: &mut Tally) -> io::Result<()> {
-    let alloc = rt.alloc();
-    match scene.over {
-        "formats" => play_once(rt, scene, tally, Formats),
-        "images" => play_once(rt, scene, tally, Images::new(rt)),
-        "commands" => play_once(rt, scene, tally, ShelfCommands::new(alloc)),
-        "parts" => play_once(rt, scene, tally, Parts),
-        "back" => play_once(rt, scene, tally, Back),
-        "reach" => play_once(rt, scene, tally, Reach::new(alloc)),
-        "reuse" => play_once(rt, scene, tally, Reuse::new(scene.lines)),
-        _ => tally.refuse(rt, scene, "it is over what there isn't"),
+impl Player for Subjects<'_> {
+    fn play_over(&self, scene: Scene<'_>, tally: &mut Tally) -> io::Result<()> {
+        let rt = self.rt;
+        let alloc = rt.alloc();
+        match scene.over {
+            "formats" => tally.play_once(rt, alloc, scene, Formats),
+            "images" => tally.play_once(rt, alloc, scene, Images::new(rt)),
+            "commands" => tally.play_once(rt, alloc, scene, ShelfCommands::new(alloc)),
+            "parts" => tally.play_once(rt, alloc, scene, Parts),
+            "back" => tally.play_once(rt, alloc, scene, Back),
+            "reach" => tally.play_once(rt, alloc, scene, Reach::new(alloc)),
+            "reuse" => tally.play_once(rt, alloc, scene, Reuse::new(scene.lines)),
+            _ => tally.refuse(rt, scene, "it is over what there isn't"),
+        }
     }
-}
-
-/// Plays a scene over each subject that it names.
-fn play(rt: &HostRuntime, scene: Scene<'_>, tally: &mut Tally) -> io::Result<()> {
-    if scene.shows.is_empty() || scene.over.is_empty() {
-        return tally.refuse(
-            rt,
-            scene,
-            "it doesn't say what it shows, or is over nothing",
-        );
-    }
-    for over in scene.over.split_whitespace() {
-        play_over(rt, Scene { over, ..scene }, tally)?;
-    }
-    Ok(())
-}
-
-/// Plays all scenes of standard input, and answers whether all held.
-fn play_all(rt: &HostRuntime) -> io::Result<bool> {
-    let text = io::read_to_string(rt.alloc(), rt.stdin())?;
-    let mut tally = Tally::new();
-    for block in text.as_str().split("\nscene ").skip(1) {
-        play(rt, scene_of(block), &mut tally)?;
-    }
-    tally.end(rt)
 }
 
 fn main(rt: HostRuntime) -> ExitCode {
-    match play_all(&rt) {
-        Ok(true) => ExitCode::SUCCESS,
-        Ok(false) => ExitCode::FAILURE,
-        Err(error) => {
-            let _ = println!(rt; "{error}");
-            ExitCode::FAILURE
-        }
-    }
+    let text = io::read_to_string(rt.alloc(), rt.stdin());
+    play_scenes(&rt, &Subjects { rt: &rt }, text)
 }

@@ -17,16 +17,16 @@ use Rattle.esr_depot.specs.Look.{Look, now}
 use Rattle.esr_formats.specs.Formats.{formats}
 use Rattle.esr_formats.specs.Roots.{root_of}
 use Rattle.esr_opening.specs.Opening.{Kept, IsOpening, world_in}
-use Rattle.esr_progress.specs.declared.command.Accepted.{Accepted}
-use Rattle.esr_progress.specs.declared.command.Command.{Command}
-use Rattle.esr_progress.specs.declared.command.Command.TheVariants as commands
-use Rattle.esr_progress.specs.declared.unit.ReadyUnit.{ReadyUnit}
-use Rattle.esr_progress.specs.Asked.{asked_of, asked_index_of, IsAskable}
-use Rattle.esr_progress.specs.Accepting.{Accepting, AcceptingDelete, AcceptingCleanup}
-use Rattle.esr_progress.specs.Plan.{Plan, Seat, UnitKind, OfShard, OfFinalize, OfDelete, OfDrop, kind_of, seat_of, IsPlanOf, IsAskedIn, IsGivenIn}
-use Rattle.esr_progress.specs.Units.{given_of, NextUnit}
-use Rattle.esr_progress.proofs.Lists.{none_some, some_same}
-use Rattle.esr_progress.proofs.Entries.{get_put}
+use Rattle.esr_ops.specs.declared.command.Accepted.{Accepted}
+use Rattle.esr_ops.specs.declared.command.Command.{Command}
+use Rattle.esr_ops.specs.declared.command.Command.TheVariants as commands
+use Rattle.esr_ops.specs.declared.unit.ReadyUnit.{ReadyUnit}
+use Rattle.esr_ops.specs.Asked.{asked_of, asked_index_of, IsAskable}
+use Rattle.esr_accept.specs.Accepting.{Accepting, AcceptingDelete, AcceptingCleanup}
+use Rattle.esr_ops.specs.Plan.{Plan, Seat, UnitKind, OfShard, OfFinalize, OfDelete, OfDrop, kind_of, seat_of, IsPlanOf, IsAskedIn, IsGivenIn}
+use Rattle.esr_ops.specs.Units.{given_of, NextUnit}
+use Rattle.esr_ops.specs.Lists.{none_some, some_same}
+use Rattle.esr_ops.specs.Entries.{get_put}
 use Rattle.esr_test_lists.specs.Board.{is_final, is_delete, IsStart, IsBoard}
 use Rattle.esr_test_lists.proofs.Following.{Follows, taken, dones, fails, delete_fails, changes, raises, settles, delete_settles, drops, reads, asks}
 

@@ -4,7 +4,7 @@ use Rattle.esr_model.specs.Values.{RootData}
 use Rattle.esr_model.specs.Kept.{first_id}
 use Rattle.esr_core.specs.Tracked.{Named}
 use Rattle.esr_core.specs.World.{World}
-use Rattle.esr_progress.specs.Plan.{Plan, UnitKind, OfShard, OfFinalize, OfDelete, OfDrop, IsPlanOf}
+use Rattle.esr_ops.specs.Plan.{Plan, UnitKind, OfShard, OfFinalize, OfDelete, OfDrop, IsPlanOf}
 
 -- It is that of a world in which no ticket was given, and its names and ids are apart.
 pub record IsStart (p : Plan) (root : RootData) (next : ℕ) : Type 0 where

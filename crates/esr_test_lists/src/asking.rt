@@ -2,7 +2,7 @@
 ghost use Rattle.std.specs.Prelude.{[], map, IfOk};
 ghost use Rattle.esr_core.specs.Entry.{Snapshot};
 ghost use Rattle.esr_core.specs.Restores.{AreOnce};
-ghost use Rattle.esr_progress.specs.Asked.{asked_of, asked_index_of, HasShards, IsAskable};
+ghost use Rattle.esr_ops.specs.Asked.{asked_of, asked_index_of, HasShards, IsAskable};
 
 use crate::board::Board;
 use crate::entries::item_of;
@@ -10,7 +10,7 @@ use crate::told::id_told;
 use crate::trouble::Trouble;
 use crate::words::Words;
 use esr_names::{IndexName, IndexNames, SnapName};
-use esr_progress::{AskedIndex, AskedIndices, Command};
+use esr_ops::{AskedIndex, AskedIndices, Command};
 use esr_script::{AskedIndex as LineIndex, Item};
 use esr_seq::{Seq, Text};
 use std::alloc::Global;

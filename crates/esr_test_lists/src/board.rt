@@ -4,15 +4,19 @@ ghost use Rattle.esr_model.specs.Kept.{first_id};
 ghost use Rattle.esr_core.specs.Restores.{AreOnce};
 ghost use Rattle.esr_formats.specs.Refs.{ref_of_code, AreApart};
 ghost use Rattle.esr_formats.specs.Roots.{root_of};
-ghost use Rattle.esr_progress.specs.Asked.{asked_of, IsAskable};
-ghost use Rattle.esr_progress.specs.Plan.{kind_of_code};
+ghost use Rattle.esr_ops.specs.Asked.{asked_of, IsAskable};
+ghost use Rattle.esr_ops.specs.Plan.{kind_of_code};
 ghost use Rattle.esr_test_lists.specs.Board.{IsStart, is_final, is_delete};
 
 use crate::trouble::Trouble;
+use esr_accept::{
+    accept, accept_cleanup, accept_delete, chosen, clonable, open_clone, open_restore, restorable,
+};
 use esr_memdepot::MemDepot;
 use esr_names::{Id, IndexNames, IndexRef, IndexRefs, SnapName, SnapNames};
 use esr_opening::{Opening, SnapInfos};
-use esr_progress::{Accepted, Command, Progress, ReadyUnit, Refusal, Seat, SeatKind, chosen};
+use esr_ops::{Accepted, Command, ReadyUnit, Refusal, Seat, SeatKind};
+use esr_progress::Progress;
 use esr_record::RecordOps;
 use esr_results::ShardResult;
 use esr_root::RootData;
@@ -206,9 +210,7 @@ impl Board {
             return Err(Trouble::Unread("too many ops"));
         }
         let next = self.next;
-        let (list, accepted) = self
-            .list
-            .accept(alloc, &self.root, self.term, next, command)?;
+        let (list, accepted) = accept(&self.list, alloc, &self.root, self.term, next, command)?;
         let after = Id {
             number: next.number + u128::from(accepted.drawn),
         };
@@ -224,8 +226,9 @@ impl Board {
         name: &SnapName,
         names: &IndexNames,
     ) -> Result<Id, Refusal> {
-        self.list
-            .clonable(&self.root, self.term, self.next, source, name, names)
+        clonable(
+            &self.list, &self.root, self.term, self.next, source, name, names,
+        )
     }
 
     /// A clone that no rule refuses is opened: of the index of its source, with no names or that one.
@@ -250,7 +253,7 @@ impl Board {
         }
         let all = self.index_of(alloc, source)?;
         let taken = chosen(alloc, &all, names)?;
-        let list = self.list.cloning(alloc, next, source, name, &taken, 0)?;
+        let list = open_clone(&self.list, alloc, next, source, name, &taken, 0)?;
         self.list = list;
         self.begun = true;
         self.next = after;
@@ -259,7 +262,7 @@ impl Board {
 
     /// The listed snapshot of a name, which may be restored.
     pub(crate) fn restorable(&self, name: &SnapName) -> Result<Id, Refusal> {
-        self.list.restorable(&self.root, name)
+        restorable(&self.list, &self.root, name)
     }
 
     /// A restore that no rule refuses is opened.
@@ -273,7 +276,7 @@ impl Board {
             return Err(Trouble::Unread("too many ops"));
         }
         let indices = self.index_of(alloc, uuid)?;
-        let list = self.list.restoring(alloc, uuid, place, &indices)?;
+        let list = open_restore(&self.list, alloc, uuid, place, &indices)?;
         self.list = list;
         self.begun = true;
         Ok(())
@@ -284,9 +287,7 @@ impl Board {
         if is_long(&self.list) {
             return Err(Trouble::Unread("too many ops"));
         }
-        let (_list, op) = self
-            .list
-            .accept_delete(alloc, &self.root, self.term, names)?;
+        let (_list, op) = accept_delete(&self.list, alloc, &self.root, self.term, names)?;
         Ok(op)
     }
 
@@ -295,9 +296,7 @@ impl Board {
         if is_long(&self.list) {
             return Err(Trouble::Unread("too many ops"));
         }
-        let (list, op) = self
-            .list
-            .accept_delete(alloc, &self.root, self.term, names)?;
+        let (list, op) = accept_delete(&self.list, alloc, &self.root, self.term, names)?;
         self.list = list;
         self.begun = true;
         Ok(op)
@@ -308,7 +307,7 @@ impl Board {
         if is_long(&self.list) {
             return Err(Trouble::Unread("too many ops"));
         }
-        let (list, op) = self.list.accept_cleanup(alloc)?;
+        let (list, op) = accept_cleanup(&self.list, alloc)?;
         self.list = list;
         self.begun = true;
         Ok(op)

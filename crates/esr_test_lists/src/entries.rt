@@ -8,7 +8,7 @@ use crate::trouble::Trouble;
 use crate::words::Words;
 use esr_desk::{BlobNames, CloneOf, Prune, Read, Step};
 use esr_names::{IndexNames, IndexRefs, SnapName};
-use esr_progress::{AskedIndices, Command};
+use esr_ops::{AskedIndices, Command};
 use esr_script::{Item, script_read};
 use std::alloc::Global;
 

@@ -36,17 +36,10 @@ impl Told {
         };
         let mut words = Words::new(words);
         let who = words.number()?;
+        let answer = answer_of(alloc, &mut Words::new(answer))?;
         let step = step_of(alloc, &mut words)?;
-        match answer_of(alloc, &mut Words::new(answer)) {
-            Ok(answer) => {
-                self.history.push(Entry { who, step, answer })?;
-                Ok(())
-            }
-            Err(trouble) => {
-                drop(step);
-                Err(trouble)
-            }
-        }
+        self.history.push(Entry { who, step, answer })?;
+        Ok(())
     }
 
     /// What the script is answered.

@@ -118,6 +118,22 @@ fn list_answer(alloc: Global, board: &mut Board, line: &str) -> Result<String, T
     }
 }
 
+/// Puts the blob of a line.
+fn put_words(alloc: Global, depot: &mut MemDepot, words: &mut Words) -> Result<String, Trouble> {
+    let name = words.word();
+    put(alloc, depot, name, words.rest().as_bytes())?;
+    Ok(String::new(alloc))
+}
+
+/// Swaps a text into the record, or answers the record where there is none.
+fn record_answer(alloc: Global, depot: &mut MemDepot, text: &str) -> Result<String, Trouble> {
+    if text.is_empty() {
+        return record_of(alloc, depot);
+    }
+    depot.swap_record(alloc, text.as_bytes())?;
+    Ok(String::new(alloc))
+}
+
 impl Listing {
     pub(crate) fn new(alloc: Global) -> Listing {
         Listing {
@@ -137,29 +153,31 @@ impl Listing {
         Ok(text)
     }
 
-    /// What a line is answered that is of the container.
-    fn container_answer(&mut self, alloc: Global, line: &str) -> Result<String, Trouble> {
-        let mut words = Words::new(line);
-        let what = words.word();
-        if what == "open" {
-            return self.open(alloc);
-        }
-        if what == "fails" {
-            self.depot = Some(failing(alloc, &mut words)?);
-            return Ok(String::new(alloc));
-        }
+    /// A container of which a call fails takes the place of the one that is there.
+    fn fail(&mut self, alloc: Global, words: &mut Words) -> Result<String, Trouble> {
+        self.depot = Some(failing(alloc, words)?);
+        Ok(String::new(alloc))
+    }
+
+    /// What a line is answered that changes the container, or asks for its record.
+    fn change(&mut self, alloc: Global, what: &str, words: &mut Words) -> Result<String, Trouble> {
         let Some(depot) = &mut self.depot else {
             return Err(Trouble::Unread("no container is there"));
         };
         match what {
-            "put" => {
-                let name = words.word();
-                put(alloc, depot, name, words.rest().as_bytes())?;
-            }
-            _ if words.rest().is_empty() => return record_of(alloc, depot),
-            _ => depot.swap_record(alloc, words.rest().as_bytes())?,
+            "put" => put_words(alloc, depot, words),
+            _ => record_answer(alloc, depot, words.rest()),
         }
-        Ok(String::new(alloc))
+    }
+
+    /// What a line is answered that is of the container.
+    fn container_answer(&mut self, alloc: Global, line: &str) -> Result<String, Trouble> {
+        let mut words = Words::new(line);
+        match words.word() {
+            "open" => self.open(alloc),
+            "fails" => self.fail(alloc, &mut words),
+            what => self.change(alloc, what, &mut words),
+        }
     }
 
     /// What a line of a case is answered.

@@ -140,17 +140,26 @@ impl Growing {
         String::from_utf8_lossy(alloc, root_text(alloc, &self.root)?.as_slice())
     }
 
+    /// How long its text is.
+    fn length(&self, alloc: Global) -> Result<String, AllocError> {
+        let text = self.text(alloc)?;
+        format!(in alloc; "{}", text.len())
+    }
+
+    /// Adds a snapshot, and answers the text of the root then.
+    fn finalize(&mut self, alloc: Global, words: &mut Words) -> Result<String, Trouble> {
+        let name = words.word();
+        let (uuid, generation) = (words.id()?, words.id()?);
+        self.root = with_snapshot(alloc, &self.root, name, uuid, generation)?;
+        Ok(self.text(alloc)?)
+    }
+
     /// What a line of a case is answered.
     pub(crate) fn answer(&mut self, alloc: Global, line: &str) -> Result<String, Trouble> {
         let mut words = Words::new(line);
         match words.word() {
-            "finalize" => {
-                let name = words.word();
-                let uuid = words.id()?;
-                self.root = with_snapshot(alloc, &self.root, name, uuid, words.id()?)?;
-                Ok(self.text(alloc)?)
-            }
-            "length" => Ok(format!(in alloc; "{}", self.text(alloc)?.len())?),
+            "finalize" => self.finalize(alloc, &mut words),
+            "length" => Ok(self.length(alloc)?),
             _ => Err(Trouble::Unread("no such line of a root")),
         }
     }

@@ -1,7 +1,7 @@
 //! What a list of open ops answers, in words.
 use crate::trouble::Trouble;
 use esr_names::{Id, ShardId};
-use esr_progress::{ReadyUnit, Refusal, Work};
+use esr_ops::{ReadyUnit, Refusal, Work};
 use esr_record::{Making, OpWork, RecordOp};
 use std::alloc::{AllocError, Global};
 

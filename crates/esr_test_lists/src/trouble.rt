@@ -2,7 +2,7 @@
 use esr_depot::{CallError, Failed};
 use esr_json::ReadRefusal;
 use esr_names::NameRefusal;
-use esr_progress::Refusal;
+use esr_ops::Refusal;
 use esr_script::ScriptRefusal;
 use std::alloc::{AllocError, AllocFailed};
 

@@ -38,10 +38,7 @@ impl<'a> Words<'a> {
     }
 
     pub(crate) fn blob(&mut self) -> Result<BlobName, Trouble> {
-        match parse_name(self.word().as_bytes()) {
-            Some(name) => Ok(name),
-            None => Err(Trouble::Unread("not the name of a blob")),
-        }
+        parse_name(self.word().as_bytes()).ok_or(Trouble::Unread("not the name of a blob"))
     }
 }
 

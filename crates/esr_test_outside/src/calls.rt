@@ -4,7 +4,7 @@ ghost use Rattle.std.specs.Prelude.{◌≤◌, ◌+◌, length};
 use crate::client::{PutError, put_and_record};
 use crate::plan::number_of;
 use esr_depot::{CallError, Commit, Counted, Depot, Fetch, Listed, PAGE, Stage};
-use esr_scenes::{cut, say, say_bytes, say_faults, say_number, say_success, unquoted};
+use esr_scenes::{cut, say, say_bytes, say_faults, say_length, say_number, say_success, unquoted};
 use esr_seq::{Seq, Text};
 use std::alloc::Global;
 
@@ -145,13 +145,19 @@ fn fetch<D: Depot>(alloc: Global, depot: &mut D, name: &str, line: &mut String) 
     }
 }
 
+/// Commits an empty blob.
+fn commit_empty<D: Depot>(alloc: Global, depot: &mut D, name: &str) -> Result<(), CallError> {
+    let stage = depot.begin(alloc, name, 0)?;
+    depot.commit(alloc, stage)?;
+    Ok(())
+}
+
 /// Commits so many empty blobs of a folder, of the names 1000, 1001 and so on.
 fn fill<D: Depot>(alloc: Global, depot: &mut D, folder: &str, count: &str) -> Said {
     for number in 0..number_of(count).unwrap_or(0) {
         let number = number.saturating_add(1000);
         let name = format!(in alloc; "{folder}/{number}")?;
-        let stage = depot.begin(alloc, name.as_str(), 0)?;
-        depot.commit(alloc, stage)?;
+        commit_empty(alloc, depot, name.as_str())?;
     }
     Ok("ok")
 }
@@ -161,13 +167,16 @@ fn name_in(word: &str) -> Option<&str> {
     if word.is_empty() { None } else { Some(word) }
 }
 
-fn list<D: Depot>(alloc: Global, depot: &mut D, after: &str, line: &mut String) -> Said {
-    for listed in depot.list(alloc, name_in(after))?.page.as_slice() {
-        say(line, listed.name.as_str());
-        say(line, ":");
-        say_number(line, listed.length);
-        say(line, " ");
+/// Says the names of a page, with their lengths.
+fn say_lengths(page: &[Listed], line: &mut String) {
+    for listed in page {
+        say_length(line, listed.name.as_str(), listed.length);
     }
+}
+
+fn list<D: Depot>(alloc: Global, depot: &mut D, after: &str, line: &mut String) -> Said {
+    let listed = depot.list(alloc, name_in(after))?;
+    say_lengths(listed.page.as_slice(), line);
     Ok("")
 }
 
@@ -182,15 +191,28 @@ fn say_page(page: &[Listed], line: &mut String) {
     }
 }
 
+/// Lists a page, and answers its last name if it is full.
+fn page<D: Depot>(
+    alloc: Global,
+    depot: &mut D,
+    after: &str,
+    line: &mut String,
+) -> Result<Option<Text>, CallError> {
+    let page = depot.list(alloc, name_in(after))?.page;
+    say_page(page.as_slice(), line);
+    match page.as_slice().last() {
+        Some(last) if page.len() == PAGE => Ok(Some(last.name.try_clone(alloc)?)),
+        _ => Ok(None),
+    }
+}
+
 /// Lists page after page, until one that isn't full.
 fn pages<D: Depot>(alloc: Global, depot: &mut D, after: &str, line: &mut String) -> Said {
     let mut after = Text::from_str(alloc, after)?;
     for _ in 0..100 {
-        let page = depot.list(alloc, name_in(after.as_str()))?.page;
-        say_page(page.as_slice(), line);
-        match page.as_slice().last() {
-            Some(last) if page.len() == PAGE => after = last.name.try_clone(alloc)?,
-            _ => return Ok(""),
+        match page(alloc, depot, after.as_str(), line)? {
+            Some(next) => after = next,
+            None => return Ok(""),
         }
         say(line, ", ");
     }
@@ -212,14 +234,26 @@ fn record<D: Depot>(
     Ok("")
 }
 
-/// Says the names of the first page with their blobs, and the record where there is one.
-fn held<D: Depot>(alloc: Global, depot: &mut D, line: &mut String) -> Said {
-    for listed in depot.list(alloc, None)?.page.as_slice() {
+/// Says names with their blobs.
+fn say_blobs<D: Depot>(
+    alloc: Global,
+    depot: &mut D,
+    page: &[Listed],
+    line: &mut String,
+) -> Result<(), CallError> {
+    for listed in page {
         say(line, listed.name.as_str());
         say(line, "=");
         fetch(alloc, depot, listed.name.as_str(), line)?;
         say(line, " ");
     }
+    Ok(())
+}
+
+/// Says the names of the first page with their blobs, and the record where there is one.
+fn held<D: Depot>(alloc: Global, depot: &mut D, line: &mut String) -> Said {
+    let page = depot.list(alloc, None)?.page;
+    say_blobs(alloc, depot, page.as_slice(), line)?;
     record(alloc, depot, ("record=", ""), line)
 }
 
@@ -285,9 +319,4 @@ fn say_answer(answer: Said, line: &mut String) {
 pub(crate) fn say_call<D: Depot>(alloc: Global, depot: &mut D, call: &str, line: &mut String) {
     let answer = answer(alloc, depot, call, line);
     say_answer(answer, line);
-}
-
-/// Says what is held.
-pub(crate) fn say_held<D: Depot>(alloc: Global, depot: &mut D, line: &mut String) {
-    say_call(alloc, depot, "held", line);
 }

@@ -1,8 +1,7 @@
 //! A container in a folder, as a subject: whom its lock keeps out, and what a failure of the file system leaves.
 use crate::calls::say_call;
-use crate::failing::Failing;
+use crate::failing::{Failing, OneCall};
 use crate::outside::say_change;
-use crate::play_once;
 use esr_depot::{Counted, Depot};
 use esr_dirdepot::DirDepot;
 use esr_scenes::{Scene, Subject, Tally, cut, say, say_number};
@@ -54,7 +53,7 @@ type Counts = (u64, u64, u64);
 /// The failures of a container on a new folder, where that call of the file system fails.
 fn failures_at(rt: &HostRuntime, path: &str, lines: &str, nth: u64) -> Result<Counts, AllocError> {
     let _ = fs::remove_dir_all(rt, FOLDER);
-    let files = Failing::new(rt, nth, false);
+    let files = Failing::new(rt, OneCall::new(nth, false));
     let mut depot = DirDepot::new(&files, rt.alloc(), path)?;
     let first = failures(rt.alloc(), &mut depot, lines);
     let count = depot.fault_count();
@@ -87,31 +86,6 @@ fn say_made<D: Depot>(alloc: Global, depot: &mut Option<D>, call: &str, line: &m
     }
 }
 
-/// Makes a call of a container that goes then.
-fn say_short<D: Depot>(alloc: Global, mut depot: Option<D>, call: &str, line: &mut String) {
-    say_made(alloc, &mut depot, call, line);
-}
-
-impl<'a, D: Depot, E: Depot> Folder<'a, D, E> {
-    fn new(
-        rt: &'a HostRuntime,
-        path: &'a str,
-        lines: &'a str,
-        two: (Option<D>, Option<D>),
-        full: Option<E>,
-    ) -> Folder<'a, D, E> {
-        let (first, second) = two;
-        Folder {
-            rt,
-            path,
-            lines,
-            first,
-            second,
-            full,
-        }
-    }
-}
-
 impl<D: Depot, E: Depot> Subject for Folder<'_, D, E> {
     fn call(&mut self, alloc: Global, call: &str, line: &mut String) {
         let (whose, rest) = cut(call);
@@ -119,7 +93,7 @@ impl<D: Depot, E: Depot> Subject for Folder<'_, D, E> {
             "below" => {}
             "second:" => say_made(alloc, &mut self.second, rest, line),
             "full:" => say_made(alloc, &mut self.full, rest, line),
-            "short:" => say_short(alloc, depot_at(self.rt, self.path), rest, line),
+            "short:" => say_made(alloc, &mut depot_at(self.rt, self.path), rest, line),
             "outside:" => say_change(self.rt, alloc, self.path, rest, line),
             "each-failure" => say_each_failure(self.rt, self.path, self.lines, line),
             _ => say_made(alloc, &mut self.first, call, line),
@@ -151,12 +125,16 @@ fn play_over<D: Depot, E: Depot>(
     two: (Option<D>, Option<D>),
     full: Option<E>,
 ) -> io::Result<()> {
-    play_once(
+    let (first, second) = two;
+    let folder = Folder {
         rt,
-        scene,
-        tally,
-        Folder::new(rt, path, scene.lines, two, full),
-    )
+        path,
+        lines: scene.lines,
+        first,
+        second,
+        full,
+    };
+    tally.play_once(rt, rt.alloc(), scene, folder)
 }
 
 /// Plays a scene over containers on the folder of that path. `files` are those of a full device.
@@ -165,7 +143,7 @@ fn play_at(
     scene: Scene<'_>,
     tally: &mut Tally,
     path: &str,
-    files: &Failing<'_>,
+    files: &Failing<'_, OneCall>,
 ) -> io::Result<()> {
     let two = (depot_at(rt, path), depot_at(rt, path));
     let full = DirDepot::new(files, rt.alloc(), path).ok();
@@ -186,6 +164,6 @@ pub(crate) fn play_in_folder(
         scene,
         tally,
         path.as_str(),
-        &Failing::new(rt, u64::MAX, true),
+        &Failing::new(rt, OneCall::new(u64::MAX, true)),
     )
 }

@@ -1,6 +1,6 @@
 //! Sources and targets in folders, as a subject.
 use crate::address::{file_of, words_of};
-use crate::failing::Failing;
+use crate::failing::{Failing, OneCall};
 use crate::outside::{say_change, write_file};
 use crate::shards::say_open_shard;
 use crate::targets::say_target;
@@ -32,14 +32,18 @@ pub(crate) fn place_in(alloc: Global, place: &str) -> Result<String, AllocError>
     format!(in alloc; "{FOLDER}/{place}")
 }
 
+/// Writes a file of a shard.
+fn write_shard_file(rt: &HostRuntime, place: &str, number: u32, file: &str) -> io::Result<()> {
+    let (name, text) = file_of(file);
+    let path = format!(in rt.alloc(); "{FOLDER}/{place}/{number}/{name}")?;
+    write_file(rt, path.as_str(), text)
+}
+
 /// Writes the files of a shard.
 pub(crate) fn write_files(rt: &HostRuntime, call: &str) -> io::Result<()> {
     let words = words_of(call);
-    let (alloc, place, number) = (rt.alloc(), words.place, words.number);
     for file in words.rest.split('|') {
-        let (name, text) = file_of(file);
-        let path = format!(in alloc; "{FOLDER}/{place}/{number}/{name}")?;
-        write_file(rt, path.as_str(), text)?;
+        write_shard_file(rt, words.place, words.number, file)?;
     }
     Ok(())
 }
@@ -62,7 +66,7 @@ pub(crate) fn say_new_target<T: Targets>(
 /// Makes a file in the folder, which is made anew, where that call of the file system fails.
 fn fill_at(rt: &HostRuntime, call: &str, nth: u64, line: &mut String) -> io::Result<()> {
     clear(rt)?;
-    let files = Failing::new(rt, nth, false);
+    let files = Failing::new(rt, OneCall::new(nth, false));
     say_new_target(rt.alloc(), &DirTargets::new(&files), "fill", call, line)
 }
 
@@ -88,17 +92,8 @@ fn say_each_failure(rt: &HostRuntime, call: &str, line: &mut String) -> io::Resu
     Ok(())
 }
 
-impl<'a, S: Sources, T: Targets> FolderFiles<'a, S, T> {
-    fn new(rt: &'a HostRuntime, sources: S, targets: T) -> FolderFiles<'a, S, T> {
-        FolderFiles {
-            rt,
-            sources,
-            targets,
-            shard: None,
-        }
-    }
-
-    fn open(&mut self, alloc: Global, call: &str) -> Result<(), AllocError> {
+impl<S: Sources, T: Targets> FolderFiles<'_, S, T> {
+    fn open(&mut self, alloc: Global, call: &str) -> io::Result<()> {
         let words = words_of(call);
         let place = place_in(alloc, words.place)?;
         let shard = self
@@ -112,12 +107,11 @@ impl<'a, S: Sources, T: Targets> FolderFiles<'a, S, T> {
     fn make(&mut self, alloc: Global, call: &str, line: &mut String) -> io::Result<()> {
         let (verb, rest) = cut(call);
         match verb {
-            "source" => write_files(self.rt, rest)?,
-            "shard" => self.open(alloc, rest)?,
-            "each-failure" => say_each_failure(self.rt, rest, line)?,
-            _ => say_new_target(alloc, &self.targets, verb, rest, line)?,
+            "source" => write_files(self.rt, rest),
+            "shard" => self.open(alloc, rest),
+            "each-failure" => say_each_failure(self.rt, rest, line),
+            _ => say_new_target(alloc, &self.targets, verb, rest, line),
         }
-        Ok(())
     }
 
     /// Makes a call, and says what it answers.
@@ -156,6 +150,11 @@ pub(crate) fn play_files_in_folder<'a>(
     clear(rt)?;
     let sources: DirSources<'a, HostRuntime> = DirSources::new(rt);
     let targets: DirTargets<'a, HostRuntime> = DirTargets::new(rt);
-    let mut files = FolderFiles::new(rt, sources, targets);
-    tally.play(rt, rt.alloc(), scene, &mut files)
+    let files = FolderFiles {
+        rt,
+        sources,
+        targets,
+        shard: None,
+    };
+    tally.play_once(rt, rt.alloc(), scene, files)
 }

@@ -4,7 +4,6 @@
 mod address;
 mod calls;
 mod client;
-mod errors;
 mod failing;
 mod folder;
 mod folder_files;
@@ -26,48 +25,33 @@ use crate::memory_files::MemoryFiles;
 use crate::mute::Mute;
 use crate::shaky_files::play_shaky_files;
 use crate::streams::Streams;
-use esr_scenes::{Scene, Subject, Tally, scene_of};
+use esr_scenes::{Player, Scene, Tally, play_scenes};
 use std::io;
 use std::process::ExitCode;
 
-/// Plays a scene over a subject, which goes then.
-pub(crate) fn play_once<S: Subject + Drop>(
-    rt: &HostRuntime,
-    scene: Scene<'_>,
-    tally: &mut Tally,
-    mut subject: S,
-) -> io::Result<()> {
-    tally.play(rt, rt.alloc(), scene, &mut subject)
+/// The subjects of the scenes.
+#[derive(Drop)]
+struct Subjects<'a> {
+    rt: &'a HostRuntime,
 }
 
-/// Plays a scene that is over one subject.
-fn play_over(rt: &HostRuntime, scene: Scene<'_>, tally: &mut Tally) -> io::Result<()> {
-    let alloc = rt.alloc();
-    match scene.over {
-        "memory" => play_once(rt, scene, tally, Memory::new(alloc, scene.lines)?),
-        "folder" => play_in_folder(rt, scene, tally),
-        "mute" => play_once(rt, scene, tally, Mute::new()),
-        "memory-files" => play_once(rt, scene, tally, MemoryFiles::new(alloc, scene.lines)?),
-        "folder-files" => play_files_in_folder(rt, scene, tally),
-        "shaky-files" => play_shaky_files(rt, scene, tally),
-        "streams" => play_once(rt, scene, tally, Streams::new(rt)),
-        _ => tally.refuse(rt, scene, "it is over what there isn't"),
+impl Player for Subjects<'_> {
+    fn play_over(&self, scene: Scene<'_>, tally: &mut Tally) -> io::Result<()> {
+        let rt = self.rt;
+        let alloc = rt.alloc();
+        match scene.over {
+            "memory" => tally.play_once(rt, alloc, scene, Memory::new(alloc, scene.lines)?),
+            "folder" => play_in_folder(rt, scene, tally),
+            "mute" => tally.play_once(rt, alloc, scene, Mute::new()),
+            "memory-files" => {
+                tally.play_once(rt, alloc, scene, MemoryFiles::new(alloc, scene.lines)?)
+            }
+            "folder-files" => play_files_in_folder(rt, scene, tally),
+            "shaky-files" => play_shaky_files(rt, scene, tally),
+            "streams" => tally.play_once(rt, alloc, scene, Streams::new(rt)),
+            _ => tally.refuse(rt, scene, "it is over what there isn't"),
+        }
     }
-}
-
-/// Plays a scene over each subject that it names.
-fn play(rt: &HostRuntime, scene: Scene<'_>, tally: &mut Tally) -> io::Result<()> {
-    if scene.shows.is_empty() || scene.over.is_empty() {
-        return tally.refuse(
-            rt,
-            scene,
-            "it doesn't say what it shows, or is over nothing",
-        );
-    }
-    for over in scene.over.split_whitespace() {
-        play_over(rt, Scene { over, ..scene }, tally)?;
-    }
-    Ok(())
 }
 
 /// The scenes of standard input, in which `\0` is a zero byte, `\d` byte 127, and `<255>` a name of so many bytes.
@@ -79,23 +63,7 @@ fn scenes(rt: &HostRuntime) -> io::Result<String> {
     Ok(text.as_str().replace(rt.alloc(), "<255>", long.as_str())?)
 }
 
-/// Plays all scenes, and answers whether all held.
-fn play_all(rt: &HostRuntime) -> io::Result<bool> {
-    let text = scenes(rt)?;
-    let mut tally = Tally::new();
-    for block in text.as_str().split("\nscene ").skip(1) {
-        play(rt, scene_of(block), &mut tally)?;
-    }
-    tally.end(rt)
-}
-
 fn main(rt: HostRuntime) -> ExitCode {
-    match play_all(&rt) {
-        Ok(true) => ExitCode::SUCCESS,
-        Ok(false) => ExitCode::FAILURE,
-        Err(error) => {
-            let _ = println!(rt; "{error}");
-            ExitCode::FAILURE
-        }
-    }
+    let text = scenes(&rt);
+    play_scenes(&rt, &Subjects { rt: &rt }, text)
 }

@@ -1,5 +1,5 @@
 //! A container in memory, as a subject.
-use crate::calls::{say_call, say_held};
+use crate::calls::say_call;
 use crate::plan::{failing_of, leaves_of, number_of, plan_of};
 use esr_memdepot::MemDepot;
 use esr_scenes::{Subject, cut, say};
@@ -28,7 +28,7 @@ impl Memory {
             return say(line, "no such crash");
         };
         match self.depot.cut(alloc, moment, leaves) {
-            Ok(mut left) => say_held(alloc, &mut left, line),
+            Ok(mut left) => say_call(alloc, &mut left, "held", line),
             Err(_) => say(line, "no memory"),
         }
     }

@@ -71,16 +71,24 @@ pub(crate) fn nth_of(words: &str) -> Option<(Call, u64)> {
     Some((call_of(verb)?, number_of(nth)?))
 }
 
+/// The failure that a line `fails ..` plans, or none.
+fn failing_of(alloc: Global, call: &str) -> Result<Option<FailingAt>, AllocError> {
+    let words = words_of(call);
+    let Some((call, nth)) = nth_of(words.rest) else {
+        return Ok(None);
+    };
+    let address = Address::new(alloc, words.place, words.index, words.number)?;
+    Ok(Some(FailingAt { address, call, nth }))
+}
+
 /// What the lines `fails ..` of a scene plan.
 fn plan_of(alloc: Global, lines: &str) -> Result<Seq<FailingAt>, AllocError> {
     let mut plan = Seq::new(alloc);
     for line in lines.lines() {
-        if let Some(call) = line.trim().strip_prefix("fails ") {
-            let words = words_of(call);
-            if let Some((call, nth)) = nth_of(words.rest) {
-                let address = Address::new(alloc, words.place, words.index, words.number)?;
-                plan.push(FailingAt { address, call, nth })?;
-            }
+        if let Some(call) = line.trim().strip_prefix("fails ")
+            && let Some(failing) = failing_of(alloc, call)?
+        {
+            plan.push(failing)?;
         }
     }
     Ok(plan)

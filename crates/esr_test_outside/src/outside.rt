@@ -23,34 +23,37 @@ fn fill(rt: &HostRuntime, folder: &str, count: &str) -> io::Result<()> {
     Ok(())
 }
 
-/// Adds the text of a file.
-fn say_text(rt: &HostRuntime, path: &str, line: &mut String) -> io::Result<()> {
-    let text = fs::read_to_string(rt, path)?;
-    say(line, text.as_str());
-    Ok(())
+/// What is said of a change.
+type Said = io::Result<&'static str>;
+
+fn say_exists(rt: &HostRuntime, path: &str) -> Said {
+    let exists = fs::exists(rt, path)?;
+    Ok(if exists { "yes" } else { "no" })
 }
 
-fn change(
-    rt: &HostRuntime,
-    verb: &str,
-    path: &str,
-    text: &str,
-    line: &mut String,
-) -> io::Result<&'static str> {
-    match verb {
-        "exists" => return Ok(if fs::exists(rt, path)? { "yes" } else { "no" }),
-        "text" => {
-            say_text(rt, path, line)?;
-            return Ok("");
-        }
-        "write" => write_file(rt, path, text)?,
-        "fill" => fill(rt, path, text)?,
-        "link" => symlink(rt, text, path)?,
-        "remove" => fs::remove_file(rt, path)?,
-        "remove-folder" => fs::remove_dir(rt, path)?,
-        _ => return Ok("no such change"),
-    }
+/// Adds the text of a file.
+fn say_text(rt: &HostRuntime, path: &str, line: &mut String) -> Said {
+    let text = fs::read_to_string(rt, path)?;
+    say(line, text.as_str());
+    Ok("")
+}
+
+fn done(change: io::Result<()>) -> Said {
+    change?;
     Ok("done")
+}
+
+fn change(rt: &HostRuntime, verb: &str, path: &str, text: &str, line: &mut String) -> Said {
+    match verb {
+        "exists" => say_exists(rt, path),
+        "text" => say_text(rt, path, line),
+        "write" => done(write_file(rt, path, text)),
+        "fill" => done(fill(rt, path, text)),
+        "link" => done(symlink(rt, text, path)),
+        "remove" => done(fs::remove_file(rt, path)),
+        "remove-folder" => done(fs::remove_dir(rt, path)),
+        _ => Ok("no such change"),
+    }
 }
 
 /// Does in a folder what a call says, and adds what comes of it:

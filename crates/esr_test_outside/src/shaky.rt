@@ -1,22 +1,14 @@
-//! Files of a runtime, of which some calls fail.
-use std::alloc::Allocator;
+//! Files of which some calls fail.
+use crate::failing::Fails;
 use std::cell::Cell;
-use std::fs::{Metadata, OpenFile, OpenOptions};
+use std::fs::{File, Metadata, OpenFile, OpenOptions};
 use std::io::{self, ErrorKind, Read, Seek, SeekFrom, Write};
 use std::rt::Files;
 
-/// The files of a runtime. Of each file's reads and writes the first is interrupted and the third fails, a write takes
-/// one byte, and its first sync fails where it is opened for writing.
+/// Of each file's reads and writes the first is interrupted and the third fails, a write takes one byte, and its first sync
+/// fails where it is opened for writing.
 #[derive(Drop)]
-pub(crate) struct Shaky<'a, R> {
-    rt: &'a R,
-}
-
-impl<'a, R> Shaky<'a, R> {
-    pub fn new(rt: &'a R) -> Shaky<'a, R> {
-        Shaky { rt }
-    }
-}
+pub(crate) struct Shaky;
 
 #[derive(Drop)]
 pub(crate) struct ShakyFile<F> {
@@ -83,52 +75,18 @@ impl<F: OpenFile> OpenFile for ShakyFile<F> {
     }
 }
 
-impl<'a, R: Files> Files for Shaky<'a, R> {
-    type File = ShakyFile<R::File>;
+impl Fails for Shaky {
+    type File = ShakyFile<File>;
 
-    type Dir = R::Dir;
+    fn turn(&self) -> io::Result<()> {
+        Ok(())
+    }
 
-    fn open_file(&self, how: &OpenOptions, path: &str) -> io::Result<ShakyFile<R::File>> {
+    fn open(&self, rt: &HostRuntime, how: &OpenOptions, path: &str) -> io::Result<ShakyFile<File>> {
         Ok(ShakyFile {
-            file: self.rt.open_file(how, path)?,
+            file: rt.open_file(how, path)?,
             calls: 0,
             has_synced: Cell::new(!how.asks_write()),
         })
-    }
-
-    fn open_dir(&self, path: &str) -> io::Result<R::Dir> {
-        self.rt.open_dir(path)
-    }
-
-    fn metadata(&self, path: &str) -> io::Result<Metadata> {
-        self.rt.metadata(path)
-    }
-
-    fn symlink_metadata(&self, path: &str) -> io::Result<Metadata> {
-        self.rt.symlink_metadata(path)
-    }
-
-    fn copy(&self, from: &str, to: &str) -> io::Result<u64> {
-        self.rt.copy(from, to)
-    }
-
-    fn rename(&self, from: &str, to: &str) -> io::Result<()> {
-        self.rt.rename(from, to)
-    }
-
-    fn remove_file(&self, path: &str) -> io::Result<()> {
-        self.rt.remove_file(path)
-    }
-
-    fn create_dir(&self, path: &str) -> io::Result<()> {
-        self.rt.create_dir(path)
-    }
-
-    fn remove_dir(&self, path: &str) -> io::Result<()> {
-        self.rt.remove_dir(path)
-    }
-
-    fn remove_dir_all<B: Allocator>(&self, alloc: B, path: &str) -> io::Result<()> {
-        self.rt.remove_dir_all(alloc, path)
     }
 }

@@ -1,8 +1,8 @@
 //! Sources and targets in folders, of whose files some calls fail, as a subject.
 use crate::address::words_of;
+use crate::failing::Failing;
 use crate::folder_files::{FOLDER, clear, place_in, say_new_target, write_files};
 use crate::outside::say_change;
-use crate::play_once;
 use crate::shaky::Shaky;
 use crate::shards::say_shard;
 use esr_dirsource::{DirSources, DirTargets};
@@ -35,7 +35,7 @@ fn say_new_shard<S: Sources>(
 /// Makes a call over files of which some calls fail.
 fn make(rt: &HostRuntime, alloc: Global, call: &str, line: &mut String) -> io::Result<()> {
     let (verb, rest) = cut(call);
-    let shaky = Shaky::new(rt);
+    let shaky = Failing::new(rt, Shaky);
     match verb {
         "source" => write_files(rt, rest),
         "shard" => say_new_shard(alloc, &DirSources::new(&shaky), rest, line),
@@ -61,5 +61,5 @@ pub(crate) fn play_shaky_files(
     tally: &mut Tally,
 ) -> io::Result<()> {
     clear(rt)?;
-    play_once(rt, scene, tally, ShakyFiles { rt })
+    tally.play_once(rt, rt.alloc(), scene, ShakyFiles { rt })
 }

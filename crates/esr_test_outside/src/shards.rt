@@ -1,7 +1,7 @@
 //! What shards list and read, as lines of text.
 ghost use Rattle.std.specs.Prelude.{◌≡◌, length, IfSome, IsSomeAnd};
 
-use esr_scenes::{cut, say, say_bytes, say_faults, say_number, say_success};
+use esr_scenes::{cut, say, say_bytes, say_faults, say_length, say_success};
 use esr_source::Shard;
 use std::alloc::Global;
 
@@ -14,10 +14,7 @@ fn say_list<S: Shard>(alloc: Global, shard: &mut S, line: &mut String) -> Option
         return None;
     };
     for file in files.as_slice() {
-        say(line, file.name.as_str());
-        say(line, ":");
-        say_number(line, file.length);
-        say(line, " ");
+        say_length(line, file.name.as_str(), file.length);
     }
     Some(files.len())
 }

@@ -1,9 +1,8 @@
 //! Scripts, outputs, the gate and the words of errors, as a subject.
 ghost use Rattle.std.specs.Prelude.{◌≤◌, IfOk};
 
-use crate::errors::say_error;
 use crate::memory_files::nth_of;
-use esr_depot::{Counted, Failed};
+use esr_depot::{CallError, Counted, Failed};
 use esr_scenes::{Subject, cut, say, say_bytes, say_faults, say_number};
 use esr_seq::{Bytes, Seq};
 use esr_source::{
@@ -131,6 +130,16 @@ fn pass_gate(word: &str, line: &mut String) {
     say(line, "passed");
 }
 
+/// Says the words of an error, by its name.
+fn say_error(word: &str, line: &mut String) {
+    let _ = match word {
+        "memory" => write!(line, "{}", CallError::Memory),
+        "failed" => write!(line, "{}", CallError::Failed),
+        "from-failed" => write!(line, "{}", CallError::from(Failed)),
+        _ => write!(line, "{Failed}"),
+    };
+}
+
 /// The streams of the program, and those of the calls.
 ///
 /// | Call | What it does | Answers |
@@ -159,21 +168,31 @@ impl<'a> Streams<'a> {
         say_faults(line, lines.fault_count());
     }
 
-    fn say(&self, alloc: Global, call: &str, line: &mut String) -> Result<(), AllocError> {
-        let (verb, rest) = cut(call);
-        let (word, fails) = cut(rest);
+    /// Makes a call that wants no memory.
+    fn say_plain(&self, verb: &str, rest: &str, line: &mut String) {
+        let (word, _) = cut(rest);
         match verb {
-            "read-memory" => read_memory(alloc, word, fails, line)?,
             "read-slice" => say_lines(StdLines::new(word.as_bytes()), line),
             "read-stream" => say_lines(StdLines::new(make_broken(rest)), line),
-            "write-memory" => write_memory(alloc, word, fails, line)?,
             "write-stream" => say_out(&mut StdOut::new(make_broken(rest)), line),
             "standard" => self.say_standard(line),
             "gate" => pass_gate(word, line),
             "error" => say_error(word, line),
             _ => say(line, "no such call"),
         }
-        Ok(())
+    }
+
+    fn say(&self, alloc: Global, call: &str, line: &mut String) -> Result<(), AllocError> {
+        let (verb, rest) = cut(call);
+        let (word, fails) = cut(rest);
+        match verb {
+            "read-memory" => read_memory(alloc, word, fails, line),
+            "write-memory" => write_memory(alloc, word, fails, line),
+            _ => {
+                self.say_plain(verb, rest, line);
+                Ok(())
+            }
+        }
     }
 }
 

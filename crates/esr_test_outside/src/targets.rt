@@ -26,8 +26,7 @@ fn write<T: Target>(target: &mut T, again: &[u8; 2], line: &mut String)
     let is_ok = target.write(b"ab").is_ok();
     say_success(line, is_ok);
     if !is_ok {
-        let is_ok = target.write(again).is_ok();
-        say_success(line, is_ok);
+        say_success(line, target.write(again).is_ok());
     }
 }
 
@@ -36,8 +35,7 @@ fn write_rest<T: Target>(target: &mut T, line: &mut String)
     requires { IsSomeAnd (T.told target.old).begun (λ b. 1 ≤ b.room) }
     ensures { IsSome (T.told target.new).begun }
 {
-    let is_ok = target.write(b"c").is_ok();
-    say_success(line, is_ok);
+    say_success(line, target.write(b"c").is_ok());
 }
 
 /// Ends the file, and once more if that fails, and says what that answers.
@@ -47,8 +45,7 @@ fn end<T: Target>(target: &mut T, line: &mut String)
     let is_ok = target.end().is_ok();
     say_success(line, is_ok);
     if !is_ok {
-        let is_ok = target.end().is_ok();
-        say_success(line, is_ok);
+        say_success(line, target.end().is_ok());
     }
 }
 

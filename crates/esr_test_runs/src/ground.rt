@@ -1,6 +1,6 @@
 //! Where a scene is played: in memory, over a container of one's own, or in folders of the folder that the program runs in.
 use crate::errors::Trouble;
-use crate::setting::{Job, Mishaps, failing_at, plan_of, run_on, source_line, sources_of};
+use crate::setting::{Job, Mishaps, failing_at, plan_of, run_on, sources_of};
 use crate::shown::{Shown, Shows, push_restored, shown_by};
 use crate::text::last_word;
 use esr_depot::Depot;
@@ -9,8 +9,10 @@ use esr_dirsource::{DirShard, DirSources, DirTarget, DirTargets};
 use esr_faulty::Faulty;
 use esr_memdepot::{Leaves, MemDepot};
 use esr_run::Ended;
+use esr_scenes::source_line;
 use esr_seq::Seq;
-use esr_source::{Call, MemOut, MemShard, MemTarget, MemTargets, Shard, Sources};
+use esr_source::{Call, Files, MemOut, MemShard, MemTarget, MemTargets, Shard, Sources};
+use esr_targets::Restored;
 use esr_test_container::Store;
 use std::alloc::{AllocError, Global};
 use std::sync::Wait;
@@ -49,13 +51,6 @@ pub enum Ground<'a> {
     Folders { rt: &'a HostRuntime, made: String },
 }
 
-/// An empty place in memory.
-fn in_memory<'a>(alloc: Global) -> Ground<'a> {
-    Ground::Memory {
-        depot: MemDepot::new(alloc, Seq::new(alloc)),
-    }
-}
-
 /// An empty place in folders.
 fn in_folders(rt: &HostRuntime) -> Result<Ground<'_>, Trouble> {
     let mut made = String::new(rt.alloc());
@@ -67,7 +62,9 @@ fn in_folders(rt: &HostRuntime) -> Result<Ground<'_>, Trouble> {
 pub fn ground_at(rt: &HostRuntime, place: Place) -> Result<Ground<'_>, Trouble> {
     let alloc = rt.alloc();
     match place {
-        Place::Memory => Ok(in_memory(alloc)),
+        Place::Memory => Ok(Ground::Memory {
+            depot: MemDepot::new(alloc, Seq::new(alloc)),
+        }),
         Place::Own => Ok(Ground::Own {
             store: Store::new(alloc),
         }),
@@ -107,6 +104,14 @@ pub fn clear(ground: &Ground) {
     }
 }
 
+/// Writes a file of a source.
+fn write_source_file(rt: &HostRuntime, folder: &str, file: &str) -> Result<(), Trouble> {
+    let (name, text) = file.split_once('=').unwrap_or((file, ""));
+    let path = format!(in rt.alloc(); "{folder}/{name}")?;
+    fs::write(rt, path.as_str(), text)?;
+    Ok(())
+}
+
 /// Makes the folder of a source, with its files.
 fn make_source(rt: &HostRuntime, made: &mut String, line: &str) -> Result<(), Trouble> {
     let told = source_line(line);
@@ -114,9 +119,7 @@ fn make_source(rt: &HostRuntime, made: &mut String, line: &str) -> Result<(), Tr
     let folder = format!(in rt.alloc(); "{}/{}", told.place, told.shard)?;
     fs::create_dir_all(rt, folder.as_str())?;
     for file in told.files.split_whitespace() {
-        let (name, text) = file.split_once('=').unwrap_or((file, ""));
-        let path = format!(in rt.alloc(); "{}/{name}", folder.as_str())?;
-        fs::write(rt, path.as_str(), text)?;
+        write_source_file(rt, folder.as_str(), file)?;
     }
     Ok(())
 }
@@ -129,6 +132,20 @@ pub fn add_source(ground: &mut Ground, line: &str) -> Result<(), Trouble> {
     }
 }
 
+/// Adds the shards that a run in memory restored, and its exit status.
+fn push_left(
+    text: &mut String,
+    targets: &[Restored<MemTarget>],
+    status: u8,
+) -> Result<(), AllocError> {
+    for restored in targets {
+        push_restored(text, restored)?;
+        restored.target.push_files(text)?;
+        text.push_str("\n")?;
+    }
+    write!(text, "exit {status}\n")
+}
+
 /// What a run with sources and targets in memory shows.
 fn shown_in_memory<D: Depot>(
     alloc: Global,
@@ -136,12 +153,7 @@ fn shown_in_memory<D: Depot>(
     left: &Ended<Faulty<D>, MemShard, MemTarget>,
 ) -> Result<Shown, AllocError> {
     let mut shown = shown_by(alloc, report, left)?;
-    for restored in left.targets.as_slice() {
-        push_restored(&mut shown.text, restored)?;
-        restored.target.push_files(&mut shown.text)?;
-        shown.text.push_str("\n")?;
-    }
-    write!(shown.text, "exit {}\n", left.status)?;
+    push_left(&mut shown.text, left.targets.as_slice(), left.status)?;
     Ok(shown)
 }
 
@@ -225,24 +237,66 @@ fn claim_targets(rt: &HostRuntime, made: &mut String, job: &Job) -> Result<(), T
     Ok(())
 }
 
-/// Adds the names and texts of the files in a folder of a place. An absent folder has none.
+/// Adds the name and the text of a file in a folder.
+fn push_file(rt: &HostRuntime, text: &mut String, folder: &str, name: &str) -> Result<(), Trouble> {
+    let path = format!(in rt.alloc(); "{folder}/{name}")?;
+    let bytes = fs::read_to_string(rt, path.as_str())?;
+    write!(text, " {name}={}", bytes.as_str())?;
+    Ok(())
+}
+
+/// The files in a folder of a place. An absent folder has none.
+fn files_in(rt: &HostRuntime, place: &str, number: u32) -> Result<Files, Trouble> {
+    let alloc = rt.alloc();
+    let mut shard = DirSources::new(rt).shard(alloc, place, "", number)?;
+    match shard.list(alloc) {
+        Ok(files) => Ok(files),
+        Err(_) => Ok(Seq::new(alloc)),
+    }
+}
+
+/// Adds the names and texts of the files in a folder of a place.
 fn push_folder(
     rt: &HostRuntime,
     text: &mut String,
     place: &str,
     number: u32,
 ) -> Result<(), Trouble> {
-    let alloc = rt.alloc();
-    let mut shard = DirSources::new(rt).shard(alloc, place, "", number)?;
-    let Ok(files) = shard.list(alloc) else {
-        return Ok(());
-    };
+    let files = files_in(rt, place, number)?;
+    let folder = format!(in rt.alloc(); "{place}/{number}")?;
     for file in files.as_slice() {
-        let name = file.name.as_str();
-        let path = format!(in alloc; "{place}/{number}/{name}")?;
-        let bytes = fs::read_to_string(rt, path.as_str())?;
-        write!(text, " {name}={}", bytes.as_str())?;
+        push_file(rt, text, folder.as_str(), file.name.as_str())?;
     }
+    Ok(())
+}
+
+/// Adds a shard that a run in folders restored.
+fn push_shard<'a>(
+    rt: &HostRuntime,
+    text: &mut String,
+    job: &Job,
+    restored: &Restored<DirTarget<'a, HostRuntime>>,
+) -> Result<(), Trouble> {
+    push_restored(text, restored)?;
+    let place = last_word(asked_line(job, restored.line));
+    let folder = format!(in rt.alloc(); "{place}/{}", restored.index.as_str())?;
+    push_folder(rt, text, folder.as_str(), restored.shard)?;
+    text.push_str("\n")?;
+    Ok(())
+}
+
+/// Adds the shards that a run in folders restored, and its exit status.
+fn push_shards<'a>(
+    rt: &HostRuntime,
+    text: &mut String,
+    job: &Job,
+    targets: &[Restored<DirTarget<'a, HostRuntime>>],
+    status: u8,
+) -> Result<(), Trouble> {
+    for restored in targets {
+        push_shard(rt, text, job, restored)?;
+    }
+    write!(text, "exit {status}\n")?;
     Ok(())
 }
 
@@ -261,14 +315,8 @@ fn shown_in_folders(
     left: &LeftInFolders,
 ) -> Result<Shown, Trouble> {
     let mut shown = shown_by(rt.alloc(), report, left)?;
-    for restored in left.targets.as_slice() {
-        push_restored(&mut shown.text, restored)?;
-        let place = last_word(asked_line(job, restored.line));
-        let folder = format!(in rt.alloc(); "{place}/{}", restored.index.as_str())?;
-        push_folder(rt, &mut shown.text, folder.as_str(), restored.shard)?;
-        shown.text.push_str("\n")?;
-    }
-    write!(shown.text, "exit {}\n", left.status)?;
+    let targets = left.targets.as_slice();
+    push_shards(rt, &mut shown.text, job, targets, left.status)?;
     Ok(shown)
 }
 

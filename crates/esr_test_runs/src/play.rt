@@ -4,6 +4,7 @@ use crate::faults::{Way, way_of};
 use crate::ground::{Place, clear, ground_at};
 use crate::scene::{Scene, begun};
 use crate::text::line_behind;
+use std::alloc::AllocError;
 use std::fs;
 use std::sync::Wait;
 use std::thread::Threads;
@@ -161,36 +162,57 @@ fn play_rounds<R: Threads + Wait + Sync>(
     Err(Trouble("a scene has no last round"))
 }
 
-/// Plays a scene with a row in each of its ways, and tells whether it fails.
-fn play_ways<R: Threads + Wait + Sync>(
+/// Plays the rounds of a scene in the way of that name.
+fn play_way<R: Threads + Wait + Sync>(
     played: &mut Played,
     lines: &Lines,
     turn: &Turn<R>,
+    name: &str,
+) -> Result<Went, Trouble> {
+    let way = way_of(name)?;
+    play_rounds(played, lines, &Turn { way, name, ..*turn })
+}
+
+/// Notes that a block of a scene is played in no round.
+fn note_unplayed(played: &mut Played, title: &str) -> Result<(), AllocError> {
+    write!(
+        played.complaints,
+        "FAILED: {title}\n  wanted: each block is played in a round\n  came:   one is in none\n"
+    )
+}
+
+/// Plays a scene with a row in the ways of these names, and tells whether it fails.
+fn play_each<R: Threads + Wait + Sync>(
+    played: &mut Played,
+    lines: &Lines,
+    turn: &Turn<R>,
+    names: &str,
 ) -> Result<bool, Trouble> {
-    let Some(names) = line_behind(lines.text, "each ") else {
-        let went = play_round(played, lines, turn, 0)?;
-        return Ok(went.fails);
-    };
-    let mut met = 0;
-    let mut blocks = 0;
+    let (mut met, mut blocks) = (0, 0);
     for name in names.split_whitespace() {
-        let way = way_of(name)?;
-        let went = play_rounds(played, lines, &Turn { way, name, ..*turn })?;
+        let went = play_way(played, lines, turn, name)?;
         if went.fails {
             return Ok(true);
         }
         met |= went.met;
         blocks |= went.blocks;
     }
-    if met == blocks {
-        return Ok(false);
+    if met != blocks {
+        note_unplayed(played, lines.title)?;
     }
-    let title = lines.title;
-    write!(
-        played.complaints,
-        "FAILED: {title}\n  wanted: each block is played in a round\n  came:   one is in none\n"
-    )?;
-    Ok(true)
+    Ok(met != blocks)
+}
+
+/// Plays a scene with a row in each of its ways, and tells whether it fails.
+fn play_ways<R: Threads + Wait + Sync>(
+    played: &mut Played,
+    lines: &Lines,
+    turn: &Turn<R>,
+) -> Result<bool, Trouble> {
+    match line_behind(lines.text, "each ") {
+        Some(names) => play_each(played, lines, turn, names),
+        None => Ok(play_round(played, lines, turn, 0)?.fails),
+    }
 }
 
 /// Plays a scene with each of its rows, and tells whether it fails.
@@ -249,8 +271,39 @@ fn play_scene<R: Threads + Wait + Sync>(
     Ok(())
 }
 
-/// Plays the scenes of a file. They stand apart by empty lines. One whose title is `front` has the lines that stand before each
-/// scene after it, and one whose title begins with `#` is a remark.
+/// Plays scenes, which stand apart by empty lines. One whose title is `front` has the lines that stand before each scene after it,
+/// and one whose title begins with `#` is a remark.
+fn play_scenes<R: Threads + Wait + Sync>(
+    rt: &HostRuntime,
+    threads: &R,
+    played: &mut Played,
+    scenes: &str,
+) -> Result<(), Trouble> {
+    let mut at = 1u64;
+    let mut front = String::new(rt.alloc());
+    let mut front_at = 1u64;
+    for scene in scenes.split("\n\n") {
+        let (title, text) = scene.split_once('\n').unwrap_or((scene, ""));
+        let below = at.saturating_add(1);
+        if title == "front" {
+            front = String::from_str(rt.alloc(), text)?;
+            front_at = below;
+        } else if !title.starts_with('#') {
+            let lines = Lines {
+                title,
+                front: front.as_str(),
+                front_at,
+                text,
+                at: below,
+            };
+            play_scene(rt, threads, played, &lines)?;
+        }
+        at = below.saturating_add(scene.lines().count() as u64);
+    }
+    Ok(())
+}
+
+/// Plays the scenes of a file.
 pub fn play_file<R: Threads + Wait + Sync>(
     rt: &HostRuntime,
     threads: &R,
@@ -265,26 +318,6 @@ pub fn play_file<R: Threads + Wait + Sync>(
         failed: 0,
         complaints: String::new(rt.alloc()),
     };
-    let mut at = 1u64;
-    let mut front = String::new(rt.alloc());
-    let mut front_at = 1u64;
-    for scene in text.as_str().split("\n\n") {
-        let (title, text) = scene.split_once('\n').unwrap_or((scene, ""));
-        let below = at.saturating_add(1);
-        if title == "front" {
-            front = String::from_str(rt.alloc(), text)?;
-            front_at = below;
-        } else if !title.starts_with('#') {
-            let lines = Lines {
-                title,
-                front: front.as_str(),
-                front_at,
-                text,
-                at: below,
-            };
-            play_scene(rt, threads, &mut played, &lines)?;
-        }
-        at = below.saturating_add(scene.lines().count() as u64);
-    }
+    play_scenes(rt, threads, &mut played, text.as_str())?;
     Ok(played)
 }

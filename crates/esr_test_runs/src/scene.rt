@@ -290,17 +290,8 @@ impl Scene<'_> {
         Ok(())
     }
 
-    /// Runs, and lets nothing go wrong in the next run. A run that tells more failures of the container than it had is a difference.
-    fn run<R: Threads + Wait + Sync>(
-        &mut self,
-        threads: &R,
-        mark: &str,
-        words: &str,
-    ) -> Result<(), Trouble> {
-        self.end_shown()?;
-        let words = plain(self.alloc, words)?;
-        let shown = self.run_words(threads, words.as_str())?;
-        self.keep(mark, shown)?;
+    /// Lets nothing go wrong in the next run. A run that tells more failures of the container than it had is a difference.
+    fn end_run(&mut self) -> Result<(), Trouble> {
         if self.told > self.faults {
             self.complain("no more failures than the container had", "more")?;
         }
@@ -309,6 +300,21 @@ impl Scene<'_> {
         self.mishaps = calm();
         self.mishaps.room = room;
         Ok(())
+    }
+
+    /// Runs.
+    fn run<R: Threads + Wait + Sync>(
+        &mut self,
+        threads: &R,
+        mark: &str,
+        words: &str,
+    ) -> Result<(), Trouble> {
+        self.end_shown()?;
+        let words = plain(self.alloc, words)?;
+        let shown = self.run_words(threads, words.as_str());
+        drop(words);
+        self.keep(mark, shown?)?;
+        self.end_run()
     }
 
     /// Changes the container, or what goes wrong in the next run.
@@ -331,12 +337,17 @@ impl Scene<'_> {
         }
     }
 
+    /// How many blobs are on the first page of a listing of the container there.
+    fn count_blobs(&mut self) -> Result<u64, Trouble> {
+        let blobs = answer_there(self.alloc, &mut self.ground, "blobs", "")?;
+        Ok(blobs.as_str().parse::<u64>()?)
+    }
+
     /// Whether the container there holds `index.latest`, the blobs that the last run's check counted, and no more.
     fn is_clean(&mut self) -> Result<bool, Trouble> {
         let counted = counted_blobs(self.shown.as_str())?;
+        let count = self.count_blobs()?;
         let latest = answer_there(self.alloc, &mut self.ground, "there", "index.latest")?;
-        let blobs = answer_there(self.alloc, &mut self.ground, "blobs", "")?;
-        let count = blobs.as_str().parse::<u64>()?;
         Ok(latest.as_str() == "true" && count == counted.saturating_add(1))
     }
 
@@ -361,6 +372,15 @@ impl Scene<'_> {
         Ok(self.judge(holds, line, answer.as_str())?)
     }
 
+    /// Compares a line with what was shown.
+    fn compare(&mut self, mark: &str, rest: &str, line: &str) -> Result<(), AllocError> {
+        match mark {
+            "told" => self.want_told(rest),
+            "untold" => self.want_untold(rest),
+            _ => self.want(line),
+        }
+    }
+
     /// Plays a line that isn't of a block that doesn't count.
     fn act<R: Threads + Wait + Sync>(
         &mut self,
@@ -378,9 +398,7 @@ impl Scene<'_> {
             "each" => self.is_armed = true,
             "#" | "only" | "row" | "then" => {}
             ".." => self.pass_lines(rest.parse()?)?,
-            "told" => self.want_told(rest)?,
-            "untold" => self.want_untold(rest)?,
-            _ => self.want(line)?,
+            _ => self.compare(mark, rest, line)?,
         }
         Ok(())
     }

@@ -3,11 +3,11 @@ use crate::meeting::Meeting;
 use esr_depot::Depot;
 use esr_faulty::{Fault, Faulty, Kind, Turn};
 use esr_run::{Ended, run};
+use esr_scenes::source_of;
 use esr_script::Words;
 use esr_seq::{Bytes, Seq, Text};
 use esr_source::{
-    Address, Call, Failing, FailingAt, MemFile, MemLines, MemOut, MemSource, MemSources, Plan,
-    Sources, Targets,
+    Address, Call, Failing, FailingAt, MemLines, MemOut, MemSources, Plan, Sources, Targets,
 };
 use std::alloc::{AllocError, Global};
 use std::sync::Wait;
@@ -86,67 +86,30 @@ pub fn failing_at(
     Ok(plan)
 }
 
-/// The parts of a line that tells a source: its place, index, shard, and the names and texts of its files.
-#[derive(Clone, Copy)]
-pub struct SourceLine<'a> {
-    pub place: &'a str,
-    pub index: &'a str,
-    pub shard: &'a str,
-    pub files: &'a str,
-}
-
-/// The parts of a line `PLACE INDEX/SHARD NAME=TEXT ..`. The shard is 0 where none is told.
-pub fn source_line(line: &str) -> SourceLine<'_> {
-    let (place, rest) = line.split_once(' ').unwrap_or((line, ""));
-    let (which, files) = rest.split_once(' ').unwrap_or((rest, ""));
-    let (index, shard) = which.split_once('/').unwrap_or((which, "0"));
-    SourceLine {
-        place,
-        index,
-        shard,
-        files,
-    }
-}
-
-/// The files of a shard in memory, from names and texts.
-fn files_of(alloc: Global, texts: &str) -> Result<Seq<MemFile>, AllocError> {
-    let mut files = Seq::new(alloc);
-    for text in texts.split_whitespace() {
-        let (name, bytes) = text.split_once('=').unwrap_or((text, ""));
-        files.push(MemFile::new(alloc, name, bytes.as_bytes())?)?;
-    }
-    Ok(files)
-}
-
-/// The shard in memory of a line.
-fn shard_of(alloc: Global, line: &str) -> Result<MemSource, AllocError> {
-    let told = source_line(line);
-    let files = files_of(alloc, told.files)?;
-    let number = told.shard.parse().unwrap_or(0);
-    let address = Address::new(alloc, told.place, told.index, number)?;
-    Ok(MemSource { address, files })
-}
-
 /// The shards in memory of these lines, of which that call of `src` fails.
 pub fn sources_of(alloc: Global, lines: &str, failing: Failing) -> Result<MemSources, AllocError> {
     let mut shards = Seq::new(alloc);
     for line in lines.lines() {
-        shards.push(shard_of(alloc, line)?)?;
+        shards.push(source_of(alloc, line)?)?;
     }
     let plan = failing_at(alloc, "src", failing)?;
     Ok(MemSources::new(shards, plan))
+}
+
+fn push_words(alloc: Global, words: &mut Words, line: &str) -> Result<(), AllocError> {
+    for word in line.split_whitespace() {
+        words.push(Text::from_str(alloc, word)?)?;
+    }
+    Ok(())
 }
 
 /// The words of a line. One worker does the work, unless they say how many.
 fn words_of(alloc: Global, line: &str) -> Result<Words, AllocError> {
     let mut words = Seq::new(alloc);
     if !line.contains("--workers") {
-        words.push(Text::from_str(alloc, "--workers")?)?;
-        words.push(Text::from_str(alloc, "1")?)?;
+        push_words(alloc, &mut words, "--workers 1")?;
     }
-    for word in line.split_whitespace() {
-        words.push(Text::from_str(alloc, word)?)?;
-    }
+    push_words(alloc, &mut words, line)?;
     Ok(words)
 }
 

@@ -132,23 +132,51 @@ fn misprints_of(alloc: Global, entries: &[Entry]) -> Result<String, AllocError> 
     Ok(text)
 }
 
+/// How many entries tell that the container failed.
+fn count_faults(entries: &[Entry]) -> u64 {
+    let mut count = 0u64;
+    for entry in entries {
+        count = count.saturating_add(is_fault(entry) as u64);
+    }
+    count
+}
+
+/// How many entries are settles whose record may stand.
+fn count_settles(entries: &[Entry]) -> u64 {
+    let mut count = 0u64;
+    for entry in entries {
+        count = count.saturating_add(may_settle(entry) as u64);
+    }
+    count
+}
+
+/// The report, and a line for each object that failed.
+fn text_of<S: Counted, F: Counted, H: Counted, T: Counted + Shows>(
+    alloc: Global,
+    report: &[u8],
+    faults: &[Fault<S, F, H, T>],
+) -> Result<String, AllocError> {
+    let mut text = String::from_str(alloc, str::from_utf8(report).unwrap_or("?"))?;
+    for fault in faults {
+        push_failed(&mut text, fault)?;
+    }
+    Ok(text)
+}
+
 /// What a run shows but the shards that it restored and its exit status.
 pub fn shown_by<D: Depot, H: Counted, T: Counted + Shows>(
     alloc: Global,
     report: &[u8],
     left: &Ended<Faulty<D>, H, T>,
 ) -> Result<Shown, AllocError> {
-    let mut text = String::from_str(alloc, str::from_utf8(report).unwrap_or("?"))?;
-    for fault in left.faults.as_slice() {
-        push_failed(&mut text, fault)?;
-    }
     let entries = left.history.as_slice();
+    let misprints = misprints_of(alloc, entries)?;
     Ok(Shown {
-        text,
+        text: text_of(alloc, report, left.faults.as_slice())?,
         faults: left.depot.fault_count(),
-        told: entries.iter().filter(|e| is_fault(e)).count() as u64,
-        settles: entries.iter().filter(|e| may_settle(e)).count() as u64,
-        misprints: misprints_of(alloc, entries)?,
+        told: count_faults(entries),
+        settles: count_settles(entries),
+        misprints,
         was_hit: left.depot.was_hit,
     })
 }

@@ -4,8 +4,8 @@ use Rattle.std.specs.List.{AllByRecursion}
 use Rattle.esr_model.specs.Values.{Has}
 use Rattle.esr_core.specs.Entry.{AskedIndex}
 use Rattle.esr_core.specs.Allowed.{AreDistinct}
-use Rattle.esr_progress.specs.declared.command.AskedIndex.{AskedIndex as CodeAsked}
-use Rattle.esr_progress.specs.Asked.{asked_index_of, HasShards}
+use Rattle.esr_ops.specs.declared.command.AskedIndex.{AskedIndex as CodeAsked}
+use Rattle.esr_ops.specs.Asked.{asked_index_of, HasShards}
 
 abbrev pub AreAskable : List CodeAsked → Type 0
 AreAskable l = AreDistinct (map asked_index_of l) × AllByRecursion HasShards (map asked_index_of l)

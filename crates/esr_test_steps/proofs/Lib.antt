@@ -1,3 +1,4 @@
 pub mod Askable
+pub mod Starting
 pub mod Staying
 mod Sharing

@@ -6,8 +6,8 @@ use Rattle.esr_turns.specs.Passes.{LockId, first_pass}
 use Rattle.esr_desk.specs.Start.{Start, Legal}
 use Rattle.esr_desk.specs.Evidence.{NeverFailed}
 use Rattle.esr_drive.specs.Outside.{IsOutside}
-use Rattle.esr_shared.specs.Owned.{AreBelow}
-use Rattle.esr_shared.specs.Turned.{shared, Seen}
+use Rattle.esr_handle.specs.Owned.{AreBelow}
+use Rattle.esr_handle.specs.Turned.{shared, Seen}
 use Rattle.esr_shared.specs.Worked.{IsNewPass}
 
 -- as a worker sees the start
@@ -42,16 +42,15 @@ first_is_new s before lock p x is legal never = subst (IsNewPass s before lock (
   };
 })
 
--- a pass with half of its turns
-pub half_is_new : (s : Start) (before : List Moment) (lock : LockId) (whole half : Seen) → IsNewPass s before lock (2 ^ 40) whole → half.lock ≡ lock → half.seen ≡ whole.seen → half.mine ≡ [] → half.used ≡ 0 → half.left ≡ 2 ^ 39
-    → IsNewPass s before lock (2 ^ 33) half
-half_is_new s before lock whole half new own seen mine unused left = record {
+-- a pass with a share of its turns
+pub share_is_new : (s : Start) (before : List Moment) (lock : LockId) (whole part : Seen) → IsNewPass s before lock (2 ^ 40) whole → part.lock ≡ lock → part.seen ≡ whole.seen → part.mine ≡ [] → part.used ≡ 0 → IsNewPass s before lock 0 part
+share_is_new s before lock whole part new own seen mine unused = record {
   own = own;
   mine = mine;
   unused = unused;
-  share = omega (arith, left);
+  share = omega arith;
   fit = record {
-    below = subst (λ (l : List ℕ). AreBelow (length half.seen) l) (sym mine) (λ k le. refl);
+    below = subst (λ (l : List ℕ). AreBelow (length part.seen) l) (sym mine) (λ k le. refl);
     legal = subst (λ (l : List Moment). Legal s (before ++ l)) (sym seen) new.fit.legal;
     never = λ quiet. subst (λ (l : List Moment). NeverFailed (before ++ l)) (sym seen) (new.fit.never quiet);
   };

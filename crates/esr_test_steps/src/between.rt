@@ -11,7 +11,7 @@ ghost use Rattle.esr_desk.specs.Restore.Conditions.{CanEndRestore};
 ghost use Rattle.esr_desk.specs.Restore.Targets.{IsFilled, refused_of};
 ghost use Rattle.esr_desk.specs.Shown.{IsShown};
 
-use crate::told::{tell, tell_commit, tell_number};
+use crate::told::{tell, tell_commit, tell_number, tell_refused};
 use esr_depot::{Commit, Listing};
 use esr_desk::{By, Desk, Hand, Named, Planned, RestoredTarget, StepRefusal, Unended, Unit, Why};
 use esr_names::{BlobName, Id, Ids};
@@ -20,12 +20,14 @@ use esr_root::RootData;
 use esr_seq::Seq;
 use std::alloc::Global;
 
-/// Where the next term begins: just after the next raise or the next plan, or just before the next drop.
+/// Where the next term begins: just after the next raise or the next plan, or just before the next drop; or, by a desk that has
+/// no turn, just before the next take.
 #[derive(Clone, Copy, Debug)]
 pub(crate) enum Due {
     Raise,
     Plan,
     Drop,
+    Take,
     Never,
 }
 
@@ -41,7 +43,10 @@ pub(crate) struct Between<Q, E> {
 fn is_due(due: &mut Due, at: Due) -> bool {
     let is = matches!(
         (*due, at),
-        (Due::Raise, Due::Raise) | (Due::Plan, Due::Plan) | (Due::Drop, Due::Drop)
+        (Due::Raise, Due::Raise)
+            | (Due::Plan, Due::Plan)
+            | (Due::Drop, Due::Drop)
+            | (Due::Take, Due::Take)
     );
     if is {
         *due = Due::Never;
@@ -69,7 +74,13 @@ impl<Q: Desk, E: Desk> Desk for Between<Q, E> {
     }
 
     fn take(&mut self, alloc: Global) -> Result<Option<Unit>, StepRefusal> {
-        self.own.take(alloc)
+        if is_due(&mut self.due, Due::Take) {
+            let term = self.elector.elect(alloc);
+            let _ = tell_number(&mut self.told, "elect", &term);
+        }
+        let answer = self.own.take(alloc);
+        let _ = tell_refused(&mut self.told, "take", &answer);
+        answer
     }
 
     fn elect(&mut self, alloc: Global) -> Result<u64, StepRefusal> {

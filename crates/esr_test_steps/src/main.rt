@@ -12,6 +12,7 @@ mod units;
 
 use crate::errors::Trouble;
 use crate::play::play_file;
+use esr_scenes::exit_of;
 use std::env;
 use std::process::ExitCode;
 use std::sync::Wait;
@@ -27,12 +28,5 @@ fn tell_all<R: Wait + Sync>(rt: &HostRuntime, host: &R) -> Result<u64, Trouble> 
 }
 
 fn main(rt: HostRuntime) -> ExitCode {
-    match tell_all(&rt, &rt) {
-        Ok(0) => ExitCode::SUCCESS,
-        Ok(_) => ExitCode::FAILURE,
-        Err(Trouble(why)) => {
-            let _ = eprintln!(rt; "{why}");
-            ExitCode::FAILURE
-        }
-    }
+    exit_of(&rt, tell_all(&rt, &rt).map_err(|trouble| trouble.0))
 }

@@ -1,41 +1,23 @@
 //! Sources, commands, and what is looked for in a container in memory.
 ghost use Rattle.std.specs.Prelude.{◌≡◌, IfOk};
-ghost use Rattle.esr_progress.specs.Asked.{asked_of, IsAskable};
+ghost use Rattle.esr_ops.specs.Asked.{asked_of, IsAskable};
 
 use crate::errors::Trouble;
 use esr_depot::{Depot, Fetch};
 use esr_desk::Client;
 use esr_names::{IndexName, IndexNames, SnapName, SnapNames};
-use esr_progress::{AskedIndex, Command};
+use esr_ops::{AskedIndex, Command};
+use esr_scenes::source_of;
 use esr_seq::{Seq, Text};
-use esr_source::{Address, MemFile, MemSource, MemSources};
+use esr_source::MemSources;
 use std::alloc::{AllocError, Global};
 
-/// The files of a shard, from names and texts.
-fn files_of(alloc: Global, texts: &str) -> Result<Seq<MemFile>, AllocError> {
-    let mut files = Seq::new(alloc);
-    for text in texts.split_whitespace() {
-        let (name, bytes) = text.split_once('=').unwrap_or((text, ""));
-        files.push(MemFile::new(alloc, name, bytes.as_bytes())?)?;
-    }
-    Ok(files)
-}
-
-/// The shard of a line `PLACE INDEX NAME=TEXT ..`, which has the number 0.
-fn shard_of(alloc: Global, line: &str) -> Result<MemSource, AllocError> {
-    let (place, rest) = line.split_once(' ').unwrap_or((line, ""));
-    let (index, texts) = rest.split_once(' ').unwrap_or((rest, ""));
-    let files = files_of(alloc, texts)?;
-    let address = Address::new(alloc, place, index, 0)?;
-    Ok(MemSource { address, files })
-}
-
-/// The shards of the lines that begin with `=`.
+/// The shards of the lines such as `= PLACE INDEX NAME=TEXT ..`, each of the number 0.
 pub(crate) fn sources_of(alloc: Global, lines: &str) -> Result<MemSources, AllocError> {
     let mut shards = Seq::new(alloc);
     for line in lines.lines() {
         if let Some(told) = line.strip_prefix("= ") {
-            shards.push(shard_of(alloc, told)?)?;
+            shards.push(source_of(alloc, told)?)?;
         }
     }
     Ok(MemSources::new(shards, Seq::new(alloc)))
@@ -91,6 +73,25 @@ fn snapshot_of_two(
     })
 }
 
+fn ask_one<Q: Client>(alloc: Global, desk: &mut Q, name: &str, index: &str) -> Result<(), Trouble> {
+    let index = index_of(alloc, index)?;
+    desk.ask(alloc, &snapshot_of(alloc, name, index)?)?;
+    Ok(())
+}
+
+fn ask_two<Q: Client>(
+    alloc: Global,
+    desk: &mut Q,
+    name: &str,
+    first: &str,
+    second: &str,
+) -> Result<(), Trouble> {
+    let first = index_of(alloc, first)?;
+    let second = index_of(alloc, second)?;
+    desk.ask(alloc, &snapshot_of_two(alloc, name, first, second)?)?;
+    Ok(())
+}
+
 /// Asks for a snapshot of one index or of two, by words such as `NAME INDEX/PLACE INDEX/PLACE`.
 pub(crate) fn ask_snapshot<Q: Client>(
     alloc: Global,
@@ -98,15 +99,10 @@ pub(crate) fn ask_snapshot<Q: Client>(
     words: &str,
 ) -> Result<(), Trouble> {
     let (name, indices) = words.split_once(' ').unwrap_or((words, ""));
-    let Some((first, second)) = indices.split_once(' ') else {
-        let index = index_of(alloc, indices)?;
-        desk.ask(alloc, &snapshot_of(alloc, name, index)?)?;
-        return Ok(());
-    };
-    let first = index_of(alloc, first)?;
-    let second = index_of(alloc, second)?;
-    desk.ask(alloc, &snapshot_of_two(alloc, name, first, second)?)?;
-    Ok(())
+    match indices.split_once(' ') {
+        Some((first, second)) => ask_two(alloc, desk, name, first, second),
+        None => ask_one(alloc, desk, name, indices),
+    }
 }
 
 /// Asks for a clone of all indices of a snapshot, by words such as `SOURCE NAME`.

@@ -132,6 +132,7 @@ fn due_of(lines: &str) -> Option<Due> {
             "* raise" => return Some(Due::Raise),
             "* plan" => return Some(Due::Plan),
             "* drop" => return Some(Due::Drop),
+            "* spent" => return Some(Due::Take),
             _ => {}
         }
     }
@@ -147,6 +148,7 @@ fn go_on<D: Depot, K: Told, S: Sources, T: Targets, R: Wait + Sync>(
     lines: &str,
 ) -> (Solo<D, K, S::Shard, T::Target>, String)
     requires alone { K.start.alone ≡ true }
+    requires earlier { K.start.earlier_turns ≡ 2 ^ 33 }
     requires workable { IsWorkable K.start (S.told outside.now.sources.now) (T.told outside.now.targets.now) outside.now.part_size }
 {
     match due_of(lines) {
@@ -170,6 +172,7 @@ fn made<D: Depot, K: Told, S: Sources, T: Targets<Target = MemTarget>, R: Wait +
     requires calm { K.start.quiet ≡ true → 2 ^ 41 ≤ (D.look opening.depot).sure }
     requires outside { IsOutside K.start (S.told sources.now) (T.told targets.now) PART_SIZE }
     requires alone { K.start.alone ≡ true }
+    requires earlier { K.start.earlier_turns ≡ 2 ^ 33 }
 {
     let repo = Repo::<D, K>::from_opening(alloc, opening);
     let mut desk = Solo::<D, K, S::Shard, T::Target>::new(alloc, repo);

@@ -14,7 +14,20 @@ pub(crate) fn tell<T: Drop>(
         Err(StepRefusal::Refused(EntryRefusal::StaleTerm { own, now })) => {
             write!(told, ", {step} stale {} {}", *own, *now)
         }
+        Err(StepRefusal::TurnsSpent) => write!(told, ", {step} spent"),
         Err(_) => write!(told, ", {step} refused"),
+    }
+}
+
+/// Adds a step that was refused, and how.
+pub(crate) fn tell_refused<T: Drop>(
+    told: &mut String,
+    step: &str,
+    answer: &Result<T, StepRefusal>,
+) -> Result<(), AllocError> {
+    match answer {
+        Ok(_) => Ok(()),
+        Err(_) => tell(told, step, answer),
     }
 }
 

@@ -11,7 +11,7 @@ ghost use Rattle.esr_desk.specs.Taken.{Took};
 use crate::errors::Trouble;
 use esr_depot::Depot;
 use esr_desk::{Desk, Unit, UnitRefusal};
-use esr_progress::Work;
+use esr_ops::Work;
 use esr_repo::Told;
 use esr_solo::Solo;
 use esr_source::{MemTarget, NoGate, Sources};

@@ -168,8 +168,8 @@ over s old new who step own now is master h = record {
 }
 
 module _ {S F H T : Type 0} (e : Evidence S F H T) (own : Type 0) (s : Start) (old new : List Moment) (who : ℕ) (step : Step) where
-  unit_entry : (x : EntryRefusal) → IsWork step → MayRefuseWork step (refusal_of x) → Stepped s old new who step (Refused (refusal_of x)) → Grounds s new who (steps.Refused x) → (refusal_of x ≡ DepotFault → Matters (ticket_of s new who).work step)
-      → (IsSwap step → IsMasterOut s new who)
+  unit_entry : (x : EntryRefusal) → IsWork step → MayRefuseWork step (refusal_of x) → Stepped s old new who step (Refused (refusal_of x)) → Grounds s new who (steps.Refused x)
+      → (refusal_of x ≡ DepotFault → Matters (ticket_of s new who).work step) → (IsSwap step → IsMasterOut s new who)
       → Shown {S = S} {F = F} {H = H} {T = T} hands.Unit e own s new who (troubles.Step (steps.Refused x))
   unit_entry (refusals.Deposed entry) is may h grounds matters master = (step, record { front = h.front; image = h.image; is = h.is })
   unit_entry (refusals.Aborted op) is may h grounds matters master = (step, stepped_had s old new who step (Refused (AbortedBy op)) h)
@@ -193,7 +193,8 @@ module _ {S F H T : Type 0} (e : Evidence S F H T) (own : Type 0) (s : Start) (o
   unit_refused law (steps.Refused x) is matters master h = unit_refused_in law x is (λ fault. matters) master h
 
   -- the ticket is of a delete or cleanup
-  delete_entry : (x : EntryRefusal) → IsWork step → MayRefuseWork step (refusal_of x) → Stepped s old new who step (Refused (refusal_of x)) → Grounds s new who (steps.Refused x) → (refusal_of x ≡ DepotFault → MattersTo (ticket_of s new who) step)
+  delete_entry : (x : EntryRefusal) → IsWork step → MayRefuseWork step (refusal_of x) → Stepped s old new who step (Refused (refusal_of x)) → Grounds s new who (steps.Refused x)
+      → (refusal_of x ≡ DepotFault → MattersTo (ticket_of s new who) step)
       → (uuids : List ℕ) (plan : Option Swap) → (ticket_of s new who).work ≡ Deleting uuids plan → IsMasterOut s new who → Shown {S = S} {F = F} {H = H} {T = T} hands.Delete e own s new who (troubles.Step (steps.Refused x))
   delete_entry (refusals.Deposed entry) is may h grounds matters uuids plan work master = (step, record { front = h.front; image = h.image; is = h.is })
   delete_entry (refusals.Aborted op) is may h grounds matters uuids plan work master = absurd (grounds.no_delete uuids plan work)
@@ -247,7 +248,8 @@ module _ {S F H T : Type 0} (e : Evidence S F H T) (own : Type 0) (s : Start) (o
   reader_entry refusals.DepotFault may h grounds out = ((name, stepped_had s old new who (ReadStep (ReadBlob name)) (Refused DepotFault) h), grounds)
   reader_entry x may h grounds out = absurd may
 
-  pub reader_refused : RefusesSo → (refusal : StepRefusal) → (reader_of s new who).out ≡ true → IsRefusedBy s old new who (ReadStep (ReadBlob name)) refusal → Shown {S = S} {F = F} {H = H} {T = T} hands.Restore e own s new who (troubles.Step refusal)
+  pub reader_refused : RefusesSo → (refusal : StepRefusal) → (reader_of s new who).out ≡ true → IsRefusedBy s old new who (ReadStep (ReadBlob name)) refusal
+      → Shown {S = S} {F = F} {H = H} {T = T} hands.Restore e own s new who (troubles.Step refusal)
   reader_refused law steps.Memory out h = tt
   reader_refused law steps.TurnsSpent out h = h.1
   reader_refused law (steps.Refused x) out h = reader_entry x (fetch_refused law s old new who name (refusal_of x) h.0) h.0 h.1 out

@@ -17,9 +17,9 @@ use Rattle.esr_root.specs.Root.{Root}
 use Rattle.esr_formats.specs.Ids.{number_of}
 use Rattle.esr_formats.specs.Formats.{formats}
 use Rattle.esr_formats.specs.Shards.{shard_index_of}
-use Rattle.esr_progress.specs.declared.unit.Work.{Work as CodeWork}
-use Rattle.esr_progress.specs.declared.unit.Work.TheVariants as works
-use Rattle.esr_progress.specs.declared.unit.Copied.{Copied}
+use Rattle.esr_ops.specs.declared.unit.Work.{Work as CodeWork}
+use Rattle.esr_ops.specs.declared.unit.Work.TheVariants as works
+use Rattle.esr_ops.specs.declared.unit.Copied.{Copied}
 use Rattle.esr_reuse.specs.declared.reuse.Planned.{Planned}
 use Rattle.esr_desk.specs.Start.{Start, formats_of, ticket_of}
 use Rattle.esr_desk.specs.Conditions.{CanDraw, CanFail}

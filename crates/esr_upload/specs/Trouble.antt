@@ -42,11 +42,13 @@ no_change files (troubles.Found (whys.Changed first second)) h = absurd (some_no
 no_change files trouble h = tt
 
 -- its trouble is shown whatever the shard's faults and files are
-pub shown_any : {S F H T : Type 0} (e : Evidence S F H T) (n : ℕ) (files : Option (List (Bytes × Bytes))) (s : Start) (log : List Moment) (who : ℕ) (trouble : Trouble S F) → Shown e 0 (Some []) s log who trouble → Shown e n files s log who trouble
+pub shown_any : {S F H T : Type 0} (e : Evidence S F H T) (n : ℕ) (files : Option (List (Bytes × Bytes))) (s : Start) (log : List Moment) (who : ℕ) (trouble : Trouble S F) → Shown e 0 (Some []) s log who trouble
+    → Shown e n files s log who trouble
 shown_any {S} {F} {H} {T} e n files s log who trouble h =
     (ending_own e (0 < 0) (0 < n) s log who (ending_by {S = S} {F = F} {H = H} {T = T} trouble) (λ (none : 0 < 0). absurd (omega (arith, none))) h.0, no_change files trouble h.1)
 
 -- nor is there one of its own
-pub shown_other : {S F H T : Type 0} (e : Evidence S F H T) (s : Start) (log : List Moment) (who : ℕ) (trouble : Trouble S F) → Shown e 0 (Some []) s log who trouble → unit.Shown {S = S} {F = F} {H = H} {T = T} hands.Unit e ⊥ s log who trouble
+pub shown_other : {S F H T : Type 0} (e : Evidence S F H T) (s : Start) (log : List Moment) (who : ℕ) (trouble : Trouble S F) → Shown e 0 (Some []) s log who trouble
+    → unit.Shown {S = S} {F = F} {H = H} {T = T} hands.Unit e ⊥ s log who trouble
 shown_other {S} {F} {H} {T} e s log who trouble h =
     ending_own e (0 < 0) ⊥ s log who (ending_by {S = S} {F = F} {H = H} {T = T} trouble) (λ (none : 0 < 0). omega (arith, none)) h.0

@@ -30,7 +30,7 @@ use crate::survey::survey;
 use esr_depot::CallError;
 use esr_desk::{Desk, Hand, StepRefusal, Unit, UnitRefusal, Why};
 use esr_names::{BlobName, Id, ShardId};
-use esr_progress::Work;
+use esr_ops::Work;
 use esr_results::ShardResult;
 use esr_reuse::{Planned, Plans, plan};
 use esr_shardidx::ShardIndex;

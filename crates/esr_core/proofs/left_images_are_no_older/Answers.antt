@@ -2,4 +2,4 @@ use Rattle.esr_core.proofs.Left.{left_lasts}
 use Rattle.esr_core.proofs.left_images_are_no_older.Goals as goal
 
 pub returns : goal.returns
-returns c = λ f size shelf w log i known l back legal told honest left. (left_lasts f size log w shelf i l back legal told left).rises
+returns c = λ f size shelf w log i l back legal told left. (left_lasts f size log w shelf i l back legal told left).rises

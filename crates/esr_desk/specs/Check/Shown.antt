@@ -88,7 +88,8 @@ pub data Disagree (s : Start) (c : Caller) : BlobName → BlobName → Type 0 wh
   InfoBeside : (n : ℕ) (root : RootData) (snap : RootSnap) (info : SnapInfo) → ReadAs s c (Root n) (formats_of s).root root → Has root.snapshots snap → ReadAs s c (Snap snap.uuid) (formats_of s).info info → (Agrees root snap info → ⊥)
       → Disagree s c (Snap snap.uuid) (Root n)
   -- its metadata, beside its info
-  GlobalBeside : (uuid : ℕ) (info : SnapInfo) (meta : GlobalMeta) → ReadAs s c (Snap uuid) (formats_of s).info info → ReadAs s c (Meta uuid) (formats_of s).global meta → (meta ≡ global_of info → ⊥) → Disagree s c (Meta uuid) (Snap uuid)
+  GlobalBeside : (uuid : ℕ) (info : SnapInfo) (meta : GlobalMeta) → ReadAs s c (Snap uuid) (formats_of s).info info → ReadAs s c (Meta uuid) (formats_of s).global meta → (meta ≡ global_of info → ⊥)
+      → Disagree s c (Meta uuid) (Snap uuid)
   IndexMetaBeside : (uuid : ℕ) (info : SnapInfo) (r : IndexRef) (meta : IndexMetadata) → ReadAs s c (Snap uuid) (formats_of s).info info → Has info.indices r → ReadAs s c (IndexMeta r.id uuid) (formats_of s).index_meta meta
       → (meta ≡ record { index = r; uuid = uuid } → ⊥) → Disagree s c (IndexMeta r.id uuid) (Snap uuid)
   -- the index of a shard that its info has, beside its info: it doesn't list the snapshot
@@ -99,8 +100,8 @@ pub data Disagree (s : Start) (c : Caller) : BlobName → BlobName → Type 0 wh
       → ReadAs s c (ShardIndex index shard generation) (formats_of s).shard_index held → ReadAs s c (ShardSnap index shard uuid) (formats_of s).shard_snap snap → (Lists held uuid snap.files → ⊥)
       → Disagree s c (ShardSnap index shard uuid) (ShardIndex index shard generation)
   -- a file of the stated print, beside the index of its shard: its parts are cut otherwise
-  FileBeside : (name : BlobName) (fronts : List Bytes) (file : HasReadFile s c name fronts) → length (concat fronts) ≡ file.e.len → (formats_of s).digest (concat fronts) ≡ file.e.digest → (AreExact file.index file.shard file.e fronts → ⊥)
-      → Disagree s c name (ShardIndex file.index file.shard file.generation)
+  FileBeside : (name : BlobName) (fronts : List Bytes) (file : HasReadFile s c name fronts) → length (concat fronts) ≡ file.e.len → (formats_of s).digest (concat fronts) ≡ file.e.digest
+      → (AreExact file.index file.shard file.e fronts → ⊥) → Disagree s c name (ShardIndex file.index file.shard file.generation)
 
 -- ---- by its cause
 

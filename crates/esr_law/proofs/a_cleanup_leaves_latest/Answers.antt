@@ -3,7 +3,7 @@ use Rattle.esr_law.proofs.LatestStays.{latest_put}
 use Rattle.esr_law.proofs.a_cleanup_leaves_latest.Goals as goal
 
 pub returns : goal.returns
-returns c = λ f size image shelf w before last k kept opened tracked known legal told honest ended.
+returns c = λ f size image shelf w before last k kept opened tracked legal told ended.
     latest_put f size (record {
       steps = record {
         tracks = c.each_step_is_tracked.ensures f size;
@@ -15,5 +15,5 @@ returns c = λ f size image shelf w before last k kept opened tracked known lega
       change = λ w m. c.each_step_is_one_change.ensures f w m.entry.who m.entry.step m.entry.reply m.image;
       blobs = c.each_step_changes_blobs_so.ensures f size;
     })
-    w (λ log h. (_, c.each_history_is_lawful.ensures f size image shelf w log h.handed kept opened h.legal h.told h.honest)) tracked (opened_reads f image c.opened_worlds_track_restores.ensures w opened) (no_tests f image w opened) (no_entries f image w opened)
-    before last k (record { handed = known; legal = legal; told = told; honest = honest }) ended
+    w (λ log h. (_, c.each_history_is_lawful.ensures f size image shelf w log kept opened h.legal h.told)) tracked (opened_reads f image c.opened_worlds_track_restores.ensures w opened) (no_tests f image w opened) (no_entries f image w opened)
+    before last k (record { legal = legal; told = told }) ended

@@ -5,4 +5,4 @@ use Rattle.esr_law.proofs.each_image_is_whole_by_digests.Goals as goal
 
 pub returns : goal.returns
 returns c = λ f size image shelf w log i kept opened back legal told left.
-    c.kept_images_are_whole_by_digests.ensures f i (shelf_after shelf (committed f (safe_in f i) w log)) (c.each_left_image_is_kept_over_any_sources.ensures f size image shelf w log i kept opened back legal told left)
+    c.kept_images_are_whole_by_digests.ensures f i (shelf_after shelf (committed f (safe_in f i) w log)) (c.each_left_image_is_kept.ensures f size image shelf w log i kept opened back legal told left)

@@ -1,7 +1,8 @@
-use Rattle.std.proofs.Common.{true, map, refl, ap, ◌∙◌, subst}
+use Rattle.std.proofs.Common.{true, map, refl, sym, ap, ◌∙◌, subst}
 use Rattle.std.specs.BTreeSet.{contains}
 use Rattle.esr_names.specs.contracts.blob.BlobNameOrd.TheImpl as name_block
 use Rattle.esr_core.specs.World.{Ticket}
+use Rattle.esr_root.specs.Root.{Root}
 use Rattle.esr_formats.specs.Names.{name_of}
 use Rattle.esr_formats.specs.Roots.{root_of}
 use Rattle.esr_results.specs.Pruned.{pruned_of}
@@ -11,7 +12,7 @@ use Rattle.esr_desk.specs.Listing.{page_of}
 use Rattle.esr_desk.specs.Start.{formats_of, ticket_of}
 use Rattle.esr_unit.specs.Shown.{Shown}
 use Rattle.esr_finish.proofs.Runs.{taken_on}
-use Rattle.esr_delete.specs.Ticket.{IsRooted}
+use Rattle.esr_delete.specs.Ticket.{IsRooted, IsReady}
 use Rattle.esr_delete.specs.Listing.{IsLister}
 use Rattle.esr_delete.proofs.Cleaning.{places_once, each_now, names_doomed}
 use Rattle.esr_delete.proofs.Going.{passed}
@@ -113,8 +114,12 @@ returns-clause-ok g c =
     let (now, after, set) = c.in_ok-reached.ensures in
     let n = c.in_ok-generation.generation in
     let rooted = subst (λ (u : Ticket). IsRooted (formats_of s) u new root n) whole.is c.in_ok-generation.ensures.ok in
-    cleanup_ready s t new c.args.held shards first root n (page_of whole.pages) true may rooted (map name_of c.in_ok-names.names) c.requires.mode refl
-    (names_doomed s t may.uuids c.args.held now shards first root may.draft c.requires.mode after (contains name_block.ghosts.cmp c.in_ok-reached.reached) set whole.pages n c.in_ok-listed.listed c.in_ok-names.names whole.found c.in_ok-names.ensures)
+    subst (λ (r : Root). IsReady s t new (root_of r) (map name_of c.in_ok-names.names)) (sym c.into_root.ensures)
+    (cleanup_ready s t new c.args.held shards first root n (page_of whole.pages) true may rooted (map name_of c.in_ok-names.names) c.requires.mode refl
+    (names_doomed s t may.uuids c.args.held now shards first root may.draft c.requires.mode after (contains name_block.ghosts.cmp c.in_ok-reached.reached) set whole.pages n c.in_ok-listed.listed c.in_ok-names.names whole.found c.in_ok-names.ensures))
+
+pub returns-clause-root : goal.returns-clause-root
+returns-clause-root g c = ap root_of c.into_root.ensures
 
 pub returns-clause-put : goal.returns-clause-put
 returns-clause-put g c = c.in_ok-generation.ensures.put refl

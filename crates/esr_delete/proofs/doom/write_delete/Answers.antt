@@ -1,7 +1,8 @@
-use Rattle.std.proofs.Common.{ℕ, false, Some, map, sym, ap, ◌∙◌, to_z, of_z, w64, rules}
+use Rattle.std.proofs.Common.{ℕ, false, Some, map, sym, subst, ap, ◌∙◌, to_z, of_z, w64, rules}
 use Rattle.std.proofs.lemmas.Int.{to_z-of_z}
 use Rattle.esr_model.specs.Delete.{doomed_names}
 use Rattle.esr_core.specs.Pruning.{delete_swap}
+use Rattle.esr_root.specs.Root.{Root}
 use Rattle.esr_formats.specs.Clusters.{count_of}
 use Rattle.esr_formats.specs.Ids.{number_of}
 use Rattle.esr_formats.specs.Names.{name_of}
@@ -12,6 +13,7 @@ use Rattle.esr_desk.specs.declared.hand.Hand.TheVariants as hands
 use Rattle.esr_desk.specs.Evidence.{evidence}
 use Rattle.esr_desk.specs.Start.{formats_of, ticket_of}
 use Rattle.esr_unit.specs.Shown.{Shown}
+use Rattle.esr_delete.specs.Ticket.{IsReady}
 use Rattle.esr_delete.proofs.Going.{passed, uuids_same}
 use Rattle.esr_delete.proofs.Preparing.{delete_ready, went_put}
 use Rattle.esr_delete.proofs.Rooting.{pruner_of}
@@ -51,13 +53,17 @@ returns-clause-ok g c =
     let may = c.requires.may in
     let (plan, work) = c.requires.named in
     let uuids = map number_of c.args.uuids.now in
-    delete_ready s (ticket_of s (g.Q.Desk.seen c.args.desk.now) who) (ticket_of s (g.Q.Desk.seen c.write_root.new.desk) who) c.args.held.now (map pruned_of d.shards) d.first.number (root_of d.root) c.in_ok-write_root.field-0 may c.in_ok-write_root.ensures.ok c.requires.mode
+    subst (λ (r : Root). IsReady s (ticket_of s (g.Q.Desk.seen c.args.desk.now) who) (ticket_of s (g.Q.Desk.seen c.write_root.new.desk) who) (root_of r) (map name_of c.in_ok-names.names)) (sym c.into_root.ensures)
+    (delete_ready s (ticket_of s (g.Q.Desk.seen c.args.desk.now) who) (ticket_of s (g.Q.Desk.seen c.write_root.new.desk) who) c.args.held.now (map pruned_of d.shards) d.first.number (root_of d.root) c.in_ok-write_root.field-0 may c.in_ok-write_root.ensures.ok c.requires.mode
     (count_of c.args.copy.now.safe) (root_of c.args.copy.now.root) uuids (map name_of c.in_ok-names.names) c.requires.copied (sym c.requires.safe)
     (uuids_same uuids may.uuids plan (Some (delete_swap (formats_of s) (ticket_of s (g.Q.Desk.seen c.args.desk.now) who).clean (ticket_of s (g.Q.Desk.seen c.args.desk.now) who).root (ticket_of s (g.Q.Desk.seen c.args.desk.now) who).read may.uuids (map pruned_of d.shards) d.first.number))
     (sym work ∙ may.work))
     (λ held. c.in_ok-names.ensures (formats_of s) may.draft.blobs held
     ∙ ap (λ (n : ℕ). doomed_names (formats_of s) n (root_of c.args.copy.now.root) (root_of d.root) uuids may.draft.blobs)
-    (ap root_count c.last_root-number.ensures.place ∙ root_counts (to_z w64 (of_z w64 c.args.copy.now.safe)) ∙ ap count_of (to_z-of_z w64 c.args.copy.now.safe (search rules))))
+    (ap root_count c.last_root-number.ensures.place ∙ root_counts (to_z w64 (of_z w64 c.args.copy.now.safe)) ∙ ap count_of (to_z-of_z w64 c.args.copy.now.safe (search rules)))))
+
+pub returns-clause-root : goal.returns-clause-root
+returns-clause-root g c = ap root_of c.into_root.ensures
 
 pub returns-clause-went : goal.returns-clause-went
 returns-clause-went g c =

@@ -27,6 +27,9 @@ end_cleanup-requires-clause-may g c κs within =
     can_end_cleanup g.Q.Desk.start (g.Q.Desk.seen c.args.desk.now) (g.Q.Desk.seen c.remove_once.new.desk) c.args.ticket (map name_of c.args.names.now) c.remove_once.ensures.own c.requires.over c.requires.mode c.requires.names c.requires.well c.requires.put
     c.in-Ok.ensures.removed
 
+pub end_cleanup-requires-clause-new : goal.end_cleanup-requires-clause-new
+end_cleanup-requires-clause-new g c κs within = c.in-Ok.ensures.removed.undropped c.requires.undropped
+
 pub returns-in-Ok-clause-ok : goal.returns-in-Ok-clause-ok
 returns-in-Ok-clause-ok g c =
     on_ok_weaker c.end_cleanup.result (cleared_on true g.Q.Desk.start (g.Q.Desk.seen c.args.desk.now) (g.Q.Desk.seen c.remove_once.new.desk) (g.Q.Desk.seen c.end_cleanup.new.desk) c.args.ticket c.remove_once.ensures.own) c.end_cleanup.ensures.ok

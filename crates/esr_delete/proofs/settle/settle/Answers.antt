@@ -15,7 +15,7 @@ use Rattle.esr_finish.specs.Refused.{is_fault}
 use Rattle.esr_finish.proofs.Runs.{taken_on}
 use Rattle.esr_finish.proofs.Ends.{unsettled_same}
 use Rattle.esr_delete.specs.Refused.{IsLateRefused, IsHalted}
-use Rattle.esr_delete.proofs.Clearing.{dooms_settled, over_settled, none_yet, none_failed, over_cleared}
+use Rattle.esr_delete.proofs.Clearing.{dooms_settled, over_settled, none_yet, none_failed, still_undropped, over_cleared}
 use Rattle.esr_delete.proofs.Ends.{settle_halted, late_halted, settles_fails}
 use Rattle.esr_delete.proofs.Going.{prune_shown}
 use Rattle.esr_delete.proofs.Uniting.{if_err}
@@ -56,6 +56,10 @@ finish-requires-clause-well g c κs within =
 pub finish-requires-clause-put : goal.finish-requires-clause-put
 finish-requires-clause-put g c κs within = λ cleans.
     still_put g.Q.Desk.start (g.Q.Desk.seen c.args.desk.now) (g.Q.Desk.seen c.settle_delete.new.self) c.args.ticket (PruneStep SettlePruned) WasSettled c.requires.mine.some (c.requires.put cleans) c.in-Ok.ensures.step
+
+pub finish-requires-clause-undropped : goal.finish-requires-clause-undropped
+finish-requires-clause-undropped g c κs within =
+    still_undropped g.Q.Desk.start (g.Q.Desk.seen c.args.desk.now) (g.Q.Desk.seen c.settle_delete.new.self) c.args.ticket WasSettled c.requires.mine.some c.requires.tells c.in-Ok.ensures.step
 
 pub returns-in-Ok-clause-ok : goal.returns-in-Ok-clause-ok
 returns-in-Ok-clause-ok g c =

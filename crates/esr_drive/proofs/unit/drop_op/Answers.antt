@@ -2,6 +2,7 @@ use Rattle.std.proofs.Common.{◌≡◌, true, sym, ◌∙◌}
 use Rattle.esr_core.specs.World.{Drop}
 use Rattle.esr_core.specs.Entry.{DroppedStep, HasEnded}
 use Rattle.esr_desk.specs.Start.{ticket_of}
+use Rattle.esr_desk.specs.Told.{none_tells, drop_fresh}
 use Rattle.esr_desk.specs.Grew.{grew_by_on, outcome_grew_by}
 use Rattle.esr_drive.proofs.Halting.{drop_halted, late_over}
 use Rattle.esr_drive.proofs.Ended.{took_out, took_drop}
@@ -23,6 +24,12 @@ end_drop-requires-clause-may g c =
     let unit = c.args.unit.now in
     let t = ticket_of g.Q.Desk.start (g.Q.Desk.seen c.args.desk.now) unit.ready.ticket in
     record { out = took_out unit.ready.work unit.new_root unit.ready.op unit.ready.copy t c.requires.fresh; work = took_drop unit.ready.work unit.new_root unit.ready.op unit.ready.copy t c.requires.work c.requires.fresh }
+
+pub end_drop-requires-clause-new : goal.end_drop-requires-clause-new
+end_drop-requires-clause-new g c =
+    let log = g.Q.Desk.seen c.args.desk.now in
+    let who = c.args.unit.now.ready.ticket in
+    drop_fresh g.Q.Desk.start log who (none_tells g.Q.Desk.start log who c.requires.new)
 
 -- ---- its term is over
 

@@ -1,6 +1,6 @@
 use Rattle.std.proofs.Common.{◌≡◌, [], true≢false, refl, sym, ◌∙◌, arith}
 use Rattle.esr_core.specs.Entry.{TakeStep, NothingReady, Gave}
-use Rattle.esr_progress.specs.Units.{given_of}
+use Rattle.esr_ops.specs.Units.{given_of}
 use Rattle.esr_desk.specs.Outcome.{take_reply}
 use Rattle.esr_desk.specs.Refusals.{told_refusal}
 use Rattle.esr_quiet.specs.Asking.{asking_on, asking_by, asking_stepped, asking_taking}

@@ -1,5 +1,4 @@
 use Rattle.std.proofs.Common.{◌≡◌, ℕ, ◌+◌, ◌≤◌, Ok, [], length, refl, subst, arith}
-use Rattle.esr_desk.specs.Calls.{calls_at}
 use Rattle.esr_quiet.specs.Asking.{asking_none, asking_on}
 use Rattle.esr_drive.proofs.Coming.{over_on}
 use Rattle.esr_drive.proofs.Taking.{calls_none, calls_on, found_true, ended_none, ended_on, found_no_unit}
@@ -11,28 +10,31 @@ use Rattle.esr_drive.proofs.worker.work_off.Goals as goal
 pub loop-round-init : goal.loop-round-init
 loop-round-init g c =
     record {
-      grew = asking_none g.K.Told.start c.args.desk.now;
+      grew = asking_none g.Q.Desk.start (g.Q.Desk.seen c.args.desk.now);
       rest = λ rest. rest;
       readers = λ rest. rest;
-      only = works_none c.args.desk.now;
+      only = works_none (g.Q.Desk.seen c.args.desk.now);
       takes = refl;
-      calls = calls_none (calls_at 0 c.args.desk.now);
-      ended = ended_none g.K.Told.start c.args.desk.now (calls_at 0 c.args.desk.now);
+      calls = calls_none (g.Q.Desk.calls c.args.desk.now);
+      ended = ended_none g.Q.Desk.start (g.Q.Desk.seen c.args.desk.now) (g.Q.Desk.calls c.args.desk.now);
       rounds = omega arith;
     }
 
 pub loop-round-preserved : goal.loop-round-preserved
 loop-round-preserved g c =
-    let s = g.K.Told.start in
+    let s = g.Q.Desk.start in
     let alone = c.requires.alone in
-    let old = c.args.desk.now in
-    let mid = c.loop-round.desk in
-    let new = c.work_next.new.desk in
+    let old = g.Q.Desk.seen c.args.desk.now in
+    let mid = g.Q.Desk.seen c.loop-round.desk in
+    let new = g.Q.Desk.seen c.work_next.new.desk in
+    let first = g.Q.Desk.calls c.args.desk.now in
+    let before = g.Q.Desk.calls c.loop-round.desk in
+    let after = g.Q.Desk.calls c.work_next.new.desk in
     let inv = c.loop-round.invariant in
     let did = c.in-Ok-work_next.did in
     let done = c.in-Ok-work_next.ensures in
     let none : found_none (Ok did) ≡ 0 = found_true did c.if-not-did.false in
-    let calls : TakeCalls 0 (calls_at 0 mid) (calls_at 0 new) = subst (λ (n : ℕ). TakeCalls n (calls_at 0 mid) (calls_at 0 new)) none done.calls in
+    let calls : TakeCalls 0 before after = subst (λ (n : ℕ). TakeCalls n before after) none done.calls in
     let longer : length mid + 1 ≤ length new = done.longer c.if-not-did.false in
     let rounds : c.loop-round._round ≤ length mid = inv.rounds in
     let same : idle_takes mid ≡ idle_takes old = inv.takes in
@@ -43,8 +45,8 @@ loop-round-preserved g c =
       readers = λ rest. done.readers alone (inv.readers rest);
       only = works_on old mid new inv.only (done.only alone);
       takes = omega (arith, same, more, none);
-      calls = calls_on 0 (calls_at 0 old) (calls_at 0 mid) (calls_at 0 new) inv.calls calls;
-      ended = ended_on s mid new 0 0 (calls_at 0 old) (calls_at 0 mid) (calls_at 0 new) (over_on c.laws.ensures s mid done.grew.more new done.grew.is) inv.calls calls inv.ended done.ended;
+      calls = calls_on 0 first before after inv.calls calls;
+      ended = ended_on s mid new 0 0 first before after (over_on c.laws.ensures s mid done.grew.more new done.grew.is) inv.calls calls inv.ended done.ended;
       rounds = omega (arith, longer, rounds);
     }
 
@@ -57,26 +59,26 @@ returns-then-not-any-clause-ready g c = c.in-Ok.ensures.none c.if-not-any.true
 
 pub unreachable-requires : goal.unreachable-requires
 unreachable-requires g c =
-    found_no_unit c.laws.ensures g.K.Told.start c.loop-round.desk c.work_next.new.desk c.requires.alone (c.in-Ok-work_next.ensures.idle c.if-not-did.true) (c.in-Ok.ensures.ready c.if-not-any.false)
+    found_no_unit c.laws.ensures g.Q.Desk.start (g.Q.Desk.seen c.loop-round.desk) (g.Q.Desk.seen c.work_next.new.desk) c.requires.alone (c.in-Ok-work_next.ensures.idle c.if-not-did.true) (c.in-Ok.ensures.ready c.if-not-any.false)
 
 -- ---- a step was refused
 
 pub returns-in-Err-clause-grew : goal.returns-in-Err-clause-grew
-returns-in-Err-clause-grew g c = asking_on g.K.Told.start [] [] c.args.desk.now c.loop-round.desk c.work_next.new.desk c.loop-round.invariant.grew c.in-Err.ensures.grew
+returns-in-Err-clause-grew g c = asking_on g.Q.Desk.start [] [] (g.Q.Desk.seen c.args.desk.now) (g.Q.Desk.seen c.loop-round.desk) (g.Q.Desk.seen c.work_next.new.desk) c.loop-round.invariant.grew c.in-Err.ensures.grew
 
 pub returns-in-Err-clause-only : goal.returns-in-Err-clause-only
-returns-in-Err-clause-only g c = works_on c.args.desk.now c.loop-round.desk c.work_next.new.desk c.loop-round.invariant.only (c.in-Err.ensures.only c.requires.alone)
+returns-in-Err-clause-only g c = works_on (g.Q.Desk.seen c.args.desk.now) (g.Q.Desk.seen c.loop-round.desk) (g.Q.Desk.seen c.work_next.new.desk) c.loop-round.invariant.only (c.in-Err.ensures.only c.requires.alone)
 
 pub returns-in-Err-clause-takes : goal.returns-in-Err-clause-takes
 returns-in-Err-clause-takes g c =
-    let same : idle_takes c.loop-round.desk ≡ idle_takes c.args.desk.now = c.loop-round.invariant.takes in
-    let more : idle_takes c.work_next.new.desk ≡ idle_takes c.loop-round.desk + 0 = c.in-Err.ensures.takes c.requires.alone in
+    let same : idle_takes (g.Q.Desk.seen c.loop-round.desk) ≡ idle_takes (g.Q.Desk.seen c.args.desk.now) = c.loop-round.invariant.takes in
+    let more : idle_takes (g.Q.Desk.seen c.work_next.new.desk) ≡ idle_takes (g.Q.Desk.seen c.loop-round.desk) + 0 = c.in-Err.ensures.takes c.requires.alone in
     omega (arith, same, more)
 
 pub returns-in-Err-clause-calls : goal.returns-in-Err-clause-calls
-returns-in-Err-clause-calls g c = calls_on 0 (calls_at 0 c.args.desk.now) (calls_at 0 c.loop-round.desk) (calls_at 0 c.work_next.new.desk) c.loop-round.invariant.calls c.in-Err.ensures.calls
+returns-in-Err-clause-calls g c = calls_on 0 (g.Q.Desk.calls c.args.desk.now) (g.Q.Desk.calls c.loop-round.desk) (g.Q.Desk.calls c.work_next.new.desk) c.loop-round.invariant.calls c.in-Err.ensures.calls
 
 -- ---- turns were spent
 
 pub returns-clause-stopped : goal.returns-clause-stopped
-returns-clause-stopped g c = let rounds : c.loop-round._round ≤ length c.loop-round.desk = c.loop-round.invariant.rounds in omega (arith, rounds)
+returns-clause-stopped g c = let rounds : c.loop-round._round ≤ length (g.Q.Desk.seen c.loop-round.desk) = c.loop-round.invariant.rounds in omega (arith, rounds)

@@ -1,5 +1,4 @@
 use Rattle.std.proofs.Common.{◌≡◌, ◌≤◌, [], length}
-use Rattle.esr_desk.specs.Calls.{calls_at}
 use Rattle.esr_desk.specs.Grew.{NoneOut}
 use Rattle.esr_quiet.specs.Asked.{GrewAsking}
 use Rattle.esr_drive.specs.Calls.{TakeCalls}
@@ -13,12 +12,12 @@ use Rattle.esr_drive.proofs.worker.work_off.Given as goal
 abbrev pub invariant-loop-round : goal.invariant-loop-round
 invariant-loop-round g l =
     record {
-      grew : GrewAsking g.K.Told.start [] l.fn.desk l.desk;
-      rest : NoneOut g.K.Told.start l.fn.desk → NoneOut g.K.Told.start l.desk;
-      readers : NoReaderOut g.K.Told.start l.fn.desk → NoReaderOut g.K.Told.start l.desk;
-      only : WorksOnly l.fn.desk l.desk;
-      takes : idle_takes l.desk ≡ idle_takes l.fn.desk;
-      calls : TakeCalls 0 (calls_at 0 l.fn.desk) (calls_at 0 l.desk);
-      ended : AllEnded g.K.Told.start l.desk (calls_at 0 l.fn.desk) (calls_at 0 l.desk);
-      rounds : l._round ≤ length l.desk;
+      grew : GrewAsking g.Q.Desk.start [] (g.Q.Desk.seen l.fn.desk) (g.Q.Desk.seen l.desk);
+      rest : NoneOut g.Q.Desk.start (g.Q.Desk.seen l.fn.desk) → NoneOut g.Q.Desk.start (g.Q.Desk.seen l.desk);
+      readers : NoReaderOut g.Q.Desk.start (g.Q.Desk.seen l.fn.desk) → NoReaderOut g.Q.Desk.start (g.Q.Desk.seen l.desk);
+      only : WorksOnly (g.Q.Desk.seen l.fn.desk) (g.Q.Desk.seen l.desk);
+      takes : idle_takes (g.Q.Desk.seen l.desk) ≡ idle_takes (g.Q.Desk.seen l.fn.desk);
+      calls : TakeCalls 0 (g.Q.Desk.calls l.fn.desk) (g.Q.Desk.calls l.desk);
+      ended : AllEnded g.Q.Desk.start (g.Q.Desk.seen l.desk) (g.Q.Desk.calls l.fn.desk) (g.Q.Desk.calls l.desk);
+      rounds : l._round ≤ length (g.Q.Desk.seen l.desk);
     }

@@ -1,6 +1,6 @@
 use Rattle.std.proofs.Common.{ℕ, ◌^◌, ◌≤◌, ap, ◌∙◌, subst}
 use Rattle.esr_record.specs.Record.{Record}
-use Rattle.esr_progress.specs.Plan.{Plan}
+use Rattle.esr_ops.specs.Plan.{Plan}
 use Rattle.esr_opening.specs.Terms.{plan_of}
 use Rattle.esr_opening.proofs.term.next_of.Goals as goal
 

@@ -2,7 +2,7 @@ use Rattle.std.proofs.Common.{ℕ, ◌≡◌, List, take, option_map, subst}
 use Rattle.std.proofs.lemmas.List.{take_all}
 use Rattle.esr_core.specs.World.{Op}
 use Rattle.esr_formats.specs.Ids.{number_of}
-use Rattle.esr_progress.specs.Ops.{IsMost, Among, IsDoneAt}
+use Rattle.esr_ops.specs.Ops.{IsMost, Among, IsDoneAt}
 use Rattle.esr_progress.proofs.Takes.{done_step}
 use Rattle.esr_progress.proofs.ready.generation.Goals as goal
 

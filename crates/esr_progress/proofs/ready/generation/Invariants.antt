@@ -1,7 +1,7 @@
 use Rattle.std.proofs.Common.{ℕ, take, option_map}
 use Rattle.esr_core.specs.World.{Op}
 use Rattle.esr_formats.specs.Ids.{number_of}
-use Rattle.esr_progress.specs.Ops.{IsMost, Among, IsDoneAt}
+use Rattle.esr_ops.specs.Ops.{IsMost, Among, IsDoneAt}
 use Rattle.esr_progress.proofs.ready.generation.Given as goal
 
 -- of the ops so far

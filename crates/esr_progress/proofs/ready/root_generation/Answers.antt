@@ -1,10 +1,9 @@
-use Rattle.std.proofs.Common.{◌∙◌, List, ap, sym, map}
+use Rattle.std.proofs.Common.{◌∙◌, List, ap, sym, map, option_map}
 use Rattle.esr_root.specs.Root.{Root}
 use Rattle.esr_root.specs.declared.indices.RootIndex.{RootIndex as CodeIndex}
 use Rattle.esr_model.specs.Image.{index_at, at_shard_of}
 use Rattle.esr_formats.specs.Ids.{number_of}
 use Rattle.esr_formats.specs.Roots.{root_index_of}
-use Rattle.std.proofs.Common.{option_map}
 use Rattle.esr_progress.proofs.Takes.{index_at-here, index_at-on}
 use Rattle.esr_progress.proofs.ready.root_generation.Goals as goal
 

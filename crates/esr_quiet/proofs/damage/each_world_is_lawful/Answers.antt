@@ -8,5 +8,5 @@ returns c = λ s log over.
       over = over;
       lawful = λ front back is.
           let h = kept_front s log over front back is in
-          (_, c.each_history_is_lawful.ensures (formats_of s) s.part_size h.image h.shelf s.world front h.known h.kept h.opened h.legal h.told h.honest);
+          (_, c.each_history_is_lawful.ensures (formats_of s) s.part_size h.image h.shelf s.world front h.kept h.opened h.legal h.told);
     }

@@ -1,4 +1,3 @@
-use Rattle.esr_core.specs.History.{all_handed_out}
 use Rattle.esr_desk.specs.Start.{formats_of}
 use Rattle.esr_quiet.proofs.Alone.{all_alone}
 use Rattle.esr_quiet.proofs.Core.{CoreLaws}
@@ -12,8 +11,8 @@ returns c = λ s log smooth.
     record {
       lawful = λ front back is.
           let h = smooth_front s log smooth front back is in
-          (_, laws.lawful (formats_of s) s.part_size h.image h.shelf s.world front (all_handed_out (formats_of s) s.world front h.known) h.kept h.opened h.legal h.told h.honest);
+          (_, laws.lawful (formats_of s) s.part_size h.image h.shelf s.world front h.kept h.opened h.legal h.told);
       free = λ front back is.
           let h = smooth_front s log smooth front back is in
-          histories_free laws (formats_of s) s.part_size h.image h.shelf s.world front h.known h.kept h.opened h.legal h.told h.honest h.calm (all_alone c.each_step_is_one_change.ensures s front h.image h.opened h.tests_apart);
+          histories_free laws (formats_of s) s.part_size h.image h.shelf s.world front h.kept h.opened h.legal h.told h.calm (all_alone c.each_step_is_one_change.ensures s front h.image h.opened h.tests_apart);
     }

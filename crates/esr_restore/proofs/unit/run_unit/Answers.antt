@@ -42,7 +42,7 @@ restore-requires-clause-at g c κs within =
     let who = ready.ticket in
     let r = c.in-RestoreShard in
     let old = g.Q.Desk.seen c.args.desk.now in
-    took_at ready.work ready.op (reader_of s old who) r.uuid r.at r.index r.place r.is c.requires.fresh
+    took_at ready.work ready.op (reader_of s old who) r.uuid r.at r.index r.place (sym c.into_work-work.ensures ∙ r.is) c.requires.fresh
 
 pub restore-requires-clause-few : goal.restore-requires-clause-few
 restore-requires-clause-few g c κs within =
@@ -51,7 +51,7 @@ restore-requires-clause-few g c κs within =
     let who = ready.ticket in
     let r = c.in-RestoreShard in
     let old = g.Q.Desk.seen c.args.desk.now in
-    (took_fresh ready.work ready.op (reader_of s old who) r.uuid r.at r.index r.place r.is c.requires.fresh).1
+    (took_fresh ready.work ready.op (reader_of s old who) r.uuid r.at r.index r.place (sym c.into_work-work.ensures ∙ r.is) c.requires.fresh).1
 
 pub restore-requires-clause-empty : goal.restore-requires-clause-empty
 restore-requires-clause-empty g c κs within =
@@ -72,7 +72,7 @@ finish-requires-clause-out g c κs within =
     let old = g.Q.Desk.seen c.args.desk.now in
     let mid = g.Q.Desk.seen c.restore.new.desk in
     let went = c.restore.ensures.went in
-    (went_at s old mid who r.at.index.number r.at.number r.uuid.number went (took_at ready.work ready.op (reader_of s old who) r.uuid r.at r.index r.place r.is c.requires.fresh)).out
+    (went_at s old mid who r.at.index.number r.at.number r.uuid.number went (took_at ready.work ready.op (reader_of s old who) r.uuid r.at r.index r.place (sym c.into_work-work.ensures ∙ r.is) c.requires.fresh)).out
 
 pub finish-requires-clause-read : goal.finish-requires-clause-read
 finish-requires-clause-read g c κs within =
@@ -84,7 +84,7 @@ finish-requires-clause-read g c κs within =
     let mid = g.Q.Desk.seen c.restore.new.desk in
     let went = c.restore.ensures.went in
     has_files s (reader_of s mid who) r.at r.uuid.number c.in-Ok-restore.snap (g.Q.Target.Target.told c.in-Ok.target).files (g.Q.Target.Target.told c.restore.new.target).files
-    (went_at s old mid who r.at.index.number r.at.number r.uuid.number went (took_at ready.work ready.op (reader_of s old who) r.uuid r.at r.index r.place r.is c.requires.fresh)) c.in-Ok-restore.ensures.snap c.in-Ok-restore.ensures.restored
+    (went_at s old mid who r.at.index.number r.at.number r.uuid.number went (took_at ready.work ready.op (reader_of s old who) r.uuid r.at r.index r.place (sym c.into_work-work.ensures ∙ r.is) c.requires.fresh)) c.in-Ok-restore.ensures.snap c.in-Ok-restore.ensures.restored
 
 pub finish-requires-clause-filled : goal.finish-requires-clause-filled
 finish-requires-clause-filled g c κs within =
@@ -99,9 +99,9 @@ finish-requires-clause-filled g c κs within =
     let made_is : (g.Q.Target.Target.told c.restore.new.target).made_for ≡ address r.place r.index r.at.number =
     c.restore.ensures.made_for ∙ c.in-Ok.ensures.made_for ∙ ap (λ (p : Bytes). address p c.as_str-2.result.now r.at.number) c.as_str.ensures.text ∙ ap (λ (n : Bytes). address r.place n r.at.number) c.as_str-2.ensures.text in
     filled e s (reader_of s old who) (reader_of s mid who) ready.op r.uuid r.at r.index r.place c.in-Ok-restore.snap c.restore.new.target (g.Q.Target.Target.told c.in-Ok.target).files (g.T.Targets.told c.args.targets.now).tells
-    (took_fresh ready.work ready.op (reader_of s old who) r.uuid r.at r.index r.place r.is c.requires.fresh).0 went.worked
-    (went_at s old mid who r.at.index.number r.at.number r.uuid.number went (took_at ready.work ready.op (reader_of s old who) r.uuid r.at r.index r.place r.is c.requires.fresh)) c.in-Ok-restore.ensures.snap c.in-Ok-restore.ensures.restored
-    (took_of ready.work ready.op (reader_of s old who) (reader_of s mid who) r.uuid r.at r.index r.place (g.Q.Target.Target.told c.restore.new.target).made_for r.is c.requires.fresh made_is went.worked) c.in-Ok.ensures.files c.requires.tells
+    (took_fresh ready.work ready.op (reader_of s old who) r.uuid r.at r.index r.place (sym c.into_work-work.ensures ∙ r.is) c.requires.fresh).0 went.worked
+    (went_at s old mid who r.at.index.number r.at.number r.uuid.number went (took_at ready.work ready.op (reader_of s old who) r.uuid r.at r.index r.place (sym c.into_work-work.ensures ∙ r.is) c.requires.fresh)) c.in-Ok-restore.ensures.snap c.in-Ok-restore.ensures.restored
+    (took_of ready.work ready.op (reader_of s old who) (reader_of s mid who) r.uuid r.at r.index r.place (g.Q.Target.Target.told c.restore.new.target).made_for (sym c.into_work-work.ensures ∙ r.is) c.requires.fresh made_is went.worked) c.in-Ok.ensures.files c.requires.tells
     (λ all. c.restore.ensures.is_sure ∙ c.in-Ok.ensures.sure (sym c.requires.sure ∙ all)) c.in-Ok-restore.ensures.begun (c.in-Ok-restore.ensures.steady ∙ c.in-Ok.ensures.count)
 
 pub returns-in-Ok-finish-clause-ok : goal.returns-in-Ok-finish-clause-ok
@@ -146,7 +146,7 @@ returns-in-Ok-restore-clause-refused g c =
     let new = g.Q.Desk.seen c.finish.new.desk in
     let failed = c.in-Err-finish in
     let e = evidence g.Q.Stage.Counted.faults g.Q.Fetch.Counted.faults g.Q.Shard.Counted.faults g.Q.Target.Counted.faults g.Q.Shard.Shard.told g.Q.Target.Target.told in
-    let out = ap (λ (q : Reader). q.out) failed.ensures.kept ∙ (went_at s old mid who r.at.index.number r.at.number r.uuid.number went (took_at ready.work ready.op (reader_of s old who) r.uuid r.at r.index r.place r.is c.requires.fresh)).out in
+    let out = ap (λ (q : Reader). q.out) failed.ensures.kept ∙ (went_at s old mid who r.at.index.number r.at.number r.uuid.number went (took_at ready.work ready.op (reader_of s old who) r.uuid r.at r.index r.place (sym c.into_work-work.ensures ∙ r.is) c.requires.fresh)).out in
     subst (λ (x : UnitRefusal). IsUnitRefused e s old new who x) (sym c.give_back.ensures.refusal) (
       worked_on (reader_of s old who) (reader_of s mid who) (reader_of s new who) went.worked (worked_same (reader_of s mid who) (reader_of s new who) failed.ensures.kept),
       end_halts c.refusals_are_of_their_steps.ensures s mid new who (length c.in-Ok-restore.snap.files) (sum_files c.in-Ok-restore.snap.files) out failed.unended.refusal failed.ensures.step,
@@ -164,11 +164,11 @@ returns-in-Ok-restore-clause-left g c =
     let new = g.Q.Desk.seen c.finish.new.desk in
     let failed = c.in-Err-finish in
     let target = c.restore.new.target in
-    let at = went_at s old mid who r.at.index.number r.at.number r.uuid.number went (took_at ready.work ready.op (reader_of s old who) r.uuid r.at r.index r.place r.is c.requires.fresh) in
+    let at = went_at s old mid who r.at.index.number r.at.number r.uuid.number went (took_at ready.work ready.op (reader_of s old who) r.uuid r.at r.index r.place (sym c.into_work-work.ensures ∙ r.is) c.requires.fresh) in
     let made_is : (g.Q.Target.Target.told target).made_for ≡ address r.place r.index r.at.number =
     c.restore.ensures.made_for ∙ c.in-Ok.ensures.made_for ∙ ap (λ (p : Bytes). address p c.as_str-2.result.now r.at.number) c.as_str.ensures.text ∙ ap (λ (n : Bytes). address r.place n r.at.number) c.as_str-2.ensures.text in
     left_unended g.Q.Target.Target.told s (reader_of s mid who) new who c.give_back.result.refusal (record { op = ready.op; index = r.index; shard = r.at.number; target = target }) failed.unended.target c.give_back.result.target
-    (took_of ready.work ready.op (reader_of s old who) (reader_of s mid who) r.uuid r.at r.index r.place (g.Q.Target.Target.told target).made_for r.is c.requires.fresh made_is went.worked)
+    (took_of ready.work ready.op (reader_of s old who) (reader_of s mid who) r.uuid r.at r.index r.place (g.Q.Target.Target.told target).made_for (sym c.into_work-work.ensures ∙ r.is) c.requires.fresh made_is went.worked)
     (first_all s (reader_of s mid who) r.at r.uuid.number c.in-Ok-restore.snap (g.Q.Target.Target.told c.in-Ok.target).files (g.Q.Target.Target.told target).files at c.in-Ok-restore.ensures.snap c.in-Ok-restore.ensures.restored)
     failed.ensures.kept failed.ensures.target c.give_back.ensures.target
 
@@ -203,7 +203,7 @@ fail-requires-clause-out g c κs within =
     let old = g.Q.Desk.seen c.args.desk.now in
     let mid = g.Q.Desk.seen c.restore.new.desk in
     let went = c.restore.ensures.went in
-    (went_at s old mid who r.at.index.number r.at.number r.uuid.number went (took_at ready.work ready.op (reader_of s old who) r.uuid r.at r.index r.place r.is c.requires.fresh)).out
+    (went_at s old mid who r.at.index.number r.at.number r.uuid.number went (took_at ready.work ready.op (reader_of s old who) r.uuid r.at r.index r.place (sym c.into_work-work.ensures ∙ r.is) c.requires.fresh)).out
 
 pub fail-requires-clause-of : goal.fail-requires-clause-of
 fail-requires-clause-of g c κs within =
@@ -216,7 +216,7 @@ fail-requires-clause-of g c κs within =
     let went = c.restore.ensures.went in
     let made_is : (g.Q.Target.Target.told c.restore.new.target).made_for ≡ address r.place r.index r.at.number =
     c.restore.ensures.made_for ∙ c.in-Ok.ensures.made_for ∙ ap (λ (p : Bytes). address p c.as_str-2.result.now r.at.number) c.as_str.ensures.text ∙ ap (λ (n : Bytes). address r.place n r.at.number) c.as_str-2.ensures.text in
-    took_of ready.work ready.op (reader_of s old who) (reader_of s mid who) r.uuid r.at r.index r.place (g.Q.Target.Target.told c.restore.new.target).made_for r.is c.requires.fresh made_is went.worked
+    took_of ready.work ready.op (reader_of s old who) (reader_of s mid who) r.uuid r.at r.index r.place (g.Q.Target.Target.told c.restore.new.target).made_for (sym c.into_work-work.ensures ∙ r.is) c.requires.fresh made_is went.worked
 
 pub fail-requires-clause-sure : goal.fail-requires-clause-sure
 fail-requires-clause-sure g c κs within =

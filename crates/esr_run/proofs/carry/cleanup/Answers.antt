@@ -7,12 +7,12 @@ use Rattle.esr_run.proofs.carry.cleanup.Goals as goal
 
 pub returns-in-Err-clause-asked : goal.returns-in-Err-clause-asked
 returns-in-Err-clause-asked g c alone =
-    line_asked c.steps_stay.ensures g.Q.Desk.start c.requires.numbered c.requires.ops alone (g.Q.Desk.seen c.args.desk.now) (g.Q.Desk.seen c.cleanup.new.self) (AskStep Cleanup) (λ (op : ℕ). Accepted op) (Err c.in-Err.refusal)
+    line_asked c.steps_stay.ensures g.Q.Desk.start c.requires.numbered c.requires.ops alone c.requires.earlier (g.Q.Desk.seen c.args.desk.now) (g.Q.Desk.seen c.cleanup.new.self) (AskStep Cleanup) (λ (op : ℕ). Accepted op) (Err c.in-Err.refusal)
     (inl (Cleanup, refl)) accepted_none c.in-Err.ensures.step
 
 pub returns-clause-asked : goal.returns-clause-asked
 returns-clause-asked g c alone =
-    line_asked c.steps_stay.ensures g.Q.Desk.start c.requires.numbered c.requires.ops alone (g.Q.Desk.seen c.args.desk.now) (g.Q.Desk.seen c.cleanup.new.self) (AskStep Cleanup) (λ (op : ℕ). Accepted op) (Ok c.in_default.field-0)
+    line_asked c.steps_stay.ensures g.Q.Desk.start c.requires.numbered c.requires.ops alone c.requires.earlier (g.Q.Desk.seen c.args.desk.now) (g.Q.Desk.seen c.cleanup.new.self) (AskStep Cleanup) (λ (op : ℕ). Accepted op) (Ok c.in_default.field-0)
     (inl (Cleanup, refl)) accepted_none c.in_default.ensures.step
 
 pub returns-in-Err-clause-made : goal.returns-in-Err-clause-made

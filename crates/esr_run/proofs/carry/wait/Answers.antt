@@ -6,10 +6,10 @@ pub returns-clause-made : goal.returns-clause-made
 returns-clause-made g c = made_waiting g.K.Told.start c.args.desk c.sit.result.0 c.sit.result.1 c.sit.ensures.grew
 
 pub returns-clause-rests : goal.returns-clause-rests
-returns-clause-rests g c none = rests_waiting g.K.Told.start c.args.desk c.sit.result.0 c.sit.result.1 c.sit.ensures.rest c.sit.ensures.readers c.sit.ensures.stopped none
+returns-clause-rests g c none = rests_waiting g.K.Told.start c.args.desk c.sit.result.0 c.sit.result.1 c.requires.earlier c.sit.ensures.rest c.sit.ensures.readers c.sit.ensures.stopped none
 
 pub returns-clause-spent : goal.returns-clause-spent
-returns-clause-spent g c = spends_waiting g.K.Told.start c.sit.result.0 c.sit.result.1 c.sit.ensures.stopped
+returns-clause-spent g c = spends_waiting g.K.Told.start c.sit.result.0 c.sit.result.1 c.requires.earlier c.sit.ensures.stopped
 
 pub returns-clause-ended : goal.returns-clause-ended
 returns-clause-ended g c = wait_ends g.K.Told.start c.sit.result.0 c.sit.result.1 c.sit.ensures.ready c.sit.ensures.stopped

@@ -1,5 +1,5 @@
 use Rattle.std.proofs.Common.{◌≡◌, take, map}
-use Rattle.esr_progress.specs.Asked.{asked_index_of}
+use Rattle.esr_ops.specs.Asked.{asked_index_of}
 use Rattle.esr_complete.specs.Lines.{index_of_line}
 use Rattle.esr_run.proofs.command.indices_of.Given as goal
 

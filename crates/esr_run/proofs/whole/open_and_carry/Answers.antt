@@ -67,6 +67,9 @@ run_told-requires-clause-calm g c κs within = calm_enough (g.D.Depot.look c.in-
 pub run_told-requires-clause-alone : goal.run_told-requires-clause-alone
 run_told-requires-clause-alone g c κs within = refl
 
+pub run_told-requires-clause-earlier : goal.run_told-requires-clause-earlier
+run_told-requires-clause-earlier g c κs within = refl
+
 pub returns-in-Ok-clause-complete : goal.returns-in-Ok-clause-complete
 returns-in-Ok-clause-complete g c =
     let k : Kept = record { cluster = c.in-Ok.opening.cluster; root = c.in-Ok.opening.root; infos = c.in-Ok.opening.infos; plan = c.in-Ok.opening.progress; next = c.in-Ok.opening.next.number } in

@@ -21,5 +21,5 @@ pub returns : goal.returns
 returns g c =
     let told = c.work_alone-answer.ensures in
     let some : 1 ≤ c.args.crew.workers = c.requires.some in
-    let few : idle_takes c.work_alone-answer.new.desk ≤ idle_takes c.args.desk + 1 = told.takes in
+    let few : idle_takes (g.Q.Desk.seen c.work_alone-answer.new.desk) ≤ idle_takes (g.Q.Desk.seen c.args.desk) + 1 = told.takes in
     record { grew = told.grew; only = told.only; takes = omega (arith, some, few); elected = told.elects; rest = told.rest; readers = told.readers; ready = told.ready; stopped = told.stopped }

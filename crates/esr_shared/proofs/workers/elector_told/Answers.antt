@@ -1,5 +1,5 @@
 use Rattle.std.proofs.Common.{◌++◌, length, arith}
-use Rattle.esr_shared.specs.Owned.{calls_in}
+use Rattle.esr_handle.specs.Owned.{calls_in}
 use Rattle.esr_shared.proofs.Working.{none_called, elected_by, back_by}
 use Rattle.esr_shared.proofs.workers.elector_told.Goals as goal
 
@@ -17,7 +17,7 @@ new-desk-requires-clause-fit g c = λ lives within. c.requires.new.fit
 
 pub returns : goal.returns
 returns g c =
-    let s = g.K.Told.start in
+    let s = g.Q.Desk.start in
     let before = g.B.Since.before in
     let first = c.args.pass in
     let old = c.new-desk.result.pass in

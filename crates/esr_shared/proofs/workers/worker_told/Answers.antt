@@ -1,5 +1,5 @@
 use Rattle.std.proofs.Common.{◌++◌, length, arith}
-use Rattle.esr_shared.specs.Owned.{calls_in}
+use Rattle.esr_handle.specs.Owned.{calls_in}
 use Rattle.esr_shared.proofs.Working.{outside_shared, none_called, worked_by, back_by}
 use Rattle.esr_shared.proofs.workers.worker_told.Goals as goal
 
@@ -16,7 +16,7 @@ pub new-desk-requires-clause-fit : goal.new-desk-requires-clause-fit
 new-desk-requires-clause-fit g c = λ lives within. c.requires.new.fit
 
 pub work-answer-requires-clause-outside : goal.work-answer-requires-clause-outside
-work-answer-requires-clause-outside g c = λ lives within. outside_shared g.K.Told.start (g.S.Sources.told c.args.outside.now.sources.now) (g.T.Targets.told c.args.outside.now.targets.now) c.args.outside.now.part_size c.requires.workable.outside
+work-answer-requires-clause-outside g c = λ lives within. outside_shared g.Q.Desk.start (g.S.Sources.told c.args.outside.now.sources.now) (g.T.Targets.told c.args.outside.now.targets.now) c.args.outside.now.part_size c.requires.workable.outside
 
 pub work-answer-requires-clause-tracked : goal.work-answer-requires-clause-tracked
 work-answer-requires-clause-tracked g c = λ lives within. c.requires.workable.tracked
@@ -26,7 +26,7 @@ work-answer-requires-clause-ops g c = λ lives within. c.requires.workable.ops
 
 pub returns : goal.returns
 returns g c =
-    let s = g.K.Told.start in
+    let s = g.Q.Desk.start in
     let before = g.B.Since.before in
     let first = c.args.pass in
     let old = c.new-desk.result.pass in

@@ -1,7 +1,7 @@
 use Rattle.std.proofs.Common.{◌≡◌, ◌≢◌, Bool, true, false, List, [], ◌∷◌, ◌++◌, ap, ◌∙◌}
 use Rattle.std.specs.Str.{bytes_eq}
 use Rattle.std.proofs.lemmas.Slice.Eq.{bytes_eq-Decides}
-use Rattle.esr_progress.specs.declared.command.AskedIndex.{AskedIndex as CodeAsked}
+use Rattle.esr_ops.specs.declared.command.AskedIndex.{AskedIndex as CodeAsked}
 use Rattle.esr_test_steps.proofs.Askable.{two_askable}
 use Rattle.esr_test_steps.proofs.setting.snapshot_of_two.Goals as goal
 

@@ -3,12 +3,13 @@ use Rattle.esr_formats.specs.Clusters.{cluster_of}
 use Rattle.esr_formats.specs.Roots.{root_of}
 use Rattle.esr_run.specs.Start.{telling, is_calm_by, start_of}
 use Rattle.esr_run.proofs.Worlds.{begun_world}
+use Rattle.esr_test_steps.proofs.Starting.{spent}
 use Rattle.esr_test_steps.proofs.steps.made_in.Given as goal
 
 abbrev pub ghosts-made : goal.ghosts-made
 ghosts-made g a = record {
-  start = start_of (telling (g.S.Sources.told a.sources.now) (g.T.Targets.told a.targets.now)) 16777216 (is_calm_by (g.D.Depot.look a.opening.depot).sure) (g.D.Depot.look a.opening.depot)
-      (begun_world (now (g.D.Depot.look a.opening.depot)) (cluster_of a.opening.cluster) (root_of a.opening.root) a.opening.progress);
+  start = spent (start_of (telling (g.S.Sources.told a.sources.now) (g.T.Targets.told a.targets.now)) 16777216 (is_calm_by (g.D.Depot.look a.opening.depot).sure) (g.D.Depot.look a.opening.depot)
+      (begun_world (now (g.D.Depot.look a.opening.depot)) (cluster_of a.opening.cluster) (root_of a.opening.root) a.opening.progress));
   clock = (g.D.Depot.look a.opening.depot).clock;
   faults = g.D.Counted.faults a.opening.depot;
   past = (g.D.Depot.look a.opening.depot).since;

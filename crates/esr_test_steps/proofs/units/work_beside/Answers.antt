@@ -1,6 +1,6 @@
 use Rattle.std.proofs.Common.{◌≡◌, [], Result, Ok, Err, OnOk}
 use Rattle.esr_test_steps.specs.declared.errors.Trouble.{Trouble}
-use Rattle.esr_progress.specs.Units.{given_of}
+use Rattle.esr_ops.specs.Units.{given_of}
 use Rattle.esr_desk.specs.Calls.{HasTaken, calls_at}
 use Rattle.esr_desk.specs.Grew.{GrewBy}
 use Rattle.esr_desk.specs.Own.{made_of}

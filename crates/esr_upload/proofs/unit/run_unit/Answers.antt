@@ -2,7 +2,7 @@ use Rattle.std.proofs.Common.{◌≡◌, List, Option, ◌∙◌, sym, ap, subst
 use Rattle.esr_model.specs.Values.{Bytes}
 use Rattle.esr_source.specs.Address.{address}
 use Rattle.esr_source.specs.Told.{ShardTold, FileList}
-use Rattle.esr_progress.specs.declared.unit.Work.{Work}
+use Rattle.esr_ops.specs.declared.unit.Work.{Work}
 use Rattle.esr_desk.specs.Evidence.{evidence}
 use Rattle.esr_desk.specs.Calls.{Call, HasTaken}
 use Rattle.esr_desk.specs.Start.{ticket_of}

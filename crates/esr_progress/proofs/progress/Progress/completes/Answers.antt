@@ -3,7 +3,7 @@ use Rattle.std.specs.List.{position}
 use Rattle.std.specs.FinMap as fin
 use Rattle.esr_core.specs.World.{Op}
 use Rattle.esr_core.specs.Steps.{all_done}
-use Rattle.esr_progress.specs.Plan.{Plan}
+use Rattle.esr_ops.specs.Plan.{Plan}
 use Rattle.esr_progress.specs.Changes.{op_marked}
 use Rattle.esr_progress.proofs.Changing.{missed_op, found_op}
 use Rattle.esr_progress.proofs.progress.Progress.completes.Goals as goal

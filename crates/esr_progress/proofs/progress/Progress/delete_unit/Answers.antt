@@ -4,9 +4,9 @@ use Rattle.std.proofs.lemmas.Int.{to_z-of_z}
 use Rattle.std.proofs.lemmas.Option.{slice_get_read}
 use Rattle.esr_formats.specs.Roots.{root_of}
 use Rattle.esr_formats.specs.Clusters.{count_of}
-use Rattle.esr_progress.specs.declared.unit.Copied.{Copied}
+use Rattle.esr_ops.specs.declared.unit.Copied.{Copied}
 use Rattle.esr_progress.specs.Choice.{delete_ready}
-use Rattle.esr_progress.proofs.Choices.{place_within}
+use Rattle.esr_ops.specs.Tests.{place_within}
 use Rattle.esr_progress.proofs.NextDeletes.{copied_numbers, no_delete, delete_is}
 use Rattle.esr_progress.proofs.progress.Progress.delete_unit.Goals as goal
 

@@ -1,8 +1,9 @@
 use Rattle.std.proofs.Common.{sym, ap, ◌∙◌}
-use Rattle.esr_progress.specs.Plan.{reader_of_code}
+use Rattle.esr_ops.specs.Plan.{reader_of_code}
 use Rattle.esr_progress.specs.Changes.{with_reader}
-use Rattle.esr_progress.proofs.Choices.{not_true}
-use Rattle.esr_progress.proofs.Changing.{read_put, read_missed, is_there_by}
+use Rattle.esr_ops.specs.Tests.{not_true}
+use Rattle.esr_progress.proofs.Changing.{read_put, read_missed}
+use Rattle.esr_progress.specs.Plans.{is_there_by}
 use Rattle.esr_progress.proofs.progress.Progress.end_open.Goals as goal
 
 pub returns-then-lacks_restore : goal.returns-then-lacks_restore

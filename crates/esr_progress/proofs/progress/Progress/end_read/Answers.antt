@@ -1,7 +1,7 @@
 use Rattle.std.proofs.Common.{position, ℕ, eqb, sym, ap, ◌∙◌}
 use Rattle.std.specs.FinMap as fin
 use Rattle.std.specs.List.{position}
-use Rattle.esr_progress.specs.Plan.{Plan, RestorePlan}
+use Rattle.esr_ops.specs.Plan.{Plan, RestorePlan}
 use Rattle.esr_progress.specs.Changes.{restore_changed, restore_over}
 use Rattle.esr_progress.proofs.Changing.{restore_missed, restore_put, restore_put_keeps}
 use Rattle.esr_progress.proofs.progress.Progress.end_read.Goals as goal

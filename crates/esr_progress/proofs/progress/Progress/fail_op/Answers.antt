@@ -2,7 +2,7 @@ use Rattle.std.proofs.Common.{position, ℕ, eqb, sym, ap, ◌∙◌}
 use Rattle.std.specs.FinMap as fin
 use Rattle.std.specs.List.{position}
 use Rattle.esr_core.specs.World.{Op}
-use Rattle.esr_progress.specs.Plan.{Plan}
+use Rattle.esr_ops.specs.Plan.{Plan}
 use Rattle.esr_progress.specs.Changes.{op_changed, op_failed}
 use Rattle.esr_progress.proofs.Changing.{op_missed, op_put, op_put_keeps}
 use Rattle.esr_progress.proofs.progress.Progress.fail_op.Goals as goal

@@ -2,7 +2,7 @@ use Rattle.std.proofs.Common.{ℕ, eqb, sym, ap, ◌∙◌}
 use Rattle.std.specs.FinMap as fin
 use Rattle.std.specs.List.{position}
 use Rattle.esr_core.specs.World.{Deletion}
-use Rattle.esr_progress.specs.Plan.{Plan}
+use Rattle.esr_ops.specs.Plan.{Plan}
 use Rattle.esr_progress.specs.Changes.{delete_changed, delete_failing}
 use Rattle.esr_progress.proofs.Changing.{delete_missed, delete_put, delete_put_keeps}
 use Rattle.esr_progress.proofs.progress.Progress.fail_open.Goals as goal

@@ -4,10 +4,10 @@ use Rattle.std.specs.FinMap as fin
 use Rattle.esr_core.specs.World.{Op}
 use Rattle.esr_core.specs.Steps.{all_done}
 use Rattle.esr_results.specs.Results.{result_of}
-use Rattle.esr_progress.specs.declared.unit.Work.{Work}
-use Rattle.esr_progress.specs.Plan.{Plan}
-use Rattle.esr_progress.specs.Ops.{IsFinalWork}
-use Rattle.esr_progress.proofs.Lists.{none_some, some_same}
+use Rattle.esr_ops.specs.declared.unit.Work.{Work}
+use Rattle.esr_ops.specs.Plan.{Plan}
+use Rattle.esr_ops.specs.Ops.{IsFinalWork}
+use Rattle.esr_ops.specs.Lists.{none_some, some_same}
 use Rattle.esr_progress.proofs.Choices.{all_done_by}
 use Rattle.esr_progress.proofs.Changing.{missed_op, found_op}
 use Rattle.esr_progress.proofs.progress.Progress.finalized_info.Goals as goal

@@ -1,6 +1,6 @@
 use Rattle.std.proofs.Common.{option_map, sym, ap, ◌∙◌}
 use Rattle.esr_results.specs.Results.{result_of}
-use Rattle.esr_progress.specs.Plan.{seat_of_code}
+use Rattle.esr_ops.specs.Plan.{seat_of_code}
 use Rattle.esr_progress.specs.Changes.{with_seat, done_in}
 use Rattle.esr_progress.proofs.Changing.{done_put, done_missed}
 use Rattle.esr_progress.proofs.progress.Progress.finish.Goals as goal

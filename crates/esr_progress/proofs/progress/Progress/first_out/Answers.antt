@@ -1,9 +1,9 @@
 use Rattle.std.proofs.Common.{ℕ, ◌<◌, Some, None, length, sym, ap, ◌∙◌, subst, add-one, arith}
 use Rattle.esr_core.specs.Allowed.{HasTicket}
-use Rattle.esr_progress.specs.Units.{IsLowest}
+use Rattle.esr_ops.specs.Units.{IsLowest}
 use Rattle.esr_progress.specs.Choice.{place_out}
-use Rattle.esr_progress.specs.Seats.{is_out, seat_in, holds}
-use Rattle.esr_progress.proofs.Choices.{place_within}
+use Rattle.esr_ops.specs.Seats.{is_out, seat_in, holds}
+use Rattle.esr_ops.specs.Tests.{place_within}
 use Rattle.esr_progress.proofs.Cleanups.{lowest_ticket}
 use Rattle.esr_progress.proofs.progress.Progress.first_out.Goals as goal
 

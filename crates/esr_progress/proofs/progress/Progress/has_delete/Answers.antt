@@ -3,7 +3,7 @@ use Rattle.std.specs.Prelude.{is_some}
 use Rattle.std.specs.List.{position}
 use Rattle.std.specs.FinMap as fin
 use Rattle.esr_core.specs.World.{Deletion}
-use Rattle.esr_progress.specs.Plan.{Plan}
+use Rattle.esr_ops.specs.Plan.{Plan}
 use Rattle.esr_progress.proofs.Changing.{has_delete_is}
 use Rattle.esr_progress.proofs.progress.Progress.has_delete.Goals as goal
 

@@ -2,7 +2,7 @@ use Rattle.std.proofs.Common.{ℕ, eqb, ap, ◌∙◌}
 use Rattle.std.specs.Prelude.{is_some}
 use Rattle.std.specs.List.{position}
 use Rattle.std.specs.FinMap as fin
-use Rattle.esr_progress.specs.Plan.{Plan, RestorePlan}
+use Rattle.esr_ops.specs.Plan.{Plan, RestorePlan}
 use Rattle.esr_progress.proofs.Changing.{has_restore_is}
 use Rattle.esr_progress.proofs.progress.Progress.has_restore.Goals as goal
 

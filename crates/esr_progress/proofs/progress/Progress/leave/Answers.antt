@@ -3,8 +3,8 @@ use Rattle.std.proofs.lemmas.Fn.{filter_same}
 use Rattle.std.specs.Prelude.{not}
 use Rattle.std.specs.List.{filter, position}
 use Rattle.std.specs.FinMap as fin
-use Rattle.esr_progress.specs.Plan.{Plan, RestorePlan}
-use Rattle.esr_progress.specs.Inside.{plan_with}
+use Rattle.esr_ops.specs.Plan.{Plan, RestorePlan}
+use Rattle.esr_ops.specs.Inside.{plan_with}
 use Rattle.esr_progress.specs.Changes.{restore_kept}
 use Rattle.esr_progress.proofs.Changing.{restore_none, restore_stays, restore_leaves, restore_left_keeps}
 use Rattle.esr_progress.proofs.progress.Progress.leave.Goals as goal

@@ -3,7 +3,7 @@ use Rattle.std.specs.FinMap as fin
 use Rattle.std.specs.List.{position}
 use Rattle.esr_core.specs.World.{Op}
 use Rattle.esr_results.specs.Results.{result_of}
-use Rattle.esr_progress.specs.Plan.{Plan}
+use Rattle.esr_ops.specs.Plan.{Plan}
 use Rattle.esr_progress.specs.Changes.{op_changed, op_marked}
 use Rattle.esr_progress.proofs.Changing.{op_missed, op_put, op_put_keeps}
 use Rattle.esr_progress.proofs.progress.Progress.mark_op.Goals as goal

@@ -2,9 +2,10 @@ use Rattle.std.proofs.Common.{ℕ, sym, ap, ◌∙◌, subst, w64}
 use Rattle.std.proofs.lemmas.Int.{to_z-of_z}
 use Rattle.esr_formats.specs.Roots.{root_of}
 use Rattle.esr_formats.specs.Clusters.{count_of}
-use Rattle.esr_progress.specs.Plan.{IsGivenIn}
+use Rattle.esr_ops.specs.Plan.{IsGivenIn}
 use Rattle.esr_progress.specs.Choice.{is_before}
-use Rattle.esr_progress.proofs.Lowest.{restore_is_next, delete_is_next, op_is_next, ok_maps}
+use Rattle.esr_progress.proofs.Lowest.{restore_is_next, delete_is_next, op_is_next}
+use Rattle.esr_progress.specs.Lowest.{ok_maps}
 use Rattle.esr_progress.proofs.progress.Progress.next_unit.Goals as goal
 
 pub returns-then-comes_first : goal.returns-then-comes_first

@@ -2,7 +2,7 @@ use Rattle.std.proofs.Common.{ℕ, eqb, ap, ◌∙◌, sym}
 use Rattle.std.specs.List.{position}
 use Rattle.std.specs.FinMap as fin
 use Rattle.esr_core.specs.World.{Op}
-use Rattle.esr_progress.specs.Plan.{Plan}
+use Rattle.esr_ops.specs.Plan.{Plan}
 use Rattle.esr_progress.specs.Aborts.{op_aborter}
 use Rattle.esr_progress.proofs.Changing.{missed_op, found_op}
 use Rattle.esr_progress.proofs.progress.Progress.op_aborter.Goals as goal

@@ -6,7 +6,7 @@ use Rattle.std.proofs.lemmas.Option.{slice_get_within}
 use Rattle.esr_core.specs.World.{Op}
 use Rattle.esr_formats.specs.Roots.{root_of}
 use Rattle.esr_formats.specs.Clusters.{count_of}
-use Rattle.esr_progress.specs.declared.unit.Copied.{Copied}
+use Rattle.esr_ops.specs.declared.unit.Copied.{Copied}
 use Rattle.esr_progress.specs.Choice.{IsBaseFor, given_entry}
 use Rattle.esr_progress.proofs.Choices.{none_in, ready_in, read_there, possible_there}
 use Rattle.esr_progress.proofs.NextUnits.{nothing, next_is, same_numbers}

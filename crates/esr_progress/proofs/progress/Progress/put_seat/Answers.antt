@@ -1,7 +1,7 @@
 use Rattle.std.proofs.Common.{arith, ap, ◌∙◌}
 use Rattle.std.specs.Prelude.{is_some}
 use Rattle.std.specs.FinMap as fin
-use Rattle.esr_progress.specs.Plan.{Plan, seat_of_code}
+use Rattle.esr_ops.specs.Plan.{Plan, seat_of_code}
 use Rattle.esr_progress.specs.Changes.{with_seat}
 use Rattle.esr_progress.proofs.Changing.{seat_within, seat_put}
 use Rattle.esr_progress.proofs.progress.Progress.put_seat.Goals as goal

@@ -1,8 +1,8 @@
 use Rattle.std.proofs.Common.{List, sym, ap, ◌∙◌}
 use Rattle.std.specs.FinMap as fin
-use Rattle.esr_progress.specs.declared.unit.Slot.{Slot}
-use Rattle.esr_progress.specs.Plan.{Plan}
-use Rattle.esr_progress.specs.Seats.{seat_at, reader_in, told_in}
+use Rattle.esr_ops.specs.declared.unit.Slot.{Slot}
+use Rattle.esr_ops.specs.Plan.{Plan}
+use Rattle.esr_ops.specs.Seats.{seat_at, reader_in, told_in}
 use Rattle.esr_progress.proofs.SeatMaps.{get-readers}
 use Rattle.esr_progress.proofs.progress.Progress.reader.Goals as goal
 

@@ -2,7 +2,7 @@ use Rattle.std.proofs.Common.{◌<◌, length, refl, sym, ◌∙◌, arith}
 use Rattle.std.specs.List.{position}
 use Rattle.std.proofs.lemmas.Option.{slice_get_read}
 use Rattle.esr_progress.specs.Choice.{delete_ready}
-use Rattle.esr_progress.proofs.Choices.{place_within}
+use Rattle.esr_ops.specs.Tests.{place_within}
 use Rattle.esr_progress.proofs.NextDeletes.{no_delete, lowest_delete}
 use Rattle.esr_progress.proofs.progress.Progress.ready_delete.Goals as goal
 

@@ -2,9 +2,9 @@ use Rattle.std.proofs.Common.{◌≡◌, ◌<◌, ◌+◌, ℕ, List, map, ◌++
 use Rattle.esr_record.specs.Op.{last_op}
 use Rattle.esr_core.specs.World.{Op, Deletion, record_ops}
 use Rattle.esr_formats.specs.Clusters.{op_of}
-use Rattle.esr_progress.specs.Plan.{Plan}
-use Rattle.esr_progress.specs.Deletes.{deletion_entry, between}
-use Rattle.esr_progress.specs.Inside.{numbers_of, Rise, AreNumbers}
+use Rattle.esr_ops.specs.Plan.{Plan}
+use Rattle.esr_ops.specs.Deletes.{deletion_entry, between}
+use Rattle.esr_ops.specs.Inside.{numbers_of, Rise, AreNumbers}
 use Rattle.esr_progress.proofs.Recorded.{merged, AreTold, none_told, number_most, may_tell, tell_op, all_are, all_told}
 use Rattle.esr_progress.proofs.progress.Progress.record_ops.Goals as goal
 

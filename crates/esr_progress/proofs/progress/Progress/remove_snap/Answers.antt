@@ -3,8 +3,8 @@ use Rattle.std.proofs.lemmas.Fn.{filter_same}
 use Rattle.std.specs.Prelude.{not}
 use Rattle.std.specs.List.{filter}
 use Rattle.esr_core.specs.World.{Op}
-use Rattle.esr_progress.specs.Plan.{Plan}
-use Rattle.esr_progress.specs.Inside.{plan_with}
+use Rattle.esr_ops.specs.Plan.{Plan}
+use Rattle.esr_ops.specs.Inside.{plan_with}
 use Rattle.esr_progress.specs.Changes.{without_snap}
 use Rattle.esr_progress.proofs.Changing.{snap_left_keeps, snap_left_is}
 use Rattle.esr_progress.proofs.progress.Progress.remove_snap.Goals as goal

@@ -2,7 +2,7 @@ use Rattle.std.proofs.Common.{◌≡◌, ◌+◌, List, map, length, ap, ◌∙�
 use Rattle.esr_record.specs.declared.op.RecordOp.{RecordOp}
 use Rattle.esr_core.specs.World.{kept_deletes}
 use Rattle.esr_formats.specs.Clusters.{op_of}
-use Rattle.esr_progress.specs.Deletes.{kept_from}
+use Rattle.esr_ops.specs.Deletes.{kept_from}
 use Rattle.esr_progress.proofs.Reopening.{kept_progress, kept_is}
 use Rattle.esr_progress.proofs.progress.Progress.reopened.Goals as goal
 

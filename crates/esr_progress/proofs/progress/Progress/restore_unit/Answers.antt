@@ -5,8 +5,8 @@ use Rattle.std.proofs.lemmas.Int.{to_z-of_z}
 use Rattle.std.proofs.lemmas.Option.{slice_get_within}
 use Rattle.esr_formats.specs.Roots.{root_of}
 use Rattle.esr_formats.specs.Clusters.{count_of}
-use Rattle.esr_progress.specs.declared.unit.Copied.{Copied}
-use Rattle.esr_progress.specs.Plan.{RestorePlan}
+use Rattle.esr_ops.specs.declared.unit.Copied.{Copied}
+use Rattle.esr_ops.specs.Plan.{RestorePlan}
 use Rattle.esr_progress.specs.Choice.{NoneUnread, given_restore}
 use Rattle.esr_progress.proofs.Unread.{none_is_unread, unread_in, restore_there, unread_within, restore_numbers, restore_is}
 use Rattle.esr_progress.proofs.progress.Progress.restore_unit.Goals as goal

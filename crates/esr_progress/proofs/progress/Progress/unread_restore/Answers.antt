@@ -1,5 +1,5 @@
 use Rattle.std.proofs.Common.{ℕ, List, length, subst}
-use Rattle.esr_progress.specs.Plan.{RestorePlan}
+use Rattle.esr_ops.specs.Plan.{RestorePlan}
 use Rattle.esr_progress.specs.Choice.{NoneUnread}
 use Rattle.esr_progress.proofs.Unread.{none_is_unread, lowest_restore, unread_in, restore_there}
 use Rattle.esr_progress.proofs.progress.Progress.unread_restore.Goals as goal

@@ -1,8 +1,8 @@
 use Rattle.std.proofs.Common.{ℕ, List, sym, ap, ◌∙◌, subst}
 use Rattle.std.specs.FinMap as fin
-use Rattle.esr_progress.specs.Plan.{Plan, RestorePlan}
-use Rattle.esr_progress.specs.Inside.{plan_with, IsProgress}
-use Rattle.esr_progress.proofs.Numbers.{entries_from}
+use Rattle.esr_ops.specs.Plan.{Plan, RestorePlan}
+use Rattle.esr_ops.specs.Inside.{plan_with, IsProgress}
+use Rattle.esr_ops.specs.Numbers.{entries_from}
 use Rattle.esr_progress.proofs.progress.Progress.with_lists.Goals as goal
 
 pub invariant_of-result : goal.invariant_of-result

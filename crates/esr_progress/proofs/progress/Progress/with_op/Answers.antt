@@ -1,5 +1,5 @@
 use Rattle.std.proofs.Common.{◌≡◌, ◌<◌, ◌^◌, ap, sym, ◌∙◌, arith}
-use Rattle.esr_progress.specs.Plan.{Plan}
+use Rattle.esr_ops.specs.Plan.{Plan}
 use Rattle.esr_progress.proofs.Added.{progress-push, plan-push}
 use Rattle.esr_progress.proofs.progress.Progress.with_op.Goals as goal
 

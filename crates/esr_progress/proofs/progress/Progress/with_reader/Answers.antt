@@ -1,7 +1,7 @@
 use Rattle.std.proofs.Common.{◌∙◌, ◌≡◌, ◌++◌, ◌∷◌, [], List, true, ap}
-use Rattle.esr_progress.specs.declared.unit.ReaderSeat.{ReaderSeat as CodeReader}
-use Rattle.esr_progress.specs.declared.unit.Slot.{Slot}
-use Rattle.esr_progress.specs.declared.unit.Slot.TheVariants as slots
+use Rattle.esr_ops.specs.declared.unit.ReaderSeat.{ReaderSeat as CodeReader}
+use Rattle.esr_ops.specs.declared.unit.Slot.{Slot}
+use Rattle.esr_ops.specs.declared.unit.Slot.TheVariants as slots
 use Rattle.esr_progress.proofs.Takes.{progress_read, plan_read}
 use Rattle.esr_progress.proofs.progress.Progress.with_reader.Goals as goal
 

@@ -1,6 +1,6 @@
 use Rattle.std.proofs.Common.{◌≡◌, ◌<◌, ◌^◌, ap, sym, ◌∙◌, arith}
-use Rattle.esr_progress.specs.Plan.{Plan}
-use Rattle.esr_progress.proofs.Restorables.{progress_opened, plan_opened}
+use Rattle.esr_ops.specs.Plan.{Plan}
+use Rattle.esr_progress.proofs.Added.{progress_opened, plan_opened}
 use Rattle.esr_progress.proofs.progress.Progress.with_restore.Goals as goal
 
 pub invariant_of-new : goal.invariant_of-new

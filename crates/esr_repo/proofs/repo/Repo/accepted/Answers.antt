@@ -2,8 +2,8 @@ use Rattle.std.proofs.Common.{ap, ◌∙◌, arith}
 use Rattle.esr_model.specs.Values.{ClusterRecord}
 use Rattle.esr_record.specs.Record.{Record}
 use Rattle.esr_formats.specs.Clusters.{cluster_of}
-use Rattle.esr_progress.specs.Asked.{asked_of}
-use Rattle.esr_progress.specs.Accepting.{IsRefused, name_asked}
+use Rattle.esr_ops.specs.Asked.{asked_of}
+use Rattle.esr_accept.specs.Accepting.{IsRefused, name_asked}
 use Rattle.esr_desk.specs.Start.{world_of}
 use Rattle.esr_repo.proofs.Stepping.{err_passed}
 use Rattle.esr_repo.proofs.Accepts.{asked_in, may_ask}

@@ -2,7 +2,7 @@ use Rattle.std.proofs.Common.{ap, ◌∙◌}
 use Rattle.esr_model.specs.Values.{ClusterRecord}
 use Rattle.esr_record.specs.Record.{Record}
 use Rattle.esr_formats.specs.Clusters.{cluster_of}
-use Rattle.esr_progress.specs.Accepting.{IsCleanupRefused}
+use Rattle.esr_accept.specs.Accepting.{IsCleanupRefused}
 use Rattle.esr_desk.specs.Start.{world_of}
 use Rattle.esr_repo.proofs.Stepping.{err_passed}
 use Rattle.esr_repo.proofs.AskedCleanups.{may_ask_cleanup}

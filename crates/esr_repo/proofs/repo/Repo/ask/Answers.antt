@@ -1,7 +1,7 @@
 use Rattle.std.proofs.Common.{IfSome, sym, subst}
 use Rattle.esr_core.specs.Entry.{AskStep}
-use Rattle.esr_progress.specs.declared.command.Command.{Command}
-use Rattle.esr_progress.specs.Asked.{asked_of}
+use Rattle.esr_ops.specs.declared.command.Command.{Command}
+use Rattle.esr_ops.specs.Asked.{asked_of}
 use Rattle.esr_desk.specs.Refusals.{refusal_of}
 use Rattle.esr_repo.specs.Asked.{entry_of}
 use Rattle.esr_repo.specs.May.{MayRefuse}

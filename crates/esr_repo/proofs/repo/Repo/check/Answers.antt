@@ -1,6 +1,6 @@
 use Rattle.std.proofs.Common.{◌≡◌, ℕ, List, Option, refl, sym, ◌∙◌}
 use Rattle.esr_core.specs.Entry.{Entry, Step, Refused, Moment}
-use Rattle.esr_progress.specs.Plan.{Plan}
+use Rattle.esr_ops.specs.Plan.{Plan}
 use Rattle.esr_desk.specs.Start.{Start}
 use Rattle.esr_desk.specs.Own.{own_of}
 use Rattle.esr_desk.specs.declared.refusal.EntryRefusal.{EntryRefusal}

@@ -1,5 +1,5 @@
 use Rattle.std.proofs.Common.{Ok, ap, ◌∙◌}
-use Rattle.esr_progress.specs.Plan.{seat_of_code}
+use Rattle.esr_ops.specs.Plan.{seat_of_code}
 use Rattle.esr_repo.proofs.Swapping.{info_there}
 use Rattle.esr_repo.proofs.repo.Repo.made_info.Goals as goal
 

@@ -4,7 +4,7 @@ use Rattle.esr_model.specs.Values.{ClusterRecord}
 use Rattle.esr_core.specs.Entry.{Moment}
 use Rattle.esr_record.specs.Record.{Record}
 use Rattle.esr_formats.specs.Clusters.{count_of, cluster_of}
-use Rattle.esr_progress.specs.Plan.{seat_of_code}
+use Rattle.esr_ops.specs.Plan.{seat_of_code}
 use Rattle.esr_desk.specs.Conditions.{CanRaise}
 use Rattle.esr_desk.specs.Refusals.{refusal_of}
 use Rattle.esr_desk.specs.Start.{ticket_of}

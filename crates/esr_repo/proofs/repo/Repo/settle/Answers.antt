@@ -1,7 +1,7 @@
 use Rattle.std.proofs.Common.{rules, List, sym, subst}
 use Rattle.esr_core.specs.Entry.{SettleStep, WasSettled, Moment}
 use Rattle.esr_formats.specs.Roots.{root_of}
-use Rattle.esr_progress.specs.Plan.{seat_of_code}
+use Rattle.esr_ops.specs.Plan.{seat_of_code}
 use Rattle.esr_desk.specs.Conditions.{IsUnpruned}
 use Rattle.esr_desk.specs.Start.{ticket_of}
 use Rattle.esr_repo.proofs.Stepping.{on_done, did_from}

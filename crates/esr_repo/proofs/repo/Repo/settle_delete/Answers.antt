@@ -1,7 +1,7 @@
 use Rattle.std.proofs.Common.{rules}
 use Rattle.esr_core.specs.Entry.{PruneStep, SettlePruned, WasSettled}
 use Rattle.esr_formats.specs.Roots.{root_of}
-use Rattle.esr_progress.specs.Plan.{seat_of_code}
+use Rattle.esr_ops.specs.Plan.{seat_of_code}
 use Rattle.esr_repo.proofs.Stepping.{on_done, did_from}
 use Rattle.esr_repo.proofs.DeleteTickets.{settled_ticket, settle_left}
 use Rattle.esr_repo.proofs.DeleteMays.{may_refuse_delete}

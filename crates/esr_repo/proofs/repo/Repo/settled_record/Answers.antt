@@ -1,6 +1,6 @@
 use Rattle.std.proofs.Common.{ap, ◌∙◌, rules}
 use Rattle.esr_formats.specs.Clusters.{cluster_of}
-use Rattle.esr_progress.specs.Plan.{seat_of_code}
+use Rattle.esr_ops.specs.Plan.{seat_of_code}
 use Rattle.esr_record.specs.Record.{Record, AreNumbers}
 use Rattle.std.proofs.Common.{subst, sym}
 use Rattle.esr_repo.proofs.Swapping.{raised_in, settled_ledger}

@@ -1,5 +1,5 @@
 use Rattle.std.proofs.Common.{subst}
-use Rattle.esr_progress.specs.Units.{NextUnit}
+use Rattle.esr_ops.specs.Units.{NextUnit}
 use Rattle.esr_desk.specs.Start.{world_of}
 use Rattle.esr_repo.proofs.Taken.{may_note_nothing}
 use Rattle.esr_core.specs.Entry.{TakeStep}

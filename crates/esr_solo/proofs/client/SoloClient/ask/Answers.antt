@@ -1,7 +1,7 @@
 use Rattle.std.proofs.Common.{refl}
 use Rattle.esr_solo.proofs.Stepping.{keeps, outcome, waited, spends}
 use Rattle.esr_core.specs.Entry.{AskStep}
-use Rattle.esr_progress.specs.Asked.{asked_of}
+use Rattle.esr_ops.specs.Asked.{asked_of}
 use Rattle.esr_solo.proofs.Calls.{calls_client}
 use Rattle.esr_solo.proofs.client.SoloClient.ask.Goals as goal
 

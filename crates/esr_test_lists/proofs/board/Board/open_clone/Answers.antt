@@ -7,8 +7,8 @@ use Rattle.esr_test_lists.proofs.board.Board.open_clone.Goals as goal
 pub is_past-requires : goal.is_past-requires
 is_past-requires c = c.self.invariant.low_term
 
-pub cloning-requires-clause-room : goal.cloning-requires-clause-room
-cloning-requires-clause-room c = few_ops c.self.inside.list.next_op (sym c.is_long.ensures ∙ c.if-is_long.false)
+pub open_clone-requires-clause-room : goal.open_clone-requires-clause-room
+open_clone-requires-clause-room c = few_ops c.self.inside.list.next_op (sym c.is_long.ensures ∙ c.if-is_long.false)
 
 pub invariant_of-self : goal.invariant_of-self
 invariant_of-self c =

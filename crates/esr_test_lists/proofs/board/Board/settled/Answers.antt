@@ -1,4 +1,4 @@
-use Rattle.esr_progress.specs.Plan.{seat_of_code, kind_of_code}
+use Rattle.esr_ops.specs.Plan.{seat_of_code, kind_of_code}
 use Rattle.esr_test_lists.proofs.Boards.{settling, of_finalize}
 use Rattle.esr_test_lists.proofs.board.Board.settled.Goals as goal
 

@@ -1,6 +1,6 @@
 use Rattle.std.proofs.Common.{w64, to_z, of_z, subst}
 use Rattle.esr_formats.specs.Clusters.{count_of}
-use Rattle.esr_progress.specs.Units.{NextUnit}
+use Rattle.esr_ops.specs.Units.{NextUnit}
 use Rattle.esr_test_lists.proofs.Boards.{fits, few_tickets, given_in, gave}
 use Rattle.esr_test_lists.proofs.board.Board.take.Goals as goal
 

@@ -1,0 +1,13 @@
+pub mod Firsts
+pub mod Begun
+pub mod Finds
+pub mod Drawn
+pub mod Accepts
+pub mod Cloned
+pub mod Restorables
+pub mod DeleteTickets
+pub mod NamedUuids
+pub mod DeletePlans
+pub mod DeleteRules
+pub mod Clonables
+pub mod Cleanups

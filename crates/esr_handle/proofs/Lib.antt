@@ -1,0 +1,6 @@
+pub mod Owned
+pub mod Turns
+mod Growing
+mod Conditions
+mod Showing
+mod Hands

@@ -1,0 +1,14 @@
+use Rattle.esr_core.specs.Entry.{CommitStep}
+use Rattle.esr_formats.specs.Names.{name_of}
+use Rattle.esr_desk.specs.Outcome.{commit_reply}
+use Rattle.esr_handle.proofs.Growing.{begins_after, mine_of_desk, calls_stay}
+use Rattle.esr_handle.proofs.desk.SittingDesk.commit.Goals as goal
+
+pub invariant_of-self : goal.invariant_of-self
+invariant_of-self g c = (c.self.invariant.0, begins_after g.Q.Desk.start g.B.Since.before (g.Q.Desk.seen c.self.inside.desk) (g.Q.Desk.seen c.commit.new.self) c.args.ticket c.self.invariant.1 (CommitStep (name_of c.args.name)) commit_reply c.commit.result c.commit.ensures.step, c.self.invariant.2)
+
+pub commit-requires-clause-mine : goal.commit-requires-clause-mine
+commit-requires-clause-mine g c = mine_of_desk (g.Q.Desk.seen c.self.inside.desk) c.args.self.now c.args.ticket (g.met.Q.Sole.all_calls c.self.inside.desk) c.self.view_is c.requires.mine
+
+pub returns-clause-calls : goal.returns-clause-calls
+returns-clause-calls g c = calls_stay (g.Q.Desk.seen c.self.inside.desk) c.args.self.now (g.Q.Desk.seen c.commit.new.self) (g.met.Q.Sole.all_calls c.self.inside.desk) c.self.view_is (g.met.Q.Sole.all_calls c.commit.new.self) c.commit.ensures.calls

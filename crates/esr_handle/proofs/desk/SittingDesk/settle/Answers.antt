@@ -1,0 +1,12 @@
+use Rattle.esr_core.specs.Entry.{SettleStep}
+use Rattle.esr_handle.proofs.Growing.{begins_after, mine_of_desk, calls_stay}
+use Rattle.esr_handle.proofs.desk.SittingDesk.settle.Goals as goal
+
+pub invariant_of-self : goal.invariant_of-self
+invariant_of-self g c = (c.self.invariant.0, begins_after g.Q.Desk.start g.B.Since.before (g.Q.Desk.seen c.self.inside.desk) (g.Q.Desk.seen c.settle.new.self) c.args.ticket c.self.invariant.1 SettleStep _ c.settle.result c.settle.ensures.step, c.self.invariant.2)
+
+pub settle-requires-clause-mine : goal.settle-requires-clause-mine
+settle-requires-clause-mine g c = mine_of_desk (g.Q.Desk.seen c.self.inside.desk) c.args.self.now c.args.ticket (g.met.Q.Sole.all_calls c.self.inside.desk) c.self.view_is c.requires.mine
+
+pub returns-clause-calls : goal.returns-clause-calls
+returns-clause-calls g c = calls_stay (g.Q.Desk.seen c.self.inside.desk) c.args.self.now (g.Q.Desk.seen c.settle.new.self) (g.met.Q.Sole.all_calls c.self.inside.desk) c.self.view_is (g.met.Q.Sole.all_calls c.settle.new.self) c.settle.ensures.calls

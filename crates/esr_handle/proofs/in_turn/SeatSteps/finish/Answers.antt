@@ -1,0 +1,34 @@
+use Rattle.std.proofs.Common.{◌≡◌, OnOk, OnErr, refl, sym, ◌∙◌}
+use Rattle.esr_core.specs.World.{Ticket}
+use Rattle.esr_core.specs.Entry.{FinishStep, HasEnded}
+use Rattle.esr_desk.specs.Taken.{HasEndedAs}
+use Rattle.esr_handle.proofs.Turns.{stays}
+use Rattle.esr_handle.proofs.Conditions.{finish_on, step_came, step_shown, step_calls, ticket_back}
+use Rattle.esr_handle.proofs.in_turn.SeatSteps.finish.Goals as goal
+
+pub returns-then-is_over-clause-step : goal.returns-then-is_over-clause-step
+returns-then-is_over-clause-step g c = (stays g.Q.Desk.start g.B.Since.before c.args.self.pass.seen c.args.ticket c.is_over.ensures.legal, tt)
+
+pub returns-then-left-eq0-clause-step : goal.returns-then-left-eq0-clause-step
+returns-then-left-eq0-clause-step g c = (stays g.Q.Desk.start g.B.Since.before c.args.self.pass.seen c.args.ticket c.is_over.ensures.legal, c.is_over.ensures.spent c.if-is_over.false (sym c.left.ensures ∙ c.if-left-eq0.true))
+
+pub finish-answer-requires-clause-mine : goal.finish-answer-requires-clause-mine
+finish-answer-requires-clause-mine g c = c.turn-lent.ensures.turned.taken c.args.ticket c.requires.mine
+
+pub finish-answer-requires-clause-may : goal.finish-answer-requires-clause-may
+finish-answer-requires-clause-may g c = finish_on c.turn-lent.ensures.turned c.args.ticket c.requires.mine c.requires.may
+
+pub home-requires : goal.home-requires
+home-requires g c = (c.turn-lent.ensures.lent, step_came c.turn-lent.ensures.turned c.args.ticket c.requires.mine c.finish-answer.new.self FinishStep (λ _. HasEnded) c.finish-answer.result c.is_told.result (λ x. refl) c.is_told.ensures c.finish-answer.ensures.step)
+
+pub returns-clause-step : goal.returns-clause-step
+returns-clause-step g c = step_shown c.turn-lent.ensures.turned c.args.ticket c.requires.mine c.home.ensures FinishStep (λ _. HasEnded) c.finish-answer.result c.finish-answer.ensures.step
+
+pub returns-clause-own : goal.returns-clause-own
+returns-clause-own g c = ticket_back c.turn-lent.ensures.turned c.args.ticket c.requires.mine c.home.ensures (λ (old new : Ticket). OnOk c.finish-answer.result (HasEndedAs old new)) c.finish-answer.ensures.own
+
+pub returns-clause-kept : goal.returns-clause-kept
+returns-clause-kept g c = ticket_back c.turn-lent.ensures.turned c.args.ticket c.requires.mine c.home.ensures (λ (old new : Ticket). OnErr c.finish-answer.result (new ≡ old)) c.finish-answer.ensures.kept
+
+pub returns-clause-calls : goal.returns-clause-calls
+returns-clause-calls g c = step_calls c.turn-lent.ensures.turned c.args.ticket c.requires.mine c.home.ensures FinishStep (λ _. HasEnded) c.finish-answer.result c.finish-answer.ensures.step

@@ -1,0 +1,34 @@
+use Rattle.std.proofs.Common.{◌≡◌, refl, sym, ◌∙◌}
+use Rattle.esr_core.specs.World.{Ticket}
+use Rattle.esr_core.specs.Entry.{LatestStep, WasReplaced}
+use Rattle.esr_desk.specs.Taken.{tried_by}
+use Rattle.esr_handle.proofs.Turns.{stays}
+use Rattle.esr_handle.proofs.Conditions.{put_on, fresh_on, step_came, step_shown, step_calls, ticket_back}
+use Rattle.esr_handle.proofs.in_turn.SeatSteps.latest.Goals as goal
+
+pub returns-then-is_over-clause-step : goal.returns-then-is_over-clause-step
+returns-then-is_over-clause-step g c = (stays g.Q.Desk.start g.B.Since.before c.args.self.pass.seen c.args.ticket c.is_over.ensures.legal, tt)
+
+pub returns-then-left-eq0-clause-step : goal.returns-then-left-eq0-clause-step
+returns-then-left-eq0-clause-step g c = (stays g.Q.Desk.start g.B.Since.before c.args.self.pass.seen c.args.ticket c.is_over.ensures.legal, c.is_over.ensures.spent c.if-is_over.false (sym c.left.ensures ∙ c.if-left-eq0.true))
+
+pub latest-answer-requires-clause-mine : goal.latest-answer-requires-clause-mine
+latest-answer-requires-clause-mine g c = c.turn-lent.ensures.turned.taken c.args.ticket c.requires.mine
+
+pub latest-answer-requires-clause-may : goal.latest-answer-requires-clause-may
+latest-answer-requires-clause-may g c = (c.requires.may.0, put_on c.turn-lent.ensures.turned c.args.ticket c.requires.mine c.requires.may.0 c.requires.may.1, c.requires.may.2)
+
+pub latest-answer-requires-clause-new : goal.latest-answer-requires-clause-new
+latest-answer-requires-clause-new g c = fresh_on c.turn-lent.ensures.turned c.args.ticket c.requires.mine LatestStep c.requires.new
+
+pub home-requires : goal.home-requires
+home-requires g c = (c.turn-lent.ensures.lent, step_came c.turn-lent.ensures.turned c.args.ticket c.requires.mine c.latest-answer.new.self LatestStep (λ _. WasReplaced) c.latest-answer.result c.is_told.result (λ x. refl) c.is_told.ensures c.latest-answer.ensures.step)
+
+pub returns-clause-step : goal.returns-clause-step
+returns-clause-step g c = step_shown c.turn-lent.ensures.turned c.args.ticket c.requires.mine c.home.ensures LatestStep (λ _. WasReplaced) c.latest-answer.result c.latest-answer.ensures.step
+
+pub returns-clause-own : goal.returns-clause-own
+returns-clause-own g c = ticket_back c.turn-lent.ensures.turned c.args.ticket c.requires.mine c.home.ensures (λ (old new : Ticket). new ≡ tried_by c.latest-answer.result old) c.latest-answer.ensures.own
+
+pub returns-clause-calls : goal.returns-clause-calls
+returns-clause-calls g c = step_calls c.turn-lent.ensures.turned c.args.ticket c.requires.mine c.home.ensures LatestStep (λ _. WasReplaced) c.latest-answer.result c.latest-answer.ensures.step

@@ -1,0 +1,309 @@
+//! The desk of one worker.
+ghost use Rattle.std.specs.Prelude.{◌≡◌, ◌+◌, ◌^◌, ◌≤◌, ◌++◌, length, false, IfErr, OnOk, OnErr};
+ghost use Rattle.esr_core.specs.Entry.{ReadStep, RestoredShard, HasEnded};
+ghost use Rattle.esr_desk.specs.Entries.{why_of};
+ghost use Rattle.esr_desk.specs.Own.{own_of, reader_of};
+ghost use Rattle.esr_desk.specs.Calls.{HasTaken, IsMine, called_by};
+ghost use Rattle.esr_desk.specs.Evidence.{evidence};
+ghost use Rattle.esr_desk.specs.Hands.{fail_step, MayFail, own_failed};
+ghost use Rattle.esr_desk.specs.Outcome.{Outcome};
+ghost use Rattle.esr_desk.specs.Restore.Conditions.{CanEndRestore};
+ghost use Rattle.esr_desk.specs.Restore.Targets.{IsFilled, refused_of};
+ghost use Rattle.esr_desk.specs.Shown.{IsShown};
+ghost use Rattle.esr_handle.specs.Owned.{calls_in};
+ghost use Rattle.esr_handle.specs.Turned.{shared, IsFit};
+
+use crate::seat::Seat;
+use crate::steps::{StepResult, Steps};
+use crate::{Share, Since, Sitting};
+use esr_depot::{Commit, Listing};
+use esr_desk::{By, Desk, Hand, Named, Planned, RestoredTarget, Sole, Unended, Unit, Why};
+use esr_names::{BlobName, Id, Ids};
+use esr_results::{PrunedShards, ShardResult};
+use esr_root::RootData;
+use esr_seq::Seq;
+use esr_turns::{Pass, TurnLock};
+use std::alloc::Global;
+use std::marker::Model;
+use std::sync::Wait;
+
+/// The desk of one worker, who steps in turns of the lock. After an answer that the history doesn't tell it takes no more turns.
+#[derive(Drop)]
+pub struct Handle<'a, Q: Sole, B: Since, W: Share, R> {
+    seat: Option<Seat<'a, Q, B, W, R>>,
+}
+
+impl<'a, Q: Sole, B: Since, W: Share, R> Model for Handle<'a, Q, B, W, R> {
+    ghost use Rattle.std.specs.Prelude.{◌≡◌, true, is_some};
+    ghost use Rattle.std.specs.Coded.{codes};
+    ghost use Rattle.esr_depot.specs.Image.{blobs_code};
+    ghost use Rattle.esr_handle.specs.Turned.{Seated, or_no_seat};
+
+    ghost Value = { Seated };
+
+    ghost coded = { Prim.hlevel (codes, blobs_code) };
+
+    ghost view = { λ h. or_no_seat h.seat };
+
+    ghost invariant = { λ h. is_some h.seat ≡ true };
+}
+
+impl<'a, Q: Sole, B: Since, W: Share, R> Handle<'a, Q, B, W, R> {
+    /// The desk of a worker whose pass has used no turn yet.
+    pub fn new(
+        lock: &'a TurnLock<Sitting<Q, B>>,
+        rt: &'a R,
+        pass: Pass<Sitting<Q, B>>,
+    ) -> Handle<'a, Q, B, W, R>
+        requires own { (pass.lock ≡ lock.now) × (lock.now ≡ W.lock) }
+        requires turns { (pass.left ≡ W.total) × (pass.used ≡ 0) }
+        requires much { 2 ^ 33 ≤ Q.start.earlier_turns + W.total }
+        requires fit { IsFit Q.start B.before pass }
+        ensures { result.pass ≡ pass }
+    {
+        Handle {
+            seat: Some(Seat::new(lock, rt, pass)),
+        }
+    }
+
+    /// Its pass.
+    pub fn into_pass(self) -> Pass<Sitting<Q, B>>
+        ensures pass { result ≡ self.entry.pass }
+        ensures own { result.lock ≡ W.lock }
+        ensures turns { result.left + result.used ≡ W.total }
+        ensures fit { IsFit Q.start B.before result }
+    {
+        let Handle { seat } = self;
+        let Some(seat) = seat else { unreachable!() };
+        seat.into_pass()
+    }
+}
+
+impl<'a, Q: Sole, B: Since, W: Share, R: Wait + Sync> Desk for Handle<'a, Q, B, W, R> {
+    type Stage = Q::Stage;
+
+    type Fetch = Q::Fetch;
+
+    type Shard = Q::Shard;
+
+    type Target = Q::Target;
+
+    ghost start = { shared Q.start };
+
+    ghost seen = { λ h. B.before ++ h.pass.seen };
+
+    ghost calls = { λ h. calls_in (length B.before) h.pass.seen h.pass.mine };
+
+    fn never_fails(&self) {
+        let Some(seat) = &self.seat else {
+            unreachable!()
+        };
+        let _is_over = seat.is_over;
+    }
+
+    fn take(&mut self, alloc: Global) -> StepResult<Option<Unit>> {
+        let seat = self.seat.take().unwrap();
+        let (seat, answer) = seat.take(alloc);
+        drop(self.seat.replace(seat));
+        answer
+    }
+
+    fn elect(&mut self, alloc: Global) -> StepResult<u64> {
+        let seat = self.seat.take().unwrap();
+        let (seat, answer) = seat.elect(alloc);
+        drop(self.seat.replace(seat));
+        answer
+    }
+
+    fn fetch(
+        &mut self,
+        alloc: Global,
+        hand: Hand,
+        who: u64,
+        name: BlobName,
+    ) -> StepResult<Option<Self::Fetch>> {
+        let seat = self.seat.take().unwrap();
+        let (seat, answer) = seat.fetch(alloc, hand, who, name);
+        drop(self.seat.replace(seat));
+        answer
+    }
+
+    fn fail(
+        &mut self,
+        alloc: Global,
+        hand: Hand,
+        who: u64,
+        why: Why,
+        by: By<Q::Stage, Q::Fetch, Q::Shard, Q::Target>,
+    ) -> StepResult<()>
+        requires mine { IsMine hand (calls_in (length B.before) self.old.pass.seen self.old.pass.mine) who }
+        requires may { MayFail hand (shared Q.start) (B.before ++ self.old.pass.seen) who }
+        requires shown { IsShown hand (evidence Q.Stage.faults Q.Fetch.faults Q.Shard.faults Q.Target.faults Q.Shard.told Q.Target.told)
+            (shared Q.start) (B.before ++ self.old.pass.seen) who (why_of why) by }
+        ensures step { Outcome (shared Q.start) (B.before ++ self.old.pass.seen) (B.before ++ self.new.pass.seen) who (fail_step hand (why_of why)) (λ _. HasEnded) result }
+        ensures own { OnOk result (own_of (shared Q.start) (B.before ++ self.new.pass.seen) who ≡ own_failed hand (own_of (shared Q.start) (B.before ++ self.old.pass.seen) who)) }
+        ensures kept { OnErr result (own_of (shared Q.start) (B.before ++ self.new.pass.seen) who ≡ own_of (shared Q.start) (B.before ++ self.old.pass.seen) who) }
+        ensures calls { calls_in (length B.before) self.new.pass.seen self.new.pass.mine
+            ≡ called_by hand (B.before ++ self.new.pass.seen) (fail_step hand (why_of why)) (λ _. HasEnded) result (calls_in (length B.before) self.old.pass.seen self.old.pass.mine) }
+    {
+        let seat = self.seat.take().unwrap();
+        let (seat, answer) = seat.fail(alloc, hand, who, why, by);
+        drop(self.seat.replace(seat));
+        answer
+    }
+
+    fn draw(&mut self, alloc: Global, ticket: u64, count: u64) -> StepResult<Id> {
+        let seat = self.seat.take().unwrap();
+        let (seat, answer) = seat.draw(alloc, ticket, count);
+        drop(self.seat.replace(seat));
+        answer
+    }
+
+    fn begin(
+        &mut self,
+        alloc: Global,
+        ticket: u64,
+        name: BlobName,
+        room: usize,
+    ) -> StepResult<Named<Self::Stage>> {
+        let seat = self.seat.take().unwrap();
+        let (seat, answer) = seat.begin(alloc, ticket, name, room);
+        drop(self.seat.replace(seat));
+        answer
+    }
+
+    fn commit(
+        &mut self,
+        alloc: Global,
+        ticket: u64,
+        name: BlobName,
+        stage: Self::Stage,
+    ) -> StepResult<Commit> {
+        let seat = self.seat.take().unwrap();
+        let (seat, answer) = seat.commit(alloc, ticket, name, stage);
+        drop(self.seat.replace(seat));
+        answer
+    }
+
+    fn latest(
+        &mut self,
+        alloc: Global,
+        ticket: u64,
+        name: BlobName,
+        stage: Self::Stage,
+    ) -> StepResult<()> {
+        let seat = self.seat.take().unwrap();
+        let (seat, answer) = seat.latest(alloc, ticket, name, stage);
+        drop(self.seat.replace(seat));
+        answer
+    }
+
+    fn raise(&mut self, alloc: Global, ticket: u64) -> StepResult<u64> {
+        let seat = self.seat.take().unwrap();
+        let (seat, answer) = seat.raise(alloc, ticket);
+        drop(self.seat.replace(seat));
+        answer
+    }
+
+    fn settle(&mut self, alloc: Global, ticket: u64, root: &RootData) -> StepResult<()> {
+        let seat = self.seat.take().unwrap();
+        let (seat, answer) = seat.settle(alloc, ticket, root);
+        drop(self.seat.replace(seat));
+        answer
+    }
+
+    fn plan(
+        &mut self,
+        alloc: Global,
+        ticket: u64,
+        root: &RootData,
+        uuids: &Ids,
+        shards: &PrunedShards,
+    ) -> StepResult<Planned> {
+        let seat = self.seat.take().unwrap();
+        let (seat, answer) = seat.plan(alloc, ticket, root, uuids, shards);
+        drop(self.seat.replace(seat));
+        answer
+    }
+
+    fn list(&mut self, alloc: Global, ticket: u64, after: Option<&str>) -> StepResult<Listing> {
+        let seat = self.seat.take().unwrap();
+        let (seat, answer) = seat.list(alloc, ticket, after);
+        drop(self.seat.replace(seat));
+        answer
+    }
+
+    fn settle_delete(&mut self, alloc: Global, ticket: u64, root: &RootData) -> StepResult<()> {
+        let seat = self.seat.take().unwrap();
+        let (seat, answer) = seat.settle_delete(alloc, ticket, root);
+        drop(self.seat.replace(seat));
+        answer
+    }
+
+    fn remove(&mut self, alloc: Global, ticket: u64, names: &Seq<BlobName>) -> StepResult<()> {
+        let seat = self.seat.take().unwrap();
+        let (seat, answer) = seat.remove(alloc, ticket, names);
+        drop(self.seat.replace(seat));
+        answer
+    }
+
+    fn end_shard(&mut self, alloc: Global, ticket: u64, outcome: &ShardResult) -> StepResult<()> {
+        let seat = self.seat.take().unwrap();
+        let (seat, answer) = seat.end_shard(alloc, ticket, outcome);
+        drop(self.seat.replace(seat));
+        answer
+    }
+
+    fn end_restore(
+        &mut self,
+        alloc: Global,
+        ticket: u64,
+        files: u64,
+        bytes: u64,
+        target: RestoredTarget<Q::Target>,
+    ) -> Result<(), Unended<Q::Target>>
+        requires mine { HasTaken (calls_in (length B.before) self.old.pass.seen self.old.pass.mine) ticket }
+        requires may { CanEndRestore (shared Q.start) (reader_of (shared Q.start) (B.before ++ self.old.pass.seen) ticket) files bytes }
+        requires filled { IsFilled (evidence Q.Stage.faults Q.Fetch.faults Q.Shard.faults Q.Target.faults Q.Shard.told Q.Target.told)
+            (shared Q.start) (reader_of (shared Q.start) (B.before ++ self.old.pass.seen) ticket) files bytes target }
+        ensures step { Outcome (shared Q.start) (B.before ++ self.old.pass.seen) (B.before ++ self.new.pass.seen) ticket (ReadStep (RestoredShard files bytes)) (λ _. HasEnded) (refused_of result) }
+        ensures own { OnOk result (reader_of (shared Q.start) (B.before ++ self.new.pass.seen) ticket
+            ≡ record (reader_of (shared Q.start) (B.before ++ self.old.pass.seen) ticket) { out = false }) }
+        ensures kept { OnErr result (reader_of (shared Q.start) (B.before ++ self.new.pass.seen) ticket ≡ reader_of (shared Q.start) (B.before ++ self.old.pass.seen) ticket) }
+        ensures target { IfErr result (λ u. u.target ≡ target) }
+        ensures calls { calls_in (length B.before) self.new.pass.seen self.new.pass.mine ≡ calls_in (length B.before) self.old.pass.seen self.old.pass.mine }
+    {
+        let seat = self.seat.take().unwrap();
+        let (seat, answer) = seat.end_restore(alloc, ticket, files, bytes, target);
+        drop(self.seat.replace(seat));
+        answer
+    }
+
+    fn end_delete(&mut self, alloc: Global, ticket: u64) -> StepResult<()> {
+        let seat = self.seat.take().unwrap();
+        let (seat, answer) = seat.end_delete(alloc, ticket);
+        drop(self.seat.replace(seat));
+        answer
+    }
+
+    fn end_drop(&mut self, alloc: Global, ticket: u64) -> StepResult<()> {
+        let seat = self.seat.take().unwrap();
+        let (seat, answer) = seat.end_drop(alloc, ticket);
+        drop(self.seat.replace(seat));
+        answer
+    }
+
+    fn end_cleanup(&mut self, alloc: Global, ticket: u64) -> StepResult<()> {
+        let seat = self.seat.take().unwrap();
+        let (seat, answer) = seat.end_cleanup(alloc, ticket);
+        drop(self.seat.replace(seat));
+        answer
+    }
+
+    fn finish(&mut self, alloc: Global, ticket: u64) -> StepResult<()> {
+        let seat = self.seat.take().unwrap();
+        let (seat, answer) = seat.finish(alloc, ticket);
+        drop(self.seat.replace(seat));
+        answer
+    }
+}

@@ -1,0 +1,7 @@
+pub mod Searches
+pub mod Results
+pub mod Lists
+pub mod OpenOps
+pub mod OpenRestores
+pub mod Between
+pub mod NamedUuids

@@ -1,0 +1,15 @@
+pub mod Asked
+pub mod Plan
+pub mod Shards
+pub mod Ops
+pub mod Deletes
+pub mod Restores
+pub mod Seats
+pub mod Inside
+pub mod Units
+pub mod Lists
+pub mod Tests
+pub mod Between
+pub mod Entries
+pub mod Most
+pub mod Numbers

@@ -1,7 +1,0 @@
-use Rattle.std.proofs.Common.{◌≡◌, drop}
-use Rattle.esr_progress.specs.Asking.{op_uuid}
-use Rattle.esr_progress.proofs.accept.op_uuid.Given as goal
-
--- the search goes on with what is left
-abbrev pub invariant-loop-op : goal.invariant-loop-op
-invariant-loop-op l = op_uuid l.ops l.name ≡ op_uuid (drop l.op-index l.ops) l.name

@@ -1,7 +1,0 @@
-use Rattle.std.proofs.Common.{◌≡◌, drop}
-use Rattle.esr_progress.specs.Asking.{open_cleanup}
-use Rattle.esr_progress.proofs.accept.open_cleanup.Given as goal
-
--- the search goes on with what is left
-abbrev pub invariant-loop-delete : goal.invariant-loop-delete
-invariant-loop-delete l = open_cleanup l.deletes ≡ open_cleanup (drop l.delete-index l.deletes)

@@ -1,8 +1,0 @@
-use Rattle.std.proofs.Common.{◌≡◌, drop, map}
-use Rattle.esr_formats.specs.Roots.{root_snap_of}
-use Rattle.esr_progress.specs.Asking.{snap_uuid}
-use Rattle.esr_progress.proofs.accept.snap_uuid.Given as goal
-
--- the search goes on with what is left
-abbrev pub invariant-loop-snap : goal.invariant-loop-snap
-invariant-loop-snap l = snap_uuid (map root_snap_of l.snaps) l.name ≡ snap_uuid (map root_snap_of (drop l.snap-index l.snaps)) l.name

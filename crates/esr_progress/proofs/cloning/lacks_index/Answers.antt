@@ -1,7 +1,0 @@
-use Rattle.std.proofs.Common.{sym, ap, ◌∙◌}
-use Rattle.std.specs.Prelude.{not}
-use Rattle.esr_progress.proofs.Clonables.{index-any}
-use Rattle.esr_progress.proofs.cloning.lacks_index.Goals as goal
-
-pub returns : goal.returns
-returns c = ap not (c.has_index.ensures ∙ sym (index-any c.args.indices.now c.args.uuid.number c.args.name.now))

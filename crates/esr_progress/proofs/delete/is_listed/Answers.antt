@@ -1,6 +1,0 @@
-use Rattle.std.proofs.Common.{sym, ◌∙◌}
-use Rattle.esr_progress.proofs.NamedUuids.{listed-any}
-use Rattle.esr_progress.proofs.delete.is_listed.Goals as goal
-
-pub returns : goal.returns
-returns c = c.stand_with.ensures ∙ sym (listed-any c.args.snaps.now c.args.uuid.number)

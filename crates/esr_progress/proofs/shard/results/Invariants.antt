@@ -1,7 +1,0 @@
-use Rattle.std.proofs.Common.{◌≡◌, take}
-use Rattle.std.specs.List.{filter_map}
-use Rattle.esr_progress.specs.Shards.{result_in}
-use Rattle.esr_progress.proofs.shard.results.Given as goal
-
-abbrev pub invariant-loop-open : goal.invariant-loop-open
-invariant-loop-open l = l.results ≡ filter_map (λ s. result_in s.state) (take l.open-index l.shards)

@@ -1,6 +1,0 @@
-use Rattle.esr_core.specs.Entry.{RaiseStep}
-use Rattle.esr_shared.proofs.Growing.{begins_after}
-use Rattle.esr_shared.proofs.desk.SittingDesk.raise.Goals as goal
-
-pub invariant_of-self : goal.invariant_of-self
-invariant_of-self g c = (c.self.invariant.0, begins_after g.K.Told.start g.B.Since.before c.self.inside.desk c.raise.new.self c.args.ticket c.self.invariant.1 RaiseStep _ c.raise.result c.raise.ensures.step, c.self.invariant.2)

@@ -1,9 +1,0 @@
-use Rattle.esr_shared.proofs.Growing.{begins_itself, counted_then}
-use Rattle.esr_shared.proofs.sitting.Sitting.new.Goals as goal
-
-pub invariant_of-result : goal.invariant_of-result
-invariant_of-result g c = (
-  counted_then g.B.Since.before c.args.desk c.left-base.result 1099511627776 c.requires.before c.left-base.ensures,
-  begins_itself g.B.Since.before c.args.desk c.requires.before,
-  c.requires.alone,
-)
