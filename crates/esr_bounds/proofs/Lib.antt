@@ -1,0 +1,14 @@
+pub mod Few
+pub mod Maps
+pub mod Once
+pub mod Names
+pub mod OwnSteps
+pub mod Bounded
+pub mod Works
+pub mod Given
+pub mod GivenReads
+pub mod Masters
+pub mod Counting
+pub mod Items
+pub mod Totals
+pub mod Clients

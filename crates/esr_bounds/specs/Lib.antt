@@ -1,0 +1,5 @@
+pub mod Keys
+pub mod Most
+pub mod Units
+pub mod Work
+pub mod Clients
