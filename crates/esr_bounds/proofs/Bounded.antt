@@ -175,7 +175,8 @@ few_keys f size t =
     (subst (λ n. n ≤ 2) (sym (length-map (fetch_names t t.work) FetchKey)) (few_fetched t t.work)) (length (names_of f size t)) (length-map (names_of f size t) BeginKey) (length-map (names_of f size t) CommitKey)
 
 -- so many steps the ticket of no delete has made at most
-pub few_made : (f : Formats) (size : ℕ) (w : World) → Kept w → Bounded f size w → (k : ℕ) (t : Ticket) → 1 ≤ k → fin.get w.tickets k ≡ Some t → (IsDelete t.work → ⊥) → length (entries_by w.entries k) ≤ 12 + 2 * length (names_of f size t)
+pub few_made : (f : Formats) (size : ℕ) (w : World) → Kept w → Bounded f size w → (k : ℕ) (t : Ticket) → 1 ≤ k → fin.get w.tickets k ≡ Some t → (IsDelete t.work → ⊥)
+    → length (entries_by w.entries k) ≤ 12 + 2 * length (names_of f size t)
 few_made f size w kept bounded k t some there no_delete =
     both (length (entries_by w.entries k)) (length (keys (entries_by w.entries k))) (length (keys_of f size t)) (12 + 2 * length (names_of f size t)) (length_keys (entries_by w.entries k))
     (few_once (keys (entries_by w.entries k)) (keys_of f size t) (kept.once k some) (λ x h. own x (bounded.listed k t x some there h)))

@@ -149,7 +149,8 @@ module _ (f : Formats) (size : ℕ) (w : World) (tracked : Tracked w) where
       no_shard : Deleting [] None ≡ Shard index number → ⊥
       no_shard e = cc
 
-  take_by : (who : ℕ) (reply : Reply) (image : Option Image) → Allows f size w who TakeStep reply image → (v : Ticket) (index number : ℕ) → fin.get (answered f w who TakeStep reply image).tickets w.next_ticket ≡ Some v → v.work ≡ Shard index number
+  take_by : (who : ℕ) (reply : Reply) (image : Option Image) → Allows f size w who TakeStep reply image → (v : Ticket) (index number : ℕ) → fin.get (answered f w who TakeStep reply image).tickets w.next_ticket ≡ Some v
+      → v.work ≡ Shard index number
       → FreshShard w (answered f w who TakeStep reply image).ops v
   take_by who reply image (allowed.GivingNothing im none same) v index number now is = absurd (none_next f w tracked v now)
   take_by who reply image (allowed.Giving k o unit im number_is lowest g same) v index number now is = unit_by o unit g v index number now is
@@ -274,7 +275,8 @@ module _ (f : Formats) (size : ℕ) (change : (w : World) (who : ℕ) (step : St
         fresh_at : (k : ℕ) (v : Ticket) (index number : ℕ) → k ≡ w.next_ticket → fin.get (after f w m).tickets k ≡ Some v → v.work ≡ Shard index number → FreshShard w (after f w m).ops v
         fresh_at k v index number at there is = fresh_shard v index number (subst (λ (n : ℕ). fin.get (after f w m).tickets n ≡ Some v) at there) is
 
-        one_now : (j k : ℕ) (t u : Ticket) (index number : ℕ) → fin.get (after f w m).tickets j ≡ Some t → fin.get (after f w m).tickets k ≡ Some u → t.work ≡ Shard index number → u.work ≡ Shard index number → t.op ≡ u.op → j ≡ k
+        one_now : (j k : ℕ) (t u : Ticket) (index number : ℕ) → fin.get (after f w m).tickets j ≡ Some t → fin.get (after f w m).tickets k ≡ Some u → t.work ≡ Shard index number → u.work ≡ Shard index number
+            → t.op ≡ u.op → j ≡ k
         one_now j k t u index number at_j at_k is also one = elim ((frame w m).come j t at_j) [
           | inl a ↦ elim ((frame w m).come k u at_k) [
             | inl b ↦ h.one j k a.0 b.0 index number a.1 b.1 (same_work a.0 t index number a.2 is) (same_work b.0 u index number b.2 also) (sym a.2.op ∙ one ∙ b.2.op)

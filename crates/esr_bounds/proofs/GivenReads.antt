@@ -251,7 +251,8 @@ module _ (f : Formats) (size : ℕ) (change : (w : World) (who : ℕ) (step : St
     read_once : ReadOnce (after f w m)
     read_once = record { begun = begun_now; past = past_now; one = one_now }
 
-  pub reads_once : ((w : World) (m : Moment) → Tracked w → Allowed f size w m → Tracked (after f w m)) → ((w : World) (m : Moment) → Tracked w → ReadTracked w → Allowed f size w m → ReadTracked (after f w m)) → (w : World) (log : List Moment) → Tracked w → ReadTracked w → ReadOnce w → IsLegal f size w log → ReadOnce (world_from f w log)
+  pub reads_once : ((w : World) (m : Moment) → Tracked w → Allowed f size w m → Tracked (after f w m)) → ((w : World) (m : Moment) → Tracked w → ReadTracked w → Allowed f size w m → ReadTracked (after f w m))
+      → (w : World) (log : List Moment) → Tracked w → ReadTracked w → ReadOnce w → IsLegal f size w log → ReadOnce (world_from f w log)
   reads_once tracks keeps w [] tracked reads h legal = h
   reads_once tracks keeps w (m ∷ log) tracked reads h legal = reads_once tracks keeps (after f w m) log (tracks w m tracked legal.0) (keeps w m tracked reads legal.0) (read_once w m reads legal.0 h) legal.1
 

@@ -73,7 +73,8 @@ same_ticket_item t v index number same =
     ∙ ap (λ (x : Option ℕ). record { op = t.op; index = index; number = number; place = t.place; name = t.name; source = x }) same.source
 
 -- of the shard that was given
-given_item : (v : Ticket) (op : Op) (s : ShardWork) (index number : ℕ) → s.ref.id ≡ index → s.number ≡ number → v.place ≡ s.place → v.name ≡ s.ref.name → v.source ≡ op.source → item_of v.op op.source s ≡ ticket_item v index number
+given_item : (v : Ticket) (op : Op) (s : ShardWork) (index number : ℕ) → s.ref.id ≡ index → s.number ≡ number → v.place ≡ s.place → v.name ≡ s.ref.name → v.source ≡ op.source
+    → item_of v.op op.source s ≡ ticket_item v index number
 given_item v op s index number id n place name source =
     ap (λ (x : ℕ). record { op = v.op; index = x; number = s.number; place = s.place; name = s.ref.name; source = op.source }) id
     ∙ ap (λ (x : ℕ). record { op = v.op; index = index; number = x; place = s.place; name = s.ref.name; source = op.source }) n
@@ -144,7 +145,8 @@ module _ (f : Formats) (size : ℕ) (laws : MasterLaws f size) where
           (all.shards v.op fresh.op fresh.s fresh.there fresh.s_there)
     ])
 
-    finals_now : (k : ℕ) (v : Ticket) (info : SnapInfo) (results : List ShardResult) (made : Command) → fin.get (after f w m).tickets k ≡ Some v → v.work ≡ Finalize info results made → Has (counts ++ more_counts) (v.op, length info.indices)
+    finals_now : (k : ℕ) (v : Ticket) (info : SnapInfo) (results : List ShardResult) (made : Command) → fin.get (after f w m).tickets k ≡ Some v → v.work ≡ Finalize info results made
+        → Has (counts ++ more_counts) (v.op, length info.indices)
     finals_now k v info results made there is = in_front counts more_counts (v.op, length info.indices) (elim ((laws.frame w m).come k v there) [
       | inl old ↦ subst (λ (o : ℕ). Has counts (o, length info.indices)) (sym old.2.op) (all.finals k old.0 info results made old.1 (same_final old.0 v info results made old.2 is))
       | inr new ↦
@@ -155,7 +157,8 @@ module _ (f : Formats) (size : ℕ) (laws : MasterLaws f size) where
     in_now : AllIn (items ++ more) (counts ++ more_counts) (after f w m)
     in_now = record { shards = shards_now; ops = ops_now; tickets = tickets_now; finals = finals_now }
 
-  in_from : (w : World) (log : List Moment) (items : List Item) (counts : List (ℕ × ℕ)) → Tracked w → ReadTracked w → MastersOnce w → IsLegal f size w log → AllIn items counts w → AllIn (items ++ all_items f w log) (counts ++ all_counts f w log) (world_from f w log)
+  in_from : (w : World) (log : List Moment) (items : List Item) (counts : List (ℕ × ℕ)) → Tracked w → ReadTracked w → MastersOnce w → IsLegal f size w log → AllIn items counts w
+      → AllIn (items ++ all_items f w log) (counts ++ all_counts f w log) (world_from f w log)
   in_from w [] items counts tracked reads once legal all =
       subst (λ (l : List Item). AllIn l (counts ++ []) w) (sym (append-nil items)) (subst (λ (l : List (ℕ × ℕ)). AllIn items l w) (sym (append-nil counts)) all)
   in_from w (m ∷ log) items counts tracked reads once legal all =

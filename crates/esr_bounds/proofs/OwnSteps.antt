@@ -227,7 +227,8 @@ module _ (f : Formats) (size : ℕ) (known : (place name : Bytes) (number : ℕ)
     removes [] delete = single NoneKey (inr (inr (inr (inr (inr (inr (inr (inl refl))))))))
     removes (name ∷ names) delete = inr (tt, delete)
 
-  pruning_step : (k : ℕ) (t : Ticket) (there : fin.get w.tickets k ≡ Some t) (prune : Prune) (reply : Reply) (image : Option Image) → PruneAllows f w k prune reply image → OwnStep k t there (PruneStep prune) (answered f w k (PruneStep prune) reply image)
+  pruning_step : (k : ℕ) (t : Ticket) (there : fin.get w.tickets k ≡ Some t) (prune : Prune) (reply : Reply) (image : Option Image) → PruneAllows f w k prune reply image
+      → OwnStep k t there (PruneStep prune) (answered f w k (PruneStep prune) reply image)
   pruning_step k t there prune reply image (allowed.FetchingShard j name im g found) = (fetch_onward k t there name (told_blob f im name), inr (tt, of_delete k t there g.t g.uuids None g.deleting.out g.deleting.work))
   pruning_step k t there prune reply image (allowed.ShardMissing j name im g gone) = (as_before k t there, inr (tt, of_delete k t there g.t g.uuids None g.deleting.out g.deleting.work))
   pruning_step k t there prune reply image (allowed.FetchShardFails j name im g same) = (as_before k t there, inr (tt, of_delete k t there g.t g.uuids None g.deleting.out g.deleting.work))

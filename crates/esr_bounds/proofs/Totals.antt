@@ -543,7 +543,8 @@ module _ (f : Formats) (size : ℕ) (steps : StepLaws f size) where
   plus_one : (a b : ℕ) → suc a ≤ b → 1 + a ≤ b
   plus_one a b h = let less : suc a ≤ b = h in omega (arith, less)
 
-  gave_next : (gave : (w : World) (m : Moment) (k o : ℕ) (unit : Given) → Allowed f size w m → m.entry.reply ≡ Gave k o unit → TakeGave f w m.entry.who m.entry.step k o unit) → (w : World) (m : Moment) → Allowed f size w m → gave_by m.entry.reply + w.next_ticket ≤ (after f w m).next_ticket
+  gave_next : (gave : (w : World) (m : Moment) (k o : ℕ) (unit : Given) → Allowed f size w m → m.entry.reply ≡ Gave k o unit → TakeGave f w m.entry.who m.entry.step k o unit) → (w : World) (m : Moment)
+      → Allowed f size w m → gave_by m.entry.reply + w.next_ticket ≤ (after f w m).next_ticket
   gave_next gave w m a = by m.entry.reply refl
     where
       rises : 0 + w.next_ticket ≤ (after f w m).next_ticket
@@ -556,7 +557,8 @@ module _ (f : Formats) (size : ℕ) (steps : StepLaws f size) where
           (subst (λ (step : Step). 1 + w.next_ticket ≤ (answered f w m.entry.who step (Gave k o unit) m.image).next_ticket) (sym take.step_is) (plus_one w.next_ticket (taken_by f w o unit (fin.get w.ops o)).next_ticket (unit_next w o unit take.gives)))
       by reply is = rises
 
-  gave_few : ((w : World) (m : Moment) (k o : ℕ) (unit : Given) → Allowed f size w m → m.entry.reply ≡ Gave k o unit → TakeGave f w m.entry.who m.entry.step k o unit) → (w : World) (log : List Moment) → IsLegal f size w log → gave_in log + w.next_ticket ≤ (world_from f w log).next_ticket
+  gave_few : ((w : World) (m : Moment) (k o : ℕ) (unit : Given) → Allowed f size w m → m.entry.reply ≡ Gave k o unit → TakeGave f w m.entry.who m.entry.step k o unit) → (w : World) (log : List Moment)
+      → IsLegal f size w log → gave_in log + w.next_ticket ≤ (world_from f w log).next_ticket
   gave_few gave w [] legal = let same : 0 + w.next_ticket ≤ w.next_ticket = omega arith in same
   gave_few gave w (m ∷ log) legal =
       let first : gave_by m.entry.reply + w.next_ticket ≤ (after f w m).next_ticket = gave_next gave w m legal.0 in
@@ -668,7 +670,8 @@ module _ (f : Formats) (size : ℕ) (known : AllKnown f) (steps : StepLaws f siz
       below_last : (a b c : ℕ) → a + b ≤ c → a ≤ c
       below_last a b c p = let most : a + b ≤ c = p in omega (arith, most)
 
-      add_up : (l nobody made a b c others items counts kept asks work idle given next units : ℕ) → l ≤ nobody + made → units ≤ a + (b + (c + others)) → a ≤ items → b ≤ counts → c ≤ kept + asks → items + (counts + asks) ≡ work → nobody ≤ idle + given → given ≤ next → units ≡ made + next
+      add_up : (l nobody made a b c others items counts kept asks work idle given next units : ℕ) → l ≤ nobody + made → units ≤ a + (b + (c + others)) → a ≤ items → b ≤ counts → c ≤ kept + asks
+          → items + (counts + asks) ≡ work → nobody ≤ idle + given → given ≤ next → units ≡ made + next
           → l ≤ idle + ((work + kept) + others)
       add_up l nobody made a b c others items counts kept asks work idle given next units one two p q r e i g u =
           let all_of : l ≤ nobody + made = one in

@@ -162,7 +162,8 @@ ended_on : (k : ℕ) (new : ReadState) (shards : List RestoreShard) → (new ≡
 ended_on k new shards later = each_read (ended k new) (λ s. ended_read k new s s.state later) shards
 
 -- a restore that is put or leaves
-put_was : (restores : FinMap nat_cmp Restoring) (o : ℕ) (r : Restoring) (p : ℕ) (v : Restoring) (b : Bool) → fin.get (if b then fin.insert restores o r else fin.remove restores o) p ≡ Some v → ((p ≡ o) × (r ≡ v)) ⊎ (fin.get restores p ≡ Some v)
+put_was : (restores : FinMap nat_cmp Restoring) (o : ℕ) (r : Restoring) (p : ℕ) (v : Restoring) (b : Bool) → fin.get (if b then fin.insert restores o r else fin.remove restores o) p ≡ Some v
+    → ((p ≡ o) × (r ≡ v)) ⊎ (fin.get restores p ≡ Some v)
 put_was restores o r p v true e = elim (get_was restores o r p v e) [ inl h ↦ inl h | inr h ↦ inr h.1 ]
 put_was restores o r p v false e = inr (get_left restores o p v e).1
 
@@ -230,7 +231,8 @@ module _ (w : World) (step : Step) where
     | inr other ↦ inr (was_same w p x other.1)
   ]
 
-  ops_asked : (v : Op) → v.indices ≡ asked_indices w step → v.source ≡ asked_source step → v.shards ≡ asked_shards w step → asked_counts w step ≡ (w.next_op, length (asked_indices w step)) ∷ [] → OpsOn w step (fin.insert w.ops w.next_op v)
+  ops_asked : (v : Op) → v.indices ≡ asked_indices w step → v.source ≡ asked_source step → v.shards ≡ asked_shards w step → asked_counts w step ≡ (w.next_op, length (asked_indices w step)) ∷ []
+      → OpsOn w step (fin.insert w.ops w.next_op v)
   ops_asked v indices source shards counted p x e = elim (get_was w.ops w.next_op v p x e) [
     | inl here ↦ inl (record { number = here.0; indices = ap (λ (y : Op). y.indices) (sym here.1) ∙ indices; source = ap (λ (y : Op). y.source) (sym here.1) ∙ source; shards = ap (λ (y : Op). y.shards) (sym here.1) ∙ shards; counted = counted })
     | inr other ↦ inr (was_same w p x other.1)
