@@ -1,5 +1,5 @@
 -- What stands against a cleanup, and the list with one more, in a world of which the list tells.
-use Rattle.std.proofs.Common.{◌≡◌, ℕ, suc, ◌+◌, ◌<◌, ◌^◌, List, [], ◌∷◌, ◌++◌, Option, Some, None, map, refl, sym, ap, ◌∙◌, subst, inl, inr, add-one, arith, nat_cmp}
+use Rattle.std.proofs.Common.{◌≡◌, ℕ, ◌+◌, ◌<◌, ◌^◌, List, [], ◌∷◌, ◌++◌, Option, Some, None, map, refl, sym, ap, ◌∙◌, subst, inl, inr, arith, nat_cmp}
 use Rattle.std.specs.FinMap as fin
 use Rattle.esr_core.specs.World.{World, Op, Deletion}
 use Rattle.esr_core.specs.Ready.{IsOpen}
@@ -14,13 +14,13 @@ use Rattle.esr_progress.specs.Choice.{first_number, lower_of}
 use Rattle.esr_accept.specs.Asking.{open_cleanup, cleanup_refusal}
 use Rattle.esr_accept.specs.AskedDeletes.{aborted_by}
 use Rattle.esr_accept.specs.Accepting.{IsCleanupRuledOn}
-use Rattle.esr_ops.specs.Entries.{find-member, from_push}
+use Rattle.esr_ops.specs.Entries.{find-member}
 use Rattle.esr_ops.specs.Lists.{Has-map}
 use Rattle.esr_progress.specs.Lookups.{got_op as law-got_op, got_delete as law-got_delete}
 use Rattle.esr_progress.specs.Lowest.{lowest_of}
-use Rattle.esr_ops.specs.Numbers.{found_member, found_below}
+use Rattle.esr_ops.specs.Numbers.{found_member}
 use Rattle.esr_accept.proofs.Accepts.{IsListed, listed, cleanup_there, no_cleanup}
-use Rattle.esr_accept.proofs.DeletePlans.{opened_keeps}
+use Rattle.esr_accept.proofs.DeletePlans.{opened_keeps, one_opened}
 
 -- of numbers that rise the first is the lowest
 number_lowest : {A : Type 0} (f : ℕ → Option A) (es : List (ℕ × A)) → Rise (numbers_of es) → ((q : ℕ) → f q ≡ fin.find nat_cmp q es) → IsLowest (λ n. (x : A) × (f n ≡ Some x)) (first_number es)
@@ -77,17 +77,5 @@ module _ (ops : List (ℕ × Op)) (deletes : List (ℕ × Deletion)) (completed 
     pub cleanup_is : (new_ops : List (ℕ × Op)) → new_ops ≡ ops → (new_deletes : List (ℕ × Deletion)) → new_deletes ≡ deletes ++ (next, cleanup_begun) ∷ []
         → (new : Plan) → new ≡ record now { ops = fin.from_entries new_ops; deletes = fin.from_entries new_deletes; next_op = next + 1 } → IsPlanOf (cleanup_opened w) new
     cleanup_is new_ops ops_are new_deletes deletes_are new new_is =
-        let deletes_in : fin.from_entries {R = nat_cmp} deletes ≡ w.deletes = ap (λ (p : Plan). p.deletes) view ∙ is.deletes in
-        let next_is : next ≡ w.next_op = ap (λ (p : Plan). p.next_op) view ∙ is.next_op in
-        subst (IsPlanOf (cleanup_opened w)) (sym new_is) (record {
-          ops = ap (λ (es : List (ℕ × Op)). fin.from_entries {R = nat_cmp} es) ops_are ∙ ap (λ (p : Plan). p.ops) view ∙ is.ops;
-          deletes = ap (λ (es : List (ℕ × Deletion)). fin.from_entries {R = nat_cmp} es) deletes_are ∙ from_push deletes next cleanup_begun (found_below deletes next h.deletes_numbered)
-              ∙ (λ j. fin.insert (deletes_in j) (next_is j) cleanup_begun);
-          completed = is.completed;
-          seats = is.seats;
-          next_op = add-one next ∙ ap suc next_is;
-          next_ticket = is.next_ticket;
-          restores = is.restores;
-          restore_count = is.restore_count;
-          readers = is.readers;
-        })
+        let ops_now : fin.from_entries {R = nat_cmp} new_ops ≡ w.ops = ap (λ (es : List (ℕ × Op)). fin.from_entries {R = nat_cmp} es) ops_are ∙ ap (λ (p : Plan). p.ops) view ∙ is.ops in
+        subst (IsPlanOf (cleanup_opened w)) (sym new_is) (one_opened ops deletes completed seats next restores now view h w.term w is refl w.ops new_ops ops_now cleanup_begun new_deletes deletes_are)

@@ -149,6 +149,22 @@ module _ (ops : List (ℕ × Op)) (deletes : List (ℕ × Deletion)) (completed 
       let entries : ops ≡ fin.entries w.ops = sym (entries_from ops h.ops_numbered.rise) ∙ ap fin.entries ops_in in
       ap (λ (es : List (ℕ × Op)). fin.from_entries {R = nat_cmp} es) (map-same (aborted_by seats term uuids by) (aborting w uuids by) (aborted_is uuids by) ops ∙ ap (map (aborting w uuids by)) entries)
 
+  -- with these ops, and a delete or cleanup more
+  pub one_opened : (now_ops : fin.FinMap nat_cmp Op) (new_ops : List (ℕ × Op)) → fin.from_entries {R = nat_cmp} new_ops ≡ now_ops → (x : Deletion) (new_deletes : List (ℕ × Deletion)) → new_deletes ≡ deletes ++ (next, x) ∷ []
+      → IsPlanOf (record w { ops = now_ops; deletes = fin.insert w.deletes w.next_op x; next_op = suc w.next_op }) (record now { ops = fin.from_entries new_ops; deletes = fin.from_entries new_deletes; next_op = next + 1 })
+  one_opened now_ops new_ops ops_are x new_deletes deletes_are =
+      record {
+        ops = ops_are;
+        deletes = ap (λ (es : List (ℕ × Deletion)). fin.from_entries {R = nat_cmp} es) deletes_are ∙ from_push deletes next x (found_below deletes next h.deletes_numbered) ∙ (λ j. fin.insert (deletes_in j) (next_is j) x);
+        completed = is.completed;
+        seats = is.seats;
+        next_op = add-one next ∙ ap suc next_is;
+        next_ticket = is.next_ticket;
+        restores = is.restores;
+        restore_count = is.restore_count;
+        readers = is.readers;
+      }
+
   module _ (uuids : List ℕ) (by : ℕ) (new_ops : List (ℕ × Op)) (ops_are : new_ops ≡ map (aborted_by seats term uuids by) ops) (new_deletes : List (ℕ × Deletion)) where
     merged_by : (names : List Bytes) → uuids ≡ named_uuids w names → new_deletes ≡ map (growing uuids by) deletes → (o : Option Deletion) → fin.get w.deletes by ≡ o → is_some o ≡ true
         → IsPlanOf (delete_merged w names by o) (record now { ops = fin.from_entries new_ops; deletes = fin.from_entries new_deletes; next_op = next })
@@ -173,15 +189,6 @@ module _ (ops : List (ℕ × Op)) (deletes : List (ℕ × Deletion)) (completed 
     merged_is names named deletes_are some new new_is = subst (IsPlanOf (delete_merged w names by (fin.get w.deletes by))) (sym new_is) (merged_by names named deletes_are (fin.get w.deletes by) refl some)
 
     pub opened_is : by ≡ next → new_deletes ≡ deletes ++ (next, kept_delete uuids) ∷ [] → (new : Plan) → new ≡ record now { ops = fin.from_entries new_ops; deletes = fin.from_entries new_deletes; next_op = next + 1 } → IsPlanOf (delete_opened w uuids) new
-    opened_is by_is deletes_are new new_is = subst (IsPlanOf (delete_opened w uuids)) (sym new_is) (record {
-      ops = ap (λ (es : List (ℕ × Op)). fin.from_entries {R = nat_cmp} es) ops_are ∙ ops_after uuids by ∙ ap (aborted_ops w uuids) (by_is ∙ next_is);
-      deletes = ap (λ (es : List (ℕ × Deletion)). fin.from_entries {R = nat_cmp} es) deletes_are ∙ from_push deletes next (kept_delete uuids) (found_below deletes next h.deletes_numbered)
-          ∙ (λ j. fin.insert (deletes_in j) (next_is j) (kept_delete uuids));
-      completed = is.completed;
-      seats = is.seats;
-      next_op = add-one next ∙ ap suc next_is;
-      next_ticket = is.next_ticket;
-      restores = is.restores;
-      restore_count = is.restore_count;
-      readers = is.readers;
-    })
+    opened_is by_is deletes_are new new_is =
+        let ops_now : fin.from_entries {R = nat_cmp} new_ops ≡ aborted_ops w uuids w.next_op = ap (λ (es : List (ℕ × Op)). fin.from_entries {R = nat_cmp} es) ops_are ∙ ops_after uuids by ∙ ap (aborted_ops w uuids) (by_is ∙ next_is) in
+        subst (IsPlanOf (delete_opened w uuids)) (sym new_is) (one_opened (aborted_ops w uuids w.next_op) new_ops ops_now (kept_delete uuids) new_deletes deletes_are)

@@ -1,5 +1,5 @@
 -- What accepting a restore answers.
-use Rattle.std.proofs.Common.{◌≡◌, ℕ, zero, suc, ◌+◌, ◌<◌, ◌≤◌, Bool, true, false, cond, List, [], ◌∷◌, ◌++◌, Some, None, map, length, refl, sym, ap, ◌∙◌, subst, inl, inr, true≢false, arith, nat_cmp, slice_get}
+use Rattle.std.proofs.Common.{◌≡◌, ℕ, zero, suc, ◌+◌, ◌<◌, ◌≤◌, Bool, true, false, cond, List, [], ◌∷◌, ◌++◌, Some, None, option_map, map, length, refl, sym, ap, ◌∙◌, subst, inl, inr, true≢false, arith, nat_cmp, slice_get}
 use Rattle.std.specs.Prelude.{not, nat_lt}
 use Rattle.std.proofs.lemmas.Bool.{cases_lt}
 use Rattle.std.proofs.lemmas.Bool.Decides.{Decides-ltb}
@@ -13,14 +13,14 @@ use Rattle.esr_model.specs.Values.{Bytes, Has, IndexRef, RootSnap, RootData}
 use Rattle.esr_model.specs.Shelf.{names_uuid}
 use Rattle.esr_model.specs.Places.{numbered, places}
 use Rattle.esr_model.specs.Uploads.{same_bytes}
-use Rattle.esr_core.specs.World.{World, Op, Deletion, Pending}
+use Rattle.esr_core.specs.World.{World, Op, Deletion, Pending, Restoring}
 use Rattle.esr_core.specs.Restores.{unread, restore_of, restore_opened}
 use Rattle.esr_core.specs.Allowed.{IsListed, IsSpared, IsBeingDeleted}
 use Rattle.esr_formats.specs.Refs.{ref_of_code, AreApart}
 use Rattle.esr_ops.specs.declared.unit.Slot.{Slot}
 use Rattle.esr_ops.specs.declared.shard.ShardState.TheVariants as states
 use Rattle.esr_ops.specs.declared.shard.OpenShard.{OpenShard}
-use Rattle.esr_ops.specs.Plan.{Plan, RestorePlan, read_work, IsPlanOf}
+use Rattle.esr_ops.specs.Plan.{Plan, RestorePlan, read_work, restore_plan, IsPlanOf}
 use Rattle.esr_ops.specs.Shards.{name_or_none, count_or_none}
 use Rattle.esr_ops.specs.Restores.{work_of_read, restore_with, LiesIn, IsOpenRestore}
 use Rattle.esr_ops.specs.Inside.{numbers_of, Rise, IsProgress, plan_with}
@@ -117,30 +117,27 @@ restore_begins refs shards apart is =
     }
 
 module _ (w : World) (p : Plan) (is : IsPlanOf w p) (uuid : ℕ) (place : Bytes) (indices : List IndexRef) where
+  with_restores : (restores : FinMap nat_cmp Restoring) (plans : FinMap nat_cmp RestorePlan) → ((o : ℕ) → fin.get plans o ≡ option_map restore_plan (fin.get restores o)) → fin.len plans ≡ fin.len restores
+      → IsPlanOf (record w { restores = restores; next_op = suc w.next_op }) (record p { restores = plans; next_op = suc p.next_op })
+  with_restores restores plans are count =
+      record {
+        ops = is.ops;
+        deletes = is.deletes;
+        completed = is.completed;
+        seats = is.seats;
+        next_op = ap suc is.next_op;
+        next_ticket = is.next_ticket;
+        restores = are;
+        restore_count = count;
+        readers = is.readers;
+      }
+
   opened_with : (b c : Bool) → b ≡ c → IsPlanOf (record w { restores = cond b (fin.insert w.restores w.next_op (restore_of uuid place indices)) (fin.remove w.restores w.next_op); next_op = suc w.next_op })
       (record p { restores = cond c (fin.insert p.restores w.next_op (restore_begun uuid place indices)) (fin.remove p.restores w.next_op); next_op = suc p.next_op })
-  opened_with true true e = record {
-    ops = is.ops;
-    deletes = is.deletes;
-    completed = is.completed;
-    seats = is.seats;
-    next_op = ap suc is.next_op;
-    next_ticket = is.next_ticket;
-    restores = restores_put w p is w.next_op (restore_of uuid place indices) (restore_begun uuid place indices) refl;
-    restore_count = restores_put_count w p is w.next_op (restore_of uuid place indices) (restore_begun uuid place indices);
-    readers = is.readers;
-  }
-  opened_with false false e = record {
-    ops = is.ops;
-    deletes = is.deletes;
-    completed = is.completed;
-    seats = is.seats;
-    next_op = ap suc is.next_op;
-    next_ticket = is.next_ticket;
-    restores = restores_left w p is w.next_op;
-    restore_count = restores_left_count w p is w.next_op;
-    readers = is.readers;
-  }
+  opened_with true true e =
+      with_restores (fin.insert w.restores w.next_op (restore_of uuid place indices)) (fin.insert p.restores w.next_op (restore_begun uuid place indices))
+      (restores_put w p is w.next_op (restore_of uuid place indices) (restore_begun uuid place indices) refl) (restores_put_count w p is w.next_op (restore_of uuid place indices) (restore_begun uuid place indices))
+  opened_with false false e = with_restores (fin.remove w.restores w.next_op) (fin.remove p.restores w.next_op) (restores_left w p is w.next_op) (restores_left_count w p is w.next_op)
   opened_with true false e = absurd (true≢false e)
   opened_with false true e = absurd (true≢false (sym e))
 

@@ -10,8 +10,7 @@ ghost use Rattle.esr_formats.specs.Ids.{number_of};
 ghost use Rattle.esr_accept.specs.Accepting.{Restorable};
 
 use crate::snapshot::{LIMIT, shards, snap_uuid};
-use esr_meta::indices_copy;
-use esr_names::{Id, IndexRefs, SnapName};
+use esr_names::{Id, IndexRefs, SnapName, indices_copy};
 use esr_ops::{OpenDelete, OpenRestore, Refusal};
 use esr_progress::Progress;
 use esr_root::RootData;

@@ -20,11 +20,12 @@ use Rattle.esr_core.specs.Allowed.{Allowed}
 use Rattle.esr_core.specs.History.{world_from, IsLegal, AllKnown}
 use Rattle.esr_bounds.specs.Keys.{Key, BeginKey, CommitKey, FetchKey, key, keys, made_by, IsUnheard, AreHeard, IsUntouched, IsHeard}
 use Rattle.esr_bounds.specs.Most.{names_of, base_names, source_names, fetch_names, single_keys, keys_of, IsDelete, MayDo, ids_by, parts_by, names_under, shard_names, swap_names, root_names, most_of_shard, most_of_final, most_of_drop}
+use Rattle.esr_bounds.specs.Laws.{StepLaws}
 use Rattle.esr_bounds.proofs.Few.{few_once}
-use Rattle.esr_bounds.proofs.Maps.{some_same, none_some}
+use Rattle.esr_core.specs.NumberMaps.{some_same, none_some}
 use Rattle.esr_bounds.proofs.Names.{Grown, keys_grown}
 use Rattle.esr_bounds.proofs.OwnSteps.{DrewFew, own_step}
-use Rattle.esr_bounds.proofs.Once.{Kept, StepLaws, counted, never_anew, blocked_unheard, looked_at, step_kept, untouched_kept, heard_kept}
+use Rattle.esr_bounds.proofs.Once.{Kept, counted, never_anew, blocked_unheard, looked_at, step_kept, untouched_kept, heard_kept}
 
 -- ---- what holds of a world
 

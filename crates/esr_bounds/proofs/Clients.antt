@@ -15,8 +15,9 @@ use Rattle.esr_core.specs.Allowed.{ReadAllows, VerifyAllows, Allows, Allowed}
 use Rattle.esr_core.specs.History.{IsLegal}
 use Rattle.esr_bounds.specs.Keys.{IsUnheard, AreHeard}
 use Rattle.esr_bounds.specs.Clients.{draws_by, looks_by, ends_by, draws_in, looks_in, ends_in}
-use Rattle.esr_bounds.proofs.Maps.{none_some}
-use Rattle.esr_bounds.proofs.Once.{StepLaws, looked_at}
+use Rattle.esr_core.specs.NumberMaps.{none_some}
+use Rattle.esr_bounds.specs.Laws.{StepLaws}
+use Rattle.esr_bounds.proofs.Once.{looked_at}
 
 -- ---- whether a check or a verification is open: 1, or 0
 

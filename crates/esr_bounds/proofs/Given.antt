@@ -1,14 +1,14 @@
 -- No shard of an op is given twice: once it was given it is never pending again.
 use Rattle.std.proofs.Common.{◌≡◌, ℕ, ◌<◌, List, [], ◌∷◌, map, Bool, true, false, Option, Some, None, refl, sym, ap, ◌∙◌, subst, inl, inr, arith, nat_cmp}
 use Rattle.std.specs.Prelude.{if◌then◌else◌, ◌==◌, ◌&&◌}
-use Rattle.std.proofs.lemmas.Bool.Decides.{eqb_tells}
+use Rattle.std.proofs.lemmas.Bool.{eq-eqb}
 use Rattle.std.specs.FinMap.{FinMap}
 use Rattle.std.specs.FinMap as fin
 use Rattle.esr_model.specs.Values.{Has, IndexRef, Formats}
 use Rattle.esr_model.specs.Image.{Image}
 use Rattle.esr_core.specs.World.{World, Op, ShardWork, Pending, Out, RestoreShard, Restoring, Shard, Finalize, Deleting, Drop, Ticket, Swap, info_of, made_of}
-use Rattle.esr_core.specs.Steps.{given, shard_ticket, final_ticket}
-use Rattle.esr_core.specs.Turns.{plain_ticket, cleaning_ticket}
+use Rattle.esr_core.specs.Steps.{given, shard_ticket, final_ticket, plain_ticket}
+use Rattle.esr_core.specs.Turns.{cleaning_ticket}
 use Rattle.esr_core.specs.Tracked.{Tracked}
 use Rattle.esr_core.specs.Changes.{SameUnit, StepFrame, StepChange, NoChange, NewOp, NewDeletion, MergedDeletion, NewRestore, NewTicket, NewReader, OwnTicket, Settlement, UnitEnd, DeletionFailure, OpDrop, Election, ReaderFetch, ReaderEnd, PlainDraw, TestBlob, SwapFault}
 use Rattle.esr_core.specs.Entry.{Given, GivenShard, GivenClone, GivenFinalize, GivenDrop, GivenRestore, GivenDelete, GivenCleanup, Step, TakeStep, Refusal, Refused, Reply, Moment}
@@ -18,7 +18,7 @@ use Rattle.esr_core.specs.Allowed as allowed
 use Rattle.esr_core.specs.Allowed.{GivesShard, Gives, Allows, Blocks, ByFailedSwap, ByDelete, IsBlocked, Allowed}
 use Rattle.esr_core.specs.History.{world_from, IsLegal}
 use Rattle.esr_bounds.specs.Keys.{IsUntouched}
-use Rattle.esr_bounds.proofs.Maps.{some_same, none_some, get_was, put_in, nothing}
+use Rattle.esr_core.specs.NumberMaps.{some_same, none_some, get_was, get_same, nothing}
 use Rattle.esr_bounds.proofs.Names.{of_map}
 use Rattle.esr_bounds.proofs.Works.{answered_works}
 
@@ -85,7 +85,7 @@ module _ (f : Formats) (size : ℕ) (w : World) (tracked : Tracked w) where
       → fin.get (taken_shard w o g.op base found).tickets w.next_ticket ≡ Some v → FreshShard w (taken_shard w o g.op base found).ops v
   gave_shard o index number source base g op None v is there now = absurd (none_some g.s there)
   gave_shard o index number source base g op (Some s) v is there now =
-      let mine : shard_ticket w o g.op s base ≡ v = some_same (shard_ticket w o g.op s base) v (sym (put_in w.tickets w.next_ticket (shard_ticket w o g.op s base)) ∙ now) in
+      let mine : shard_ticket w o g.op s base ≡ v = some_same (shard_ticket w o g.op s base) v (sym (get_same w.tickets w.next_ticket (shard_ticket w o g.op s base)) ∙ now) in
       subst (FreshShard w (fin.insert w.ops o (record g.op { shards = map (given w.next_ticket s.ref.id s.number) g.op.shards }))) mine
       (record {
         op = g.op;
@@ -132,19 +132,19 @@ module _ (f : Formats) (size : ℕ) (w : World) (tracked : Tracked w) where
     where
       by : (op : Option Op) → fin.get (taken_by f w o (GivenFinalize info results) op).tickets w.next_ticket ≡ Some v → ⊥
       by None now = none_next f w tracked v now
-      by (Some op) now = no_shard (ap (λ (x : Ticket). x.work) (some_same _ v (sym (put_in w.tickets w.next_ticket (final_ticket f w o op results)) ∙ now)) ∙ is)
+      by (Some op) now = no_shard (ap (λ (x : Ticket). x.work) (some_same _ v (sym (get_same w.tickets w.next_ticket (final_ticket f w o op results)) ∙ now)) ∙ is)
         where
           no_shard : Finalize (info_of op results) results (made_of f w.blobs op) ≡ Shard index number → ⊥
           no_shard e = cc
-  unit_by o GivenDrop g v index number now is = absurd (no_shard (ap (λ (x : Ticket). x.work) (some_same _ v (sym (put_in w.tickets w.next_ticket (plain_ticket w o Drop)) ∙ now)) ∙ is))
+  unit_by o GivenDrop g v index number now is = absurd (no_shard (ap (λ (x : Ticket). x.work) (some_same _ v (sym (get_same w.tickets w.next_ticket (plain_ticket w o Drop)) ∙ now)) ∙ is))
     where
       no_shard : Drop ≡ Shard index number → ⊥
       no_shard e = cc
-  unit_by o (GivenDelete uuids) g v index number now is = absurd (no_shard (ap (λ (x : Ticket). x.work) (some_same _ v (sym (put_in w.tickets w.next_ticket (plain_ticket w o (Deleting uuids None))) ∙ now)) ∙ is))
+  unit_by o (GivenDelete uuids) g v index number now is = absurd (no_shard (ap (λ (x : Ticket). x.work) (some_same _ v (sym (get_same w.tickets w.next_ticket (plain_ticket w o (Deleting uuids None))) ∙ now)) ∙ is))
     where
       no_shard : Deleting uuids None ≡ Shard index number → ⊥
       no_shard e = cc
-  unit_by o GivenCleanup g v index number now is = absurd (no_shard (ap (λ (x : Ticket). x.work) (some_same _ v (sym (put_in w.tickets w.next_ticket (cleaning_ticket w o)) ∙ now)) ∙ is))
+  unit_by o GivenCleanup g v index number now is = absurd (no_shard (ap (λ (x : Ticket). x.work) (some_same _ v (sym (get_same w.tickets w.next_ticket (cleaning_ticket w o)) ∙ now)) ∙ is))
     where
       no_shard : Deleting [] None ≡ Shard index number → ⊥
       no_shard e = cc
@@ -174,13 +174,7 @@ out_now k index number z s is index_is number_is pending = by ((z.ref.id == inde
     z_number = sym (kept_number ((z.ref.id == index) && (z.number == number))) ∙ ap (λ (x : ShardWork). x.number) is ∙ number_is
 
     both : (z.ref.id == index) && (z.number == number) ≡ true
-    both = elim (eqb_tells z.ref.id index) [
-      | inl a ↦ elim (eqb_tells z.number number) [
-        | inl b ↦ ap (λ (x : Bool). x && (z.number == number)) a.0 ∙ b.0
-        | inr b ↦ absurd (b.1 z_number)
-      ]
-      | inr a ↦ absurd (a.1 z_index)
-    ]
+    both = ap (λ (x : Bool). x && (z.number == number)) (eq-eqb _ _ z_index) ∙ eq-eqb _ _ z_number
 
     by : (b : Bool) → ((z.ref.id == index) && (z.number == number)) ≡ b → ⊥
     by true e =
@@ -238,7 +232,7 @@ module _ (f : Formats) (size : ℕ) (change : (w : World) (who : ℕ) (step : St
     given_past : (v : Ticket) (index number : ℕ) → FreshShard w (after f w m).ops v → v.work ≡ Shard index number → IsPast (after f w m).ops v.op index number
     given_past v index number fresh is op s there h index_is number_is pending =
         let now : record fresh.op { shards = map (given w.next_ticket fresh.s.ref.id fresh.s.number) fresh.op.shards } ≡ op =
-        some_same _ op (sym (put_in w.ops v.op (record fresh.op { shards = map (given w.next_ticket fresh.s.ref.id fresh.s.number) fresh.op.shards })) ∙ ap (λ (x : FinMap nat_cmp Op). fin.get x v.op) (sym fresh.ops_are) ∙ there) in
+        some_same _ op (sym (get_same w.ops v.op (record fresh.op { shards = map (given w.next_ticket fresh.s.ref.id fresh.s.number) fresh.op.shards })) ∙ ap (λ (x : FinMap nat_cmp Op). fin.get x v.op) (sym fresh.ops_are) ∙ there) in
         let r = of_map (given w.next_ticket fresh.s.ref.id fresh.s.number) fresh.op.shards s (subst (λ (x : Op). Has x.shards s) (sym now) h) in
         let same : Shard fresh.s.ref.id fresh.s.number ≡ Shard index number = sym fresh.work ∙ is in
         out_now w.next_ticket fresh.s.ref.id fresh.s.number r.0 s r.2 (index_is ∙ sym (first_of same)) (number_is ∙ sym (second_of same)) pending

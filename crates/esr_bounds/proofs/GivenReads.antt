@@ -1,7 +1,7 @@
 -- No shard of a restore is given twice: once it was given it is never unread again.
 use Rattle.std.proofs.Common.{◌≡◌, ◌⊎◌, ℕ, ◌<◌, ◌≤◌, List, [], ◌∷◌, map, Bool, true, false, Option, Some, None, refl, sym, ap, ◌∙◌, subst, inl, inr, arith, nat_cmp}
 use Rattle.std.specs.Prelude.{if◌then◌else◌, ◌==◌, ◌&&◌}
-use Rattle.std.proofs.lemmas.Bool.Decides.{eqb_tells}
+use Rattle.std.proofs.lemmas.Bool.{eq-eqb}
 use Rattle.std.specs.FinMap.{FinMap}
 use Rattle.std.specs.FinMap as fin
 use Rattle.esr_model.specs.Values.{Has, IndexRef, Formats}
@@ -17,7 +17,7 @@ use Rattle.esr_core.specs.Allowed as allowed
 use Rattle.esr_core.specs.Allowed.{Gives, GivesRestore, Allows, Allowed}
 use Rattle.esr_core.specs.History.{world_from, IsLegal}
 use Rattle.esr_bounds.specs.Keys.{IsUntouched}
-use Rattle.esr_bounds.proofs.Maps.{some_same, none_some, get_was, put_in, nothing}
+use Rattle.esr_core.specs.NumberMaps.{some_same, none_some, get_was, get_same, nothing}
 use Rattle.esr_bounds.proofs.Names.{of_map}
 use Rattle.esr_bounds.proofs.Works.{answered_works}
 use Rattle.esr_bounds.proofs.Given.{blocked_same}
@@ -104,7 +104,7 @@ module _ (f : Formats) (size : ℕ) (w : World) (reads : ReadTracked w) where
       → FreshRead w (taken_restore_shard w o g.r found).restores v
   gave_read o index number uuid g None v there now = absurd (none_some g.s there)
   gave_read o index number uuid g (Some s) v there now =
-      let mine : reader_of o g.r s ≡ v = some_same (reader_of o g.r s) v (sym (put_in w.readers w.next_ticket (reader_of o g.r s)) ∙ now) in
+      let mine : reader_of o g.r s ≡ v = some_same (reader_of o g.r s) v (sym (get_same w.readers w.next_ticket (reader_of o g.r s)) ∙ now) in
       subst (FreshRead w (fin.insert w.restores o (record g.r { shards = map (handed w.next_ticket s.ref.id s.number) g.r.shards }))) mine
       (record {
         r = g.r;
@@ -162,13 +162,7 @@ read_now k index number z s is index_is number_is unread = by ((z.ref.id == inde
     z_number = sym (kept_number ((z.ref.id == index) && (z.number == number))) ∙ ap (λ (x : RestoreShard). x.number) is ∙ number_is
 
     both : (z.ref.id == index) && (z.number == number) ≡ true
-    both = elim (eqb_tells z.ref.id index) [
-      | inl a ↦ elim (eqb_tells z.number number) [
-        | inl b ↦ ap (λ (x : Bool). x && (z.number == number)) a.0 ∙ b.0
-        | inr b ↦ absurd (b.1 z_number)
-      ]
-      | inr a ↦ absurd (a.1 z_index)
-    ]
+    both = ap (λ (x : Bool). x && (z.number == number)) (eq-eqb _ _ z_index) ∙ eq-eqb _ _ z_number
 
     no_read : BeingRead k ≡ Unread → ⊥
     no_read e = cc
@@ -218,7 +212,7 @@ module _ (f : Formats) (size : ℕ) (change : (w : World) (who : ℕ) (step : St
     given_past : (v : Reader) → FreshRead w (after f w m).restores v → IsPastRead (after f w m).restores v.op v.index v.number
     given_past v fresh r s there had index_is number_is unread =
         let now : record fresh.r { shards = map (handed w.next_ticket fresh.s.ref.id fresh.s.number) fresh.r.shards } ≡ r =
-        some_same _ r (sym (put_in w.restores v.op (record fresh.r { shards = map (handed w.next_ticket fresh.s.ref.id fresh.s.number) fresh.r.shards })) ∙ ap (λ (x : FinMap nat_cmp Restoring). fin.get x v.op) (sym fresh.restores_are) ∙ there) in
+        some_same _ r (sym (get_same w.restores v.op (record fresh.r { shards = map (handed w.next_ticket fresh.s.ref.id fresh.s.number) fresh.r.shards })) ∙ ap (λ (x : FinMap nat_cmp Restoring). fin.get x v.op) (sym fresh.restores_are) ∙ there) in
         let z = of_map (handed w.next_ticket fresh.s.ref.id fresh.s.number) fresh.r.shards s (subst (λ (x : Restoring). Has x.shards s) (sym now) had) in
         read_now w.next_ticket fresh.s.ref.id fresh.s.number z.0 s z.2 (index_is ∙ fresh.index) (number_is ∙ fresh.number) unread
 

@@ -14,11 +14,12 @@ use Rattle.esr_core.specs.History.{world_from, IsLegal}
 use Rattle.esr_bounds.specs.Keys.{IsUntouched}
 use Rattle.esr_bounds.specs.Most.{most_of_shard}
 use Rattle.esr_bounds.specs.Units.{asked_source, asked_shards, asked_indices, asked_counts}
-use Rattle.esr_bounds.proofs.Maps.{nothing}
+use Rattle.esr_bounds.specs.Laws.{MasterLaws}
+use Rattle.esr_core.specs.NumberMaps.{nothing}
 use Rattle.esr_bounds.proofs.Names.{in_front, in_back, in_map}
 use Rattle.esr_bounds.proofs.Works.{answered_works}
 use Rattle.esr_bounds.proofs.Given.{fresh_shard}
-use Rattle.esr_bounds.proofs.Masters.{MasterLaws, MastersOnce, ReadyOf, ready_now, masters_on}
+use Rattle.esr_bounds.proofs.Masters.{MastersOnce, ReadyOf, ready_now, masters_on}
 
 -- a shard of an op, with what its ticket is told of it
 pub record Item : Type 0 where

@@ -1,5 +1,4 @@
 pub mod Few
-pub mod Maps
 pub mod Once
 pub mod Names
 pub mod OwnSteps

@@ -10,11 +10,11 @@ use Rattle.esr_model.specs.Delete.{kept_count}
 use Rattle.esr_model.specs.Image.{Image}
 use Rattle.esr_core.specs.World.{World, Op, Deletion, ShardWork, RestoreShard, Restoring, Work, Shard, Finalize, Deleting, Drop, Ticket, Swap, swap, swap_of, record_of}
 use Rattle.esr_core.specs.Ready.{Goes, IsShard, IsMaster, SwapIsOut, ReadyFinalize, ReadyDrop, ReadyDelete, ReadyCleanup}
-use Rattle.esr_core.specs.Steps.{IsOut, listing, noting, with_ticket, shard_ticket, final_ticket}
-use Rattle.esr_core.specs.Turns.{plain_ticket, cleaning_ticket, fails}
+use Rattle.esr_core.specs.Steps.{IsOut, listing, noting, with_ticket, shard_ticket, final_ticket, plain_ticket}
+use Rattle.esr_core.specs.Turns.{cleaning_ticket, fails}
 use Rattle.esr_core.specs.Pruning.{planned}
 use Rattle.esr_core.specs.Tracked.{Tracked}
-use Rattle.esr_core.specs.Changes.{IsUnits, IsNewTicket, SameUnit, StepFrame, StepChange, NoChange, NewOp, NewDeletion, MergedDeletion, NewRestore, NewTicket, NewReader, OwnTicket, Settlement, UnitEnd, DeletionFailure, OpDrop, Election, ReaderFetch, ReaderEnd, PlainDraw, TestBlob, SwapFault, Maker, ClientStep, ReaderStep, UnitStep}
+use Rattle.esr_core.specs.Changes.{IsUnits, IsNewTicket, SameUnit, StepChange, NoChange, NewOp, NewDeletion, MergedDeletion, NewRestore, NewTicket, NewReader, OwnTicket, Settlement, UnitEnd, DeletionFailure, OpDrop, Election, ReaderFetch, ReaderEnd, PlainDraw, TestBlob, SwapFault, Maker, ClientStep, ReaderStep, UnitStep}
 use Rattle.esr_core.specs.ReadTracked.{ReadTracked}
 use Rattle.esr_core.specs.Entry.{Given, GivenShard, GivenClone, GivenFinalize, GivenDrop, GivenRestore, GivenDelete, GivenCleanup, Prune, Step, AskStep, TakeStep, DrawStep, BeginStep, CommitStep, LatestStep, FetchStep, ListStep, RaiseStep, SettleStep, DoneStep, FailedStep, FinishStep, DroppedStep, ElectStep, LookStep, ReadStep, PruneStep, Reply, Moment}
 use Rattle.esr_core.specs.After.{shard_of, taken_shard, taken_restore_shard, taken_restore, taken_by, with_given, committing, fetching, told_blob, settled_by, settled_of, done_by, done_of, delete_settled_by, delete_settled, delete_failed_by, delete_failed, failed_by, failed_of, dropped_of, is_stale, has_text, is_latest, tried, raised, answered, after}
@@ -25,7 +25,8 @@ use Rattle.esr_core.specs.History.{world_from, IsLegal}
 use Rattle.esr_bounds.specs.Keys.{IsUntouched}
 use Rattle.esr_bounds.specs.Most.{IsDelete}
 use Rattle.esr_bounds.specs.Units.{IsFinalize, IsDropped, OneOf}
-use Rattle.esr_bounds.proofs.Maps.{some_same, none_some, get_was, get_left, get_gone, put_in, nothing}
+use Rattle.esr_bounds.specs.Laws.{MasterLaws}
+use Rattle.esr_core.specs.NumberMaps.{some_same, none_some, get_was, get_left, get_gone, get_same, nothing}
 use Rattle.esr_bounds.proofs.Works.{Works, answered_works}
 use Rattle.esr_bounds.proofs.Given.{none_next, by_take, blocked_same}
 
@@ -61,7 +62,7 @@ module _ (f : Formats) (w : World) where
     anew : (g : Ticket → Ticket) → (g t).out ≡ t.out → (g t).settled ≡ t.settled → (o : Option Ticket) → o ≡ Some t → OwnEnd f w k t (with_given w k g o)
     anew g out settled None is = absurd (none_some t is)
     anew g out settled (Some u) is =
-        subst (λ (x : Ticket). OwnEnd f w k t (with_given w k g (Some x))) (sym (some_same u t is)) (record { v = g t; at = put_in w.tickets k (g t); outcome = GoesOn out settled })
+        subst (λ (x : Ticket). OwnEnd f w k t (with_given w k g (Some x))) (sym (some_same u t is)) (record { v = g t; at = get_same w.tickets k (g t); outcome = GoesOn out settled })
 
     -- with other numbers
     besides : (up new : World) → new.tickets ≡ up.tickets → new.ops ≡ up.ops → new.deletes ≡ up.deletes → OwnEnd f w k t up → OwnEnd f w k t new
@@ -74,7 +75,7 @@ module _ (f : Formats) (w : World) where
 
     -- over, and nothing else
     over_as : (settled_or_past : (v : Ticket) → Outcome f w w.ops w.deletes t v) → OwnEnd f w k t (with_ticket w k (record t { out = false }))
-    over_as why = record { v = record t { out = false }; at = put_in w.tickets k (record t { out = false }); outcome = why (record t { out = false }) }
+    over_as why = record { v = record t { out = false }; at = get_same w.tickets k (record t { out = false }); outcome = why (record t { out = false }) }
 
     over_given : ((v : Ticket) → Outcome f w w.ops w.deletes t v) → OwnEnd f w k t (with_given w k (λ (x : Ticket). record x { out = false }) (fin.get w.tickets k))
     over_given why = subst (λ (o : Option Ticket). OwnEnd f w k t (with_given w k (λ (x : Ticket). record x { out = false }) o)) (sym there) (over_as why)
@@ -105,7 +106,7 @@ module _ (f : Formats) (w : World) where
 
     settle_end : (o : Option Swap) (n : Option ℕ) → swap f t ≡ o → OwnEnd f w k t (settled_by f w k t o n)
     settle_end (Some s) (Some n) is =
-        record { v = record t { settled = true }; at = put_in w.tickets k (record t { settled = true }); outcome = Settles refl s is (get_gone w.ops t.op) (λ kept. get_gone w.deletes t.op) }
+        record { v = record t { settled = true }; at = get_same w.tickets k (record t { settled = true }); outcome = Settles refl s is (get_gone w.ops t.op) (λ kept. get_gone w.deletes t.op) }
     settle_end (Some s) None is = as_before
     settle_end None n is = as_before
 
@@ -118,7 +119,7 @@ module _ (f : Formats) (w : World) where
 
     delete_settle_end : (o : Option Swap) (n : Option ℕ) → swap f t ≡ o → OwnEnd f w k t (delete_settled_by f w k t o n)
     delete_settle_end (Some s) (Some n) is =
-        record { v = record t { settled = true }; at = put_in w.tickets k (record t { settled = true }); outcome = Settles refl s is (get_gone w.ops t.op) (left_gone t.clean refl) }
+        record { v = record t { settled = true }; at = get_same w.tickets k (record t { settled = true }); outcome = Settles refl s is (get_gone w.ops t.op) (left_gone t.clean refl) }
     delete_settle_end (Some s) None is = as_before
     delete_settle_end None n is = as_before
 
@@ -130,7 +131,7 @@ module _ (f : Formats) (w : World) where
       where
         by : (o : Option Op) → OwnEnd f w k t (done_by w k r t o)
         by None = as_before
-        by (Some op) = record { v = record t { out = false }; at = put_in w.tickets k (record t { out = false }); outcome = OfShard shard }
+        by (Some op) = record { v = record t { out = false }; at = get_same w.tickets k (record t { out = false }); outcome = OfShard shard }
 
     -- one that is stale is of an older term, another of the present one
     by_term : (b : Bool) → (if t.term == w.term then false else true) ≡ b → (b ≡ true → t.term ≢ w.term) × (b ≡ false → t.term ≡ w.term)
@@ -157,8 +158,8 @@ module _ (f : Formats) (w : World) where
         one (Some op) is now =
             record {
               v = record t { out = false };
-              at = put_in w.tickets k (record t { out = false });
-              outcome = FailsOp (no_delete now op is) unit (λ x e. ap (λ (y : Op). y.failed) (some_same x _ (sym e ∙ put_in w.ops t.op (record op { shards = map (fails k) op.shards; failed = true }))));
+              at = get_same w.tickets k (record t { out = false });
+              outcome = FailsOp (no_delete now op is) unit (λ x e. ap (λ (y : Op). y.failed) (some_same x _ (sym e ∙ get_same w.ops t.op (record op { shards = map (fails k) op.shards; failed = true }))));
             }
 
         by : (b : Bool) → is_stale w t t.work ≡ b → OwnEnd f w k t (if b then with_ticket w k (record t { out = false }) else failed_by w k t (fin.get w.ops t.op))
@@ -173,8 +174,8 @@ module _ (f : Formats) (w : World) where
         one (Some x) =
             record {
               v = record t { out = false };
-              at = put_in w.tickets k (record t { out = false });
-              outcome = FailsDelete delete (λ y e. ap (λ (z : Deletion). z.failed) (some_same y _ (sym e ∙ put_in w.deletes t.op (record x { failed = true }))));
+              at = get_same w.tickets k (record t { out = false });
+              outcome = FailsDelete delete (λ y e. ap (λ (z : Deletion). z.failed) (some_same y _ (sym e ∙ get_same w.deletes t.op (record x { failed = true }))));
             }
 
         by : (b : Bool) → is_stale w t t.work ≡ b → OwnEnd f w k t (if b then with_ticket w k (record t { out = false }) else delete_failed_by w k t (fin.get w.deletes t.op))
@@ -183,7 +184,7 @@ module _ (f : Formats) (w : World) where
 
     dropped_end : OwnEnd f w k t (dropped_of w k (fin.get w.tickets k))
     dropped_end = subst (λ (o : Option Ticket). OwnEnd f w k t (dropped_of w k o)) (sym there)
-        (record { v = record t { out = false }; at = put_in w.tickets k (record t { out = false }); outcome = Leaves refl (get_gone w.ops t.op) (get_gone w.deletes t.op) })
+        (record { v = record t { out = false }; at = get_same w.tickets k (record t { out = false }); outcome = Leaves refl (get_gone w.ops t.op) (get_gone w.deletes t.op) })
 
   module _ (size : ℕ) (tracked : Tracked w) where
     pruning_end : (k : ℕ) (t : Ticket) (there : fin.get w.tickets k ≡ Some t) (prune : Prune) (reply : Reply) (image : Option Image) → PruneAllows f w k prune reply image → OwnEnd f w k t (answered f w k (PruneStep prune) reply image)
@@ -514,7 +515,7 @@ ReadyOf w o Drop = ReadyDrop w o
 
 module _ (f : Formats) (size : ℕ) (w : World) (tracked : Tracked w) (v : Ticket) where
   put_now : (u : Ticket) → fin.get (fin.insert w.tickets w.next_ticket u) w.next_ticket ≡ Some v → u ≡ v
-  put_now u now = some_same u v (sym (put_in w.tickets w.next_ticket u) ∙ now)
+  put_now u now = some_same u v (sym (get_same w.tickets w.next_ticket u) ∙ now)
 
   ready_put : (u : Ticket) → fin.get (fin.insert w.tickets w.next_ticket u) w.next_ticket ≡ Some v → ReadyOf w u.op u.work → ReadyOf w v.op v.work
   ready_put u now ready = subst (λ (x : Ticket). ReadyOf w x.op x.work) (put_now u now) ready
@@ -584,13 +585,6 @@ module _ (w : World) (tracked : Tracked w) (j : ℕ) (t : Ticket) (there : fin.g
   no_delete Drop is own x ready = own
 
 -- ---- a step
-
-pub record MasterLaws (f : Formats) (size : ℕ) : Type 0 where
-  pub tracks : (w : World) (m : Moment) → Tracked w → Allowed f size w m → Tracked (after f w m)
-  pub reads : (w : World) (m : Moment) → Tracked w → ReadTracked w → Allowed f size w m → ReadTracked (after f w m)
-  pub frame : (w : World) (m : Moment) → StepFrame w (after f w m) m.entry.who m.entry.step
-  pub maker : (w : World) (m : Moment) → Allowed f size w m → Maker w m.entry.who m.entry.step ⊎ IsBlocked w m
-  pub change : (w : World) (who : ℕ) (step : Step) (reply : Reply) (image : Option Image) → StepChange f w who step (answered f w who step reply image)
 
 module _ (f : Formats) (size : ℕ) (laws : MasterLaws f size) (w : World) (m : Moment) (tracked : Tracked w) (reads : ReadTracked w) (a : Allowed f size w m) (once : MastersOnce w) where
   abbrev up : World

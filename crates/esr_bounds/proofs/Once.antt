@@ -12,17 +12,18 @@ use Rattle.esr_core.specs.World.{World, Op, Deletion, ReadState, Restored, NotRe
 use Rattle.esr_core.specs.Ready.{IsShard, IsMaster}
 use Rattle.esr_core.specs.Restores.{AreOnce, IsReading}
 use Rattle.esr_core.specs.Steps.{with_ticket}
-use Rattle.esr_core.specs.Past.{Repeats, is_counted, with_entry, begins_anew, entries_by}
+use Rattle.esr_core.specs.Past.{Repeats, is_counted, begins_anew, entries_by}
 use Rattle.esr_core.specs.Tracked.{Tracked}
 use Rattle.esr_core.specs.ReadTracked.{ReadTracked}
-use Rattle.esr_core.specs.Changes.{IsReaders, IsUnits, StepFrame, Maker, ClientStep, ReaderStep, UnitStep}
+use Rattle.esr_core.specs.Changes.{IsReaders, IsUnits, Maker, ClientStep, ReaderStep, UnitStep}
 use Rattle.esr_core.specs.Entry.{Read, ReadBlob, RestoredShard, ReadFails, Prune, FetchShard, PlanShards, SettlePruned, RemoveDoomed, EndDelete, DeleteFails, Step, AskStep, TakeStep, DrawStep, BeginStep, CommitStep, LatestStep, FetchStep, ListStep, RaiseStep, SettleStep, DoneStep, FailedStep, FinishStep, DroppedStep, ElectStep, LookStep, ReadStep, PruneStep, DeposedAt, Refusal, Reply, Refused, Entry, Moment}
 use Rattle.esr_core.specs.After.{with_given, is_stale, done_by, done_of, failed_by, failed_of, delete_failed_by, delete_failed, shard_over, read_over, answered, after}
 use Rattle.esr_core.specs.Allowed as allowed
-use Rattle.esr_core.specs.Allowed.{Fails, FailsDeletion, ReadAllows, PruneAllows, Allows, Blocks, ByFailedSwap, ByDelete, IsBlocked, Allowed}
+use Rattle.esr_core.specs.Allowed.{FailsDeletion, ReadAllows, PruneAllows, Allows, Blocks, ByFailedSwap, ByDelete, Allowed}
 use Rattle.esr_core.specs.History.{world_from, IsLegal}
 use Rattle.esr_bounds.specs.Keys.{Key, DrawKey, BeginKey, CommitKey, LatestKey, FetchKey, PageKey, RaiseKey, SettleKey, DropKey, ReadKey, IndexKey, PlanKey, PrunedKey, NoneKey, RemovalKey, EndKey, ClientKey, key, keys, IsUnheard, AreHeard, IsUntouched, IsHeard}
-use Rattle.esr_bounds.proofs.Maps.{some_same, put_in}
+use Rattle.esr_bounds.specs.Laws.{StepLaws}
+use Rattle.esr_core.specs.NumberMaps.{some_same, get_same}
 
 -- ---- two steps of one key
 
@@ -136,7 +137,7 @@ on_off : (b : Bool) → b ≡ true → b ≡ false → ⊥
 on_off b on off = let clash : true ≡ false = sym on ∙ off in cc
 
 put_over : (tickets : FinMap nat_cmp Ticket) (k : ℕ) (v : Ticket) → v.out ≡ false → (t : Ticket) → fin.get (fin.insert tickets k v) k ≡ Some t → t.out ≡ false
-put_over tickets k v off t there = ap (λ (x : Ticket). x.out) (some_same t v (sym there ∙ put_in tickets k v)) ∙ off
+put_over tickets k v off t there = ap (λ (x : Ticket). x.out) (some_same t v (sym there ∙ get_same tickets k v)) ∙ off
 
 -- the step has ended the ticket, and left those of restores
 abbrev Closes : World → ℕ → World → Type 0
@@ -196,7 +197,7 @@ module _ (w : World) (k : ℕ) (t : Ticket) (there : fin.get w.tickets k ≡ Som
   over_ticket reads new c = (c.0, λ q there_q. absurd (reads.apart.tickets k q t (subst (λ (m : FinMap nat_cmp Reader). fin.get m k ≡ Some q) c.1 there_q) there))
 
 put_read : (readers : FinMap nat_cmp Reader) (k : ℕ) (v : Reader) → v.out ≡ false → (q : Reader) → fin.get (fin.insert readers k v) k ≡ Some q → q.out ≡ false
-put_read readers k v off q there = ap (λ (x : Reader). x.out) (some_same q v (sym there ∙ put_in readers k v)) ∙ off
+put_read readers k v off q there = ap (λ (x : Reader). x.out) (some_same q v (sym there ∙ get_same readers k v)) ∙ off
 
 over_reader : (w : World) (k : ℕ) (q : Reader) (state : ReadState) → ReadTracked w → IsReading w k q → IsOver (read_over w k state (fin.get w.readers k)).tickets (read_over w k state (fin.get w.readers k)).readers k
 over_reader w k q state reads reading =
@@ -252,14 +253,6 @@ pub record Kept (w : World) : Type 0 where
   pub once : (k : ℕ) → 1 ≤ k → AreOnce (keys (entries_by w.entries k))
   pub over : (k : ℕ) → 1 ≤ k → Has (keys (entries_by w.entries k)) EndKey → IsOver w.tickets w.readers k
   pub none : (k : ℕ) → 1 ≤ k → w.next_ticket ≤ k → entries_by w.entries k ≡ []
-
-pub record StepLaws (f : Formats) (size : ℕ) : Type 0 where
-  pub tracks : (w : World) (m : Moment) → Tracked w → Allowed f size w m → Tracked (after f w m)
-  pub reads : (w : World) (m : Moment) → Tracked w → ReadTracked w → Allowed f size w m → ReadTracked (after f w m)
-  pub frame : (w : World) (m : Moment) → StepFrame w (after f w m) m.entry.who m.entry.step
-  pub maker : (w : World) (m : Moment) → Allowed f size w m → Maker w m.entry.who m.entry.step ⊎ IsBlocked w m
-  pub others : (entries : List Entry) (e : Entry) (who : ℕ) → who ≢ e.who → entries_by (with_entry entries e) who ≡ entries_by entries who
-  pub own : (entries : List Entry) (e : Entry) → is_counted e.reply ≡ true → begins_anew e.who e.step ≡ false → entries_by (with_entry entries e) e.who ≡ e ∷ entries_by entries e.who
 
 pub counted : (reply : Reply) → (IsUnheard reply → ⊥) → is_counted reply ≡ true
 counted (Refused (DeposedAt place)) heard = absurd (heard tt)

@@ -14,10 +14,10 @@ use Rattle.esr_core.specs.Changes.{IsUnits}
 use Rattle.esr_core.specs.Entry.{Prune, RemoveDoomed, Step, AskStep, TakeStep, DrawStep, BeginStep, CommitStep, LatestStep, FetchStep, ListStep, RaiseStep, SettleStep, DoneStep, FailedStep, FinishStep, DroppedStep, ElectStep, LookStep, ReadStep, PruneStep, Reply}
 use Rattle.esr_core.specs.After.{with_given, committing, fetching, told_blob, settled_by, settled_of, done_by, done_of, delete_settled_by, delete_settled, delete_failed_by, delete_failed, failed_by, failed_of, dropped_of, is_stale, has_text, is_latest, tried, raised, answered}
 use Rattle.esr_core.specs.Allowed as allowed
-use Rattle.esr_core.specs.Allowed.{Commits, Puts, PruneAllows, Allows}
+use Rattle.esr_core.specs.Allowed.{Commits, PruneAllows, Allows}
 use Rattle.esr_bounds.specs.Keys.{Key, DrawKey, BeginKey, CommitKey, LatestKey, FetchKey, RaiseKey, SettleKey, DropKey, PlanKey, PrunedKey, NoneKey, EndKey, key}
 use Rattle.esr_bounds.specs.Most.{ids_by, names_of, fetch_names, single_keys, IsDelete, MayDo}
-use Rattle.esr_bounds.proofs.Maps.{some_same, none_some, put_in}
+use Rattle.esr_core.specs.NumberMaps.{some_same, none_some, get_same}
 use Rattle.esr_bounds.proofs.Names.{in_front, in_back, in_map, own_named, may_named, fetch_named, bare, Grown, own_keys, name_keys}
 
 end_single : Has single_keys EndKey
@@ -57,7 +57,7 @@ module _ (f : Formats) (size : ℕ) (known : (place name : Bytes) (number : ℕ)
     anew : (g : Ticket → Ticket) → Grown t (g t) → (DrewFew f t → DrewFew f (g t)) → (o : Option Ticket) → o ≡ Some t → Onward f k t (with_given w k g o)
     anew g grown few None is = absurd (none_some t is)
     anew g grown few (Some u) is =
-        subst (λ (x : Ticket). Onward f k t (with_given w k g (Some x))) (sym (some_same u t is)) (record { v = g t; at = put_in w.tickets k (g t); grown = grown; few = few })
+        subst (λ (x : Ticket). Onward f k t (with_given w k g (Some x))) (sym (some_same u t is)) (record { v = g t; at = get_same w.tickets k (g t); grown = grown; few = few })
 
     -- with other numbers, ops or deletes
     besides : (up new : World) → new.tickets ≡ up.tickets → Onward f k t up → Onward f k t new
@@ -65,7 +65,7 @@ module _ (f : Formats) (size : ℕ) (known : (place name : Bytes) (number : ℕ)
 
     -- where its unit, its ids and its generation stay
     keeps : (v : Ticket) → Grown t v → (DrewFew f t → DrewFew f v) → (up : World) → up.tickets ≡ fin.insert w.tickets k v → Onward f k t up
-    keeps v grown few up is = record { v = v; at = ap (λ m. fin.get m k) is ∙ put_in w.tickets k v; grown = grown; few = few }
+    keeps v grown few up is = record { v = v; at = ap (λ m. fin.get m k) is ∙ get_same w.tickets k v; grown = grown; few = few }
 
     over : Ticket
     over = record t { out = false }

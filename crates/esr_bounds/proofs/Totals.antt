@@ -22,13 +22,14 @@ use Rattle.esr_bounds.specs.Keys.{made_by, AreHeard, IsHeard}
 use Rattle.esr_bounds.specs.Most.{most_of_shard, most_of_final, most_of_drop}
 use Rattle.esr_bounds.specs.Units.{IsFinalize, IsDropped, asked_counts}
 use Rattle.esr_bounds.specs.Work.{work_of_shards, work_of_indices, count_of_shards, most_of_copy, shards_work, op_work, work_of, elections_by, elections_in, idle_in, made_if_delete, made_besides, made_of_others}
-use Rattle.esr_bounds.proofs.Maps.{none_some, nothing}
+use Rattle.esr_bounds.specs.Laws.{StepLaws, MasterLaws}
+use Rattle.esr_core.specs.NumberMaps.{none_some, nothing}
 use Rattle.esr_bounds.proofs.Names.{in_front, in_back, in_either, in_map}
 use Rattle.esr_bounds.proofs.Counting.{total, total_append, light_once, made_upto, all_made, units_upto, with_takes, gave_by, gave_in, nobody_made}
-use Rattle.esr_bounds.proofs.Once.{StepLaws, turn_of}
+use Rattle.esr_bounds.proofs.Once.{turn_of}
 use Rattle.esr_bounds.proofs.Bounded.{shard_few, final_few, drop_few}
 use Rattle.esr_bounds.proofs.Given.{GivenOnce, untouched_once, log_once}
-use Rattle.esr_bounds.proofs.Masters.{MasterLaws, MastersOnce, untouched_masters, masters_log}
+use Rattle.esr_bounds.proofs.Masters.{MastersOnce, untouched_masters, masters_log}
 use Rattle.esr_bounds.proofs.Items.{Item, item_of, ticket_item, most_of_item, asked_items, all_items, all_counts, AllIn, all_in}
 
 -- ---- what tickets up to a number have of a kind

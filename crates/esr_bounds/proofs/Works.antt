@@ -1,9 +1,6 @@
 -- How open ops and restores go on with a step: each was there with these shards, or was asked just now. No shard becomes pending again.
-use Rattle.std.proofs.Common.{◌≡◌, ◌⊎◌, ℕ, zero, suc, ◌+◌, List, [], ◌∷◌, length, map, Bool, true, false, cond, Option, Some, None, refl, sym, ap, ◌∙◌, subst, inl, inr, nat_cmp}
+use Rattle.std.proofs.Common.{◌≡◌, ◌⊎◌, ℕ, zero, suc, ◌+◌, List, [], ◌∷◌, length, map, Bool, true, false, Option, Some, None, refl, sym, ap, ◌∙◌, subst, inl, inr, nat_cmp}
 use Rattle.std.specs.Prelude.{option_map, if◌then◌else◌, ◌==◌, ◌&&◌}
-use Rattle.std.specs.Ordering.{eq_by_cmp}
-use Rattle.std.specs.Cmp.{nat_cmp_total, eq_by_cmp_equiv}
-use Rattle.std.specs.FinMap.Entries.{find}
 use Rattle.std.specs.FinMap.{FinMap}
 use Rattle.std.specs.FinMap as fin
 use Rattle.esr_model.specs.Names.{BlobName}
@@ -19,7 +16,8 @@ use Rattle.esr_core.specs.Deletes.{named_uuids, waiting_delete, running_delete, 
 use Rattle.esr_core.specs.Entry.{AskedIndex, CloneOf, Snapshot, Clone, DeleteSnapshots, Restore, Cleanup, Given, GivenShard, GivenClone, GivenFinalize, GivenDrop, GivenRestore, GivenDelete, GivenCleanup, Read, ReadBlob, RestoredShard, DrawTest, CommitTest, ReadFails, Prune, FetchShard, PlanShards, SettlePruned, RemoveDoomed, EndDelete, DeleteFails, Step, AskStep, TakeStep, DrawStep, BeginStep, CommitStep, LatestStep, FetchStep, ListStep, RaiseStep, SettleStep, DoneStep, FailedStep, FinishStep, DroppedStep, ElectStep, ReadStep, PruneStep, DepotFault, Reply, Gave, DrawnFrom, WasDone, WasThere, WasFetched, WasListed, HasEnded, Refused, AcceptedRestore}
 use Rattle.esr_core.specs.After.{asked_op, cloned_op, asked, shard_of, taken_shard, taken_restore_shard, taken_restore, taken_by, with_given, committing, told_blob, fetching, settled_by, settled_of, done_by, done_of, is_stale, failed_by, failed_of, dropped_of, delete_settled_by, delete_settled, delete_failed_by, delete_failed, prune_step, read_told, shard_over, read_over, read_step, read_by, done_step, has_text, fallen, is_latest, tried, test_left, faulted, answered}
 use Rattle.esr_bounds.specs.Units.{asked_indices, asked_source, asked_shards, asked_counts}
-use Rattle.esr_bounds.proofs.Maps.{some_same, none_some, split, get_was, get_left}
+use Rattle.esr_core.specs.NumberMaps.{some_same, none_some, get_was, get_left}
+use Rattle.esr_core.specs.AbortLaws.{aborted_at}
 use Rattle.esr_bounds.proofs.Names.{of_map}
 
 -- ---- one op
@@ -174,32 +172,9 @@ module _ (w : World) (uuids : List ℕ) (by : ℕ) where
   now_at : ℕ → Op → Op
   now_at o op = (aborting w uuids by (o, op)).1
 
-  entry_at : (e : ℕ × Op) → aborting w uuids by e ≡ (e.0, now_at e.0 e.1)
-  unfolding now_at
-  entry_at e = choose (aborts_op w uuids e)
-    where
-      choose : (b : Bool) → (if b then (e.0, record e.1 { aborted = Some by }) else e) ≡ (e.0, (if b then (e.0, record e.1 { aborted = Some by }) else e).1)
-      choose true = refl
-      choose false = refl
-
-  find_at : (q : ℕ) (es : List (ℕ × Op)) → find nat_cmp q (map (aborting w uuids by) es) ≡ option_map (now_at q) (find nat_cmp q es)
-  find_at q [] = refl
-  find_at q (e ∷ es) =
-      ap (λ (x : ℕ × Op). cond (eq_by_cmp nat_cmp q x.0) (Some x.1) (find nat_cmp q (map (aborting w uuids by) es))) (entry_at e)
-      ∙ elim (split q e.0) [
-        | inl same ↦
-            let tied : eq_by_cmp nat_cmp q e.0 ≡ true = subst (λ k. eq_by_cmp nat_cmp q k ≡ true) same ((eq_by_cmp_equiv nat_cmp_total).refl q) in
-            ap (λ b. cond b (Some (now_at e.0 e.1)) (find nat_cmp q (map (aborting w uuids by) es))) tied
-            ∙ ap (λ k. Some (now_at k e.1)) (sym same)
-            ∙ sym (ap (λ b. option_map (now_at q) (cond b (Some e.1) (find nat_cmp q es))) tied)
-        | inr away ↦
-            ap (λ b. cond b (Some (now_at e.0 e.1)) (find nat_cmp q (map (aborting w uuids by) es))) away.1
-            ∙ find_at q es
-            ∙ sym (ap (λ b. option_map (now_at q) (cond b (Some e.1) (find nat_cmp q es))) away.1)
-      ]
-
   get_at : (o : ℕ) → fin.get (aborted_ops w uuids by) o ≡ option_map (now_at o) (fin.get w.ops o)
-  get_at o = fin.get-from_entries nat_cmp_total (map (aborting w uuids by) (fin.entries w.ops)) o ∙ find_at o (fin.entries w.ops) ∙ ap (option_map (now_at o)) (sym (fin.get-entries w.ops o))
+  unfolding now_at
+  get_at o = aborted_at w uuids by o
 
   now_was : (o : ℕ) (op : Op) → fin.get w.ops o ≡ Some op → WasOp w o (now_at o op)
   unfolding now_at

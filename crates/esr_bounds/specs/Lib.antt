@@ -3,3 +3,4 @@ pub mod Most
 pub mod Units
 pub mod Work
 pub mod Clients
+pub mod Laws

@@ -16,17 +16,36 @@ ghost use Rattle.esr_bounds.specs.Keys.{keys, made_by, IsUntouched, IsHeard};
 ghost use Rattle.esr_bounds.specs.Work.{most_steps};
 ghost use Rattle.esr_bounds.specs.Clients.{draws_in, looks_in, ends_in};
 ghost use Rattle.esr_bounds.specs.Units.{IsFinalize, IsDropped, OneOf};
+ghost use Rattle.esr_bounds.specs.Laws.{StepLaws, MasterLaws};
 ghost use Rattle.esr_bounds.specs.Most.{IsDelete, most_of_shard, most_of_final, most_of_drop};
 
-/// No ticket does anything twice, and nothing after its end.
-pub fn each_ticket_does_all_once()
-    ensures { (f : Formats) (part_size : ℕ) (w : World) (log : List Moment) (k : ℕ) → IsHeard f part_size w log → 1 ≤ k → AreOnce (keys (entries_by (world_from f w log).entries k)) }
+/// The core's laws of a step and of the entries of a ticket.
+fn steps_are_lawful()
+    ensures { (f : Formats) (part_size : ℕ) → StepLaws f part_size }
 {
     esr_core::each_step_is_tracked();
     esr_core::each_step_tracks_restores();
     esr_core::each_step_leaves_the_others();
     esr_core::each_step_has_its_maker();
     esr_core::entries_are_of_their_makers();
+}
+
+/// The core's laws of a step and of what it changes.
+fn changes_are_lawful()
+    ensures { (f : Formats) (part_size : ℕ) → MasterLaws f part_size }
+{
+    esr_core::each_step_is_tracked();
+    esr_core::each_step_tracks_restores();
+    esr_core::each_step_is_one_change();
+    esr_core::each_step_leaves_the_others();
+    esr_core::each_step_has_its_maker();
+}
+
+/// No ticket does anything twice, and nothing after its end.
+pub fn each_ticket_does_all_once()
+    ensures { (f : Formats) (part_size : ℕ) (w : World) (log : List Moment) (k : ℕ) → IsHeard f part_size w log → 1 ≤ k → AreOnce (keys (entries_by (world_from f w log).entries k)) }
+{
+    steps_are_lawful();
 }
 
 /// Where the sources tell all files the ticket of a shard makes no more steps than its files ask for, that of a finalization no
@@ -39,11 +58,7 @@ pub fn each_ticket_makes_few_steps()
     ensures drop { (f : Formats) (part_size : ℕ) (w : World) (log : List Moment) (k : ℕ) (t : Ticket) → IsHeard f part_size w log → AllKnown f → 1 ≤ k → fin.get (world_from f w log).tickets k ≡ Some t → t.work ≡ Drop
         → made_by log k ≤ most_of_drop }
 {
-    esr_core::each_step_is_tracked();
-    esr_core::each_step_tracks_restores();
-    esr_core::each_step_leaves_the_others();
-    esr_core::each_step_has_its_maker();
-    esr_core::entries_are_of_their_makers();
+    steps_are_lawful();
 }
 
 /// No shard of a snapshot or a clone is given to two tickets, nor one of a restore.
@@ -65,11 +80,7 @@ pub fn each_op_is_worked_once_a_term()
     ensures drops { (f : Formats) (part_size : ℕ) (w : World) (log : List Moment) → Tracked w → ReadTracked w → IsUntouched w → IsLegal f part_size w log → OneOf IsDropped (world_from f w log).tickets }
     ensures deletes { (f : Formats) (part_size : ℕ) (w : World) (log : List Moment) → Tracked w → ReadTracked w → IsUntouched w → IsLegal f part_size w log → OneOf IsDelete (world_from f w log).tickets }
 {
-    esr_core::each_step_is_tracked();
-    esr_core::each_step_tracks_restores();
-    esr_core::each_step_is_one_change();
-    esr_core::each_step_leaves_the_others();
-    esr_core::each_step_has_its_maker();
+    changes_are_lawful();
 }
 
 /// A history is no longer than what who 0 makes of it, what is asked makes, and what the tickets of deletes, cleanups and restores make: where
@@ -77,12 +88,8 @@ pub fn each_op_is_worked_once_a_term()
 pub fn no_history_is_longer_than_what_it_asks_for()
     ensures { (f : Formats) (part_size : ℕ) (w : World) (log : List Moment) → IsHeard f part_size w log → AllKnown f → length log ≤ most_steps f part_size w log }
 {
-    esr_core::each_step_is_tracked();
-    esr_core::each_step_tracks_restores();
-    esr_core::each_step_is_one_change();
-    esr_core::each_step_leaves_the_others();
-    esr_core::each_step_has_its_maker();
-    esr_core::entries_are_of_their_makers();
+    steps_are_lawful();
+    changes_are_lawful();
     esr_core::answers_tell_their_steps();
 }
 
@@ -90,10 +97,7 @@ pub fn no_history_is_longer_than_what_it_asks_for()
 pub fn no_more_ends_than_begins()
     ensures { (f : Formats) (part_size : ℕ) (w : World) (log : List Moment) → IsHeard f part_size w log → ends_in log ≤ looks_in log + draws_in log }
 {
-    esr_core::each_step_is_tracked();
-    esr_core::each_step_tracks_restores();
+    steps_are_lawful();
     esr_core::each_step_is_one_change();
     esr_core::each_step_leaves_the_others();
-    esr_core::each_step_has_its_maker();
-    esr_core::entries_are_of_their_makers();
 }

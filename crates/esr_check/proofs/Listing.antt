@@ -3,8 +3,8 @@ use Rattle.std.proofs.Common.{◌≡◌, inl, inr, ℕ, zero, suc, ◌+◌, ◌<
 use Rattle.std.proofs.lemmas.Simd.{map-map}
 use Rattle.std.specs.List.{AllByRecursion}
 use Rattle.esr_names.specs.declared.index_ref.IndexRef.{IndexRef as CodeRef}
-use Rattle.esr_meta.specs.Indices.{AreRefs}
-use Rattle.esr_results.proofs.Refs.{one_id, ids_distinct}
+use Rattle.esr_names.specs.Indices.{AreRefs}
+use Rattle.esr_newroot.proofs.Refs.{one_id, ids_distinct}
 use Rattle.esr_formats.specs.Refs.{ref_of_code}
 use Rattle.esr_model.specs.Names.{BlobName}
 use Rattle.esr_model.specs.Values.{Has, IndexRef}

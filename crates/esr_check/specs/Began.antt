@@ -1,12 +1,11 @@
 -- What a check adds to a history.
-use Rattle.std.specs.Prelude.{◌≡◌, ◌≢◌, ℕ, List, ◌∷◌, [], ◌++◌, Result, Ok, Err}
+use Rattle.std.specs.Prelude.{◌≡◌, ◌≢◌, ℕ, List, ◌∷◌, [], ◌++◌, Result}
 use Rattle.esr_model.specs.Values.{Has}
 use Rattle.esr_core.specs.Entry.{Read, ReadBlob, RestoredShard, CheckedAll, DrawTest, BeginTest, CommitTest, RemoveTests, VerifiedAll, ReadFails, LookStep, ReadStep, HasEnded, Moment}
 use Rattle.esr_desk.specs.Start.{Start, Legal}
 use Rattle.esr_desk.specs.Check.Shown.{AllFetches}
+use Rattle.esr_desk.specs.Asks.{Asks}
 use Rattle.esr_desk.specs.declared.unit.UnitRefusal.{UnitRefusal}
-use Rattle.esr_desk.specs.declared.unit.UnitRefusal.TheVariants as units
-use Rattle.esr_desk.specs.declared.refusal.StepRefusal.TheVariants as steps
 
 -- a further step of a check, after its look
 abbrev pub IsOfCheck : Read → Type 0
@@ -48,12 +47,7 @@ pub data BeganOne (old new : List Moment) : Type 0 where
 
 -- By its answer: it looked, unless memory was wanting or turns were spent; then it may have made no step.
 abbrev pub AsksOne : {X : Type 0} → List Moment → List Moment → Result X UnitRefusal → Type 0
-AsksOne old new (Ok x) = HasBegun old new
-AsksOne old new (Err (units.Failed why)) = HasBegun old new
-AsksOne old new (Err (units.Stopped (steps.Refused refusal))) = HasBegun old new
-AsksOne old new (Err (units.Stopped steps.Memory)) = BeganOne old new
-AsksOne old new (Err (units.Stopped steps.TurnsSpent)) = BeganOne old new
-AsksOne old new (Err units.Stale) = ⊥
+AsksOne old new result = Asks (HasBegun old new) (BeganOne old new) result
 
 -- no check ended well in what was added
 pub record NoneChecked (old new : List Moment) : Type 0 where

@@ -1,8 +1,8 @@
 -- What a check has found of each piece of the safe root, by the blobs that it read.
-use Rattle.std.specs.Prelude.{◌≡◌, ℕ, suc, true, List, Option, Some}
+use Rattle.std.specs.Prelude.{◌≡◌, ◌<◌, ℕ, suc, true, List, Option, Some}
 use Rattle.esr_model.specs.Names.{BlobName, Root, Snap, Meta, IndexMeta, ShardSnap, ShardIndex}
 use Rattle.esr_model.specs.Values.{Bytes, Has, IndexRef, RootSnap, RootIndex, RootData, SnapInfo, FileEntry, ShardSnapshot, SnapList, ShardFiles}
-use Rattle.esr_model.specs.Image.{AllPairs, FileStands, Lists, at_shard, global_of}
+use Rattle.esr_model.specs.Image.{AllPairs, FileStands, Generation, Lists, at_shard, global_of}
 use Rattle.esr_model.specs.Parts.{part_names}
 use Rattle.esr_model.specs.Agreement.{Agrees}
 use Rattle.esr_core.specs.World.{Caller}
@@ -21,6 +21,11 @@ pub record HasRoot (s : Start) (log : List Moment) (n : ℕ) (root : RootData) :
 -- the safe root was read, and is this
 abbrev pub HasSafe : Start → List Moment → RootData → Type 0
 HasSafe s log root = (n : ℕ) × HasRoot s log n root
+
+-- the safe root, of this generation, lists the snapshot
+pub record IsSnapOfRoot (s : Start) (log : List Moment) (n : ℕ) (root : RootData) (snap : RootSnap) : Type 0 where
+  pub safe : HasRoot s log n root
+  pub listed : Has root.snapshots snap
 
 -- the metadata of an index in a snapshot was read, and is what the snapshot's info says
 abbrev pub HasMeta : Start → Caller → ℕ → IndexRef → Type 0
@@ -44,6 +49,13 @@ HasInfosOf s c root snaps infos = AllPairs (HasInfo s c root) snaps infos
 -- of all listed snapshots
 abbrev pub HasInfos : Start → Caller → RootData → List SnapInfo → Type 0
 HasInfos s c root infos = HasInfosOf s c root root.snapshots infos
+
+-- the shard is one of the safe root, under this generation, and these are the infos of the listed snapshots
+pub record IsShardOfRoot (s : Start) (log : List Moment) (root : RootData) (infos : List SnapInfo) (index number generation : ℕ) : Type 0 where
+  pub safe : HasSafe s log root
+  pub listed : HasInfos s (caller_of s log) root infos
+  pub few : number < 1024
+  pub there : Generation root index number generation
 
 -- the index of a shard was read, and is this
 abbrev pub HasHeld : Start → Caller → ℕ → ℕ → ℕ → ShardFiles → Type 0

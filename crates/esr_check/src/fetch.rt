@@ -12,7 +12,7 @@ ghost use Rattle.esr_check.specs.Went.{IsSoFar, Came, Went};
 
 use crate::law::laws;
 use esr_depot::{CallError, read_whole};
-use esr_desk::{Client, Desk, Hand, StepRefusal, Why};
+use esr_desk::{Client, Desk, Hand, StepRefusal, Who, Why};
 use esr_names::BlobName;
 use esr_seq::Bytes;
 use esr_unit::Trouble;
@@ -36,7 +36,11 @@ pub fn fetch<Q: Client>(
     ensures went { Went Q.start (Q.seen desk.old) (Q.seen desk.new) (Just (name_of name)) }
 {
     laws();
-    match desk.fetch(alloc, Hand::Check, 0, name)? {
+    let who = Who {
+        hand: Hand::Check,
+        number: 0,
+    };
+    match desk.fetch(alloc, who, name)? {
         Some(fetch) => {
             *count += 1;
             Ok(fetch)

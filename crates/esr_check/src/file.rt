@@ -1,22 +1,22 @@
 //! The files of a shard: each has the stated length and digest, cut at the stated part size.
-ghost use Rattle.std.specs.Prelude.{◌≡◌, ◌<◌, true, length, IfErr, OnOk};
+ghost use Rattle.std.specs.Prelude.{◌≡◌, ◌<◌, true, map, length, IfErr, OnOk};
 ghost use Rattle.esr_model.specs.Values.{Has};
-ghost use Rattle.esr_model.specs.Image.{Generation};
+ghost use Rattle.esr_formats.specs.Infos.{info_of_code};
 ghost use Rattle.esr_formats.specs.Roots.{root_of};
 ghost use Rattle.esr_formats.specs.Shards.{entry_of, shard_index_of};
 ghost use Rattle.esr_shardidx.specs.Entries.{IsEntry};
 ghost use Rattle.esr_desk.specs.Own.{caller_of};
 ghost use Rattle.esr_check.specs.First.{TellsOne, FirstOfFile, FirstOfFiles};
 ghost use Rattle.esr_check.specs.Names.{IsOfFile, IsPieceOf, AreUnfetched};
-ghost use Rattle.esr_check.specs.Pieces.{HasSafe, HasHeld, HasFile, HasFiles};
+ghost use Rattle.esr_check.specs.Pieces.{IsShardOfRoot, HasHeld, HasFile, HasFiles};
 ghost use Rattle.esr_check.specs.Trouble.{Shown, Judged};
 ghost use Rattle.esr_check.specs.Went.{IsSoFar, Went};
 
 use crate::part::read_parts;
+use crate::root_shard::ShardOfRoot;
 use esr_desk::{Client, Why};
 use esr_hash::{Hasher, Print};
 use esr_names::{BlobName, Id, ShardId};
-use esr_root::RootData;
 use esr_shardidx::{FileEntry, ShardIndex};
 use esr_unit::Trouble;
 use std::alloc::Global;
@@ -52,44 +52,29 @@ fn check_file<Q: Client>(
     alloc: Global,
     desk: &mut Q,
     count: &mut u64,
-    root: &RootData,
-    at: ShardId,
-    generation: Id,
+    shard: ShardOfRoot<'_>,
     held: &ShardIndex,
     entry: &FileEntry,
     buf: &mut [u8],
 ) -> Result<(), Trouble<Q::Stage, Q::Fetch>>
     requires alone { Q.start.alone ≡ true }
-    requires root { HasSafe Q.start (Q.seen desk.old) (root_of root.now) }
-    requires few { at.number < 1024 }
-    requires generation { Generation (root_of root.now) at.index.number at.number generation.number }
-    requires held { HasHeld Q.start (caller_of Q.start (Q.seen desk.old)) at.index.number at.number generation.number (shard_index_of held.now) }
+    requires shard { IsShardOfRoot Q.start (Q.seen desk.old) (root_of shard.root.now) (map info_of_code shard.infos.now) shard.at.index.number shard.at.number shard.generation.number }
+    requires held { HasHeld Q.start (caller_of Q.start (Q.seen desk.old)) shard.at.index.number shard.at.number shard.generation.number (shard_index_of held.now) }
     requires entry { IsEntry entry.now }
     requires listed { Has (shard_index_of held.now).files (entry_of entry.now) }
     requires buffer { 0 < length buf.old }
-    requires new { AreUnfetched (caller_of Q.start (Q.seen desk.old)) (IsOfFile at.index.number at.number entry.now.name.number) }
+    requires new { AreUnfetched (caller_of Q.start (Q.seen desk.old)) (IsOfFile shard.at.index.number shard.at.number entry.now.name.number) }
     requires so_far { IsSoFar Q.start (Q.seen desk.old) count.old }
     ensures buffer { length buf.new ≡ length buf.old }
-    ensures file { OnOk result (HasFile Q.start (caller_of Q.start (Q.seen desk.new)) at.index.number at.number (entry_of entry.now)) }
+    ensures file { OnOk result (HasFile Q.start (caller_of Q.start (Q.seen desk.new)) shard.entry.at.index.number shard.entry.at.number (entry_of entry.now)) }
     ensures so_far { OnOk result (IsSoFar Q.start (Q.seen desk.new) count.new) }
     ensures trouble { IfErr result (Shown Q.Fetch.faults Q.start (Q.seen desk.new)) }
-    ensures first { IfErr result (TellsOne (FirstOfFile Q.start (caller_of Q.start (Q.seen desk.new)) at.index.number at.number (entry_of entry.now))) }
-    ensures went { Went Q.start (Q.seen desk.old) (Q.seen desk.new) (IsOfFile at.index.number at.number entry.now.name.number) }
+    ensures first { IfErr result (TellsOne (FirstOfFile Q.start (caller_of Q.start (Q.seen desk.new)) shard.entry.at.index.number shard.entry.at.number (entry_of entry.now))) }
+    ensures went { Went Q.start (Q.seen desk.old) (Q.seen desk.new) (IsOfFile shard.entry.at.index.number shard.entry.at.number entry.now.name.number) }
 {
     let mut hasher = Hasher::start();
-    let is_exact = read_parts(
-        alloc,
-        desk,
-        count,
-        root,
-        at,
-        generation,
-        held,
-        entry,
-        &mut hasher,
-        buf,
-    )?;
-    if let Some(why) = judge(at, generation, entry, hasher.end(), is_exact) {
+    let is_exact = read_parts(alloc, desk, count, shard, held, entry, &mut hasher, buf)?;
+    if let Some(why) = judge(shard.at, shard.generation, entry, hasher.end(), is_exact) {
         return Err(Trouble::Found { why });
     }
     Ok(())
@@ -100,29 +85,25 @@ pub fn check_files<Q: Client>(
     alloc: Global,
     desk: &mut Q,
     count: &mut u64,
-    root: &RootData,
-    at: ShardId,
-    generation: Id,
+    shard: ShardOfRoot<'_>,
     held: &ShardIndex,
     buf: &mut [u8],
 ) -> Result<(), Trouble<Q::Stage, Q::Fetch>>
     requires alone { Q.start.alone ≡ true }
-    requires root { HasSafe Q.start (Q.seen desk.old) (root_of root.now) }
-    requires few { at.number < 1024 }
-    requires generation { Generation (root_of root.now) at.index.number at.number generation.number }
-    requires held { HasHeld Q.start (caller_of Q.start (Q.seen desk.old)) at.index.number at.number generation.number (shard_index_of held.now) }
+    requires shard { IsShardOfRoot Q.start (Q.seen desk.old) (root_of shard.root.now) (map info_of_code shard.infos.now) shard.at.index.number shard.at.number shard.generation.number }
+    requires held { HasHeld Q.start (caller_of Q.start (Q.seen desk.old)) shard.at.index.number shard.at.number shard.generation.number (shard_index_of held.now) }
     requires buffer { 0 < length buf.old }
-    requires new { AreUnfetched (caller_of Q.start (Q.seen desk.old)) (IsPieceOf at.index.number at.number) }
+    requires new { AreUnfetched (caller_of Q.start (Q.seen desk.old)) (IsPieceOf shard.at.index.number shard.at.number) }
     requires so_far { IsSoFar Q.start (Q.seen desk.old) count.old }
     ensures buffer { length buf.new ≡ length buf.old }
-    ensures files { OnOk result (HasFiles Q.start (caller_of Q.start (Q.seen desk.new)) at.index.number at.number (shard_index_of held.now).files) }
+    ensures files { OnOk result (HasFiles Q.start (caller_of Q.start (Q.seen desk.new)) shard.entry.at.index.number shard.entry.at.number (shard_index_of held.now).files) }
     ensures so_far { OnOk result (IsSoFar Q.start (Q.seen desk.new) count.new) }
     ensures trouble { IfErr result (Shown Q.Fetch.faults Q.start (Q.seen desk.new)) }
-    ensures first { IfErr result (TellsOne (FirstOfFiles Q.start (caller_of Q.start (Q.seen desk.new)) at.index.number at.number (shard_index_of held.now).files)) }
-    ensures went { Went Q.start (Q.seen desk.old) (Q.seen desk.new) (IsPieceOf at.index.number at.number) }
+    ensures first { IfErr result (TellsOne (FirstOfFiles Q.start (caller_of Q.start (Q.seen desk.new)) shard.entry.at.index.number shard.entry.at.number (shard_index_of held.now).files)) }
+    ensures went { Went Q.start (Q.seen desk.old) (Q.seen desk.new) (IsPieceOf shard.entry.at.index.number shard.entry.at.number) }
 {
     for entry in held.files() {
-        check_file(alloc, desk, count, root, at, generation, held, entry, buf)?;
+        check_file(alloc, desk, count, shard, held, entry, buf)?;
     }
     Ok(())
 }

@@ -9,6 +9,8 @@ mod law;
 mod lists;
 mod part;
 mod root;
+mod root_shard;
+mod root_snap;
 mod shard;
 mod snap;
 

@@ -7,16 +7,18 @@ ghost use Rattle.esr_formats.specs.Infos.{info_of_code};
 ghost use Rattle.esr_formats.specs.Roots.{root_of, root_index_of};
 ghost use Rattle.esr_formats.specs.Shards.{shard_index_of};
 ghost use Rattle.esr_desk.specs.Own.{caller_of};
+ghost use Rattle.esr_desk.specs.Check.Conditions.{CanCheck};
 ghost use Rattle.esr_agreement.specs.Lists.{AreKept};
 ghost use Rattle.esr_check.specs.First.{TellsOne, FirstOfPlace, FirstOfShard, FirstOfShards};
 ghost use Rattle.esr_check.specs.Names.{Just, IsOfShard, IsOfShards, AreUnfetched};
-ghost use Rattle.esr_check.specs.Pieces.{HasSafe, HasInfos, HasHeld, HasShard, HasPlace, HasShards};
+ghost use Rattle.esr_check.specs.Pieces.{HasSafe, HasInfos, IsShardOfRoot, HasHeld, HasShard, HasPlace, HasShards};
 ghost use Rattle.esr_check.specs.Trouble.{Shown};
 ghost use Rattle.esr_check.specs.Went.{IsSoFar, Went};
 
 use crate::fetch::fetch_whole;
 use crate::file::check_files;
 use crate::lists::check_lists;
+use crate::root_shard::ShardOfRoot;
 use esr_agreement::unlisted;
 use esr_desk::{Client, Why};
 use esr_formats::read_shard_index;
@@ -32,15 +34,12 @@ fn fetch_held<Q: Client>(
     alloc: Global,
     desk: &mut Q,
     count: &mut u64,
-    root: &RootData,
     at: ShardId,
     generation: Id,
 ) -> Result<ShardIndex, Trouble<Q::Stage, Q::Fetch>>
     requires alone { Q.start.alone ≡ true }
-    requires root { HasSafe Q.start (Q.seen desk.old) (root_of root.now) }
     requires few { at.number < 1024 }
-    requires generation { Generation (root_of root.now) at.index.number at.number generation.number }
-    requires new { AreUnfetched (caller_of Q.start (Q.seen desk.old)) (Just (IndexName at.index.number at.number generation.number)) }
+    requires may { CanCheck Q.start (Q.seen desk.old) (IndexName at.index.number at.number generation.number) }
     requires so_far { IsSoFar Q.start (Q.seen desk.old) count.old }
     ensures read { IfOk result (λ v. HasHeld Q.start (caller_of Q.start (Q.seen desk.new)) at.index.number at.number generation.number (shard_index_of v)) }
     ensures so_far { IfOk result (λ v. IsSoFar Q.start (Q.seen desk.new) count.new) }
@@ -61,30 +60,24 @@ fn check_held<Q: Client>(
     alloc: Global,
     desk: &mut Q,
     count: &mut u64,
-    root: &RootData,
-    infos: &[SnapInfo],
-    at: ShardId,
-    generation: Id,
+    shard: ShardOfRoot<'_>,
 ) -> Result<ShardIndex, Trouble<Q::Stage, Q::Fetch>>
     requires alone { Q.start.alone ≡ true }
-    requires root { HasSafe Q.start (Q.seen desk.old) (root_of root.now) }
-    requires infos { HasInfos Q.start (caller_of Q.start (Q.seen desk.old)) (root_of root.now) (map info_of_code infos.now) }
-    requires few { at.number < 1024 }
-    requires generation { Generation (root_of root.now) at.index.number at.number generation.number }
-    requires new { AreUnfetched (caller_of Q.start (Q.seen desk.old)) (Just (IndexName at.index.number at.number generation.number)) }
+    requires shard { IsShardOfRoot Q.start (Q.seen desk.old) (root_of shard.root.now) (map info_of_code shard.infos.now) shard.at.index.number shard.at.number shard.generation.number }
+    requires new { AreUnfetched (caller_of Q.start (Q.seen desk.old)) (Just (IndexName shard.at.index.number shard.at.number shard.generation.number)) }
     requires so_far { IsSoFar Q.start (Q.seen desk.old) count.old }
-    ensures read { IfOk result (λ v. HasHeld Q.start (caller_of Q.start (Q.seen desk.new)) at.index.number at.number generation.number (shard_index_of v)) }
-    ensures kept { IfOk result (λ v. AreKept (map info_of_code infos.now) at.index.number at.number (shard_index_of v)) }
+    ensures read { IfOk result (λ v. HasHeld Q.start (caller_of Q.start (Q.seen desk.new)) shard.entry.at.index.number shard.entry.at.number shard.entry.generation.number (shard_index_of v)) }
+    ensures kept { IfOk result (λ v. AreKept (map info_of_code shard.entry.infos.now) shard.entry.at.index.number shard.entry.at.number (shard_index_of v)) }
     ensures so_far { IfOk result (λ v. IsSoFar Q.start (Q.seen desk.new) count.new) }
     ensures trouble { IfErr result (Shown Q.Fetch.faults Q.start (Q.seen desk.new)) }
-    ensures first { IfErr result (TellsOne (Just (IndexName at.index.number at.number generation.number))) }
-    ensures went { Went Q.start (Q.seen desk.old) (Q.seen desk.new) (Just (IndexName at.index.number at.number generation.number)) }
+    ensures first { IfErr result (TellsOne (Just (IndexName shard.entry.at.index.number shard.entry.at.number shard.entry.generation.number))) }
+    ensures went { Went Q.start (Q.seen desk.old) (Q.seen desk.new) (Just (IndexName shard.entry.at.index.number shard.entry.at.number shard.entry.generation.number)) }
 {
-    let held = fetch_held(alloc, desk, count, root, at, generation)?;
-    match unlisted(infos, at, &held) {
+    let held = fetch_held(alloc, desk, count, shard.at, shard.generation)?;
+    match unlisted(shard.infos, shard.at, &held) {
         None => Ok(held),
         Some(uuid) => {
-            let name = BlobName::ShardIndex(at, generation);
+            let name = BlobName::ShardIndex(shard.at, shard.generation);
             let other = BlobName::Snap(uuid);
             let why = Why::Disagreeing { name, other };
             Err(Trouble::Found { why })
@@ -97,30 +90,25 @@ fn check_shard<Q: Client>(
     alloc: Global,
     desk: &mut Q,
     count: &mut u64,
-    root: &RootData,
-    infos: &[SnapInfo],
-    at: ShardId,
-    generation: Id,
+    shard: ShardOfRoot<'_>,
     buf: &mut [u8],
 ) -> Result<(), Trouble<Q::Stage, Q::Fetch>>
     requires alone { Q.start.alone ≡ true }
-    requires root { HasSafe Q.start (Q.seen desk.old) (root_of root.now) }
-    requires infos { HasInfos Q.start (caller_of Q.start (Q.seen desk.old)) (root_of root.now) (map info_of_code infos.now) }
-    requires few { at.number < 1024 }
-    requires generation { Generation (root_of root.now) at.index.number at.number generation.number }
+    requires shard { IsShardOfRoot Q.start (Q.seen desk.old) (root_of shard.root.now) (map info_of_code shard.infos.now) shard.at.index.number shard.at.number shard.generation.number }
     requires buffer { 0 < length buf.old }
-    requires new { AreUnfetched (caller_of Q.start (Q.seen desk.old)) (IsOfShard at.index.number at.number) }
+    requires new { AreUnfetched (caller_of Q.start (Q.seen desk.old)) (IsOfShard shard.at.index.number shard.at.number) }
     requires so_far { IsSoFar Q.start (Q.seen desk.old) count.old }
     ensures buffer { length buf.new ≡ length buf.old }
-    ensures shard { OnOk result (HasShard Q.start (caller_of Q.start (Q.seen desk.new)) (root_of root.now) (map info_of_code infos.now) at.index.number at.number generation.number) }
+    ensures shard { OnOk result (HasShard Q.start (caller_of Q.start (Q.seen desk.new)) (root_of shard.entry.root.now) (map info_of_code shard.entry.infos.now) shard.entry.at.index.number shard.entry.at.number shard.entry.generation.number) }
     ensures so_far { OnOk result (IsSoFar Q.start (Q.seen desk.new) count.new) }
     ensures trouble { IfErr result (Shown Q.Fetch.faults Q.start (Q.seen desk.new)) }
-    ensures first { IfErr result (TellsOne (FirstOfShard Q.start (caller_of Q.start (Q.seen desk.new)) (root_of root.now) (map info_of_code infos.now) at.index.number at.number generation.number)) }
-    ensures went { Went Q.start (Q.seen desk.old) (Q.seen desk.new) (IsOfShard at.index.number at.number) }
+    ensures first { IfErr result (TellsOne (FirstOfShard Q.start (caller_of Q.start (Q.seen desk.new)) (root_of shard.entry.root.now) (map info_of_code shard.entry.infos.now)
+        shard.entry.at.index.number shard.entry.at.number shard.entry.generation.number)) }
+    ensures went { Went Q.start (Q.seen desk.old) (Q.seen desk.new) (IsOfShard shard.entry.at.index.number shard.entry.at.number) }
 {
-    let held = check_held(alloc, desk, count, root, infos, at, generation)?;
-    check_lists(alloc, desk, count, root, infos, at, generation, &held)?;
-    check_files(alloc, desk, count, root, at, generation, &held, buf)?;
+    let held = check_held(alloc, desk, count, shard)?;
+    check_lists(alloc, desk, count, shard, &held)?;
+    check_files(alloc, desk, count, shard, &held, buf)?;
     Ok(())
 }
 
@@ -151,7 +139,15 @@ fn check_place<Q: Client>(
     ensures went { Went Q.start (Q.seen desk.old) (Q.seen desk.new) (IsOfShard at.index.number at.number) }
 {
     match generation {
-        Some(generation) => check_shard(alloc, desk, count, root, infos, at, generation, buf),
+        Some(generation) => {
+            let shard = ShardOfRoot {
+                root,
+                infos,
+                at,
+                generation,
+            };
+            check_shard(alloc, desk, count, shard, buf)
+        }
         None => Ok(()),
     }
 }

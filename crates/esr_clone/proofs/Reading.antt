@@ -8,7 +8,7 @@ use Rattle.esr_model.specs.Names.{BlobName, ShardSnap, ShardIndex}
 use Rattle.esr_model.specs.Values.{Bytes, Has, ShardSnapshot}
 use Rattle.esr_core.specs.World.{Ticket}
 use Rattle.esr_core.specs.Steps.{IsToFetch}
-use Rattle.esr_core.specs.Entry.{Step, FetchStep, WasFetched, WasAbsent, Entry, Moment}
+use Rattle.esr_core.specs.Entry.{Step, FetchStep, Reply, WasFetched, WasAbsent, Entry, Moment}
 use Rattle.esr_core.specs.After.{fetching}
 use Rattle.esr_core.specs.Past.{Repeats}
 use Rattle.esr_json.specs.declared.refusal.ReadRefusal.{ReadRefusal}
@@ -57,6 +57,15 @@ index_new s old new who index number source generation none made e has same = �
   where
     differ : ShardSnap index number source ≡ ShardIndex index number generation → ⊥
     differ e = cc
+
+-- it was there
+pub came_fetched : (s : Start) (old new : List Moment) (who : ℕ) (name : BlobName) (o : Option Bytes) (b : Bytes) → o ≡ Some b → own_of s new who ≡ own_fetched hands.Unit (told_bytes s) name o (own_of s old who)
+    → ticket_of s new who ≡ fetching name (told_bytes s b) (ticket_of s old who)
+came_fetched s old new who name o b is own = ap (λ (x : Own). x.ticket) (own ∙ ap (λ (y : Option Bytes). own_fetched hands.Unit (told_bytes s) name y (own_of s old who)) is)
+
+pub came_found : (s : Start) (old new : List Moment) (who : ℕ) (name : BlobName) (o : Option Bytes) (b : Bytes) → o ≡ Some b → Stepped s old new who (FetchStep name) (fetch_reply o) → HadFetch hands.Unit new who name WasFetched
+came_found s old new who name o b is step =
+    stepped_had s old new who (FetchStep name) WasFetched (subst (λ (reply : Reply). Stepped s old new who (FetchStep name) reply) (ap (λ (x : Option Bytes). fetch_reply x) is) step)
 
 module _ {S F H T : Type 0} (e : Evidence S F H T) (n : ℕ) (files : Option (List (Bytes × Bytes))) (s : Start) (old new : List Moment) (who : ℕ) (at : ShardId) (source : Id)
     (is_at : IsAt (ticket_of s old who) at.index.number at.number) (source_is : (ticket_of s old who).source ≡ Some source.number) where

@@ -1,11 +1,7 @@
 -- What a delete that is asked for makes of the open ops, and that the history tells which of them it aborts.
-use Rattle.std.proofs.Common.{◌≡◌, ◌⊎◌, ℕ, Bool, true, false, true≢false, cond, not, ◌&&◌, ◌||◌, ◌==◌, List, [], ◌∷◌, map, Option, Some, None, refl, sym, ap, ◌∙◌, subst, inl, inr, nat_cmp}
+use Rattle.std.proofs.Common.{◌≡◌, ◌⊎◌, ℕ, Bool, true, false, true≢false, not, ◌&&◌, ◌||◌, ◌==◌, List, [], ◌∷◌, Option, Some, None, refl, sym, ap, ◌∙◌, subst, inl, inr}
 use Rattle.std.specs.Prelude.{option_map}
 use Rattle.std.specs.List.{list_any}
-use Rattle.std.specs.Ordering.{eq_by_cmp}
-use Rattle.std.specs.Cmp.{nat_cmp_total, eq_by_cmp_equiv}
-use Rattle.std.specs.FinMap.Entries.{find}
-use Rattle.std.specs.FinMap.{nat_cmp-IsAntisymmetric}
 use Rattle.std.specs.FinMap as fin
 use Rattle.std.proofs.lemmas.Bool.{eq-eqb}
 use Rattle.esr_model.specs.Values.{Bytes, Has, Formats}
@@ -14,11 +10,11 @@ use Rattle.esr_core.specs.World.{World, Op, Work, Shard, Finalize, Deleting, Dro
 use Rattle.esr_core.specs.Deletes.{named_uuids, has_op, is_swap, swaps_op, is_swapped, is_unaborted, aborts_op, aborting, aborted_ops}
 use Rattle.esr_core.specs.Ids.{Law}
 use Rattle.esr_core.specs.Allowed.{IsNameOf}
+use Rattle.esr_core.specs.AbortLaws.{aborted_at}
 use Rattle.esr_core.proofs.Accepting.{same_true}
 use Rattle.esr_core.proofs.AskedDeletes.{named_is, more_named}
 use Rattle.esr_core.proofs.Deleting.{bool_told}
 use Rattle.esr_core.proofs.DeletesHold.{names_has}
-use Rattle.esr_core.proofs.Maps.{split}
 use Rattle.esr_core.proofs.Queues.{split_at}
 use Rattle.esr_core.proofs.Reading.{some_same, none_some}
 use Rattle.esr_core.proofs.Recorded.{got_entry}
@@ -54,30 +50,8 @@ module _ (w : World) (uuids : List ℕ) (by : ℕ) where
   abbrev now_at : ℕ → Op → Op
   now_at o op = (aborting w uuids by (o, op)).1
 
-  entry_at : (e : ℕ × Op) → aborting w uuids by e ≡ (e.0, now_at e.0 e.1)
-  entry_at e = elim (bool_told (aborts_op w uuids e)) [
-    | inl b ↦ let is : aborting w uuids by e ≡ (e.0, record e.1 { aborted = Some by }) = choose_true _ _ _ b in is ∙ λ i. (e.0, (sym is i).1)
-    | inr b ↦ let is : aborting w uuids by e ≡ e = choose_false _ _ _ b in is ∙ λ i. (e.0, (sym is i).1)
-  ]
-
-  find_at : (q : ℕ) (es : List (ℕ × Op)) → find nat_cmp q (map (aborting w uuids by) es) ≡ option_map (now_at q) (find nat_cmp q es)
-  find_at q [] = refl
-  find_at q (e ∷ es) =
-      ap (λ (x : ℕ × Op). cond (eq_by_cmp nat_cmp q x.0) (Some x.1) (find nat_cmp q (map (aborting w uuids by) es))) (entry_at e)
-      ∙ elim (split nat_cmp_total nat_cmp-IsAntisymmetric q e.0) [
-        | inl same ↦
-            let tied : eq_by_cmp nat_cmp q e.0 ≡ true = subst (λ k. eq_by_cmp nat_cmp q k ≡ true) same ((eq_by_cmp_equiv nat_cmp_total).refl q) in
-            ap (λ b. cond b (Some (now_at e.0 e.1)) (find nat_cmp q (map (aborting w uuids by) es))) tied
-            ∙ ap (λ k. Some (now_at k e.1)) (sym same)
-            ∙ sym (ap (λ b. option_map (now_at q) (cond b (Some e.1) (find nat_cmp q es))) tied)
-        | inr away ↦
-            ap (λ b. cond b (Some (now_at e.0 e.1)) (find nat_cmp q (map (aborting w uuids by) es))) away.1
-            ∙ find_at q es
-            ∙ sym (ap (λ b. option_map (now_at q) (cond b (Some e.1) (find nat_cmp q es))) away.1)
-      ]
-
   get_at : (o : ℕ) → fin.get (aborted_ops w uuids by) o ≡ option_map (now_at o) (fin.get w.ops o)
-  get_at o = fin.get-from_entries nat_cmp_total (map (aborting w uuids by) (fin.entries w.ops)) o ∙ find_at o (fin.entries w.ops) ∙ ap (option_map (now_at o)) (sym (fin.get-entries w.ops o))
+  get_at o = aborted_at w uuids by o
 
   -- it was open, and is as it was, or the delete aborts it
   pub was_op : (o : ℕ) (op : Op) → fin.get (aborted_ops w uuids by) o ≡ Some op → (old : Op) × (fin.get w.ops o ≡ Some old) × ((op ≡ old) ⊎ ((op ≡ record old { aborted = Some by }) × (aborts_op w uuids (o, old) ≡ true)))

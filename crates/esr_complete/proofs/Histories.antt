@@ -82,7 +82,7 @@ pub record Parted (log : List Moment) (before : List Entry) (e : Entry) : Type 0
   pub front_is : entries_of front ≡ before
   pub own : moment.entry ≡ e
 
-heads : (a b : Entry) (xs ys : List Entry) → a ∷ xs ≡ b ∷ ys → (a ≡ b) × (xs ≡ ys)
+pub heads : {A : Type 0} (a b : A) (xs ys : List A) → a ∷ xs ≡ b ∷ ys → (a ≡ b) × (xs ≡ ys)
 heads a b xs ys e = (cc, cc)
 
 no_entry : (e : Entry) (es : List Entry) → [] ≡ e ∷ es → ⊥

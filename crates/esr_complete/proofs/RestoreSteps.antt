@@ -1,24 +1,22 @@
 -- Each step where no restore fails keeps what the history tells of restores.
-use Rattle.std.proofs.Common.{◌≡◌, ℕ, zero, suc, ◌≤◌, true, false, true≢false, List, [], ◌∷◌, ◌++◌, Option, Some, None, refl, sym, ap, ◌∙◌, subst, inl, inr, arith}
-use Rattle.std.specs.Prelude.{◌==◌, ◌&&◌}
-use Rattle.std.proofs.lemmas.Bool.Decides.{eqb_tells}
+use Rattle.std.proofs.Common.{◌≡◌, ℕ, zero, suc, ◌≤◌, true, false, List, [], ◌∷◌, ◌++◌, Option, Some, None, refl, sym, subst, inl, inr, arith}
+use Rattle.std.specs.Prelude.{T}
 use Rattle.std.specs.FinMap as fin
 use Rattle.esr_model.specs.Names.{BlobName}
 use Rattle.esr_model.specs.Values.{Bytes, IndexRef, Formats}
 use Rattle.esr_model.specs.Kept.{first_id}
 use Rattle.esr_model.specs.Image.{Image}
 use Rattle.esr_core.specs.World.{World, Restored, RestoreShard, Restoring, Reader}
-use Rattle.esr_core.specs.Restores.{IsReading, restore_shard, read_more}
+use Rattle.esr_core.specs.Restores.{IsReading, read_more}
 use Rattle.esr_core.specs.ReadTracked.{ReaderTracked, RestoresTracked}
-use Rattle.esr_core.specs.Entry.{Asked, Snapshot, Restore, Clone, CloneOf, DeleteSnapshots, Cleanup, is_recorded, Given, GivenShard, GivenFinalize, GivenDrop, GivenRestore, GivenClone, GivenDelete, GivenCleanup, Why, Read, ReadBlob, RestoredShard, CheckedAll, CommitTest, ReadFails, Prune, SettlePruned, Step, AskStep, TakeStep, ReadStep, PruneStep, NameInUse, NoSnapshot, NoIndex, BeingDeleted, TooMany, IdsSpent, DepotFault, CleanupRunning, CloneRunning, RestoreRunning, BusyOp, BusyTicket, Reply, Accepted, Gave, WasSettled, WasFetched, WasAbsent, HasEnded, Refused, AcceptedRestore, Entry, Moment}
+use Rattle.esr_core.specs.Entry.{Asked, Restore, Clone, CloneOf, DeleteSnapshots, Cleanup, is_recorded, Given, GivenShard, GivenFinalize, GivenDrop, GivenRestore, GivenClone, GivenDelete, GivenCleanup, Why, Read, ReadBlob, RestoredShard, CheckedAll, CommitTest, ReadFails, Prune, SettlePruned, Step, AskStep, TakeStep, ReadStep, PruneStep, NameInUse, NoSnapshot, NoIndex, BeingDeleted, TooMany, IdsSpent, DepotFault, CleanupRunning, CloneRunning, RestoreRunning, BusyOp, BusyTicket, Reply, Accepted, Gave, WasSettled, WasFetched, WasAbsent, HasEnded, Refused, AcceptedRestore, Entry, Moment}
 use Rattle.esr_core.specs.Deletes.{delete_number}
 use Rattle.esr_core.specs.After.{told_blob, taken_restore, taken_restore_shard, read_told, shard_over, read_over, read_by, test_left, answered, after}
 use Rattle.esr_core.specs.Allowed as allowed
 use Rattle.esr_core.specs.Allowed.{Gives, GivesRestore, CloneAllows, OpeningClone, CloneUsed, SourceNotListed, SourceDeleted, IndexMissing, FullOfClones, CloneSpent, CloneFault, DeleteAllows, GoingInto, NotNamed, CloneStands, RestoreStands, FullOfOps, DeleteFault, CleanupAllows, OpeningCleanup, OpStands, TicketStands, CleanupFault, RestoreAllows, OpeningRestore, NotListed, NamedByDelete, FullOfRestores, ReadAllows, ReadFound, ReadMissing, ReadFault, RestoringShard, ReaderFailing, CheckingAll, CheckFailing, VerifyAllows, CommitTestFails, SettlingDelete, PruneAllows, Allows, Allowed}
+use Rattle.esr_core.specs.RestoreShards.{shard_is}
 use Rattle.esr_report.specs.Replies.{ReadShard, shard_ticket_by, shard_end_by}
 use Rattle.esr_core.proofs.Going.{IsOld, goes_answered}
-use Rattle.esr_core.proofs.Reading.{some_same}
-use Rattle.esr_core.proofs.Results.{choose_true, choose_false}
 use Rattle.esr_complete.proofs.OpEnds.{IsCalm, calm_unblocked}
 use Rattle.esr_complete.proofs.Following.{gave, told}
 use Rattle.esr_complete.proofs.FollowingRestores.{Restores, Readers, opens, FollowsRestores, RestoresIn, IsSilent, silent, silent_caller, WereOut, were_same, were_again, restores_stay, restore_begins, shard_given, shard_ends}
@@ -31,22 +29,6 @@ pub record IsOrdered (w : World) : Type 0 where
 -- this entry tells of no shard that was not restored
 abbrev pub IsUnfailed : ℕ → Step → Reply → Type 0
 IsUnfailed who step reply = (why : Why) → 1 ≤ who → step ≡ ReadStep (ReadFails why) → reply ≡ HasEnded → ⊥
-
-none_found : (s : RestoreShard) → ◌≡◌ {A = Option RestoreShard} None (Some s) → ⊥
-none_found s e = cc
-
--- the first shard of this index and number has them
-shard_is : (shards : List RestoreShard) (index number : ℕ) (s : RestoreShard) → restore_shard shards index number ≡ Some s → (s.ref.id ≡ index) × (s.number ≡ number)
-shard_is [] index number s e = absurd (none_found s e)
-shard_is (z ∷ shards) index number s e = elim (eqb_tells z.ref.id index) [
-  | inl a ↦ elim (eqb_tells z.number number) [
-    | inl b ↦
-        let one : z ≡ s = some_same z s (sym (choose_true _ (Some z) (restore_shard shards index number) (ap (λ x. x && (z.number == number)) a.0 ∙ b.0)) ∙ e) in
-        (ap (λ (x : RestoreShard). x.ref.id) (sym one) ∙ a.1, ap (λ (x : RestoreShard). x.number) (sym one) ∙ b.1)
-    | inr b ↦ shard_is shards index number s (sym (choose_false _ (Some z) (restore_shard shards index number) (ap (λ x. x && (z.number == number)) a.0 ∙ b.0)) ∙ e)
-  ]
-  | inr a ↦ shard_is shards index number s (sym (choose_false _ (Some z) (restore_shard shards index number) (ap (λ x. x && (z.number == number)) a.0)) ∙ e)
-]
 
 module _ (f : Formats) (size : ℕ) (w : World) (es : List Entry) (h : RestoresIn w es) (t : IsOrdered w) where
   -- restores stay, and each ticket is out only where it was
@@ -181,11 +163,7 @@ module _ (f : Formats) (size : ℕ) (w : World) (es : List Entry) (h : RestoresI
 
   -- the record has no restore
   recorded_old : (command : Asked) (reply : Reply) → is_recorded command ≡ true → IsOld (AskStep command) reply
-  recorded_old (Snapshot name indices moment) reply is = tt
-  recorded_old (Clone source name indices moment taken) reply is = tt
-  recorded_old (DeleteSnapshots names) reply is = tt
-  recorded_old (Restore name place) reply is = absurd (true≢false (sym is))
-  recorded_old Cleanup reply is = tt
+  recorded_old command reply is = subst T (sym is) tt
 
   restores_by : (who : ℕ) (step : Step) (reply : Reply) (image : Option Image) → Allows f size w who step reply image → IsUnfailed who step reply → RestoresIn (answered f w who step reply image) (es ++ told who step reply ∷ [])
   restores_by who step reply image (allowed.AskingRestore name place rep im a same) un = asks name place rep im a

@@ -4,8 +4,8 @@ use Rattle.std.specs.FinMap as fin
 use Rattle.esr_model.specs.Values.{RootData, ClusterRecord, Formats}
 use Rattle.esr_model.specs.Image.{Blobs, Image}
 use Rattle.esr_core.specs.World.{World, Op, ShardWork, RestoreShard, Restoring, Work, Shard, Finalize, Deleting, Drop, Ticket, opened, Opened, OpenedEmpty, OpenedRecord, no_record, no_root}
-use Rattle.esr_core.specs.Steps.{shard_ticket, final_ticket}
-use Rattle.esr_core.specs.Turns.{plain_ticket, cleaning_ticket}
+use Rattle.esr_core.specs.Steps.{shard_ticket, final_ticket, plain_ticket}
+use Rattle.esr_core.specs.Turns.{cleaning_ticket}
 use Rattle.esr_core.specs.Entry.{Why, Given, GivenShard, GivenFinalize, GivenDrop, GivenRestore, GivenClone, GivenDelete, GivenCleanup, DeleteFails, Step, TakeStep, ElectStep, PruneStep, DepotFault, Reply, Gave, HasEnded, ElectedTerm, Refused, Entry, Moment}
 use Rattle.esr_core.specs.After.{taken_by, taken_shard, taken_restore, taken_restore_shard, answered, after}
 use Rattle.esr_core.specs.Allowed as allowed

@@ -9,8 +9,8 @@ use Rattle.esr_model.specs.Delete.{PrunedShard, kept_count}
 use Rattle.esr_model.specs.Image.{Image}
 use Rattle.esr_core.specs.World.{World, Op, Deletion, ShardWork, Done, Shard, Finalize, Deleting, Drop, Swap, Ticket, RestoreShard, Restoring, marked, info_of, made_of}
 use Rattle.esr_core.specs.Ready.{ReadyDrop, ReadyDelete, ReadyCleanup}
-use Rattle.esr_core.specs.Steps.{with_ticket, shard_ticket, final_ticket, given, listing}
-use Rattle.esr_core.specs.Turns.{plain_ticket, cleaning_ticket}
+use Rattle.esr_core.specs.Steps.{with_ticket, shard_ticket, final_ticket, given, listing, plain_ticket}
+use Rattle.esr_core.specs.Turns.{cleaning_ticket}
 use Rattle.esr_core.specs.Pruning.{planned_work, planned, delete_swap}
 use Rattle.esr_core.specs.Deletes.{first_delete, runs_for, named_uuids, waiting_delete, running_delete, number_by, aborts_op, aborted_ops, with_named, delete_merged, delete_by}
 use Rattle.esr_core.specs.Ids.{Law}
@@ -362,23 +362,23 @@ module _ (f : Formats) (size : ℕ) (w : World) (es : List Entry) (h : FollowsIn
 
   -- ---- a delete is asked for
 
+  delete_one : (names : List Bytes) (d more : ℕ) → w.next_op ≤ more → IsOne es w.next_op more (told 0 (AskStep (DeleteSnapshots names)) (Accepted d))
+  delete_one names d more up =
+      record {
+        up = up;
+        giftless = tt;
+        no_ticket = λ k. (refl, refl, refl);
+        no_name = λ o any. (refl, refl);
+        said = tt;
+        settles = λ step. absurd (ask_settle (DeleteSnapshots names) step);
+        prunes = λ step. absurd (ask_prune (DeleteSnapshots names) step);
+        leaves = λ step. absurd (ask_drop (DeleteSnapshots names) step);
+      }
+
   -- each open op is as it was, or its abort is told
   module _ (safe : IsSafe f w es) (names : List Bytes) (d more : ℕ) (up : w.next_op ≤ more) where
     abbrev ask : Entry
     ask = told 0 (AskStep (DeleteSnapshots names)) (Accepted d)
-
-    ask_one : IsOne es w.next_op more (told 0 (AskStep (DeleteSnapshots names)) (Accepted d))
-    ask_one =
-        record {
-          up = up;
-          giftless = tt;
-          no_ticket = λ k. (refl, refl, refl);
-          no_name = λ o any. (refl, refl);
-          said = tt;
-          settles = λ step. absurd (ask_settle (DeleteSnapshots names) step);
-          prunes = λ step. absurd (ask_prune (DeleteSnapshots names) step);
-          leaves = λ step. absurd (ask_drop (DeleteSnapshots names) step);
-        }
 
     -- no finalization of one that it aborts is out
     none_out : (o : ℕ) (old : Op) → aborts_op w (named_uuids w names) (o, old) ≡ true → final_out es o ≡ None
@@ -411,7 +411,7 @@ module _ (f : Formats) (size : ℕ) (w : World) (es : List Entry) (h : FollowsIn
         → IsNameless (es ++ told 0 (AskStep (DeleteSnapshots names)) (Accepted d) ∷ []) more false d → IsDeleteIn left d
         → Follows w.deposed (aborted_ops w (named_uuids w names) d) left w.tickets w.next_ticket more (es ++ told 0 (AskStep (DeleteSnapshots names)) (Accepted d) ∷ [])
     asked_on left told_deletes kept nameless stands =
-        goes_on w.deposed w.ops (aborted_ops w (named_uuids w names) d) w.deletes left w.tickets w.tickets w.next_ticket w.next_op more es ask h ask_one asked_ops told_deletes (kin_same w.tickets) (out_same w.tickets ask)
+        goes_on w.deposed w.ops (aborted_ops w (named_uuids w names) d) w.deletes left w.tickets w.tickets w.next_ticket w.next_op more es ask h (delete_one names d more up) asked_ops told_deletes (kin_same w.tickets) (out_same w.tickets ask)
         (λ o name was. inl (aborts.is_op w (named_uuids w names) d o was.0 was.1)) (λ cleans e was_nameless was. inl (kept e was)) (λ o e. absurd (none_some o e))
         (λ cleans e is. subst (λ (p : Bool × ℕ). IsNameless (es ++ ask ∷ []) more p.0 p.1 × IsDeleteIn left p.1) (same_delete (false, d) (cleans, e) is) (nameless, stands))
 
@@ -419,16 +419,7 @@ module _ (f : Formats) (size : ℕ) (w : World) (es : List Entry) (h : FollowsIn
   joins : NoCleanup w → (names : List Bytes) (d : ℕ) → IsDeleteIn w.deletes d → FollowsIn w (es ++ told 0 (AskStep (DeleteSnapshots names)) (Accepted d) ∷ [])
   joins clear names d stands =
       let x : Entry = told 0 (AskStep (DeleteSnapshots names)) (Accepted d) in
-      let one : IsOne es w.next_op w.next_op x = record {
-        up = same_up w.next_op;
-        giftless = tt;
-        no_ticket = λ k. (refl, refl, refl);
-        no_name = λ o any. (refl, refl);
-        said = tt;
-        settles = λ step. absurd (ask_settle (DeleteSnapshots names) step);
-        prunes = λ step. absurd (ask_prune (DeleteSnapshots names) step);
-        leaves = λ step. absurd (ask_drop (DeleteSnapshots names) step);
-      } in
+      let one : IsOne es w.next_op w.next_op x = delete_one names d w.next_op (same_up w.next_op) in
       let nameless : IsNameless (es ++ x ∷ []) w.next_op false d = subst (λ (b : Bool). IsNameless (es ++ x ∷ []) w.next_op b d) (clear d stands.0 stands.1) (deletes_stay w.next_op x one d stands.0 stands.1).nameless in
       goes_on w.deposed w.ops w.ops w.deletes w.deletes w.tickets w.tickets w.next_ticket w.next_op w.next_op es x h one (ops_stay w.next_op x one.up one.no_name) (deletes_stay w.next_op x one) (kin_same w.tickets) (out_same w.tickets x) (λ o name was. inl was) (λ cleans e nameless was. inl was)
       (λ o e. absurd (none_some o e)) (λ cleans e is. subst (λ (p : Bool × ℕ). IsNameless (es ++ x ∷ []) w.next_op p.0 p.1 × IsDeleteIn w.deletes p.1) (same_delete (false, d) (cleans, e) is) (nameless, stands))
@@ -437,7 +428,7 @@ module _ (f : Formats) (size : ℕ) (w : World) (es : List Entry) (h : FollowsIn
   merges : IsSafe f w es → NoCleanup w → (names : List Bytes) (d : ℕ) → Waits w d → FollowsIn (delete_merged w names d (fin.get w.deletes d)) (es ++ told 0 (AskStep (DeleteSnapshots names)) (Accepted d) ∷ [])
   merges safe clear names d a =
       let x : Entry = told 0 (AskStep (DeleteSnapshots names)) (Accepted d) in
-      let one : IsOne es w.next_op w.next_op x = ask_one safe names d w.next_op (same_up w.next_op) in
+      let one : IsOne es w.next_op w.next_op x = delete_one names d w.next_op (same_up w.next_op) in
       let y : Deletion = record a.x { uuids = with_named w a.x.uuids names } in
       let old : IsToldDelete (es ++ x ∷ []) w.next_op d a.x = deletes_stay w.next_op x one d a.x a.there in
       subst (λ (found : Option Deletion). FollowsIn (delete_merged w names d found) (es ++ x ∷ [])) (sym a.there)
@@ -453,7 +444,7 @@ module _ (f : Formats) (size : ℕ) (w : World) (es : List Entry) (h : FollowsIn
   opens safe names =
       let d : ℕ = w.next_op in
       let x : Entry = told 0 (AskStep (DeleteSnapshots names)) (Accepted w.next_op) in
-      let one : IsOne es w.next_op (suc w.next_op) x = ask_one safe names w.next_op (suc w.next_op) (one_up w.next_op) in
+      let one : IsOne es w.next_op (suc w.next_op) x = delete_one names w.next_op (suc w.next_op) (one_up w.next_op) in
       let y : Deletion = record { uuids = named_uuids w names; clean = false; failed = false } in
       let coming = h.coming w.next_op (same_up w.next_op) in
       let nameless : IsNameless (es ++ x ∷ []) (suc w.next_op) false w.next_op = record { unnamed = name_given es x w.next_op coming.0; below = below_up w.next_op; kind = cleans_stays es x w.next_op refl ∙ coming.1 } in

@@ -13,6 +13,7 @@ use Rattle.esr_quiet.specs.Asked.{is_line_ask, is_asked, as_asked, asked_steps}
 use Rattle.esr_complete.specs.Lines.{index_of_line, command_of_line, steps_of_item, steps_of, failovers_in, failovers_of, entries_of, elections_of}
 use Rattle.esr_complete.specs.Answers.{IsAnswer, AreAnsweredIn, AreAnswered}
 use Rattle.esr_complete.proofs.InTurn.{lines_cleanup, IsNoRead, Idle, InVerification, InCheck, kinds_of_item, kinds_of, InTurn, IsLine, IsDraw, IsEnd, IsLook, IsCheckEnd, IsAside}
+use Rattle.esr_complete.proofs.Histories.{heads}
 use Rattle.esr_complete.proofs.Facts.{IsAnswerOf, IsCleaningIn, IsAskedIn, Fact}
 
 -- ---- what was asked, by the entries
@@ -104,12 +105,6 @@ module _ (script : List ScriptLine) where
     pub turn : InTurn Idle kinds es
     pub fact : Fact script all e
     pub facts : (x : Entry) → Has es x → Fact script all x
-
-  no_step : (step : Step) (more : List Step) → [] ≡ step ∷ more → ⊥
-  no_step step more e = cc
-
-  heads : (a b : Step) (xs ys : List Step) → a ∷ xs ≡ b ∷ ys → (a ≡ b) × (xs ≡ ys)
-  heads a b xs ys e = (cc, cc)
 
   -- it is this one
   next_is : (all : List Entry) (P : Entry → Type 0) (more here : List Step) (kinds : List Bool) (x : Entry) (es : List Entry) → ((y : Entry) → Has (x ∷ es) y → Fact script all y) → is_of_line x ≡ true → P x → steps_asked es ≡ more → steps_asked (x ∷ es) ≡ here → InTurn Idle kinds es → Next all (x ∷ es) P more here kinds

@@ -4,13 +4,13 @@ use Rattle.std.specs.Cmp.Lexicographic.{nat_list_cmp_total}
 use Rattle.std.specs.FinMap as fin
 use Rattle.esr_model.specs.Names.{BlobName, Root}
 use Rattle.esr_model.specs.Values.{Bytes, Ledger, ReadsBack, Formats}
-use Rattle.esr_model.specs.Shelf.{Shelved, shelf_after}
+use Rattle.esr_model.specs.Shelf.{Shelved}
 use Rattle.esr_model.specs.Image.{IsStored, Blobs, At, Whole, KeptBy}
 use Rattle.esr_core.specs.World.{Ticket, Swap, Safely}
-use Rattle.esr_core.specs.Swaps.{OrOwn, SwapLaw, TicketLaw}
+use Rattle.esr_core.specs.Swaps.{SwapLaw, TicketLaw}
 use Rattle.esr_core.proofs.Maps.{get_was, get_same, get_kept, texts_same}
 use Rattle.esr_core.proofs.Reading.{some_same}
-use Rattle.esr_core.proofs.Frames.{root_kept, picked_kept, stands_kept}
+use Rattle.esr_core.proofs.Frames.{picked_kept, stands_kept, swap_kept, ticket_kept}
 
 -- a text is that of one name
 pub text_one : (f : Formats) (a b : BlobName) → ReadsBack f.names a → ReadsBack f.names b → f.names.text a ≡ f.names.text b → a ≡ b
@@ -57,17 +57,8 @@ module _ (f : Formats) (blobs : Blobs) (name : BlobName) (bytes : Bytes) (named 
         named = λ text b there. elim (get_was nat_list_cmp_total texts_same blobs (f.names.text name) bytes text b there) [ inl e ↦ (name, sym e.0, named.0) | inr e ↦ h.named text b e.1 ];
       }
 
-  or_own_kept : (own : List (BlobName × Bytes)) (m : BlobName) (b : Bytes) → OrOwn was own m b → OrOwn now own m b
-  or_own_kept own m b (inl h) = inl (safe_kept m b h)
-  or_own_kept own m b (inr h) = inr h
-
   pub swap_added : (shelf : List Shelved) (names : List BlobName) (s : Swap) → SwapLaw f was shelf names s → SwapLaw f now shelf names s
-  swap_added shelf names s l =
-      record {
-        staged = root_kept f (OrOwn was s.own) (OrOwn now s.own) (or_own_kept s.own) s.root (shelf_after shelf s.commands) l.staged;
-        noted = λ m b own h. safe_kept m b (l.noted m b own h);
-        root_noted = λ n h. safe_kept (Root n) _ (l.root_noted n h);
-      }
+  swap_added shelf names s l = swap_kept f was now safe_kept shelf names s l
 
   pub ticket_added : (ledger : Ledger) (shelf : List Shelved) (t : Ticket) → TicketLaw f was doomed ledger shelf t → TicketLaw f now doomed ledger shelf t
-  ticket_added ledger shelf t l = record { term = l.term; raised = l.raised; last = l.last; clean = l.clean; clean_root = l.clean_root; listed = l.listed; shape = l.shape; swaps = λ s i c. swap_added shelf t.noted s (l.swaps s i c) }
+  ticket_added ledger shelf t l = ticket_kept f was now safe_kept doomed ledger shelf t l

@@ -1,11 +1,6 @@
 -- A delete that is asked: what its names name, the delete that it goes into, and what it makes of the open ops.
-use Rattle.std.proofs.Common.{◌≡◌, ◌⊎◌, ℕ, Bool, true, false, cond, not, ◌&&◌, ◌||◌, ◌==◌, List, [], ◌∷◌, ◌++◌, append-nil, append_assoc, map, Option, Some, None, refl, sym, ap, ◌∙◌, subst, inl, inr, nat_cmp}
+use Rattle.std.proofs.Common.{◌≡◌, ◌⊎◌, ℕ, Bool, true, false, not, ◌&&◌, ◌==◌, List, [], ◌∷◌, ◌++◌, append-nil, append_assoc, Option, Some, None, refl, sym, ap, ◌∙◌, subst, inl, inr}
 use Rattle.std.specs.Prelude.{option_map}
-use Rattle.std.specs.List.{list_any}
-use Rattle.std.specs.Ordering.{eq_by_cmp}
-use Rattle.std.specs.Cmp.{nat_cmp_total, eq_by_cmp_equiv}
-use Rattle.std.specs.FinMap.Entries.{find}
-use Rattle.std.specs.FinMap.{nat_cmp-IsAntisymmetric}
 use Rattle.std.specs.FinMap as fin
 use Rattle.std.proofs.lemmas.Bool.{eq-eqb}
 use Rattle.esr_model.specs.Values.{Bytes, Has, RootSnap, Formats}
@@ -15,13 +10,13 @@ use Rattle.esr_core.specs.Ready.{IsMaster}
 use Rattle.esr_core.specs.Deletes.{open_uuid, uuid_among, uuid_named, with_uuid, with_named, named_uuids, has_op, is_taken, first_delete, waits_for_ticket, waiting_delete, running_delete, is_swap, swaps_op, is_swapped, is_unaborted, aborts_op, aborting, aborted_ops, delete_opened, delete_merged, delete_by, asked_delete}
 use Rattle.esr_core.specs.Turns.{IsKnown, Aborts, SparesRestores, AskDelete, MergeDelete, Turn, Stays, AsksDelete, Merges, commands_of}
 use Rattle.esr_core.specs.Allowed.{IsNameOf, IsUnused, MayDelete}
-use Rattle.esr_core.proofs.Maps.{split}
+use Rattle.esr_core.specs.AbortLaws.{aborted_at}
 use Rattle.esr_core.proofs.Reading.{some_same, none_some, Has-left, Has-right, Has-either}
 use Rattle.esr_core.proofs.Results.{choose_true, choose_false}
 use Rattle.esr_core.proofs.Recorded.{entry_got, got_entry}
 use Rattle.esr_core.proofs.Accepting.{same_one, same_true}
 use Rattle.esr_core.proofs.Deleting.{bool_told}
-use Rattle.esr_core.proofs.DeletesHold.{clash, has_names, names_has}
+use Rattle.esr_core.proofs.DeletesHold.{clash, has_names, names_has, any_of}
 
 -- ---- tests
 
@@ -42,15 +37,6 @@ second_not false b e = refl
 not_true : (b : Bool) → not b ≡ true → b ≡ false
 not_true true e = absurd (clash false e refl)
 not_true false e = refl
-
-either_true : (a b : Bool) → b ≡ true → (a || b) ≡ true
-either_true true b e = refl
-either_true false b e = e
-
-any_of : {X : Type 0} (test : X → Bool) (xs : List X) (x : X) → Has xs x → test x ≡ true → list_any test xs ≡ true
-any_of test [] x m e = absurd m
-any_of test (y ∷ xs) x (inl same) e = ap (λ (b : Bool). b || list_any test xs) (ap test same ∙ e)
-any_of test (y ∷ xs) x (inr m) e = either_true (test y) (list_any test xs) (any_of test xs x m e)
 
 -- ---- what a name names
 
@@ -199,30 +185,8 @@ module _ (w : World) (uuids : List ℕ) (by : ℕ) where
   abbrev now_at : ℕ → Op → Op
   now_at o op = (aborting w uuids by (o, op)).1
 
-  entry_at : (e : ℕ × Op) → aborting w uuids by e ≡ (e.0, now_at e.0 e.1)
-  entry_at e = elim (bool_told (aborts_op w uuids e)) [
-    | inl b ↦ let is : aborting w uuids by e ≡ (e.0, record e.1 { aborted = Some by }) = choose_true _ _ _ b in is ∙ λ i. (e.0, (sym is i).1)
-    | inr b ↦ let is : aborting w uuids by e ≡ e = choose_false _ _ _ b in is ∙ λ i. (e.0, (sym is i).1)
-  ]
-
-  find_at : (q : ℕ) (es : List (ℕ × Op)) → find nat_cmp q (map (aborting w uuids by) es) ≡ option_map (now_at q) (find nat_cmp q es)
-  find_at q [] = refl
-  find_at q (e ∷ es) =
-      ap (λ (x : ℕ × Op). cond (eq_by_cmp nat_cmp q x.0) (Some x.1) (find nat_cmp q (map (aborting w uuids by) es))) (entry_at e)
-      ∙ elim (split nat_cmp_total nat_cmp-IsAntisymmetric q e.0) [
-        | inl same ↦
-            let tied : eq_by_cmp nat_cmp q e.0 ≡ true = subst (λ k. eq_by_cmp nat_cmp q k ≡ true) same ((eq_by_cmp_equiv nat_cmp_total).refl q) in
-            ap (λ b. cond b (Some (now_at e.0 e.1)) (find nat_cmp q (map (aborting w uuids by) es))) tied
-            ∙ ap (λ k. Some (now_at k e.1)) (sym same)
-            ∙ sym (ap (λ b. option_map (now_at q) (cond b (Some e.1) (find nat_cmp q es))) tied)
-        | inr away ↦
-            ap (λ b. cond b (Some (now_at e.0 e.1)) (find nat_cmp q (map (aborting w uuids by) es))) away.1
-            ∙ find_at q es
-            ∙ sym (ap (λ b. option_map (now_at q) (cond b (Some e.1) (find nat_cmp q es))) away.1)
-      ]
-
   get_at : (o : ℕ) → fin.get (aborted_ops w uuids by) o ≡ option_map (now_at o) (fin.get w.ops o)
-  get_at o = fin.get-from_entries nat_cmp_total (map (aborting w uuids by) (fin.entries w.ops)) o ∙ find_at o (fin.entries w.ops) ∙ ap (option_map (now_at o)) (sym (fin.get-entries w.ops o))
+  get_at o = aborted_at w uuids by o
 
   became : (o : ℕ) (op : Op) → (now_at o op ≡ op) ⊎ (now_at o op ≡ record op { aborted = Some by })
   became o op = elim (bool_told (aborts_op w uuids (o, op))) [

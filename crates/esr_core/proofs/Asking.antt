@@ -15,6 +15,7 @@ use Rattle.esr_core.specs.Queue.{Queue, Lawful, Lists}
 use Rattle.esr_core.proofs.DeletesHold.{none_both}
 use Rattle.esr_core.proofs.Reading.{some_same, held_one, reads_one, safe_root_stands}
 use Rattle.esr_core.proofs.Grows.{info_there}
+use Rattle.esr_core.proofs.Ops.{shard_law_on}
 use Rattle.esr_core.proofs.Owning.{OnWith, own_on, plan_on}
 use Rattle.esr_core.proofs.Ordered.{shard_ref}
 use Rattle.esr_core.proofs.Queues.{Ops, was_in, other_in, Evolves, queue_ops, queued_back, queue_add, queue_add_delete, queue_delete}
@@ -112,19 +113,9 @@ module _ (f : Formats) (w : World) (shelf : List Shelved) (l : Lawful f w shelf)
           ]
         ];
         carries = λ i n g live. carries_from f (HeldIn f w) w.root w.ops ops done_was own_was i n g (c.carries i n g (live_from f (HeldIn f w) w.root w.ops ops done_was own_was i n g live));
-        shards = λ j u e out i n is. let h = c.shards j u e out i n is in record {
-          op = h.op;
-          op_there = stays u.op h.op h.op_there;
-          uuid_is = h.uuid_is;
-          source_is = h.source_is;
-          s = h.s;
-          s_there = h.s_there;
-          state = h.state;
-          index_is = h.index_is;
-          shard_is = h.shard_is;
-          base = base_from f (HeldIn f w) w.root w.ops ops done_was own_was i n u.base h.base;
-          ids = h.ids;
-        };
+        shards = λ j u e out i n is. let h = c.shards j u e out i n is in
+            shard_law_on f (HeldIn f w) w.root w.ops ops j u i n h (stays u.op h.op h.op_there)
+            (base_from f (HeldIn f w) w.root w.ops ops done_was own_was i n u.base h.base);
         one_shard = c.one_shard;
         plans = λ j u e out uns pres uuids s is. plan_was j u e uuids s is (c.plans j u e out uns pres uuids s is);
         finals = λ j u e out uns pres info results made is. let h = c.finals j u e out uns pres info results made is in

@@ -1,11 +1,11 @@
 -- What a step that reads leaves: all that the law of snapshots, deletes and swaps speaks of.
-use Rattle.std.proofs.Common.{◌≡◌, ℕ, zero, suc, ◌<◌, ◌≤◌, List, Option, Some, None, refl, sym, subst, arith, nat_cmp}
+use Rattle.std.proofs.Common.{◌≡◌, ℕ, zero, suc, ◌<◌, ◌≤◌, List, Bool, Option, Some, None, refl, sym, subst, arith, nat_cmp}
 use Rattle.std.specs.FinMap.{FinMap}
 use Rattle.std.specs.FinMap as fin
 use Rattle.esr_model.specs.Names.{BlobName}
 use Rattle.esr_model.specs.Values.{Bytes, IndexRef, Formats}
 use Rattle.esr_model.specs.Shelf.{Shelved}
-use Rattle.esr_model.specs.Image.{Image}
+use Rattle.esr_model.specs.Image.{Blobs, Image}
 use Rattle.esr_core.specs.World.{World, ReadState, Restored, NotRestored, RestoreShard, Restoring, Reader, Caller}
 use Rattle.esr_core.specs.Restores.{restore_shard, restore_opened, shard_handed, more_read, shard_ended}
 use Rattle.esr_core.specs.Entry.{Read, ReadBlob, RestoredShard, CheckedAll, DrawTest, BeginTest, CommitTest, RemoveTests, VerifiedAll, ReadFails, Reply, WasFetched, Entry}
@@ -150,22 +150,29 @@ term_aside w new a h = subst InTerm (sym a.new_is) (record { from = h.from; belo
 pub kept_aside : (P : World → Type 0) (w new : World) (a : Aside w new) → P (record w { restores = a.restores; readers = a.readers; caller = a.caller; entries = a.entries; next_op = a.next_op; next_ticket = a.next_ticket }) → P new
 kept_aside P w new a h = subst P (sym a.new_is) h
 
--- the order of a world
+-- the order of a world reads none of these, and the next numbers may rise
+pub tracked_besides : (w : World) → Tracked w → (blobs : Blobs) (safe pending : ℕ) (completed : List ℕ) (doomed : List BlobName) (deposed : Bool)
+    (restores : FinMap nat_cmp Restoring) (readers : FinMap nat_cmp Reader) (caller : Caller) (entries : List Entry) (next_op next_ticket : ℕ) → w.next_op ≤ next_op → w.next_ticket ≤ next_ticket
+    → Tracked (record w { blobs = blobs; safe = safe; pending = pending; completed = completed; doomed = doomed; deposed = deposed; restores = restores; readers = readers; caller = caller; entries = entries; next_op = next_op; next_ticket = next_ticket })
+tracked_besides w l blobs safe pending completed doomed deposed restores readers caller entries next_op next_ticket ops tickets =
+    record {
+      numbers = λ o op e. let b : o < w.next_op = l.numbers o op e in omega (arith, b, ops);
+      delete_numbers = λ d x e. let b : d < w.next_op = l.delete_numbers d x e in omega (arith, b, ops);
+      apart = l.apart;
+      tickets = λ k t e. let h = l.tickets k t e in let b : k < w.next_ticket = h.0 in (omega (arith, b, tickets), h.1, h.2);
+      begun = λ k t e. let b : t.op < w.next_op = l.begun k t e in omega (arith, b, ops);
+      first_ticket = let b : 1 ≤ w.next_ticket = l.first_ticket in omega (arith, b, tickets);
+      shards = l.shards;
+      held = l.held;
+      finals = l.finals;
+      drops = l.drops;
+      deleting = l.deleting;
+      deletions = l.deletions;
+      one_swap = l.one_swap;
+      named = l.named;
+      in_term = record { from = l.in_term.from; below = l.in_term.below };
+    }
+
 pub tracked_aside_of : (w new : World) → Aside w new → Tracked w → Tracked new
-tracked_aside_of w new a l = subst Tracked (sym a.new_is) (record {
-  numbers = λ o op e. let b : o < w.next_op = l.numbers o op e in let c : w.next_op ≤ a.next_op = a.ops in omega (arith, b, c);
-  delete_numbers = λ d x e. let b : d < w.next_op = l.delete_numbers d x e in let c : w.next_op ≤ a.next_op = a.ops in omega (arith, b, c);
-  apart = l.apart;
-  tickets = λ k t e. let h = l.tickets k t e in let b : k < w.next_ticket = h.0 in let c : w.next_ticket ≤ a.next_ticket = a.tickets in (omega (arith, b, c), h.1, h.2);
-  begun = λ k t e. let b : t.op < w.next_op = l.begun k t e in let c : w.next_op ≤ a.next_op = a.ops in omega (arith, b, c);
-  first_ticket = let b : 1 ≤ w.next_ticket = l.first_ticket in let c : w.next_ticket ≤ a.next_ticket = a.tickets in omega (arith, b, c);
-  shards = l.shards;
-  held = l.held;
-  finals = l.finals;
-  drops = l.drops;
-  deleting = l.deleting;
-  deletions = l.deletions;
-  one_swap = l.one_swap;
-  named = l.named;
-  in_term = record { from = l.in_term.from; below = l.in_term.below };
-})
+tracked_aside_of w new a l =
+    subst Tracked (sym a.new_is) (tracked_besides w l w.blobs w.safe w.pending w.completed w.doomed w.deposed a.restores a.readers a.caller a.entries a.next_op a.next_ticket a.ops a.tickets)

@@ -1,15 +1,16 @@
 -- Each refusal has its cause, and what was given or settled was so by its step.
 use Rattle.std.proofs.Common.{◌≡◌, ◌⊎◌, ℕ, suc, ◌+◌, ◌≤◌, List, Option, None, refl, sym, subst, inl, inr, arith, ◌∙◌}
-use Rattle.esr_model.specs.Values.{Bytes, Formats}
+use Rattle.esr_model.specs.Values.{Bytes, Formats, IndexRef}
 use Rattle.esr_model.specs.Kept.{first_id}
 use Rattle.esr_model.specs.Delete.{kept_count}
 use Rattle.esr_model.specs.Image.{Image}
 use Rattle.esr_core.specs.World.{World}
-use Rattle.esr_core.specs.Entry.{CloneOf, Snapshot, Clone, DeleteSnapshots, Restore, Cleanup, Given, Read, ReadStep, Prune, PruneStep, Step, AskStep, Refusal, Reply, Gave, WasSettled, Refused, Moment}
+use Rattle.esr_core.specs.Entry.{CloneOf, Snapshot, Clone, DeleteSnapshots, Restore, Cleanup, Given, Read, ReadStep, Prune, PruneStep, Step, AskStep, Refusal, Reply, Gave, AcceptedRestore, WasSettled, Refused, Moment}
 use Rattle.esr_core.specs.After.{new_names}
 use Rattle.esr_core.specs.Allowed as allowed
-use Rattle.esr_core.specs.Allowed.{RestoreAllows, CloneAllows, DeleteAllows, CleanupAllows, ReadAllows, VerifyAllows, PruneAllows, Allows, Blocks, Allowed}
-use Rattle.esr_core.specs.Causes.{RefusalCause, OfRule, OfCleanup, OfName, OfTestName, OfTerm, OfIds, OfGenerations, OfTerms, OfCall, TakeGave, SettleDid}
+use Rattle.esr_core.specs.Allowed.{RestoreAllows, AcceptsRestore, CloneAllows, DeleteAllows, CleanupAllows, ReadAllows, VerifyAllows, PruneAllows, Allows, Blocks, Allowed}
+use Rattle.esr_core.specs.Causes.{RefusalCause, OfRule, OfCleanup, OfName, OfTestName, OfTerm, OfIds, OfGenerations, OfTerms, OfCall, TakeGave, SettleDid, RestoreBegan}
+use Rattle.esr_core.proofs.AskedNumbers.{same_few, snapshot_few}
 
 module _ (f : Formats) (size : ℕ) (w : World) where
   one_id : first_id (suc w.term) ≤ suc w.next_id → first_id (suc w.term) ≤ w.next_id + 1
@@ -27,7 +28,7 @@ module _ (f : Formats) (size : ℕ) (w : World) where
   clone who source name names moment taken refusal image (allowed.SourceDeleted uuid d im may listed named) = OfRule _ (Clone source name names moment None) refl tt
   clone who source name names moment taken refusal image (allowed.IndexMissing uuid place im may missing) = OfRule _ (Clone source name names moment None) refl tt
   clone who source name names moment taken refusal image (allowed.FullOfClones uuid im may full) = OfRule _ (Clone source name names moment None) refl tt
-  clone who source name names moment taken refusal image (allowed.CloneSpent uuid im may room spent) = OfIds 1 (one_id spent)
+  clone who source name names moment taken refusal image (allowed.CloneSpent uuid im may room spent) = OfIds 1 (same_few 1) (one_id spent)
   clone who source name names moment taken refusal image (allowed.CloneFault t im acc) = OfCall
 
   delete : (who : ℕ) (names : List Bytes) (refusal : Refusal) (image : Option Image) → DeleteAllows w names (Refused refusal) → RefusalCause f size w who (AskStep (DeleteSnapshots names)) image refusal
@@ -46,7 +47,7 @@ module _ (f : Formats) (size : ℕ) (w : World) where
   read_cause k read refusal image (allowed.ReadFault j name im stored by) = OfCall
 
   verify : (read : Read) (refusal : Refusal) (image : Option Image) → VerifyAllows f w read (Refused refusal) image → RefusalCause f size w 0 (ReadStep read) image refusal
-  verify read refusal image (allowed.TestSpent im may spent same) = OfIds 1 (one_id spent)
+  verify read refusal image (allowed.TestSpent im may spent same) = OfIds 1 (same_few 1) (one_id spent)
   verify read refusal image (allowed.BeginTestFails name im own same) = OfCall
   verify read refusal image (allowed.TestTaken name im own there) = OfTestName name own refl there
   verify read refusal image (allowed.CommitTestFails name bytes im own leaves) = OfCall
@@ -54,7 +55,7 @@ module _ (f : Formats) (size : ℕ) (w : World) where
 
   prune : (k : ℕ) (step : Prune) (refusal : Refusal) (image : Option Image) → PruneAllows f w k step (Refused refusal) image → RefusalCause f size w k (PruneStep step) image refusal
   prune who step refusal image (allowed.FetchShardFails k name im g same) = OfCall
-  prune who step refusal image (allowed.PlanSpent k shards im p spent same) = OfIds (kept_count shards) spent
+  prune who step refusal image (allowed.PlanSpent k shards im p spent same) = OfIds (kept_count shards) (same_few (kept_count shards)) spent
   prune who step refusal image (allowed.SettleDeleteStale k im s apart same) = OfTerm s.t s.may.out apart
   prune who step refusal image (allowed.SettleDeleteFails k im s present same) = OfCall
   prune who step refusal image (allowed.RemoveDoomedFails k names im r removes) = OfCall
@@ -70,13 +71,13 @@ module _ (f : Formats) (size : ℕ) (w : World) where
   cause_by who step refusal image (allowed.Cleaning command d x im recorded there clean same) = OfCleanup command d x refl there clean
   cause_by who step refusal image (allowed.Used name indices moment uuid im clear is same) = OfRule _ (Snapshot name indices moment) refl tt
   cause_by who step refusal image (allowed.Full name indices moment im clear unused full same) = OfRule _ (Snapshot name indices moment) refl tt
-  cause_by who step refusal image (allowed.AskSpent name indices moment im clear unused room spent same) = OfIds (suc (new_names w indices)) spent
-  cause_by who step refusal image (allowed.DrawSpent k n im may spent same) = OfIds n spent
+  cause_by who step refusal image (allowed.AskSpent name indices moment im clear unused room spent same) = OfIds (suc (new_names w indices)) (snapshot_few w indices) spent
+  cause_by who step refusal image (allowed.DrawSpent k n im may spent same) = OfIds n (same_few n) spent
   cause_by who step refusal image (allowed.RaiseStale k im may apart same) = OfTerm may.t may.out apart
   cause_by who step refusal image (allowed.SettleStale k n t s im may apart same) = OfTerm t may.out apart
   cause_by who step refusal image (allowed.DropStale k im may apart same) = OfTerm may.t may.out apart
   cause_by who step refusal image (allowed.RaiseSpent k im may present spent same) = OfGenerations spent
-  cause_by who step refusal image (allowed.ElectSpent im spent same) = OfTerms spent
+  cause_by who step refusal image (allowed.ElectSpent im spent same) = OfTerms refl refl spent
   cause_by who step refusal image (allowed.Taken k name im c aside there) = OfName name c refl aside there
   cause_by who step refusal image (allowed.BeginFails k name im c same) = OfCall
   cause_by who step refusal image (allowed.BeginLatestFails k im p same) = OfCall
@@ -137,6 +138,22 @@ module _ (f : Formats) (size : ℕ) (w : World) where
   settled_by who step image (allowed.Pruning j prune rep im h) = pruned_by j prune im h
   settled_by who step image (allowed.Reading j read rep im h same) = elim h [ ]
 
+accepts_restore : {f : Formats} {w : World} {name : Bytes} {o uuid : ℕ} {indices : List IndexRef} {image : Option Image} → RestoreAllows f w name (AcceptedRestore o uuid indices) image → AcceptsRestore f w name o uuid indices image
+accepts_restore (allowed.OpeningRestore o uuid indices im acc) = acc
+
+module _ (f : Formats) (size : ℕ) (w : World) where
+  began_by : (who : ℕ) (step : Step) (o uuid : ℕ) (indices : List IndexRef) (image : Option Image) → Allows f size w who step (AcceptedRestore o uuid indices) image → RestoreBegan f w who step o uuid indices image
+  began_by who step o uuid indices image (allowed.AskingRestore name place rep im h same) = record { who_is = refl; name = name; place = place; step_is = refl; accepts = accepts_restore h }
+  began_by who step o uuid indices image (allowed.AskingClone source name names moment taken rep im h same) = elim h [ ]
+  began_by who step o uuid indices image (allowed.AskingDelete names rep im h same) = elim h [ ]
+  began_by who step o uuid indices image (allowed.AskingCleanup rep im h same) = elim h [ ]
+  began_by who step o uuid indices image (allowed.Verifying read rep im h) = elim h [ ]
+  began_by who step o uuid indices image (allowed.Pruning j prune rep im h) = elim h [ ]
+  began_by who step o uuid indices image (allowed.Reading j read rep im h same) = elim h [ ]
+
+no_restore : (o uuid : ℕ) (indices : List IndexRef) (refusal : Refusal) → AcceptedRestore o uuid indices ≡ Refused refusal → ⊥
+no_restore o uuid indices refusal e = cc
+
 no_gift : (k o : ℕ) (unit : Given) (refusal : Refusal) → Gave k o unit ≡ Refused refusal → ⊥
 no_gift k o unit refusal e = cc
 
@@ -153,4 +170,10 @@ pub settle_did : (f : Formats) (size : ℕ) (w : World) (m : Moment) → Allowed
 settle_did f size w m a is = elim a.answered [
   | inl alive ↦ settled_by f size w m.entry.who m.entry.step m.image (subst (λ reply. Allows f size w m.entry.who m.entry.step reply m.image) is alive.1)
   | inr blocked ↦ absurd (no_settle blocked.refusal (sym is ∙ blocked.refused))
+]
+
+pub restore_began : (f : Formats) (size : ℕ) (w : World) (m : Moment) (o uuid : ℕ) (indices : List IndexRef) → Allowed f size w m → m.entry.reply ≡ AcceptedRestore o uuid indices → RestoreBegan f w m.entry.who m.entry.step o uuid indices m.image
+restore_began f size w m o uuid indices a is = elim a.answered [
+  | inl alive ↦ began_by f size w m.entry.who m.entry.step o uuid indices m.image (subst (λ reply. Allows f size w m.entry.who m.entry.step reply m.image) is alive.1)
+  | inr blocked ↦ absurd (no_restore o uuid indices blocked.refusal (sym is ∙ blocked.refused))
 ]

@@ -9,8 +9,8 @@ use Rattle.esr_model.specs.Cleanup.{BlobSize}
 use Rattle.esr_model.specs.Image.{Image}
 use Rattle.esr_core.specs.World.{World, Op, ShardWork, Deletion, Work, Shard, Finalize, Deleting, Drop, Ticket, ReadState, Restored, NotRestored, RestoreShard, Restoring, Reader, Swap, swap, record_of}
 use Rattle.esr_core.specs.Restores.{restore_of, restore_shard}
-use Rattle.esr_core.specs.Steps.{with_ticket, noting, listing, completing, shard_ticket, final_ticket}
-use Rattle.esr_core.specs.Turns.{Aborts, plain_ticket, cleaning_ticket}
+use Rattle.esr_core.specs.Steps.{with_ticket, noting, listing, completing, shard_ticket, final_ticket, plain_ticket}
+use Rattle.esr_core.specs.Turns.{Aborts, cleaning_ticket}
 use Rattle.esr_core.specs.Pruning.{planned_work, planned, dooms}
 use Rattle.esr_core.specs.Deletes.{with_named, named_uuids, waiting_delete, running_delete, aborted_ops, delete_merged, delete_by, asked_delete}
 use Rattle.esr_core.specs.Entry.{CloneOf, Snapshot, Clone, DeleteSnapshots, Restore, Cleanup, Given, GivenShard, GivenClone, GivenFinalize, GivenDrop, GivenRestore, GivenDelete, GivenCleanup, Read, ReadBlob, RestoredShard, CheckedAll, DrawTest, CommitTest, ReadFails, Prune, FetchShard, PlanShards, SettlePruned, RemoveDoomed, EndDelete, DeleteFails, Step, AskStep, TakeStep, DrawStep, BeginStep, CommitStep, LatestStep, FetchStep, ListStep, RaiseStep, SettleStep, DoneStep, FailedStep, FinishStep, DroppedStep, ElectStep, ReadStep, PruneStep, DepotFault, Reply, Gave, DrawnFrom, WasDone, WasThere, WasFetched, WasListed, HasEnded, Refused, AcceptedRestore}

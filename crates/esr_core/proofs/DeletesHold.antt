@@ -203,6 +203,11 @@ pub record IsFresh (f : Formats) (read : List (BlobName × Bytes)) (left : List 
   pub above : next ≤ now
   pub own : Has (pruned_blobs f read left next shards) (ShardIndex i k now, left_text f left (files_read f read p))
 
+-- what is fresh of the later shards is fresh with one before them
+fresh_later : (f : Formats) (read : List (BlobName × Bytes)) (left : List ℕ) (p : PrunedShard) (shards : List PrunedShard) (after next i k now : ℕ) (rest : IsFresh f read left after shards i k now) → next ≤ now
+    → Has (pruned_blobs f read left next (p ∷ shards)) (ShardIndex i k now, left_text f left (files_read f read rest.p)) → IsFresh f read left next (p ∷ shards) i k now
+fresh_later f read left p shards after next i k now rest above own = record { p = rest.p; there = inr rest.there; index_is = rest.index_is; number_is = rest.number_is; kept = rest.kept; above = above; own = own }
+
 pub fresh_is : (f : Formats) (read : List (BlobName × Bytes)) (left : List ℕ) (shards : List PrunedShard) (next i k now : ℕ) → fresh_from next shards i k ≡ Some (Some now) → IsFresh f read left next shards i k now
 fresh_is f read left [] next i k now e = absurd (never e)
   where
@@ -231,28 +236,14 @@ fresh_is f read left (p ∷ shards) next i k now e = elim (pair_tells p.index i 
       elim (bool_told p.kept) [
         | inl b ↦
             let step : next_after next p ≡ suc next = choose_true _ _ _ b in
-            record {
-              p = rest.p;
-              there = inr rest.there;
-              index_is = rest.index_is;
-              number_is = rest.number_is;
-              kept = rest.kept;
-              above = let le = rest.above in omega (arith, le, step);
-              own = subst (λ (l : List (BlobName × Bytes)). Has l (ShardIndex i k now, left_text f left (files_read f read rest.p))) (sym (choose_true _ _ _ b))
-                  (inr (subst (λ (n : ℕ). Has (pruned_blobs f read left n shards) (ShardIndex i k now, left_text f left (files_read f read rest.p))) step rest.own));
-            }
+            fresh_later f read left p shards (next_after next p) next i k now rest (let le = rest.above in omega (arith, le, step))
+            (subst (λ (l : List (BlobName × Bytes)). Has l (ShardIndex i k now, left_text f left (files_read f read rest.p))) (sym (choose_true _ _ _ b))
+            (inr (subst (λ (n : ℕ). Has (pruned_blobs f read left n shards) (ShardIndex i k now, left_text f left (files_read f read rest.p))) step rest.own)))
         | inr b ↦
             let step : next_after next p ≡ next = choose_false _ _ _ b in
-            record {
-              p = rest.p;
-              there = inr rest.there;
-              index_is = rest.index_is;
-              number_is = rest.number_is;
-              kept = rest.kept;
-              above = let le = rest.above in omega (arith, le, step);
-              own = subst (λ (l : List (BlobName × Bytes)). Has l (ShardIndex i k now, left_text f left (files_read f read rest.p))) (sym (choose_false _ _ _ b))
-                  (subst (λ (n : ℕ). Has (pruned_blobs f read left n shards) (ShardIndex i k now, left_text f left (files_read f read rest.p))) step rest.own);
-            }
+            fresh_later f read left p shards (next_after next p) next i k now rest (let le = rest.above in omega (arith, le, step))
+            (subst (λ (l : List (BlobName × Bytes)). Has l (ShardIndex i k now, left_text f left (files_read f read rest.p))) (sym (choose_false _ _ _ b))
+            (subst (λ (n : ℕ). Has (pruned_blobs f read left n shards) (ShardIndex i k now, left_text f left (files_read f read rest.p))) step rest.own))
       ]
 ]
 

@@ -7,8 +7,8 @@ use Rattle.esr_model.specs.Shelf.{Shelved, ShelfShard}
 use Rattle.esr_model.specs.Image.{Has, AllPairs, IsOne, Reads, Lists, FileStands, ShardStands, SnapStands, RootStands}
 use Rattle.esr_core.specs.Swaps.{OrOwn}
 use Rattle.esr_model.specs.Delete.{names_uuid, left_snaps, left_shelf, Deletes}
-use Rattle.esr_core.proofs.Frames.{reads_kept, file_kept, index_less, index_kept, AllPairs-map}
-use Rattle.esr_core.proofs.Reading.{some_same, reads_one}
+use Rattle.esr_core.proofs.Frames.{reads_kept, file_kept, snap_in, index_less, index_kept, AllPairs-map}
+use Rattle.esr_core.proofs.Reading.{some_same, reads_one, AllPairs-with}
 use Rattle.esr_core.proofs.Results.{choose_true, choose_false}
 use Rattle.esr_core.proofs.Ordered.{Has-sorted, in_places}
 
@@ -23,13 +23,6 @@ left_has uuids (x ∷ xs) s h = elim (bool_told (names_uuid uuids x.uuid)) [
   | inl b ↦ inr (left_has uuids xs s (subst (λ l. Has l s) (choose_true _ _ _ b) h))
   | inr b ↦ elim (subst (λ l. Has l s) (choose_false _ _ _ b) h) [ inl e ↦ inl e | inr m ↦ inr (left_has uuids xs s m) ]
 ]
-
--- pair by pair, of the members of the first list
-pairs_in : {A B : Type 0} (R S : A → B → Type 0) (xs : List A) (ys : List B) → ((x : A) (y : B) → Has xs x → R x y → S x y) → AllPairs R xs ys → AllPairs S xs ys
-pairs_in R S [] [] f h = tt
-pairs_in R S [] (y ∷ ys) f h = h
-pairs_in R S (x ∷ xs) [] f h = h
-pairs_in R S (x ∷ xs) (y ∷ ys) f h = (f x y (inl refl) h.0, pairs_in R S xs ys (λ z w m. f z w (inr m)) h.1)
 
 -- pair by pair over what is left
 left_pairs : (R S : RootSnap → Shelved → Type 0) (uuids : List ℕ) → ((s : RootSnap) (x : Shelved) → R s x → x.uuid ≡ s.uuid)
@@ -94,24 +87,14 @@ module _ (f : Formats) (has : BlobName → Bytes → Type 0) (func : IsOne has) 
 
   snap_left : (snap : RootSnap) (shelved : Shelved) → names_uuid uuids snap.uuid ≡ false → SnapStands f has root snap shelved → SnapStands f Then new snap shelved
   snap_left snap shelved stays s =
-      record {
-        name_is = s.name_is;
-        uuid_is = s.uuid_is;
-        info = s.info;
-        info_reads = reads_kept f has Then lift _ _ _ s.info_reads;
-        info_name = s.info_name;
-        info_uuid = s.info_uuid;
-        info_state = s.info_state;
-        global_reads = reads_kept f has Then lift _ _ _ s.global_reads;
-        metas = λ r h. reads_kept f has Then lift _ _ _ (s.metas r h);
-        listed = λ r h. let (x, x_there, name, id, mine) = s.listed r h in let (y, y_there, y_name, y_id, y_mine) = d.kept x snap.uuid x_there mine stays in (y, y_there, y_name ∙ name, y_id ∙ id, y_mine);
-        exact = λ y h mine. let (x, x_there, name, id, less) = d.from y h in let (r, r_there, r_name, r_id) = s.exact x x_there (less snap.uuid mine) in (r, r_there, r_name ∙ name, r_id ∙ id);
-        shards = pairs_in (ShardStands f has root snap.uuid) (ShardStands f Then new snap.uuid) (shelf_places s.info.indices) shelved.shards
-            (λ place shard m h.
-            let (x, there, name, id, mine) = s.listed place.0 (in_places s.info.indices place (Has-sorted comes_first (places s.info.indices) place m)).0 in
-            shard_left snap stays place shard x there id mine h)
-            s.shards;
-      }
+      snap_in f has Then lift root new snap shelved s
+      (λ r h. let (x, x_there, name, id, mine) = s.listed r h in let (y, y_there, y_name, y_id, y_mine) = d.kept x snap.uuid x_there mine stays in (y, y_there, y_name ∙ name, y_id ∙ id, y_mine))
+      (λ y h mine. let (x, x_there, name, id, less) = d.from y h in let (r, r_there, r_name, r_id) = s.exact x x_there (less snap.uuid mine) in (r, r_there, r_name ∙ name, r_id ∙ id))
+      (AllPairs-with (ShardStands f has root snap.uuid) (ShardStands f Then new snap.uuid) (shelf_places s.info.indices) shelved.shards
+      (λ place shard m h.
+      let (x, there, name, id, mine) = s.listed place.0 (in_places s.info.indices place (Has-sorted comes_first (places s.info.indices) place m)).0 in
+      shard_left snap stays place shard x there id mine h)
+      s.shards)
 
   was_listed : (snap : RootSnap) → Has new.snapshots snap → Has root.snapshots snap
   was_listed snap m = left_has uuids root.snapshots snap (subst (λ xs. Has xs snap) d.snapshots m)

@@ -9,10 +9,10 @@ use Rattle.esr_model.specs.Delete.{doomed_names}
 use Rattle.esr_model.specs.Cleanup.{cleaned_names}
 use Rattle.esr_core.specs.World.{World, Shard, Finalize, Deleting, Drop, Ticket, Swap, HeldIn, Safely}
 use Rattle.esr_core.specs.Ready.{IsShard, IsMaster}
-use Rattle.esr_core.specs.Steps.{Removes, MaySettle, FetchFound, reading, listing, shard_ticket, final_ticket}
+use Rattle.esr_core.specs.Steps.{Removes, MaySettle, FetchFound, reading, listing, shard_ticket, final_ticket, plain_ticket}
 use Rattle.esr_core.specs.Pruning.{IsPlanned, doomed_as, doomed_by, dooms, PruneLaw, PruneLaws}
 use Rattle.esr_core.specs.Ids.{Law}
-use Rattle.esr_core.specs.Turns.{DrawPlan, AddTest, plain_ticket, cleaning_ticket, Turn, Stays, Commits, CommitFails, Finds, Raises, Latests, Fetches, SettlesFinal, SettlesDelete, Elects, TakesShard, TakesFinal, TakesDrop, TakesDelete, TakesCleanup, AsksCleanup, CleanDrops, DrawsShard, DrawsPlan, Dones, Ending, Fails, FailsDelete, Drops, AsksCreate, AsksDelete, Merges, Removing, Pages, Deposes, Besides, Tests, TestTurn, DrawsTest, AddsTest, RemovesTests}
+use Rattle.esr_core.specs.Turns.{DrawPlan, AddTest, cleaning_ticket, Turn, Stays, Commits, CommitFails, Finds, Raises, Latests, Fetches, SettlesFinal, SettlesDelete, Elects, TakesShard, TakesFinal, TakesDrop, TakesDelete, TakesCleanup, AsksCleanup, CleanDrops, DrawsShard, DrawsPlan, Dones, Ending, Fails, FailsDelete, Drops, AsksCreate, AsksDelete, Merges, Removing, Pages, Deposes, Besides, Tests, TestTurn, DrawsTest, AddsTest, RemovesTests}
 use Rattle.esr_core.proofs.Adds.{at_kept, safe_kept}
 use Rattle.esr_core.proofs.Besides.{aside_of, kept_aside}
 use Rattle.esr_core.proofs.LatestPut.{put_law}

@@ -11,11 +11,12 @@ use Rattle.esr_model.specs.Image.{Has, AllPairs, Reads, Generation, Lists, Lists
 use Rattle.esr_core.specs.World.{World, Op, ShardWork, Shard, Ticket, Done, Out, marked, HeldIn}
 use Rattle.esr_core.specs.Steps.{DoneShard, Extends, ExtendsBase}
 use Rattle.esr_core.specs.Generations.{DoneAt, IsLive, IsOfShard, HasShard, IsOwn, Carries, AreFilesOf, DoneStands, OpLaw, Together, Base, BaseBelow, ShardLaw, Carried}
-use Rattle.esr_core.proofs.Maps.{split, get_was, get_same, get_other}
+use Rattle.esr_core.proofs.Maps.{get_was, get_other}
 use Rattle.esr_core.proofs.Reading.{some_same, held_one as func_of, reads_one, Has-map, Has-mapped}
 use Rattle.esr_core.proofs.Results.{done_same, done_out, done_of}
 use Rattle.esr_core.proofs.Marked.{marked_is, marked_ref, marked_number}
 use Rattle.esr_core.proofs.Grows.{info_there}
+use Rattle.esr_core.proofs.Ops.{shard_law_given, op_law_given}
 use Rattle.esr_core.proofs.Owning.{OnWith, own_on, plan_on}
 
 -- a place of a listed snapshot has a generation in the root
@@ -225,42 +226,23 @@ module _ (f : Formats) (w : World) (k : ℕ) (r : ShardResult) (new : World) (d 
       (λ g live. elim (live_was index shard g live) [ inl was ↦ h.0 g was | inr is ↦ absurd (apart is.0 is.1) ], carries_on index shard base (λ i n le. apart i n) h.1)
 
   op_law_now : OpLaw f (HeldIn f w) w.root op_now
-  op_law_now =
-      let l = c.ops d.t.op d.op d.op_there in
-      record {
-        places = map_places d.op.shards ∙ l.places;
-        done = λ z q m state.
-            let (x, x_there, same) = Has-mapped (marked k (Done r)) d.op.shards z m in
-            elim (marked_is k (Done r) x) [
-              | inl was ↦
-                  let one = held_one x x_there was.state in
-                  let z_is : record d.s { state = Done r } ≡ z = ap (λ (y : ShardWork). record y { state = Done r }) (sym one.2) ∙ sym was.is ∙ same in
-                  let r_is : r ≡ q = done_same _ _ (ap (λ (y : ShardWork). y.state) z_is ∙ state) in
-                  let i : d.s.ref.id ≡ r.index = ap (λ (y : ShardWork). y.ref.id) (sym one.2) ∙ one.0 in
-                  let n : d.s.number ≡ r.shard = ap (λ (y : ShardWork). y.number) (sym one.2) ∙ one.1 in
-                  subst (λ (y : ShardWork). DoneStands f (HeldIn f w) d.op.source d.op.uuid y q) z_is (subst (DoneStands f (HeldIn f w) d.op.source d.op.uuid (record d.s { state = Done r })) r_is (new_done_stands i n))
-              | inr was ↦
-                  let z_is : x ≡ z = sym was.is ∙ same in
-                  subst (λ (y : ShardWork). DoneStands f (HeldIn f w) d.op.source d.op.uuid y q) z_is (l.done x q x_there (ap (λ (y : ShardWork). y.state) z_is ∙ state))
-            ];
-        copies = l.copies;
-        texts = l.texts;
-        unlisted = l.unlisted;
-        unused = l.unused;
-        one_id = l.one_id;
-        same_name = l.same_name;
-        distinct = λ a b am bm i n.
-            let (x, x_there, xs) = Has-mapped (marked k (Done r)) d.op.shards a am in
-            let (y, y_there, ys) = Has-mapped (marked k (Done r)) d.op.shards b bm in
-            let same : x ≡ y = l.distinct x y x_there y_there
-            (sym (ap (λ (v : IndexRef). v.id) (marked_ref k (Done r) x)) ∙ ap (λ (v : ShardWork). v.ref.id) xs ∙ i ∙ sym (ap (λ (v : ShardWork). v.ref.id) ys) ∙ ap (λ (v : IndexRef). v.id) (marked_ref k (Done r) y))
-            (sym (marked_number k (Done r) x) ∙ ap (λ (v : ShardWork). v.number) xs ∙ n ∙ sym (ap (λ (v : ShardWork). v.number) ys) ∙ marked_number k (Done r) y) in
-            sym xs ∙ ap (marked k (Done r)) same ∙ ys;
-      }
+  op_law_now = op_law_given f (HeldIn f w) w.root d.op (marked k (Done r)) d.op.failed (marked_ref k (Done r)) (marked_number k (Done r)) l (λ z q m state.
+      let (x, x_there, same) = Has-mapped (marked k (Done r)) d.op.shards z m in
+      elim (marked_is k (Done r) x) [
+        | inl was ↦
+            let one = held_one x x_there was.state in
+            let z_is : record d.s { state = Done r } ≡ z = ap (λ (y : ShardWork). record y { state = Done r }) (sym one.2) ∙ sym was.is ∙ same in
+            let r_is : r ≡ q = done_same _ _ (ap (λ (y : ShardWork). y.state) z_is ∙ state) in
+            let i : d.s.ref.id ≡ r.index = ap (λ (y : ShardWork). y.ref.id) (sym one.2) ∙ one.0 in
+            let n : d.s.number ≡ r.shard = ap (λ (y : ShardWork). y.number) (sym one.2) ∙ one.1 in
+            subst (λ (y : ShardWork). DoneStands f (HeldIn f w) d.op.source d.op.uuid y q) z_is (subst (DoneStands f (HeldIn f w) d.op.source d.op.uuid (record d.s { state = Done r })) r_is (new_done_stands i n))
+        | inr was ↦
+            let z_is : x ≡ z = sym was.is ∙ same in
+            subst (λ (y : ShardWork). DoneStands f (HeldIn f w) d.op.source d.op.uuid y q) z_is (l.done x q x_there (ap (λ (y : ShardWork). y.state) z_is ∙ state))
+      ])
     where
-      map_places : (ss : List ShardWork) → map {B = IndexRef × ℕ} (λ (s : ShardWork). (s.ref, s.number)) (map (marked k (Done r)) ss) ≡ map {B = IndexRef × ℕ} (λ (s : ShardWork). (s.ref, s.number)) ss
-      map_places [] = refl
-      map_places (s ∷ ss) = λ i. (marked_ref k (Done r) s i, marked_number k (Done r) s i) ∷ map_places ss i
+      l : OpLaw f (HeldIn f w) w.root d.op
+      l = c.ops d.t.op d.op d.op_there
 
       new_done_stands : d.s.ref.id ≡ r.index → d.s.number ≡ r.shard → DoneStands f (HeldIn f w) d.op.source d.op.uuid (record d.s { state = Done r }) r
       new_done_stands i n =
@@ -286,37 +268,9 @@ module _ (f : Formats) (w : World) (k : ℕ) (r : ShardResult) (new : World) (d 
   op_was o op e = get_was nat_cmp_total nat_cmp-IsAntisymmetric w.ops d.t.op op_now o op e
 
   shard_now : (j : ℕ) (u : Ticket) → j ≢ k → fin.get w.tickets j ≡ Some u → u.out ≡ true → (index shard : ℕ) → u.work ≡ Shard index shard → ShardLaw f (HeldIn f w) w.root w.ops j u index shard → ShardLaw f (HeldIn f w) w.root ops_now j u index shard
-  shard_now j u apart e out index shard is l = elim (split nat_cmp_total nat_cmp-IsAntisymmetric u.op d.t.op) [
-    | inl same ↦
-        let one : l.op ≡ d.op = some_same _ _ (sym l.op_there ∙ ap (fin.get w.ops) same ∙ d.op_there) in
-        let there : Has d.op.shards l.s = subst (λ (x : Op). Has x.shards l.s) one l.s_there in
-        record {
-          op = op_now;
-          op_there = ap (fin.get ops_now) same ∙ get_same nat_cmp_total nat_cmp-IsAntisymmetric w.ops d.t.op op_now;
-          uuid_is = ap (λ (x : Op). x.uuid) (sym one) ∙ l.uuid_is;
-          source_is = l.source_is ∙ ap (λ (x : Op). x.source) one;
-          s = l.s;
-          s_there = subst (Has (map (marked k (Done r)) d.op.shards)) (stays l.s l.state) (Has-map (marked k (Done r)) d.op.shards l.s there);
-          state = l.state;
-          index_is = l.index_is;
-          shard_is = l.shard_is;
-          base = base_now index shard (other_place j u apart e out index shard is) u.base l.base;
-          ids = l.ids;
-        }
-    | inr h ↦ record {
-      op = l.op;
-      op_there = get_other nat_cmp_total nat_cmp-IsAntisymmetric w.ops d.t.op op_now u.op h.0 ∙ l.op_there;
-      uuid_is = l.uuid_is;
-      source_is = l.source_is;
-      s = l.s;
-      s_there = l.s_there;
-      state = l.state;
-      index_is = l.index_is;
-      shard_is = l.shard_is;
-      base = base_now index shard (other_place j u apart e out index shard is) u.base l.base;
-      ids = l.ids;
-    }
-  ]
+  shard_now j u apart e out index shard is l =
+      shard_law_given f (HeldIn f w) w.root w.ops d.t.op d.op d.op_there (marked k (Done r)) d.op.failed j u index shard l (λ z m state. stays z state)
+      (base_now index shard (other_place j u apart e out index shard is) u.base l.base)
     where
       out_same : {a b : ℕ} → Out a ≡ Out b → a ≡ b
       out_same e = cc

@@ -18,7 +18,7 @@ use Rattle.esr_core.proofs.Reading.{some_same, none_some, held_one, reads_one, s
 use Rattle.esr_core.proofs.Results.{choose_true, choose_false}
 use Rattle.esr_core.proofs.Deleting.{stage_delete, bool_told, left_has}
 use Rattle.esr_core.proofs.Tickets.{each_ticket}
-use Rattle.esr_core.proofs.Same.{SameTicket}
+use Rattle.esr_core.proofs.Same.{SameTicket, notes_same}
 use Rattle.esr_core.proofs.Law.{quiet, fresh_same}
 use Rattle.esr_core.proofs.Settling.{swap_master}
 use Rattle.esr_core.proofs.Queues.{was_in, other_in, queue_ticket}
@@ -47,17 +47,7 @@ draw_shard_lawful f w shelf l k n new d above = subst (λ x. Lawful f x shelf) (
     v = record d.t { first = w.next_id; drawn = n }
 
     same : SameTicket d.t (record d.t { first = w.next_id; drawn = n })
-    same =
-        record {
-          work = refl;
-          op = refl;
-          term = refl;
-          out = λ e. e;
-          holds = λ i n e o. o;
-          settled = λ e. e;
-          shard = λ f b r o k i n l. record { op = l.op; op_there = l.op_there; uuid_is = l.uuid_is; source_is = l.source_is; s = l.s; s_there = l.s_there; state = l.state; index_is = l.index_is; shard_is = l.shard_is; base = l.base; ids = λ id a b. above id a };
-          final = λ f r o i rs m l. record { op = l.op; op_there = l.op_there; done = l.done; info_is = l.info_is; made_is = l.made_is; root_is = l.root_is };
-        }
+    same = notes_same d.t w.next_id n d.t.noted d.t.wrote d.t.read d.t.raised d.t.tried_latest d.t.listed d.t.whole (λ id from below. inr (above id from))
 
     old : TicketLaw f (HeldIn f w) w.doomed (ledger_of w) shelf d.t
     old = l.sound.rooted.tickets k d.t d.out.there

@@ -20,13 +20,14 @@ use Rattle.esr_core.specs.Ids.{Law}
 use Rattle.esr_core.specs.Past.{is_counted, with_entry, begins_anew, entries_by, batch_gone, gone_names}
 use Rattle.esr_core.specs.Tracked.{CleanTracked, Tracked}
 use Rattle.esr_core.specs.ReadTracked.{ReadTracked}
-use Rattle.esr_core.specs.Changes.{SameUnit, BlobsChange, NoBlobChange, NewBlob, NewLatest, Removal, Maker, ClientStep, ReaderStep, UnitStep, IsUnits, IsClients, IsReaders}
+use Rattle.esr_core.specs.Changes.{SameUnit, BlobsChange, NoBlobChange, NewBlob, NewLatest, Removal, Maker, ClientStep, ReaderStep, UnitStep, IsUnits}
 use Rattle.esr_core.specs.Entry.{Prune, SettlePruned, RemoveDoomed, DeleteFails, Step, AskStep, TakeStep, DrawStep, BeginStep, CommitStep, LatestStep, FetchStep, ListStep, RaiseStep, SettleStep, DoneStep, FailedStep, FinishStep, DroppedStep, ElectStep, LookStep, ReadStep, PruneStep, DepotFault, Refusal, Reply, WasListed, WasRemoved, HasEnded, Refused, Entry, Moment}
 use Rattle.esr_core.specs.After.{with_given, committing, fetching, told_blob, delete_settled, delete_failed, delete_failed_by, is_stale, has_text, is_latest, tried, done_step, answered, after, dropped_of, raised, blobs_in}
 use Rattle.esr_core.specs.Allowed as allowed
-use Rattle.esr_core.specs.Allowed.{Told, SameBlobs, Adds, IsUnlisted, IsStale, ListsPage, SettlesDeletion, RemovesDoomed, PruneAllows, Allows, IsBlocked, Allowed, InReach}
+use Rattle.esr_core.specs.Allowed.{Told, SameBlobs, Adds, IsUnlisted, IsStale, ListsPage, SettlesDeletion, PruneAllows, Allows, IsBlocked, Allowed, InReach}
 use Rattle.esr_core.specs.History.{world_from, IsLegal, AreTold, is_settle}
 use Rattle.esr_core.specs.Cleaned.{HoldsReachAlone, ListsListedAlone, IsTestCommit, ChangesBlobs, NoneOf, IsFirstPage, IsLastDrop}
+use Rattle.esr_core.specs.UnitSteps.{other_unit, settle_unit}
 use Rattle.esr_core.proofs.Reading.{some_same, none_some, reads_one, Has-left, Has-right, Has-either}
 use Rattle.esr_core.proofs.Deleting.{bool_told}
 use Rattle.esr_core.proofs.DeletionLaws.{cleans_is}
@@ -601,20 +602,6 @@ late_step f size w m s k late e h gone = counted (is_counted m.entry.reply) h
     ]
 
 -- ---- a step of another
-
-other_unit : (step : Step) → IsClients step ⊎ IsReaders step → IsUnits step → ⊥
-other_unit (AskStep command) h unit = unit
-other_unit TakeStep h unit = unit
-other_unit ElectStep h unit = unit
-other_unit LookStep h unit = unit
-other_unit (ReadStep read) h unit = unit
-other_unit step (inl client) unit = client
-other_unit step (inr reader) unit = reader
-
-settle_unit : (step : Step) → is_settle step ≡ true → IsUnits step
-settle_unit SettleStep e = tt
-settle_unit (PruneStep SettlePruned) e = tt
-settle_unit step e = absurd (true≢false (sym e))
 
 -- the ticket settles a cleanup
 abbrev SettlesAs : Formats → World → World → ℕ → Type 0

@@ -7,12 +7,12 @@ use Rattle.esr_model.specs.Shelf.{Shelved, Command}
 use Rattle.esr_model.specs.Image.{IsStored, Blobs, At}
 use Rattle.esr_model.specs.Kept.{IdsBelow}
 use Rattle.esr_core.specs.World.{World, Op, ShardWork, Pending, Out, Done, Work, Shard, Finalize, Deleting, Drop, Ticket, Swap, swap, swap_of, AllDone, info_of, metadata, marked, HeldIn, ledger_of}
-use Rattle.esr_core.specs.Steps.{CommitExists, MayCommit, ShardCommits, Remove, reading, listing, writing, noting, given, final_ticket, shard_ticket}
+use Rattle.esr_core.specs.Steps.{CommitExists, MayCommit, ShardCommits, Remove, reading, listing, writing, noting, given, final_ticket, shard_ticket, plain_ticket}
 use Rattle.esr_core.specs.Swaps.{TicketLaw, SwapLaw, IsUnsettled, Counts}
 use Rattle.esr_core.specs.Texts.{IsMetaOf, Texted}
 use Rattle.esr_core.specs.Sound.{Sound}
 use Rattle.esr_core.specs.Ids.{Law}
-use Rattle.esr_core.specs.Turns.{Aborts, fails, plain_ticket, cleaning_ticket, Turn, Stays, Commits, CommitFails, Finds, Raises, Latests, Fetches, SettlesFinal, SettlesDelete, Elects, TakesShard, TakesFinal, TakesDrop, TakesDelete, TakesCleanup, AsksCleanup, CleanDrops, DrawsShard, DrawsPlan, Dones, Ending, Fails, FailsDelete, Drops, AsksCreate, AsksDelete, Merges, Removing, Pages, Deposes, Besides, Tests, TestTurn, DrawsTest, AddsTest, RemovesTests}
+use Rattle.esr_core.specs.Turns.{Aborts, fails, cleaning_ticket, Turn, Stays, Commits, CommitFails, Finds, Raises, Latests, Fetches, SettlesFinal, SettlesDelete, Elects, TakesShard, TakesFinal, TakesDrop, TakesDelete, TakesCleanup, AsksCleanup, CleanDrops, DrawsShard, DrawsPlan, Dones, Ending, Fails, FailsDelete, Drops, AsksCreate, AsksDelete, Merges, Removing, Pages, Deposes, Besides, Tests, TestTurn, DrawsTest, AddsTest, RemovesTests}
 use Rattle.esr_core.proofs.Testing.{tests_meta}
 use Rattle.esr_core.proofs.Besides.{aside_of, kept_aside}
 use Rattle.esr_core.proofs.Evolving.{all_done_on, failed_leaves}

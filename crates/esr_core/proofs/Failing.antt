@@ -1,5 +1,5 @@
 -- A unit fails: its op's pending shards are given up, and the op has failed.
-use Rattle.std.proofs.Common.{◌≡◌, ◌≢◌, ℕ, List, true, false, true≢false, Some, map, refl, sym, ap, ◌∙◌, subst, inl, inr}
+use Rattle.std.proofs.Common.{◌≡◌, ◌≢◌, ℕ, List, true, false, true≢false, Some, refl, sym, ap, ◌∙◌, subst, inl, inr}
 use Rattle.std.specs.FinMap as fin
 use Rattle.esr_model.specs.Values.{SnapInfo, ShardResult, Formats}
 use Rattle.esr_model.specs.Shelf.{Shelved, Command}
@@ -10,14 +10,14 @@ use Rattle.esr_core.specs.Turns.{Failed, FailedDelete, fails}
 use Rattle.esr_core.specs.Swaps.{Rooted, TicketLaw}
 use Rattle.esr_core.specs.Generations.{OpLaw, ShardLaw, Carried}
 use Rattle.esr_core.specs.Queue.{Queue, Lawful}
-use Rattle.esr_core.proofs.Reading.{some_same, Has-map, Has-mapped}
+use Rattle.esr_core.proofs.Reading.{some_same, Has-mapped}
 use Rattle.esr_core.proofs.Results.{done_of}
 use Rattle.esr_core.proofs.Tickets.{each_ticket, swapping_was}
-use Rattle.esr_core.proofs.Ops.{op_now, ops_now, op_was, live_was, on_with, carries_now, base_now, op_law_now, together_now}
+use Rattle.esr_core.proofs.Ops.{shard_law_given, op_now, ops_now, op_was, live_was, on_with, carries_now, base_now, op_law_now, together_now}
 use Rattle.esr_core.proofs.Owning.{plan_on}
 use Rattle.esr_core.proofs.Law.{fresh_same}
 use Rattle.esr_core.proofs.Leaving.{like_ended, ended_lawful}
-use Rattle.esr_core.proofs.Queues.{Ops, was_in, same_in, other_in, split_at, Evolves, queue_ops, queued_back, queue_ticket, queue_delete, swap_back}
+use Rattle.esr_core.proofs.Queues.{Ops, was_in, other_in, split_at, Evolves, queue_ops, queued_back, queue_ticket, queue_delete, swap_back}
 use Rattle.esr_core.proofs.Evolving.{failed_is, failed_grows, failed_outs, failed_goes, evolve_map, one_back, one_forth, one_outs, outs_map, all_done_back, all_done_on, failed_leaves, out_pending, out_done, out_same, up_out}
 
 module _ (f : Formats) (w : World) (shelf : List Shelved) (l : Lawful f w shelf) (k : ℕ) (new : World) (d : Failed w k new) where
@@ -64,26 +64,7 @@ module _ (f : Formats) (w : World) (shelf : List Shelved) (l : Lawful f w shelf)
 
   shard_now : (j : ℕ) (u : Ticket) (i n : ℕ) → j ≢ k → ShardLaw f (HeldIn f w) w.root w.ops j u i n → ShardLaw f (HeldIn f w) w.root ops j u i n
   shard_now j u i n apart h =
-      let base' = base_now f (HeldIn f w) w.root w.ops o op d.op_there g (failed_goes k) true i n u.base h.base in
-      elim (split_at u.op o) [
-        | inl same ↦
-            let one : h.op ≡ op = some_same _ _ (sym h.op_there ∙ ap (fin.get w.ops) same ∙ d.op_there) in
-            let there : Has op.shards h.s = subst (λ (x : Op). Has x.shards h.s) one h.s_there in
-            record {
-              op = now;
-              op_there = ap (fin.get ops) same ∙ same_in w.ops o now;
-              uuid_is = ap (λ (x : Op). x.uuid) (sym one) ∙ h.uuid_is;
-              source_is = h.source_is ∙ ap (λ (x : Op). x.source) one;
-              s = h.s;
-              s_there = subst (Has (map g op.shards)) (stays h.s j apart h.state) (Has-map g op.shards h.s there);
-              state = h.state;
-              index_is = h.index_is;
-              shard_is = h.shard_is;
-              base = base';
-              ids = h.ids;
-            }
-        | inr z ↦ record { op = h.op; op_there = other_in w.ops o now u.op z ∙ h.op_there; uuid_is = h.uuid_is; source_is = h.source_is; s = h.s; s_there = h.s_there; state = h.state; index_is = h.index_is; shard_is = h.shard_is; base = base'; ids = h.ids }
-      ]
+      shard_law_given f (HeldIn f w) w.root w.ops o op d.op_there g true j u i n h (λ z m e. stays z j apart e) (base_now f (HeldIn f w) w.root w.ops o op d.op_there g (failed_goes k) true i n u.base h.base)
 
   -- no finalization of the op is out but that which fails
   not_final : (j : ℕ) (u : Ticket) → j ≢ k → fin.get w.tickets j ≡ Some u → u.out ≡ true → u.settled ≡ false → u.term ≡ w.term

@@ -1,11 +1,13 @@
 -- What stands goes on standing where all that is known of blobs is kept.
-use Rattle.std.proofs.Common.{ℕ, zero, suc, List, [], ◌∷◌}
+use Rattle.std.proofs.Common.{◌≡◌, ℕ, zero, suc, List, [], ◌∷◌, inl, inr}
 use Rattle.esr_model.specs.Places.{shelf_places}
 use Rattle.esr_model.specs.Parts.{part_names}
-use Rattle.esr_model.specs.Names.{BlobName}
-use Rattle.esr_model.specs.Values.{Bytes, IndexRef, RootSnap, RootData, FileEntry, Kind, Formats}
-use Rattle.esr_model.specs.Shelf.{ShelfShard, Shelved}
+use Rattle.esr_model.specs.Names.{BlobName, Root}
+use Rattle.esr_model.specs.Values.{Bytes, IndexRef, RootSnap, RootIndex, RootData, FileEntry, Ledger, Kind, Formats}
+use Rattle.esr_model.specs.Shelf.{ShelfShard, Shelved, shelf_after}
 use Rattle.esr_model.specs.Image.{Has, AllPairs, Reads, FileStands, ShardStands, SnapStands, IndexStands, RootStands, Stands, Picked}
+use Rattle.esr_core.specs.World.{Swap, Ticket}
+use Rattle.esr_core.specs.Swaps.{OrOwn, SwapLaw, TicketLaw}
 
 pub AllPairs-map : {A B : Type 0} {R S : A → B → Type 0} → ((x : A) (y : B) → R x y → S x y) → (xs : List A) (ys : List B) → AllPairs R xs ys → AllPairs S xs ys
 AllPairs-map f [] [] h = tt
@@ -40,8 +42,12 @@ module _ (f : Formats) (has now : BlobName → Bytes → Type 0) (keeps : (name 
         files = AllPairs-map (λ e file h. (h.0, file_kept place.0.id place.1 e file.1 h.1)) s.snap.files shard.files s.files;
       }
 
-  pub snap_kept : (root : RootData) (snap : RootSnap) (shelved : Shelved) → SnapStands f has root snap shelved → SnapStands f now root snap shelved
-  snap_kept root snap shelved s =
+  -- in a root that has the indices of the snapshot
+  pub snap_in : (root new : RootData) (snap : RootSnap) (shelved : Shelved) (s : SnapStands f has root snap shelved)
+      → ((r : IndexRef) → Has s.info.indices r → (x : RootIndex) × Has new.indices x × (x.name ≡ r.name) × (x.id ≡ r.id) × Has x.snapshots snap.uuid)
+      → ((x : RootIndex) → Has new.indices x → Has x.snapshots snap.uuid → (r : IndexRef) × Has s.info.indices r × (r.name ≡ x.name) × (r.id ≡ x.id))
+      → AllPairs (ShardStands f now new snap.uuid) (shelf_places s.info.indices) shelved.shards → SnapStands f now new snap shelved
+  snap_in root new snap shelved s listed exact shards =
       record {
         name_is = s.name_is;
         uuid_is = s.uuid_is;
@@ -52,10 +58,13 @@ module _ (f : Formats) (has now : BlobName → Bytes → Type 0) (keeps : (name 
         info_state = s.info_state;
         global_reads = reads_kept _ _ _ s.global_reads;
         metas = λ r h. reads_kept _ _ _ (s.metas r h);
-        listed = s.listed;
-        exact = s.exact;
-        shards = AllPairs-map (shard_kept root snap.uuid) (shelf_places s.info.indices) shelved.shards s.shards;
+        listed = listed;
+        exact = exact;
+        shards = shards;
       }
+
+  pub snap_kept : (root : RootData) (snap : RootSnap) (shelved : Shelved) → SnapStands f has root snap shelved → SnapStands f now root snap shelved
+  snap_kept root snap shelved s = snap_in root root snap shelved s s.listed s.exact (AllPairs-map (shard_kept root snap.uuid) (shelf_places s.info.indices) shelved.shards s.shards)
 
   pub index_kept : (root : RootData) (index shard generation : ℕ) → IndexStands f has root index shard generation → IndexStands f now root index shard generation
   index_kept root index shard generation s =
@@ -80,3 +89,20 @@ module _ (f : Formats) (has now : BlobName → Bytes → Type 0) (keeps : (name 
   pub picked_kept : (n : ℕ) (shelf : List Shelved) → Picked f has n shelf → Picked f now n shelf
   picked_kept zero shelf h = h
   picked_kept (suc n) shelf h = stands_kept n shelf h
+
+-- a swap's law and a ticket's
+module _ (f : Formats) (has now : BlobName → Bytes → Type 0) (keeps : (name : BlobName) (bytes : Bytes) → has name bytes → now name bytes) where
+  or_own_kept : (own : List (BlobName × Bytes)) (name : BlobName) (bytes : Bytes) → OrOwn has own name bytes → OrOwn now own name bytes
+  or_own_kept own name bytes (inl h) = inl (keeps name bytes h)
+  or_own_kept own name bytes (inr h) = inr h
+
+  pub swap_kept : (shelf : List Shelved) (names : List BlobName) (s : Swap) → SwapLaw f has shelf names s → SwapLaw f now shelf names s
+  swap_kept shelf names s l =
+      record {
+        staged = root_kept f (OrOwn has s.own) (OrOwn now s.own) (or_own_kept s.own) s.root (shelf_after shelf s.commands) l.staged;
+        noted = λ name bytes own h. keeps name bytes (l.noted name bytes own h);
+        root_noted = λ n h. keeps (Root n) _ (l.root_noted n h);
+      }
+
+  pub ticket_kept : (doomed : List BlobName) (ledger : Ledger) (shelf : List Shelved) (t : Ticket) → TicketLaw f has doomed ledger shelf t → TicketLaw f now doomed ledger shelf t
+  ticket_kept doomed ledger shelf t l = record { term = l.term; raised = l.raised; last = l.last; clean = l.clean; clean_root = l.clean_root; listed = l.listed; shape = l.shape; swaps = λ s i c. swap_kept shelf t.noted s (l.swaps s i c) }

@@ -1,6 +1,6 @@
 -- What a step that has nothing to do with restores leaves of them, of the numbers of ops and tickets, and of who has which.
 use Rattle.std.proofs.Common.{◌≡◌, ◌⊎◌, ℕ, suc, ◌+◌, ◌≤◌, Bool, true, false, Option, Some, None, refl, ap, ◌∙◌, inl, inr, arith, nat_cmp, List}
-use Rattle.std.specs.Prelude.{if◌then◌else◌}
+use Rattle.std.specs.Prelude.{T, if◌then◌else◌}
 use Rattle.std.specs.FinMap.{FinMap}
 use Rattle.std.specs.FinMap as fin
 use Rattle.esr_model.specs.Values.{Bytes, Has, ShardResult, Formats}
@@ -9,10 +9,10 @@ use Rattle.esr_model.specs.Names.{BlobName}
 use Rattle.esr_model.specs.Delete.{kept_count}
 use Rattle.esr_model.specs.Image.{Image}
 use Rattle.esr_core.specs.World.{World, Op, ShardWork, Drop, Swap, Ticket, swap, record_of, Deletion, Deleting}
-use Rattle.esr_core.specs.Steps.{noting, listing, with_ticket, shard_ticket, final_ticket}
-use Rattle.esr_core.specs.Turns.{plain_ticket, cleaning_ticket}
+use Rattle.esr_core.specs.Steps.{noting, listing, with_ticket, shard_ticket, final_ticket, plain_ticket}
+use Rattle.esr_core.specs.Turns.{cleaning_ticket}
 use Rattle.esr_core.specs.Pruning.{planned, dooms}
-use Rattle.esr_core.specs.Entry.{CloneOf, Snapshot, Restore, Given, GivenShard, GivenClone, GivenFinalize, GivenDrop, GivenRestore, Step, AskStep, TakeStep, ListStep, WasListed, DrawStep, BeginStep, CommitStep, LatestStep, FetchStep, RaiseStep, SettleStep, DoneStep, FailedStep, FinishStep, DroppedStep, ElectStep, ReadStep, DepotFault, Reply, Gave, WasDone, WasThere, WasFetched, HasEnded, Refused, Clone, DeleteSnapshots, Cleanup, GivenDelete, GivenCleanup, Prune, FetchShard, PlanShards, SettlePruned, RemoveDoomed, EndDelete, DeleteFails, PruneStep}
+use Rattle.esr_core.specs.Entry.{CloneOf, Snapshot, Restore, Given, GivenShard, GivenClone, GivenFinalize, GivenDrop, GivenRestore, Step, AskStep, TakeStep, ListStep, WasListed, DrawStep, BeginStep, CommitStep, LatestStep, FetchStep, RaiseStep, SettleStep, DoneStep, FailedStep, FinishStep, DroppedStep, ElectStep, ReadStep, DepotFault, Reply, Gave, WasDone, WasThere, WasFetched, HasEnded, Refused, Clone, DeleteSnapshots, Cleanup, GivenDelete, GivenCleanup, Prune, FetchShard, PlanShards, SettlePruned, RemoveDoomed, EndDelete, DeleteFails, PruneStep, is_recorded}
 use Rattle.esr_core.specs.After.{asked, asked_op, cleanup_opened, cloned_op, taken_shard, taken_by, shard_of, with_given, committing, told_blob, fetching, settled_by, settled_of, done_by, done_of, is_stale, failed_by, failed_of, dropped_of, done_step, has_text, fallen, is_latest, tried, faulted, answered, delete_settled_by, delete_settled, delete_failed_by, delete_failed, prune_step}
 use Rattle.esr_core.specs.Deletes.{named_uuids, waiting_delete, running_delete, aborted_ops, delete_merged, delete_by, asked_delete}
 use Rattle.esr_core.proofs.AskedDeletes.{aborts}
@@ -85,7 +85,7 @@ IsOldUnit (GivenRestore index number uuid) = ⊥
 IsOldUnit unit = Unit {0}
 
 abbrev pub IsOld : Step → Reply → Type 0
-IsOld (AskStep (Restore name place)) reply = ⊥
+IsOld (AskStep command) reply = T (is_recorded command)
 IsOld (ReadStep read) reply = ⊥
 IsOld TakeStep (Gave k o unit) = IsOldUnit unit
 IsOld step reply = Unit {0}

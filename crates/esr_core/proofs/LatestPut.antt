@@ -4,16 +4,15 @@ use Rattle.std.specs.FinMap as fin
 use Rattle.std.specs.Cmp.Lexicographic.{nat_list_cmp_total}
 use Rattle.esr_model.specs.Names.{BlobName, Root, Latest}
 use Rattle.esr_model.specs.Values.{Bytes, Formats}
-use Rattle.esr_model.specs.Shelf.{Shelved, shelf_after}
+use Rattle.esr_model.specs.Shelf.{Shelved}
 use Rattle.esr_model.specs.Image.{Blobs, At}
-use Rattle.esr_core.specs.World.{World, Ticket, Swap, HeldIn, Safely, ledger_of}
+use Rattle.esr_core.specs.World.{World, HeldIn, Safely, ledger_of}
 use Rattle.esr_core.specs.Steps.{PutsLatest}
-use Rattle.esr_core.specs.Swaps.{OrOwn, SwapLaw, TicketLaw}
 use Rattle.esr_core.specs.Sound.{Sound}
 use Rattle.esr_core.specs.Ids.{Law}
 use Rattle.esr_core.proofs.Adds.{text_one}
 use Rattle.esr_core.proofs.Maps.{get_was, get_other, texts_same}
-use Rattle.esr_core.proofs.Frames.{root_kept, picked_kept, stands_kept}
+use Rattle.esr_core.proofs.Frames.{picked_kept, stands_kept, ticket_kept}
 use Rattle.esr_core.proofs.Grows.{carried_kept}
 use Rattle.esr_core.proofs.Below.{ids_blobs}
 use Rattle.esr_core.proofs.Reading.{held_one, safely_one}
@@ -38,20 +37,6 @@ module _ (f : Formats) (w : World) (shelf : List Shelved) (l : Law f w shelf) (b
   pub keeps : (m : BlobName) (b : Bytes) → HeldIn f w m b → now m b
   keeps m b h = (at_kept f w.blobs blobs_now p m b h.0, h.1)
 
-  or_own : (own : List (BlobName × Bytes)) (m : BlobName) (b : Bytes) → OrOwn (HeldIn f w) own m b → OrOwn now own m b
-  or_own own m b (inl h) = inl (keeps m b h)
-  or_own own m b (inr h) = inr h
-
-  swap_law : (ns : List BlobName) (s : Swap) → SwapLaw f (HeldIn f w) shelf ns s → SwapLaw f now shelf ns s
-  swap_law ns s h = record {
-    staged = root_kept f (OrOwn (HeldIn f w) s.own) (OrOwn now s.own) (or_own s.own) s.root (shelf_after shelf s.commands) h.staged;
-    noted = λ m b own q. keeps m b (h.noted m b own q);
-    root_noted = λ n q. keeps (Root n) _ (h.root_noted n q);
-  }
-
-  ticket : (u : Ticket) → TicketLaw f (HeldIn f w) w.doomed (ledger_of w) shelf u → TicketLaw f now w.doomed (ledger_of w) shelf u
-  ticket u t = record { term = t.term; raised = t.raised; last = t.last; shape = t.shape; clean = t.clean; clean_root = t.clean_root; listed = t.listed; swaps = λ s i c. swap_law u.noted s (t.swaps s i c) }
-
   -- a blob that is there is the old one, or `index.latest`
   name_was : (text bytes : Bytes) → fin.get blobs_now text ≡ Some bytes → (name : BlobName) × (f.names.text name ≡ text) × (f.names.read (f.names.text name) ≡ Some name)
   name_was text b there = elim p [
@@ -75,7 +60,7 @@ module _ (f : Formats) (w : World) (shelf : List Shelved) (l : Law f w shelf) (b
             named = name_was;
           };
           doomed_begun = s.rooted.doomed_begun;
-          tickets = λ j u e. ticket u (s.rooted.tickets j u e);
+          tickets = λ j u e. ticket_kept f (HeldIn f w) now keeps w.doomed (ledger_of w) shelf u (s.rooted.tickets j u e);
           single = s.rooted.single;
         };
         carried = carried_kept f (HeldIn f w) now (safely_one f blobs_now w.doomed) (held_one f w) keeps w.safe w.term w.root shelf s.rooted.kept.picked w.ops w.tickets s.carried;

@@ -1,5 +1,5 @@
 -- From a sound world each step leads to a sound one.
-use Rattle.std.proofs.Common.{◌≡◌, ℕ, ◌<◌, List, Bool, true, false, true≢false, Option, Some, refl, sym, subst, inl, inr, arith, nat_cmp}
+use Rattle.std.proofs.Common.{◌≡◌, ℕ, ◌<◌, List, ◌∷◌, Bool, true, false, true≢false, Option, Some, refl, sym, subst, inl, inr, arith, nat_cmp}
 use Rattle.std.specs.Cmp.{nat_cmp_total}
 use Rattle.std.specs.FinMap.{FinMap, nat_cmp-IsAntisymmetric}
 use Rattle.std.specs.FinMap as fin
@@ -16,7 +16,7 @@ use Rattle.esr_core.proofs.Reading.{held_one, safely_one, safe_root_stands}
 use Rattle.esr_core.proofs.Tickets.{each_ticket, swapping_was}
 use Rattle.esr_core.proofs.Adds.{safe_kept}
 use Rattle.esr_core.proofs.Grows.{carried_kept}
-use Rattle.esr_core.proofs.Same.{SameTicket, carried_same}
+use Rattle.esr_core.proofs.Same.{SameTicket, notes_same, carried_same}
 use Rattle.esr_core.proofs.Raise.{raise_sound}
 use Rattle.esr_core.proofs.Commit.{commit_done, commit_fault}
 use Rattle.esr_core.proofs.Settle.{settles}
@@ -32,69 +32,19 @@ fresh_same m next k t v there all j u e = elim (get_was nat_cmp_total nat_cmp-Is
 ]
 
 pub noting_same : (t : Ticket) (name : BlobName) → SameTicket t (noting t name)
-noting_same t name =
-    record {
-      work = refl;
-      op = refl;
-      term = refl;
-      out = λ e. e;
-      holds = λ i n e o. o;
-      settled = λ e. e;
-      shard = λ f b r o k i n l. record { op = l.op; op_there = l.op_there; uuid_is = l.uuid_is; source_is = l.source_is; s = l.s; s_there = l.s_there; state = l.state; index_is = l.index_is; shard_is = l.shard_is; base = l.base; ids = l.ids };
-      final = λ f r o i rs m l. record { op = l.op; op_there = l.op_there; done = l.done; info_is = l.info_is; made_is = l.made_is; root_is = l.root_is };
-    }
+noting_same t name = notes_same t t.first t.drawn (name ∷ t.noted) t.wrote t.read t.raised t.tried_latest t.listed t.whole (λ id from below. inl (from, below))
 
 pub writing_same : (t : Ticket) (name : BlobName) (bytes : Bytes) → SameTicket t (writing t name bytes)
-writing_same t name bytes =
-    record {
-      work = refl;
-      op = refl;
-      term = refl;
-      out = λ e. e;
-      holds = λ i n e o. o;
-      settled = λ e. e;
-      shard = λ f b r o k i n l. record { op = l.op; op_there = l.op_there; uuid_is = l.uuid_is; source_is = l.source_is; s = l.s; s_there = l.s_there; state = l.state; index_is = l.index_is; shard_is = l.shard_is; base = l.base; ids = l.ids };
-      final = λ f r o i rs m l. record { op = l.op; op_there = l.op_there; done = l.done; info_is = l.info_is; made_is = l.made_is; root_is = l.root_is };
-    }
+writing_same t name bytes = notes_same t t.first t.drawn (name ∷ t.noted) ((name, bytes) ∷ t.wrote) t.read t.raised t.tried_latest t.listed t.whole (λ id from below. inl (from, below))
 
 pub raised_same : (t : Ticket) (r : Option ℕ) → SameTicket t (record t { raised = r })
-raised_same t r =
-    record {
-      work = refl;
-      op = refl;
-      term = refl;
-      out = λ e. e;
-      holds = λ i n e o. o;
-      settled = λ e. e;
-      shard = λ f b r o k i n l. record { op = l.op; op_there = l.op_there; uuid_is = l.uuid_is; source_is = l.source_is; s = l.s; s_there = l.s_there; state = l.state; index_is = l.index_is; shard_is = l.shard_is; base = l.base; ids = l.ids };
-      final = λ f r o i rs m l. record { op = l.op; op_there = l.op_there; done = l.done; info_is = l.info_is; made_is = l.made_is; root_is = l.root_is };
-    }
+raised_same t r = notes_same t t.first t.drawn t.noted t.wrote t.read r t.tried_latest t.listed t.whole (λ id from below. inl (from, below))
 
 pub tried_same : (t : Ticket) → SameTicket t (record t { tried_latest = true })
-tried_same t =
-    record {
-      work = refl;
-      op = refl;
-      term = refl;
-      out = λ e. e;
-      holds = λ i n e o. o;
-      settled = λ e. e;
-      shard = λ f b r o k i n l. record { op = l.op; op_there = l.op_there; uuid_is = l.uuid_is; source_is = l.source_is; s = l.s; s_there = l.s_there; state = l.state; index_is = l.index_is; shard_is = l.shard_is; base = l.base; ids = l.ids };
-      final = λ f r o i rs m l. record { op = l.op; op_there = l.op_there; done = l.done; info_is = l.info_is; made_is = l.made_is; root_is = l.root_is };
-    }
+tried_same t = notes_same t t.first t.drawn t.noted t.wrote t.read t.raised true t.listed t.whole (λ id from below. inl (from, below))
 
 pub reading_same : (t : Ticket) (name : BlobName) (bytes : Bytes) → SameTicket t (reading t name bytes)
-reading_same t name bytes =
-    record {
-      work = refl;
-      op = refl;
-      term = refl;
-      out = λ e. e;
-      holds = λ i n e o. o;
-      settled = λ e. e;
-      shard = λ f b r o k i n l. record { op = l.op; op_there = l.op_there; uuid_is = l.uuid_is; source_is = l.source_is; s = l.s; s_there = l.s_there; state = l.state; index_is = l.index_is; shard_is = l.shard_is; base = l.base; ids = l.ids };
-      final = λ f r o i rs m l. record { op = l.op; op_there = l.op_there; done = l.done; info_is = l.info_is; made_is = l.made_is; root_is = l.root_is };
-    }
+reading_same t name bytes = notes_same t t.first t.drawn t.noted t.wrote ((name, bytes) ∷ t.read) t.raised t.tried_latest t.listed t.whole (λ id from below. inl (from, below))
 
 -- a ticket that ends, of no shard
 pub ended_same : (t : Ticket) → (IsShard t.work → ⊥) → SameTicket t (record t { out = false })

@@ -12,6 +12,7 @@ use Rattle.esr_core.specs.Turns.{Dropped, CleanDropped}
 use Rattle.esr_core.specs.Generations.{DoneAt, IsLive, Carries, Base, Carried}
 use Rattle.esr_core.specs.Queue.{Lawful}
 use Rattle.esr_core.proofs.Law.{quiet, ended_same}
+use Rattle.esr_core.proofs.Ops.{shard_law_on}
 use Rattle.esr_core.proofs.Owning.{OnWith, own_on, plan_on}
 use Rattle.esr_core.proofs.Queues.{Ops, was_in, left_in, stays_in, Like, queue_ticket, queue_remove, unit_back}
 
@@ -40,19 +41,9 @@ module _ (f : Formats) (has : BlobName → Bytes → Type 0) (root : RootData) (
         ops = λ p op e. c.ops p op (left_in ops o p op e).1;
         together = λ p q a b apart e h. c.together p q a b apart (left_in ops o p a e).1 (left_in ops o q b h).1;
         carries = λ i n g live. carries_now i n g (c.carries i n g (live_was i n g live));
-        shards = λ j u e out i n is. let l = c.shards j u e out i n is in record {
-          op = l.op;
-          op_there = stays_in ops o u.op (λ same. idle j (record { t = u; there = e; out = out; op_is = same; counts = inl (subst IsShard (sym is) tt) })) ∙ l.op_there;
-          uuid_is = l.uuid_is;
-          source_is = l.source_is;
-          s = l.s;
-          s_there = l.s_there;
-          state = l.state;
-          index_is = l.index_is;
-          shard_is = l.shard_is;
-          base = base_now i n u.base l.base;
-          ids = l.ids;
-        };
+        shards = λ j u e out i n is. let l = c.shards j u e out i n is in
+            shard_law_on f has root ops (fin.remove ops o) j u i n l (stays_in ops o u.op (λ same. idle j (record { t = u; there = e; out = out; op_is = same; counts = inl (subst IsShard (sym is) tt) })) ∙ l.op_there)
+            (base_now i n u.base l.base);
         one_shard = c.one_shard;
         plans = λ j u e out uns pres uuids s is. plan_on ops (fin.remove ops o) on_with f root s (c.plans j u e out uns pres uuids s is);
         finals = λ j u e out uns pres info results made is. let l = c.finals j u e out uns pres info results made is in record {
@@ -99,35 +90,25 @@ ended_lawful f w shelf l k t out not =
       queue = queue_ticket w.term w.tickets k t (record t { out = false }) out.there (like_ended t) w.root w.ops w.deletes w.completed w.next_op (λ e. absurd (true≢false (sym e))) l.queue;
     }
 
-pub dropped_lawful : (f : Formats) (w : World) (shelf : List Shelved) → Lawful f w shelf → (k : ℕ) (new : World) → Dropped w k new → Lawful f new shelf
-dropped_lawful f w shelf l k new d =
-    subst (λ x. Lawful f x shelf) (sym d.new_is)
-    (leaves_lawful f (with_ticket w k v) shelf (ended_lawful f w shelf l k d.t d.out (λ s. subst IsShard d.work s)) d.t.op idle)
+-- a ticket of no shard ends, and its op leaves, of which no other unit is out
+left_lawful : (f : Formats) (w : World) (shelf : List Shelved) → Lawful f w shelf → (k : ℕ) (t : Ticket) → IsOut w k t → (IsShard t.work → ⊥) → ((j : ℕ) → UnitIsOut w.tickets w.term t.op j → j ≡ k)
+    → Lawful f (record (with_ticket w k (record t { out = false })) { ops = fin.remove w.ops t.op; deletes = fin.remove w.deletes t.op }) shelf
+left_lawful f w shelf l k t out not alone = leaves_lawful f (with_ticket w k v) shelf (ended_lawful f w shelf l k t out not) t.op idle
   where
     v : Ticket
-    v = record d.t { out = false }
+    v = record t { out = false }
 
-    idle : (j : ℕ) → UnitIsOut (fin.insert w.tickets k v) w.term d.t.op j → ⊥
-    idle j h =
-        let one : j ≡ k = (l.queue.drops k d.t d.out.there d.out.out d.present d.work).alone j (unit_back w.term w.tickets k d.t v d.out.there (like_ended d.t) d.t.op j h) in
-        elim (was_in w.tickets k v j h.t h.there) [
-          | inl e ↦ true≢false (sym h.out ∙ ap (λ (x : Ticket). x.out) (sym e.1))
-          | inr e ↦ e.0 one
-        ]
+    idle : (j : ℕ) → UnitIsOut (fin.insert w.tickets k v) w.term t.op j → ⊥
+    idle j h = elim (was_in w.tickets k v j h.t h.there) [
+      | inl e ↦ true≢false (sym h.out ∙ ap (λ (x : Ticket). x.out) (sym e.1))
+      | inr e ↦ e.0 (alone j (unit_back w.term w.tickets k t v out.there (like_ended t) t.op j h))
+    ]
+
+pub dropped_lawful : (f : Formats) (w : World) (shelf : List Shelved) → Lawful f w shelf → (k : ℕ) (new : World) → Dropped w k new → Lawful f new shelf
+dropped_lawful f w shelf l k new d =
+    subst (λ x. Lawful f x shelf) (sym d.new_is) (left_lawful f w shelf l k d.t d.out (λ s. subst IsShard d.work s) (l.queue.drops k d.t d.out.there d.out.out d.present d.work).alone)
 
 pub clean_dropped_lawful : (f : Formats) (w : World) (shelf : List Shelved) → Lawful f w shelf → (k : ℕ) (new : World) → CleanDropped w k new → Lawful f new shelf
 clean_dropped_lawful f w shelf l k new d =
-    subst (λ x. Lawful f x shelf) (sym d.new_is)
-    (leaves_lawful f (with_ticket w k v) shelf (ended_lawful f w shelf l k d.t d.out (λ s. subst IsShard d.work s)) d.t.op idle)
-  where
-    v : Ticket
-    v = record d.t { out = false }
-
-    idle : (j : ℕ) → UnitIsOut (fin.insert w.tickets k v) w.term d.t.op j → ⊥
-    idle j h =
-        let was = unit_back w.term w.tickets k d.t v d.out.there (like_ended d.t) d.t.op j h in
-        let one : j ≡ k = l.queue.sole k d.t d.out.there d.out.out (subst IsMaster (sym d.work) tt) d.present d.x d.there d.cleans j was.t was.there was.out in
-        elim (was_in w.tickets k v j h.t h.there) [
-          | inl e ↦ true≢false (sym h.out ∙ ap (λ (x : Ticket). x.out) (sym e.1))
-          | inr e ↦ e.0 one
-        ]
+    subst (λ x. Lawful f x shelf) (sym d.new_is) (left_lawful f w shelf l k d.t d.out (λ s. subst IsShard d.work s)
+    (λ j h. l.queue.sole k d.t d.out.there d.out.out (subst IsMaster (sym d.work) tt) d.present d.x d.there d.cleans j h.t h.there h.out))

@@ -75,7 +75,7 @@ pub mod Cleaning
 pub mod PruneTurns
 pub mod DoomsAll
 pub mod PruneFrames
-pub mod NoClones
+pub mod OpSources
 pub mod Moments
 pub mod Histories
 pub mod TidyTurns
@@ -104,6 +104,7 @@ pub mod OnShelf
 pub mod AskedShelf
 pub mod ReadEnding
 pub mod Refusing
+pub mod AskedNumbers
 pub mod Causes
 pub mod Changes
 pub mod Makers

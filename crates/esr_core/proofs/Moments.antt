@@ -14,7 +14,7 @@ use Rattle.esr_model.specs.Image.{Blobs, Image, At, Present}
 use Rattle.esr_core.specs.World.{World, Op, Work, Shard, Finalize, Deleting, Drop, Ticket, ReadState, Restored, NotRestored, Restoring, Reader, Swap}
 use Rattle.esr_core.specs.Ready.{IsShard, IsMaster}
 use Rattle.esr_core.specs.Restores.{IsReading, ListsPiece, waits, restore_opened, shard_ended}
-use Rattle.esr_core.specs.Steps.{IsOut, PutsLatest, Raise, with_ticket, noting, listing, settled, Removes, MaySettle}
+use Rattle.esr_core.specs.Steps.{IsOut, PutsLatest, Raise, with_ticket, noting, listing, settled, Removes, MaySettle, plain_ticket}
 use Rattle.esr_core.specs.Pruning.{dooms}
 use Rattle.esr_core.specs.Ids.{Law}
 use Rattle.esr_core.specs.Queue.{Lists}
@@ -24,7 +24,7 @@ use Rattle.esr_core.specs.After.{asked, asked_op, cleanup_opened, cloned_op, clo
 use Rattle.esr_core.specs.Allowed as allowed
 use Rattle.esr_core.specs.Allowed.{PruneAllows, latest_text, Told, SameBlobs, Adds, Accepts, Gives, GivesShard, GivesFinalize, Draws, Commits, Refinds, Puts, Raises, Settles, Fails, Finishes, Drops, Dones, Allows, MayRead, Fetcher, ByReader, ByCheck, MayDelete, DeleteAllows, GoingInto, NotNamed, CloneStands, RestoreStands, FullOfOps, DeleteFault, AcceptsCleanup, CleanupAllows, OpeningCleanup, OpStands, TicketStands, CleanupFault, ListsPage, RestoreAllows, OpeningRestore, NotListed, NamedByDelete, FullOfRestores, AcceptsClone, CloneAllows, OpeningClone, CloneUsed, SourceNotListed, SourceDeleted, IndexMissing, FullOfClones, CloneSpent, CloneFault, ReadAllows, ReadFound, ReadMissing, ReadFault, RestoringShard, ReaderFailing, CheckingAll, CheckFailing, ByVerify, IsOwnTest, MayRemoveTests, VerifyAllows, DrawingTest, TestSpent, BeginningTest, BeginTestFails, CommittingTest, TestTaken, CommitTestFails, RemovingTests, RemoveTestsFails, VerifyingAll, VerifyFailing}
 use Rattle.esr_core.specs.History.{counts, is_settle, command_of, command_by, commands_at}
-use Rattle.esr_core.specs.Turns.{AskCreate, AsksCreate, AskCleanup, AsksCleanup, TakesCleanup, CleanDrops, Pages, plain_ticket, cleaning_ticket, SettleFinal, Failed, Dropped, Turn, Stays, Latests, Fetches, Raises as RaisesTurn, Finds, SettlesFinal, Elects, TakesShard, TakesFinal, TakesDrop, DrawsShard, Ending, Fails as FailsTurn, Drops as DropsTurn, Deposes, commands_of, Besides, OpensRestore, HandsShard, ReadsMore, EndsShard, Calls, Tests, DrawsTest, AddsTest, RemovesTests, TakesDelete}
+use Rattle.esr_core.specs.Turns.{AskCreate, AsksCreate, AskCleanup, AsksCleanup, TakesCleanup, CleanDrops, Pages, cleaning_ticket, SettleFinal, Failed, Dropped, Turn, Stays, Latests, Fetches, Raises as RaisesTurn, Finds, SettlesFinal, Elects, TakesShard, TakesFinal, TakesDrop, DrawsShard, Ending, Fails as FailsTurn, Drops as DropsTurn, Deposes, commands_of, Besides, OpensRestore, HandsShard, ReadsMore, EndsShard, Calls, Tests, DrawsTest, AddsTest, RemovesTests, TakesDelete}
 use Rattle.esr_core.specs.Turns as turns
 use Rattle.esr_core.specs.Entry as entry
 use Rattle.esr_core.specs.Deletes.{delete_number, asked_delete}

@@ -5,7 +5,7 @@ use Rattle.esr_model.specs.Names.{BlobName, Root, Latest, Snap, Meta, IndexMeta,
 use Rattle.esr_model.specs.Values.{Bytes, Ledger, ReadsBack, Formats}
 use Rattle.esr_model.specs.Shelf.{Shelved}
 use Rattle.esr_model.specs.Kept.{IdsBelow}
-use Rattle.esr_model.specs.Cleanup.{BlobSize, and_name, names_listed}
+use Rattle.esr_model.specs.Cleanup.{BlobSize, and_name, names_listed, is_short}
 use Rattle.esr_model.specs.Image.{Blobs, Has, Present, KeptBy}
 use Rattle.esr_core.specs.World.{World, Ticket, HeldIn, ledger_of}
 use Rattle.esr_core.specs.Steps.{ListMore, listing}
@@ -13,7 +13,7 @@ use Rattle.esr_core.specs.Swaps.{TicketLaw}
 use Rattle.esr_core.specs.Sound.{Sound}
 use Rattle.esr_core.specs.Ids.{Law, TicketIds}
 use Rattle.esr_core.proofs.Reading.{some_same, Has-either}
-use Rattle.esr_core.proofs.Same.{SameTicket}
+use Rattle.esr_core.proofs.Same.{SameTicket, notes_same}
 use Rattle.esr_core.proofs.Law.{quiet}
 
 -- ---- the names of what was listed
@@ -89,17 +89,7 @@ listed_present f has blobs ledger shelf kept page there name m = elim (latest_or
 -- ---- a page more
 
 listing_same : (t : Ticket) (page : List BlobSize) → SameTicket t (listing t page)
-listing_same t page =
-    record {
-      work = refl;
-      op = refl;
-      term = refl;
-      out = λ e. e;
-      holds = λ i n e o. o;
-      settled = λ e. e;
-      shard = λ f b r o k i n l. record { op = l.op; op_there = l.op_there; uuid_is = l.uuid_is; source_is = l.source_is; s = l.s; s_there = l.s_there; state = l.state; index_is = l.index_is; shard_is = l.shard_is; base = l.base; ids = l.ids };
-      final = λ f r o i rs m l. record { op = l.op; op_there = l.op_there; done = l.done; info_is = l.info_is; made_is = l.made_is; root_is = l.root_is };
-    }
+listing_same t page = notes_same t t.first t.drawn t.noted t.wrote t.read t.raised t.tried_latest (t.listed ++ page) (is_short page) (λ id from below. inl (from, below))
 
 pub page_sound : (f : Formats) (w : World) (shelf : List Shelved) → Sound f w shelf → (k : ℕ) (page : List BlobSize) (new : World) → ListMore w k page new → Sound f new shelf
 page_sound f w shelf l k page new h = subst (λ x. Sound f x shelf) (sym h.new_is)

@@ -1,19 +1,19 @@
 -- What a step of a delete's ticket leaves, whoever makes it: all but that ticket, the safe root, the deletes and what is doomed.
-use Rattle.std.proofs.Common.{◌≡◌, ◌⊎◌, ℕ, ◌+◌, ◌≤◌, List, ◌∷◌, Bool, true, false, true≢false, cond, Option, Some, None, refl, sym, ap, ◌∙◌, inl, inr, arith, nat_cmp}
+use Rattle.std.proofs.Common.{◌≡◌, ◌⊎◌, ℕ, suc, ◌+◌, ◌≤◌, List, ◌∷◌, ◌++◌, Bool, true, false, true≢false, cond, Option, Some, None, refl, sym, ap, ◌∙◌, inl, inr, arith, nat_cmp}
 use Rattle.std.specs.Prelude.{if◌then◌else◌}
 use Rattle.std.specs.Ordering.{eq_by_cmp}
 use Rattle.std.specs.Cmp.{nat_cmp_total}
 use Rattle.std.specs.FinMap.{FinMap, nat_cmp-IsAntisymmetric}
 use Rattle.std.specs.FinMap as fin
 use Rattle.esr_model.specs.Names.{BlobName}
-use Rattle.esr_model.specs.Values.{Bytes, Formats}
+use Rattle.esr_model.specs.Values.{Bytes, RootData, Formats}
 use Rattle.esr_model.specs.Image.{Image}
 use Rattle.esr_model.specs.Delete.{PrunedShard, kept_count}
-use Rattle.esr_core.specs.World.{World, Deletion, Work, Shard, Finalize, Deleting, Drop, Ticket, Swap, swap, record_of}
+use Rattle.esr_core.specs.World.{World, Op, Deletion, Work, Shard, Finalize, Deleting, Drop, Ticket, Swap, swap, record_of}
 use Rattle.esr_core.specs.Steps.{with_ticket}
-use Rattle.esr_core.specs.Pruning.{planned_work, planned}
+use Rattle.esr_core.specs.Pruning.{planned_work, planned, dooms}
 use Rattle.esr_core.specs.Entry.{Prune, FetchShard, PlanShards, SettlePruned, RemoveDoomed, EndDelete, DeleteFails, PruneStep, Reply, WasFetched}
-use Rattle.esr_core.specs.After.{with_given, fetching, told_blob, is_stale, delete_settled_by, delete_settled, delete_failed_by, delete_failed, prune_step, has_text, fallen, faulted}
+use Rattle.esr_core.specs.After.{with_given, fetching, told_blob, is_stale, deletes_left, delete_settled_by, delete_settled, delete_failed_by, delete_failed, prune_step, has_text, fallen, faulted}
 use Rattle.esr_core.specs.Allowed.{IsDeleting, PruneAllows, FetchingShard, ShardMissing, FetchShardFails, Planning, PlanSpent, SettlingDelete, SettleDeleteStale, SettleDeleteFails, RemovingDoomed, RemoveDoomedFails, EndingDelete, FailingDelete}
 use Rattle.esr_core.proofs.Reading.{none_some}
 
@@ -62,6 +62,12 @@ none_left m k e = fin.same_map nat_cmp_total nat_cmp-IsAntisymmetric (fin.remove
 -- and it has nothing
 none_there : {X : Type 0} (m : FinMap nat_cmp X) (k : ℕ) (x : X) → m ≡ fin.empty → fin.get m k ≡ Some x → ⊥
 none_there m k x e there = none_some x (sym (ap (λ n. fin.get n k) e ∙ fin.get-empty nat_cmp k) ∙ there)
+
+-- the safe root, the ops, the deletes, what is doomed and one ticket may change
+stays_with : (w : World) (k safe : ℕ) (root : RootData) (ops : FinMap nat_cmp Op) (deletes : FinMap nat_cmp Deletion) (doomed : List BlobName) (tickets : FinMap nat_cmp Ticket) → (w.deletes ≡ fin.empty → deletes ≡ fin.empty) → SameTickets w.tickets tickets k
+    → PruneStays w (record w { safe = safe; root = root; ops = ops; deletes = deletes; doomed = doomed; tickets = tickets }) k
+stays_with w k safe root ops deletes doomed tickets left given =
+    record { pending = refl; term = refl; completed = refl; next_op = refl; next_ticket = refl; next_id = omega arith; restores = refl; readers = refl; caller = refl; deletes = left; tickets = given }
 
 stays_same : (w : World) (k : ℕ) → PruneStays w w k
 stays_same w k = record { pending = refl; term = refl; completed = refl; next_op = refl; next_ticket = refl; next_id = omega arith; restores = refl; readers = refl; caller = refl; deletes = λ e. e; tickets = inl refl }
@@ -122,19 +128,8 @@ keeps_id w k g (Some t) h = h
 
 stays_settled_by : (f : Formats) (w : World) (k : ℕ) (t : Ticket) (s : Option Swap) (n : Option ℕ) → fin.get w.tickets k ≡ Some t → PruneStays w (delete_settled_by f w k t s n) k
 stays_settled_by f w k t (Some s) (Some n) there =
-    record {
-      pending = refl;
-      term = refl;
-      completed = refl;
-      next_op = refl;
-      next_ticket = refl;
-      next_id = omega arith;
-      restores = refl;
-      readers = refl;
-      caller = refl;
-      deletes = left_none t.clean;
-      tickets = inr (anew w.tickets k t t.read true t.out there (λ e. e) (λ e. absurd (true≢false e)));
-    }
+    stays_with w k (suc n) s.root (fin.remove w.ops t.op) (deletes_left w t) (dooms f t ++ w.doomed) (fin.insert w.tickets k (record t { settled = true })) (left_none t.clean)
+    (inr (anew w.tickets k t t.read true t.out there (λ e. e) (λ e. absurd (true≢false e))))
   where
     left_none : (b : Bool) → w.deletes ≡ fin.empty → cond b w.deletes (fin.remove w.deletes t.op) ≡ fin.empty
     left_none true e = e
@@ -157,19 +152,7 @@ stays_ended w k t there =
 stays_failed_by : (w : World) (k : ℕ) (t : Ticket) (x : Option Deletion) → fin.get w.tickets k ≡ Some t → fin.get w.deletes t.op ≡ x → PruneStays w (delete_failed_by w k t x) k
 stays_failed_by w k t None there is = stays_same w k
 stays_failed_by w k t (Some x) there is =
-    record {
-      pending = refl;
-      term = refl;
-      completed = refl;
-      next_op = refl;
-      next_ticket = refl;
-      next_id = omega arith;
-      restores = refl;
-      readers = refl;
-      caller = refl;
-      deletes = λ e. absurd (none_there w.deletes t.op x e is);
-      tickets = inr (ended w.tickets k t there);
-    }
+    stays_with w k w.safe w.root w.ops (fin.insert w.deletes t.op (record x { failed = true })) w.doomed (fin.insert w.tickets k (record t { out = false })) (λ e. absurd (none_there w.deletes t.op x e is)) (inr (ended w.tickets k t there))
 
 stays_failed : (w : World) (k : ℕ) (o : Option Ticket) → fin.get w.tickets k ≡ o → PruneStays w (delete_failed w k o) k
 stays_failed w k None there = stays_same w k

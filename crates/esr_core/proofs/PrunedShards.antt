@@ -29,30 +29,27 @@ module _ (f : Formats) (read : List (BlobName × Bytes)) (clean : Bool) (uuids l
     pub reads : files_read f read (bare_shard index (number + place) q.base) ≡ Some was
     pub pruned : IsPrunedAs clean uuids listed leaves was q.kept
 
-  by_one : (leaves : Bool) (index number base : ℕ) (gs : List (Option ℕ)) (o : Option ShardFiles) (rest : List PrunedShard) (q : PrunedShard) → files_read f read (bare_shard index (number + 0) base) ≡ o
-      → Has (pruned_by clean uuids listed leaves index number base o rest) q → IsOfIndex leaves index number (Some base ∷ gs) q ⊎ Has rest q
-  by_one leaves index number base gs None rest q e m = inr m
-  by_one true index number base gs (Some was) rest q e (inl same) = inl (record {
+  -- the first of them, where it is pruned
+  at_first : (leaves : Bool) (index number base : ℕ) (gs : List (Option ℕ)) (was : ShardFiles) (kept : Bool) (q : PrunedShard) → files_read f read (bare_shard index (number + 0) base) ≡ Some was
+      → ◌≡◌ {A = PrunedShard} (record { index = index; number = number; base = base; kept = kept }) q → IsPrunedAs clean uuids listed leaves was kept → IsOfIndex leaves index number (Some base ∷ gs) q
+  at_first leaves index number base gs was kept q e same pruned = record {
     place = 0;
     index_is = sym (ap (λ (p : PrunedShard). p.index) same);
     number_is = sym (ap (λ (p : PrunedShard). p.number) same) ∙ omega arith;
     at = ap (λ (p : PrunedShard). Some p.base) same;
     was = was;
     reads = ap (λ (b : ℕ). files_read f read (bare_shard index (number + 0) b)) (sym (ap (λ (p : PrunedShard). p.base) same)) ∙ e;
-    pruned = inl (refl, sym (ap (λ (p : PrunedShard). p.kept) same));
-  })
+    pruned = subst (IsPrunedAs clean uuids listed leaves was) (ap (λ (p : PrunedShard). p.kept) same) pruned;
+  }
+
+  by_one : (leaves : Bool) (index number base : ℕ) (gs : List (Option ℕ)) (o : Option ShardFiles) (rest : List PrunedShard) (q : PrunedShard) → files_read f read (bare_shard index (number + 0) base) ≡ o
+      → Has (pruned_by clean uuids listed leaves index number base o rest) q → IsOfIndex leaves index number (Some base ∷ gs) q ⊎ Has rest q
+  by_one leaves index number base gs None rest q e m = inr m
+  by_one true index number base gs (Some was) rest q e (inl same) = inl (at_first true index number base gs was false q e same (inl (refl, refl)))
   by_one true index number base gs (Some was) rest q e (inr m) = inr m
   by_one false index number base gs (Some was) rest q e m = elim (bool_told (list_any (is_victim clean uuids listed) was.snapshots)) [
     | inl victim ↦ elim (subst (λ (l : List PrunedShard). Has l q) (choose_true _ _ _ victim) m) [
-      | inl same ↦ inl (record {
-        place = 0;
-        index_is = sym (ap (λ (p : PrunedShard). p.index) same);
-        number_is = sym (ap (λ (p : PrunedShard). p.number) same) ∙ omega arith;
-        at = ap (λ (p : PrunedShard). Some p.base) same;
-        was = was;
-        reads = ap (λ (b : ℕ). files_read f read (bare_shard index (number + 0) b)) (sym (ap (λ (p : PrunedShard). p.base) same)) ∙ e;
-        pruned = inr (refl, victim, sym (ap (λ (p : PrunedShard). p.kept) same));
-      })
+      | inl same ↦ inl (at_first false index number base gs was (list_any (is_left (left_uuids uuids listed)) was.snapshots) q e same (inr (refl, victim, refl)))
       | inr later ↦ inr later
     ]
     | inr none ↦ inr (subst (λ (l : List PrunedShard). Has l q) (choose_false _ _ _ none) m)

@@ -7,7 +7,7 @@ use Rattle.esr_model.specs.Values.{RootData, ShardResult}
 use Rattle.esr_model.specs.Image.{Has}
 use Rattle.esr_core.specs.World.{Op, Deletion, ShardWork, Pending, Out, GivenUp, Deleting, Drop, Ticket, Swap, AllDone}
 use Rattle.esr_core.specs.Ready.{Stopped, Idle, IsMaster, IsShard, SwapIsOut, UnitIsOut}
-use Rattle.esr_core.specs.Queue.{DeleteLaw, Queue, Lists}
+use Rattle.esr_core.specs.Queue.{DeleteLaw, DropLaw, Sole, Queue, Lists}
 use Rattle.esr_model.specs.Shelf.{names_uuid}
 use Rattle.esr_core.proofs.Maps.{get_was, get_same, get_other, get_left, get_stays, split}
 
@@ -43,6 +43,35 @@ same_some x y e = cc
 
 pub none_is : {A : Type 0} (x : A) → Some x ≡ None → ⊥
 none_is x e = cc
+
+-- the parts of the queue's law that read its root or its tickets
+record QueueTickets (term : ℕ) (root : RootData) (ops : Ops) (deletes : Deletes) (tickets : Tickets) : Type 0 where
+  sources : (o : ℕ) (op : Op) (u : ℕ) → fin.get ops o ≡ Some op → op.source ≡ Some u → Lists root u × ((d : ℕ) (x : Deletion) → fin.get deletes d ≡ Some x → names_uuid x.uuids u ≡ false)
+  sole : Sole term deletes tickets
+  deleting : (k : ℕ) (t : Ticket) → fin.get tickets k ≡ Some t → t.out ≡ true → t.settled ≡ false → t.term ≡ term → (uuids : List ℕ) (plan : Option Swap) → t.work ≡ Deleting uuids plan → DeleteLaw root ops deletes t plan
+  drops : (k : ℕ) (t : Ticket) → fin.get tickets k ≡ Some t → t.out ≡ true → t.term ≡ term → t.work ≡ Drop → DropLaw term ops deletes tickets k t
+  one_swap : (j k : ℕ) → SwapIsOut tickets term j → SwapIsOut tickets term k → j ≡ k
+
+with_tickets : (term now : ℕ) (root new : RootData) (ops : Ops) (deletes : Deletes) (completed : List ℕ) (next_op : ℕ) (tickets after : Tickets)
+    → Queue term root ops deletes completed next_op tickets → QueueTickets now new ops deletes after → Queue now new ops deletes completed next_op after
+with_tickets term now root new ops deletes completed next_op tickets after q parts =
+    record {
+      numbers = q.numbers;
+      delete_numbers = q.delete_numbers;
+      apart = q.apart;
+      behind = q.behind;
+      queued = q.queued;
+      given_up = q.given_up;
+      completes = q.completes;
+      completed_numbers = q.completed_numbers;
+      completed_done = q.completed_done;
+      lone = q.lone;
+      sources = parts.sources;
+      sole = parts.sole;
+      deleting = parts.deleting;
+      drops = parts.drops;
+      one_swap = parts.one_swap;
+    }
 
 -- a ticket given anew, that is a unit or a swap only if it was
 pub record Like (t v : Ticket) : Type 0 where
@@ -97,17 +126,7 @@ module _ (term : ℕ) (tickets : Tickets) (k : ℕ) (t v : Ticket) (there : fin.
       → (v.out ≡ true → v.settled ≡ false → v.term ≡ term → (uuids : List ℕ) (plan : Option Swap) → v.work ≡ Deleting uuids plan → DeleteLaw root ops deletes v plan)
       → Queue term root ops deletes completed next_op tickets → Queue term root ops deletes completed next_op (fin.insert tickets k v)
   queue_ticket root ops deletes completed next_op del q =
-      record {
-        numbers = q.numbers;
-        delete_numbers = q.delete_numbers;
-        apart = q.apart;
-        behind = q.behind;
-        queued = q.queued;
-        given_up = q.given_up;
-        completes = q.completes;
-        completed_numbers = q.completed_numbers;
-        completed_done = q.completed_done;
-        lone = q.lone;
+      with_tickets term term root root ops deletes completed next_op tickets (fin.insert tickets k v) q (record {
         sources = q.sources;
         sole = λ j u e out m pres x there clean i y h yo.
             let (a, a_out) = old_of i y h yo in
@@ -128,7 +147,7 @@ module _ (term : ℕ) (tickets : Tickets) (k : ℕ) (t v : Ticket) (there : fin.
           | inr h ↦ let l = q.drops j u h.1 out pres is in record { stopped = l.stopped; alone = λ i a. l.alone i (unit_back u.op i a) }
         ];
         one_swap = λ i j a b. q.one_swap i j (swap_back i a) (swap_back j b);
-      }
+      })
 
 -- a ticket of another number
 module _ (term : ℕ) (tickets : Tickets) (k : ℕ) (v : Ticket) where
@@ -141,17 +160,7 @@ module _ (term : ℕ) (tickets : Tickets) (k : ℕ) (v : Ticket) where
       → ((j : ℕ) (u : Ticket) → fin.get tickets j ≡ Some u → u.out ≡ true → IsMaster u.work → u.term ≡ term → (x : Deletion) → fin.get deletes u.op ≡ Some x → x.clean ≡ true → ⊥)
       → Queue term root ops deletes completed next_op tickets → Queue term root ops deletes completed next_op (fin.insert tickets k v)
   queue_new root ops deletes completed next_op del drop idle aside free no_clean q =
-      record {
-        numbers = q.numbers;
-        delete_numbers = q.delete_numbers;
-        apart = q.apart;
-        behind = q.behind;
-        queued = q.queued;
-        given_up = q.given_up;
-        completes = q.completes;
-        completed_numbers = q.completed_numbers;
-        completed_done = q.completed_done;
-        lone = q.lone;
+      with_tickets term term root root ops deletes completed next_op tickets (fin.insert tickets k v) q (record {
         sources = q.sources;
         sole = λ j u e out m pres x there clean i y h yo. elim (was_in tickets k v j u e) [
           | inl z ↦ elim (was_in tickets k v i y h) [
@@ -198,7 +207,7 @@ module _ (term : ℕ) (tickets : Tickets) (k : ℕ) (v : Ticket) where
             | inr y ↦ q.one_swap i j (record { t = a.t; there = x.1; out = a.out; unsettled = a.unsettled; present = a.present; swaps = a.swaps }) (record { t = b.t; there = y.1; out = b.out; unsettled = b.unsettled; present = b.present; swaps = b.swaps })
           ]
         ];
-      }
+      })
 
 -- what becomes of an op: its shards one by one
 pub record Evolves (old op : Op) : Type 0 where
@@ -206,6 +215,12 @@ pub record Evolves (old op : Op) : Type 0 where
   pub failed : old.failed ≡ true → op.failed ≡ true
   pub stopped : Stopped old → Stopped op
   pub source : op.source ≡ old.source
+
+-- a delete's law, where its entry stays and no op comes before it
+delete_law : (root : RootData) (ops now_ops : Ops) (deletes now_deletes : Deletes) (t : Ticket) (plan : Option Swap) (l : DeleteLaw root ops deletes t plan) → fin.get now_deletes t.op ≡ Some l.deletion
+    → ((p : ℕ) (op : Op) → p < t.op → fin.get now_ops p ≡ Some op → ⊥) → DeleteLaw root now_ops now_deletes t plan
+delete_law root ops now_ops deletes now_deletes t plan l there first =
+    record { deletion = l.deletion; there = there; unfailed = l.unfailed; first = first; root_is = l.root_is; planned = l.planned; named = l.named; keeps = l.keeps }
 
 module _ (term : ℕ) (root : RootData) (ops : Ops) (deletes : Deletes) (completed : List ℕ) (next_op : ℕ) (tickets : Tickets) (q : Queue term root ops deletes completed next_op tickets) where
   -- ops that go on one by one
@@ -232,16 +247,9 @@ module _ (term : ℕ) (root : RootData) (ops : Ops) (deletes : Deletes) (complet
         lone = λ d x e c. let was = q.lone d x e c in ((λ o op h. let (old, there, ev) = back o op h in was.0 o old there), was.1);
         sources = λ o op u e is. let (old, there, ev) = back o op e in q.sources o old u there (sym ev.source ∙ is);
         sole = q.sole;
-        deleting = λ k t e out uns pres uuids plan is. let l = q.deleting k t e out uns pres uuids plan is in record {
-          deletion = l.deletion;
-          there = l.there;
-          unfailed = l.unfailed;
-          first = λ p a lt h. let (old, there, ev) = back p a h in l.first p old lt there;
-          root_is = l.root_is;
-          planned = l.planned;
-          named = l.named;
-          keeps = l.keeps;
-        };
+        deleting = λ k t e out uns pres uuids plan is.
+            let l = q.deleting k t e out uns pres uuids plan is in
+            delete_law root ops now deletes deletes t plan l l.there (λ p a lt h. let (old, there, ev) = back p a h in l.first p old lt there);
         drops = λ k t e out pres is. let l = q.drops k t e out pres is in record {
           stopped = elim l.stopped [ inl h ↦ let (old, there, st) = h in let (op, now_there, ev) = forth t.op old there in inl (op, now_there, ev.stopped st) | inr h ↦ inr h ];
           alone = l.alone;
@@ -282,16 +290,8 @@ module _ (term : ℕ) (root : RootData) (ops : Ops) (deletes : Deletes) (complet
         deleting = λ k t e out uns pres uuids plan is.
             let l = q.deleting k t e out uns pres uuids plan is in
             let apart : t.op ≢ o = swaps k (record { t = t; there = e; out = out; unsettled = uns; present = pres; swaps = subst IsMaster (sym is) tt }) t e in
-            record {
-              deletion = l.deletion;
-              there = stays_in deletes o t.op apart ∙ l.there;
-              unfailed = l.unfailed;
-              first = λ p a lt h. l.first p a lt (left_in ops o p a h).1;
-              root_is = l.root_is;
-              planned = l.planned;
-              named = l.named;
-              keeps = l.keeps;
-            };
+            delete_law root ops (fin.remove ops o) deletes (fin.remove deletes o) t plan l (stays_in deletes o t.op apart ∙ l.there)
+            (λ p a lt h. l.first p a lt (left_in ops o p a h).1);
         drops = λ k t e out pres is.
             let l = q.drops k t e out pres is in
             let apart : t.op ≢ o = drop k t e out pres is in
@@ -305,44 +305,24 @@ module _ (term : ℕ) (root : RootData) (ops : Ops) (deletes : Deletes) (complet
   -- the root changes, where no swap is out
   pub queue_root : (new : RootData) → ((k : ℕ) → SwapIsOut tickets term k → ⊥) → ((o : ℕ) (op : Op) (u : ℕ) → fin.get ops o ≡ Some op → op.source ≡ Some u → Lists new u) → Queue term new ops deletes completed next_op tickets
   queue_root new idle listed =
-      record {
-        numbers = q.numbers;
-        delete_numbers = q.delete_numbers;
-        apart = q.apart;
-        behind = q.behind;
-        queued = q.queued;
-        given_up = q.given_up;
-        completes = q.completes;
-        completed_numbers = q.completed_numbers;
-        completed_done = q.completed_done;
-        lone = q.lone;
+      with_tickets term term root new ops deletes completed next_op tickets tickets q (record {
         sources = λ o op u e is. (listed o op u e is, (q.sources o op u e is).1);
         sole = q.sole;
         deleting = λ k t e out uns pres uuids plan is. absurd (idle k (record { t = t; there = e; out = out; unsettled = uns; present = pres; swaps = subst IsMaster (sym is) tt }));
         drops = q.drops;
         one_swap = q.one_swap;
-      }
+      })
 
   -- a later term, of which no ticket is
   pub queue_elect : (now : ℕ) → ((k : ℕ) (t : Ticket) → fin.get tickets k ≡ Some t → t.term ≢ now) → Queue now root ops deletes completed next_op tickets
   queue_elect now none =
-      record {
-        numbers = q.numbers;
-        delete_numbers = q.delete_numbers;
-        apart = q.apart;
-        behind = q.behind;
-        queued = q.queued;
-        given_up = q.given_up;
-        completes = q.completes;
-        completed_numbers = q.completed_numbers;
-        completed_done = q.completed_done;
-        lone = q.lone;
+      with_tickets term now root root ops deletes completed next_op tickets tickets q (record {
         sources = q.sources;
         sole = λ k t e out m pres. absurd (none k t e pres);
         deleting = λ k t e out uns pres uuids plan is. absurd (none k t e pres);
         drops = λ k t e out pres is. absurd (none k t e pres);
         one_swap = λ j k a b. absurd (none j a.t a.there a.present);
-      }
+      })
 
   -- a new snapshot
   pub queue_add : (op : Op) (completed_now : List ℕ) → ((s : ShardWork) → Has op.shards s → s.state ≡ Pending) → ((o : ℕ) → Has completed o → Has completed_now o)
@@ -387,16 +367,12 @@ module _ (term : ℕ) (root : RootData) (ops : Ops) (deletes : Deletes) (complet
             | inr x ↦ absurd (z.0 x.0)
           ]
         ];
-        deleting = λ k t e out uns pres uuids plan is. let l = q.deleting k t e out uns pres uuids plan is in record {
-          deletion = l.deletion;
-          there = l.there;
-          unfailed = l.unfailed;
-          first = λ p a lt h. elim (was_in ops next_op op p a h) [ inl z ↦ let b : t.op < next_op = q.delete_numbers t.op l.deletion l.there in omega (arith, z.0) | inr z ↦ l.first p a lt z.1 ];
-          root_is = l.root_is;
-          planned = l.planned;
-          named = l.named;
-          keeps = l.keeps;
-        };
+        deleting = λ k t e out uns pres uuids plan is.
+            let l = q.deleting k t e out uns pres uuids plan is in
+            delete_law root ops (fin.insert ops next_op op) deletes deletes t plan l l.there (λ p a lt h. elim (was_in ops next_op op p a h) [
+              | inl z ↦ let b : t.op < next_op = q.delete_numbers t.op l.deletion l.there in omega (arith, z.0)
+              | inr z ↦ l.first p a lt z.1
+            ]);
         drops = λ k t e out pres is. let l = q.drops k t e out pres is in record {
           stopped = elim l.stopped [ inl h ↦ inl (h.0, other_in ops next_op op t.op (λ same. let b : t.op < next_op = q.numbers t.op h.0 h.1 in omega arith) ∙ h.1, h.2) | inr h ↦ inr h ];
           alone = l.alone;
@@ -443,16 +419,10 @@ module _ (term : ℕ) (root : RootData) (ops : Ops) (deletes : Deletes) (complet
           )
           | inr z ↦ absurd (true≢false (sym c ∙ (plain d y z.1).0))
         ];
-        deleting = λ k t e out uns pres uuids plan is. let l = q.deleting k t e out uns pres uuids plan is in record {
-          deletion = l.deletion;
-          there = other_in deletes next_op x t.op (λ same. let b : t.op < next_op = q.delete_numbers t.op l.deletion l.there in omega arith) ∙ l.there;
-          unfailed = l.unfailed;
-          first = l.first;
-          root_is = l.root_is;
-          planned = l.planned;
-          named = l.named;
-          keeps = l.keeps;
-        };
+        deleting = λ k t e out uns pres uuids plan is.
+            let l = q.deleting k t e out uns pres uuids plan is in
+            delete_law root ops ops deletes (fin.insert deletes next_op x) t plan l
+            (other_in deletes next_op x t.op (λ same. let b : t.op < next_op = q.delete_numbers t.op l.deletion l.there in omega arith) ∙ l.there) l.first;
         drops = λ k t e out pres is. let l = q.drops k t e out pres is in record {
           stopped = elim l.stopped [ inl h ↦ inl h | inr h ↦ inr (h.0, other_in deletes next_op x t.op (λ same. let b : t.op < next_op = q.delete_numbers t.op h.0 h.1 in omega arith) ∙ h.1, h.2) ];
           alone = l.alone;
@@ -491,16 +461,10 @@ module _ (term : ℕ) (root : RootData) (ops : Ops) (deletes : Deletes) (complet
               let was = q.lone p y z.1 c in
               (was.0, (λ r v h. elim (was_in deletes d x r v h) [ inl u ↦ u.0 ∙ was.1 d old there | inr u ↦ was.1 r v u.1 ]))
         ];
-        deleting = λ k t e out uns pres uuids plan is. let l = q.deleting k t e out uns pres uuids plan is in record {
-          deletion = l.deletion;
-          there = other_in deletes d x t.op (swaps k (record { t = t; there = e; out = out; unsettled = uns; present = pres; swaps = subst IsMaster (sym is) tt }) t e) ∙ l.there;
-          unfailed = l.unfailed;
-          first = l.first;
-          root_is = l.root_is;
-          planned = l.planned;
-          named = l.named;
-          keeps = l.keeps;
-        };
+        deleting = λ k t e out uns pres uuids plan is.
+            let l = q.deleting k t e out uns pres uuids plan is in
+            delete_law root ops ops deletes (fin.insert deletes d x) t plan l
+            (other_in deletes d x t.op (swaps k (record { t = t; there = e; out = out; unsettled = uns; present = pres; swaps = subst IsMaster (sym is) tt }) t e) ∙ l.there) l.first;
         drops = λ k t e out pres is. let l = q.drops k t e out pres is in record {
           stopped = elim l.stopped [
             | inl h ↦ inl h

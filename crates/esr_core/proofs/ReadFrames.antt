@@ -51,26 +51,9 @@ up n = omega arith
 one : (f : Formats) (blobs : Blobs) → OneContent f blobs blobs
 one f blobs name a b p q = some_same a b (sym p.0 ∙ q.0)
 
--- the root and the deletes stay
-blobbed : (f : Formats) (w new v : World) → new ≡ v → v.restores ≡ w.restores → v.readers ≡ w.readers → w.next_op ≤ v.next_op → w.next_ticket ≤ v.next_ticket → v.root ≡ w.root → v.deletes ≡ w.deletes → OneContent f w.blobs v.blobs → Frame f w new
-blobbed f w new v e restores readers ops tickets root deletes blobs =
-    subst (Frame f w) (sym e) (record {
-      restores = restores;
-      readers = readers;
-      next_op = ops;
-      next_ticket = tickets;
-      listed = λ u is spared has. subst (λ r. Lists r u) (sym root) has;
-      spared = λ u is spared. subst (λ x. Spares x u) (sym deletes) spared;
-      blobs = blobs;
-    })
-
--- and the blobs
-still : (f : Formats) (w new v : World) → new ≡ v → v.restores ≡ w.restores → v.readers ≡ w.readers → w.next_op ≤ v.next_op → w.next_ticket ≤ v.next_ticket → v.root ≡ w.root → v.deletes ≡ w.deletes → v.blobs ≡ w.blobs → Frame f w new
-still f w new v e restores readers ops tickets root deletes blobs = blobbed f w new v e restores readers ops tickets root deletes (subst (OneContent f w.blobs) (sym blobs) (one f w.blobs))
-
--- the root and the blobs stay
-deleted : (f : Formats) (w new v : World) → new ≡ v → v.restores ≡ w.restores → v.readers ≡ w.readers → w.next_op ≤ v.next_op → w.next_ticket ≤ v.next_ticket → v.root ≡ w.root → ((u : ℕ) → IsRestored w u → Spares w.deletes u → Spares v.deletes u) → v.blobs ≡ w.blobs → Frame f w new
-deleted f w new v e restores readers ops tickets root deletes blobs =
+-- the root stays
+rooted : (f : Formats) (w new v : World) → new ≡ v → v.restores ≡ w.restores → v.readers ≡ w.readers → w.next_op ≤ v.next_op → w.next_ticket ≤ v.next_ticket → v.root ≡ w.root → ((u : ℕ) → IsRestored w u → Spares w.deletes u → Spares v.deletes u) → OneContent f w.blobs v.blobs → Frame f w new
+rooted f w new v e restores readers ops tickets root deletes blobs =
     subst (Frame f w) (sym e) (record {
       restores = restores;
       readers = readers;
@@ -78,8 +61,20 @@ deleted f w new v e restores readers ops tickets root deletes blobs =
       next_ticket = tickets;
       listed = λ u is spared has. subst (λ r. Lists r u) (sym root) has;
       spared = deletes;
-      blobs = subst (OneContent f w.blobs) (sym blobs) (one f w.blobs);
+      blobs = blobs;
     })
+
+-- the root and the deletes stay
+blobbed : (f : Formats) (w new v : World) → new ≡ v → v.restores ≡ w.restores → v.readers ≡ w.readers → w.next_op ≤ v.next_op → w.next_ticket ≤ v.next_ticket → v.root ≡ w.root → v.deletes ≡ w.deletes → OneContent f w.blobs v.blobs → Frame f w new
+blobbed f w new v e restores readers ops tickets root deletes blobs = rooted f w new v e restores readers ops tickets root (λ u is spared. subst (λ x. Spares x u) (sym deletes) spared) blobs
+
+-- and the blobs
+still : (f : Formats) (w new v : World) → new ≡ v → v.restores ≡ w.restores → v.readers ≡ w.readers → w.next_op ≤ v.next_op → w.next_ticket ≤ v.next_ticket → v.root ≡ w.root → v.deletes ≡ w.deletes → v.blobs ≡ w.blobs → Frame f w new
+still f w new v e restores readers ops tickets root deletes blobs = blobbed f w new v e restores readers ops tickets root deletes (subst (OneContent f w.blobs) (sym blobs) (one f w.blobs))
+
+-- the root and the blobs stay
+deleted : (f : Formats) (w new v : World) → new ≡ v → v.restores ≡ w.restores → v.readers ≡ w.readers → w.next_op ≤ v.next_op → w.next_ticket ≤ v.next_ticket → v.root ≡ w.root → ((u : ℕ) → IsRestored w u → Spares w.deletes u → Spares v.deletes u) → v.blobs ≡ w.blobs → Frame f w new
+deleted f w new v e restores readers ops tickets root deletes blobs = rooted f w new v e restores readers ops tickets root deletes (subst (OneContent f w.blobs) (sym blobs) (one f w.blobs))
 
 -- a blob more, under a name that was absent
 added : (f : Formats) (blobs : Blobs) (name : BlobName) (bytes : Bytes) → IsStored f name → fin.get blobs (f.names.text name) ≡ None → OneContent f blobs (fin.insert blobs (f.names.text name) bytes)

@@ -1,14 +1,13 @@
 -- A removal of doomed names keeps the law.
-use Rattle.std.proofs.Common.{ℕ, List, sym, subst, inl, inr}
-use Rattle.esr_model.specs.Names.{BlobName, Root}
+use Rattle.std.proofs.Common.{ℕ, List, sym, subst}
+use Rattle.esr_model.specs.Names.{BlobName}
 use Rattle.esr_model.specs.Values.{Bytes, Formats}
-use Rattle.esr_model.specs.Shelf.{Shelved, shelf_after}
+use Rattle.esr_model.specs.Shelf.{Shelved}
 use Rattle.esr_model.specs.Image.{Blobs, Has}
-use Rattle.esr_core.specs.World.{World, Ticket, Swap, HeldIn, Safely, ledger_of}
+use Rattle.esr_core.specs.World.{World, HeldIn, Safely, ledger_of}
 use Rattle.esr_core.specs.Steps.{Removes, Remove}
-use Rattle.esr_core.specs.Swaps.{OrOwn, SwapLaw, TicketLaw}
 use Rattle.esr_core.specs.Sound.{Sound}
-use Rattle.esr_core.proofs.Frames.{root_kept, picked_kept, stands_kept}
+use Rattle.esr_core.proofs.Frames.{picked_kept, stands_kept, ticket_kept}
 use Rattle.esr_core.proofs.Grows.{carried_kept}
 use Rattle.esr_core.proofs.Reading.{held_one, safely_one}
 
@@ -18,20 +17,6 @@ module _ (f : Formats) (w : World) (shelf : List Shelved) (names : List BlobName
 
   keeps : (m : BlobName) (b : Bytes) → HeldIn f w m b → now m b
   keeps m b h = (removes.stays m b h.0 (λ q. h.1 (doomed m q)), h.1)
-
-  or_own : (own : List (BlobName × Bytes)) (m : BlobName) (b : Bytes) → OrOwn (HeldIn f w) own m b → OrOwn now own m b
-  or_own own m b (inl h) = inl (keeps m b h)
-  or_own own m b (inr h) = inr h
-
-  swap_law : (ns : List BlobName) (s : Swap) → SwapLaw f (HeldIn f w) shelf ns s → SwapLaw f now shelf ns s
-  swap_law ns s h = record {
-    staged = root_kept f (OrOwn (HeldIn f w) s.own) (OrOwn now s.own) (or_own s.own) s.root (shelf_after shelf s.commands) h.staged;
-    noted = λ m b own q. keeps m b (h.noted m b own q);
-    root_noted = λ n q. keeps (Root n) _ (h.root_noted n q);
-  }
-
-  ticket : (u : Ticket) → TicketLaw f (HeldIn f w) w.doomed (ledger_of w) shelf u → TicketLaw f now w.doomed (ledger_of w) shelf u
-  ticket u t = record { term = t.term; raised = t.raised; last = t.last; shape = t.shape; clean = t.clean; clean_root = t.clean_root; listed = t.listed; swaps = λ s i c. swap_law u.noted s (t.swaps s i c) }
 
   pub removed : Sound f (record w { blobs = now_blobs }) shelf
   removed =
@@ -46,7 +31,7 @@ module _ (f : Formats) (w : World) (shelf : List Shelved) (names : List BlobName
             named = λ text b h. kept.named text b (removes.left text b h);
           };
           doomed_begun = l.rooted.doomed_begun;
-          tickets = λ j u e. ticket u (l.rooted.tickets j u e);
+          tickets = λ j u e. ticket_kept f (HeldIn f w) now keeps w.doomed (ledger_of w) shelf u (l.rooted.tickets j u e);
           single = l.rooted.single;
         };
         carried = carried_kept f (HeldIn f w) now (safely_one f now_blobs w.doomed) (held_one f w) keeps w.safe w.term w.root shelf kept.picked w.ops w.tickets l.carried;

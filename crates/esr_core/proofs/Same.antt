@@ -1,13 +1,14 @@
 -- A ticket given anew, the same in all that shards and ops read.
-use Rattle.std.proofs.Common.{◌≡◌, ◌≢◌, ◌⊎◌, ℕ, List, true, false, Some, sym, ap, ◌∙◌, subst, inl, inr, nat_cmp}
+use Rattle.std.proofs.Common.{◌≡◌, ◌≢◌, ◌⊎◌, ℕ, ◌+◌, ◌<◌, ◌≤◌, List, Bool, true, false, Option, Some, refl, sym, ap, ◌∙◌, subst, inl, inr, nat_cmp}
 use Rattle.std.specs.Cmp.{nat_cmp_total}
 use Rattle.std.specs.FinMap.{FinMap, nat_cmp-IsAntisymmetric}
 use Rattle.std.specs.FinMap as fin
 use Rattle.esr_model.specs.Names.{BlobName}
 use Rattle.esr_model.specs.Values.{Bytes, RootData, SnapInfo, ShardResult, Formats}
 use Rattle.esr_model.specs.Shelf.{Command}
+use Rattle.esr_model.specs.Cleanup.{BlobSize}
 use Rattle.esr_core.specs.World.{Op, Ticket, Shard}
-use Rattle.esr_core.specs.Generations.{ShardLaw, FinalLaw, Carried}
+use Rattle.esr_core.specs.Generations.{BaseBelow, ShardLaw, FinalLaw, Carried}
 use Rattle.esr_core.proofs.Maps.{get_was, get_same, get_other, split}
 use Rattle.esr_core.proofs.Reading.{some_same}
 
@@ -20,6 +21,34 @@ pub record SameTicket (t v : Ticket) : Type 1 where
   pub settled : v.settled ≡ false → t.settled ≡ false
   pub shard : (f : Formats) (has : BlobName → Bytes → Type 0) (root : RootData) (ops : FinMap nat_cmp Op) (k index number : ℕ) → ShardLaw f has root ops k t index number → ShardLaw f has root ops k v index number
   pub final : (f : Formats) (root : RootData) (ops : FinMap nat_cmp Op) (info : SnapInfo) (results : List ShardResult) (made : Command) → FinalLaw f root ops t info results made → FinalLaw f root ops v info results made
+
+-- a ticket given anew in what it noted, wrote, read, raised, tried and listed, and in its ids: each is an old one, or lies above its uuid and its base
+pub notes_same : (t : Ticket) (first drawn : ℕ) (noted : List BlobName) (wrote read : List (BlobName × Bytes)) (raised : Option ℕ) (tried : Bool) (listed : List BlobSize) (whole : Bool)
+    → ((id : ℕ) → first ≤ id → id < first + drawn → ((t.first ≤ id) × (id < t.first + t.drawn)) ⊎ ((t.uuid < id) × BaseBelow t.base id))
+    → SameTicket t (record t { first = first; drawn = drawn; noted = noted; wrote = wrote; read = read; raised = raised; tried_latest = tried; listed = listed; whole = whole })
+notes_same t first drawn noted wrote read raised tried listed whole drew =
+    record {
+      work = refl;
+      op = refl;
+      term = refl;
+      out = λ e. e;
+      holds = λ i n e o. o;
+      settled = λ e. e;
+      shard = λ f b r o k i n l. record {
+        op = l.op;
+        op_there = l.op_there;
+        uuid_is = l.uuid_is;
+        source_is = l.source_is;
+        s = l.s;
+        s_there = l.s_there;
+        state = l.state;
+        index_is = l.index_is;
+        shard_is = l.shard_is;
+        base = l.base;
+        ids = λ id from below. elim (drew id from below) [ inl had ↦ l.ids id had.0 had.1 | inr above ↦ above ];
+      };
+      final = λ f r o i rs m l. record { op = l.op; op_there = l.op_there; done = l.done; info_is = l.info_is; made_is = l.made_is; root_is = l.root_is };
+    }
 
 pub carried_same : (f : Formats) (has : BlobName → Bytes → Type 0) (safe term : ℕ) (root : RootData) (ops : FinMap nat_cmp Op) (tickets : FinMap nat_cmp Ticket) (k : ℕ) (t v : Ticket)
     → fin.get tickets k ≡ Some t → SameTicket t v → Carried f has safe term root ops tickets → Carried f has safe term root ops (fin.insert tickets k v)

@@ -17,7 +17,7 @@ use Rattle.esr_core.specs.Stored.{stored_files}
 use Rattle.esr_core.specs.World.{Op, ShardWork, Done, AllDone, info_of, comes_first_of, shelved_shard, shelved_of, index_names, metadata}
 use Rattle.esr_core.specs.Generations.{DoneAt, IsLive, Carries, AreFilesOf, DoneStands, AreIndicesBy, OpTexts, OpLaw}
 use Rattle.esr_core.specs.Swaps.{OrOwn}
-use Rattle.esr_core.proofs.Frames.{reads_kept, file_kept, index_kept, AllPairs-map}
+use Rattle.esr_core.proofs.Frames.{reads_kept, file_kept, snap_in, index_kept, AllPairs-map}
 use Rattle.esr_core.proofs.Results.{choose_true, choose_false, done_of}
 use Rattle.esr_core.proofs.Owning.{stands_on}
 use Rattle.esr_core.proofs.Ordered.{Has-sorted, map-sorted, in_shelf_places}
@@ -90,24 +90,14 @@ module _ (f : Formats) (has : BlobName → Bytes → Type 0) (func : IsOne has) 
       → (snap : RootSnap) → Has root.snapshots snap → snap.uuid ≢ info.uuid
       → (shelved : Shelved) → SnapStands f has root snap shelved → SnapStands f Then new snap shelved
   old_snap root new ops info results fin carries snap there apart shelved s =
-      record {
-        name_is = s.name_is;
-        uuid_is = s.uuid_is;
-        info = s.info;
-        info_reads = reads_kept f has Then lift _ _ _ s.info_reads;
-        info_name = s.info_name;
-        info_uuid = s.info_uuid;
-        info_state = s.info_state;
-        global_reads = reads_kept f has Then lift _ _ _ s.global_reads;
-        metas = λ r h. reads_kept f has Then lift _ _ _ (s.metas r h);
-        listed = λ r h. let (x, x_there, name, id, has) = s.listed r h in let (y, y_there, y_name, y_id, more) = fin.kept x x_there in (y, y_there, y_name ∙ name, y_id ∙ id, more snap.uuid has);
-        exact = λ y h has. elim (fin.from y h snap.uuid has) [
-          | inl e ↦ absurd (apart e.0)
-          | inr e ↦ let (x, x_there, name, id, was) = e in let (r, r_there, r_name, r_id) = s.exact x x_there was in (r, r_there, r_name ∙ name, r_id ∙ id)
-        ];
-        shards = AllPairs-with (ShardStands f has root snap.uuid) (ShardStands f Then new snap.uuid) (shelf_places s.info.indices) shelved.shards
-            (λ place shard m h. old_shard root new ops info results fin carries snap there s.info s.info_reads place shard m h) s.shards;
-      }
+      snap_in f has Then lift root new snap shelved s
+      (λ r h. let (x, x_there, name, id, has) = s.listed r h in let (y, y_there, y_name, y_id, more) = fin.kept x x_there in (y, y_there, y_name ∙ name, y_id ∙ id, more snap.uuid has))
+      (λ y h has. elim (fin.from y h snap.uuid has) [
+        | inl e ↦ absurd (apart e.0)
+        | inr e ↦ let (x, x_there, name, id, was) = e in let (r, r_there, r_name, r_id) = s.exact x x_there was in (r, r_there, r_name ∙ name, r_id ∙ id)
+      ])
+      (AllPairs-with (ShardStands f has root snap.uuid) (ShardStands f Then new snap.uuid) (shelf_places s.info.indices) shelved.shards
+      (λ place shard m h. old_shard root new ops info results fin carries snap there s.info s.info_reads place shard m h) s.shards)
 
   -- a shard of the new one, with these files
   new_shard : (root new : RootData) (ops : FinMap nat_cmp Op) (info : SnapInfo) (results : List ShardResult) (fin : Finalizes root info results new)

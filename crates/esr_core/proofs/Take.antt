@@ -1,5 +1,5 @@
 -- A finalization that is taken keeps the law: what it stages stands.
-use Rattle.std.proofs.Common.{◌≡◌, ◌≢◌, ℕ, suc, ◌<◌, filter, List, [], ◌∷◌, ◌++◌, Option, Some, None, refl, sym, ap, ◌∙◌, subst, inl, inr, arith, le_refl}
+use Rattle.std.proofs.Common.{◌≡◌, ◌≢◌, ◌⊎◌, ℕ, suc, ◌<◌, filter, List, [], ◌∷◌, ◌++◌, Option, Some, None, refl, sym, ap, ◌∙◌, subst, inl, inr, arith, le_refl}
 use Rattle.std.specs.Cmp.{nat_cmp_total}
 use Rattle.std.specs.FinMap.{nat_cmp-IsAntisymmetric}
 use Rattle.std.specs.FinMap as fin
@@ -13,7 +13,7 @@ use Rattle.esr_core.specs.World.{World, Op, ShardWork, Shard, Finalize, Deleting
 use Rattle.esr_core.specs.Steps.{TakeFinalize, final_ticket}
 use Rattle.esr_core.specs.Restores.{IsTestOf}
 use Rattle.esr_core.specs.Swaps.{Rooted, IsSwapping, SwapLaw, SwapShape, TicketLaw, OrOwn}
-use Rattle.esr_core.specs.Generations.{DoneAt, OpLaw, Carried}
+use Rattle.esr_core.specs.Generations.{DoneAt, OpLaw, FinalLaw, PlanLaw, Carried}
 use Rattle.esr_core.proofs.Maps.{get_was, get_other}
 use Rattle.esr_core.proofs.Reading.{some_same, held_one, safe_root_stands, Has-mapped}
 use Rattle.esr_core.proofs.Results.{found_done, done_found}
@@ -75,6 +75,44 @@ metadata_shape f info one root made back =
 
     not_index : {i u n : ℕ} → IndexMeta i u ≡ Root n → ⊥
     not_index e = cc
+
+-- a new ticket of no shard
+module _ (f : Formats) (w : World) (c : Carried f (HeldIn f w) w.safe w.term w.root w.ops w.tickets) (fresh : (k : ℕ) (t : Ticket) → fin.get w.tickets k ≡ Some t → k < w.next_ticket)
+    (v : Ticket) (no_shard : (i n : ℕ) → v.work ≡ Shard i n → ⊥) (final : (info : SnapInfo) (results : List ShardResult) (made : Command) → v.work ≡ Finalize info results made → FinalLaw f w.root w.ops v info results made)
+    (plan : (uuids : List ℕ) (s : Swap) → v.work ≡ Deleting uuids (Some s) → PlanLaw f w.root w.ops s) where
+  was : (j : ℕ) (u : Ticket) → fin.get (fin.insert w.tickets w.next_ticket v) j ≡ Some u → ((j ≡ w.next_ticket) × (v ≡ u)) ⊎ ((j ≢ w.next_ticket) × (fin.get w.tickets j ≡ Some u))
+  was j u e = get_was nat_cmp_total nat_cmp-IsAntisymmetric w.tickets w.next_ticket v j u e
+
+  -- a shard's ticket is an old one
+  shard_was : (j : ℕ) (u : Ticket) → fin.get (fin.insert w.tickets w.next_ticket v) j ≡ Some u → (index shard : ℕ) → u.work ≡ Shard index shard → fin.get w.tickets j ≡ Some u
+  shard_was j u e index shard is = elim (was j u e) [
+    | inl h ↦ absurd (no_shard index shard (ap (λ (x : Ticket). x.work) h.1 ∙ is))
+    | inr h ↦ h.1
+  ]
+
+  apart_new : (j : ℕ) (u : Ticket) → fin.get w.tickets j ≡ Some u → j ≢ w.next_ticket
+  apart_new j u e same = let h : j < w.next_ticket = fresh j u e in omega arith
+
+  pub carried_new : Carried f (HeldIn f w) w.safe w.term w.root w.ops (fin.insert w.tickets w.next_ticket v)
+  carried_new =
+      record {
+        root_is = c.root_is;
+        ops = c.ops;
+        together = c.together;
+        carries = c.carries;
+        shards = λ j u e out index shard is. c.shards j u (shard_was j u e index shard is) out index shard is;
+        one_shard = λ i j t u a b ao bo index shard ai bi. c.one_shard i j t u (shard_was i t a index shard ai) (shard_was j u b index shard bi) ao bo index shard ai bi;
+        held = λ p q s k e m state. let h = c.held p q s k e m state in
+            record { t = h.t; there = get_other nat_cmp_total nat_cmp-IsAntisymmetric w.tickets w.next_ticket v k (apart_new k h.t h.there) ∙ h.there; out = h.out; op_is = h.op_is; work = h.work };
+        finals = λ j u e out uns pres info rs made is. elim (was j u e) [
+          | inl h ↦ subst (λ x. FinalLaw f w.root w.ops x info rs made) h.1 (final info rs made (ap (λ (x : Ticket). x.work) h.1 ∙ is))
+          | inr h ↦ c.finals j u h.1 out uns pres info rs made is
+        ];
+        plans = λ j u e out uns pres uuids s is. elim (was j u e) [
+          | inl h ↦ plan uuids s (ap (λ (x : Ticket). x.work) h.1 ∙ is)
+          | inr h ↦ c.plans j u h.1 out uns pres uuids s is
+        ];
+      }
 
 module _ (f : Formats) (w : World) (shelf : List Shelved) (o : ℕ) (op : Op) (results : List ShardResult) (new : World) (d : TakeFinalize f w o op results new)
     (l : Rooted f w shelf) (c : Carried f (HeldIn f w) w.safe w.term w.root w.ops w.tickets) (fresh : (k : ℕ) (t : Ticket) → fin.get w.tickets k ≡ Some t → k < w.next_ticket) where
@@ -154,41 +192,15 @@ module _ (f : Formats) (w : World) (shelf : List Shelved) (o : ℕ) (op : Op) (r
   pub taken : Rooted f new shelf
   taken = subst (λ x. Rooted f x shelf) (sym d.new_is) rooted_now
 
-  apart_new : (j : ℕ) (u : Ticket) → fin.get w.tickets j ≡ Some u → j ≢ w.next_ticket
-  apart_new j u e same = let h : j < w.next_ticket = fresh j u e in omega arith
-
-  -- a shard ticket is an old one
-  shard_was : (j : ℕ) (u : Ticket) → fin.get (fin.insert w.tickets w.next_ticket v) j ≡ Some u → (index shard : ℕ) → u.work ≡ Shard index shard → fin.get w.tickets j ≡ Some u
-  shard_was j u e index shard is = elim (get_was nat_cmp_total nat_cmp-IsAntisymmetric w.tickets w.next_ticket v j u e) [
-    | inl h ↦ absurd (differ (ap (λ (x : Ticket). x.work) h.1 ∙ is))
-    | inr h ↦ h.1
-  ]
-    where
-      differ : {info : SnapInfo} {rs : List ShardResult} {made : Command} {i n : ℕ} → Finalize info rs made ≡ Shard i n → ⊥
-      differ e = cc
-
   pub taken_carried : Carried f (HeldIn f w) w.safe w.term w.root w.ops (fin.insert w.tickets w.next_ticket v)
-  taken_carried =
-      record {
-        root_is = c.root_is;
-        ops = c.ops;
-        together = c.together;
-        carries = c.carries;
-        shards = λ j u e out index shard is. c.shards j u (shard_was j u e index shard is) out index shard is;
-        one_shard = λ i j t u a b ao bo index shard ai bi. c.one_shard i j t u (shard_was i t a index shard ai) (shard_was j u b index shard bi) ao bo index shard ai bi;
-        held = λ p q s k e m state. let h = c.held p q s k e m state in record { t = h.t; there = get_other nat_cmp_total nat_cmp-IsAntisymmetric w.tickets w.next_ticket v k (apart_new k h.t h.there) ∙ h.there; out = h.out; op_is = h.op_is; work = h.work };
-        finals = λ j u e out uns pres info rs made is. elim (get_was nat_cmp_total nat_cmp-IsAntisymmetric w.tickets w.next_ticket v j u e) [
-          | inl h ↦
-              let same = parts _ _ _ _ _ _ (ap (λ (x : Ticket). x.work) h.1 ∙ is) in
-              record { op = op; op_there = ap (λ (x : Ticket). fin.get w.ops x.op) (sym h.1) ∙ d.op_there; done = subst (AllDone op.shards) same.1 d.done; info_is = sym same.0 ∙ ap (info_of op) same.1; made_is = (w.blobs, sym same.2); root_is = ap (λ (x : Ticket). x.root) (sym h.1) }
-          | inr h ↦ c.finals j u h.1 out uns pres info rs made is
-        ];
-        plans = λ j u e out uns pres uuids s is. elim (get_was nat_cmp_total nat_cmp-IsAntisymmetric w.tickets w.next_ticket v j u e) [
-          | inl h ↦ absurd (no_plan (ap (λ (x : Ticket). x.work) h.1 ∙ is))
-          | inr h ↦ c.plans j u h.1 out uns pres uuids s is
-        ];
-      }
+  taken_carried = carried_new f w c fresh v (λ i n e. no_shard e)
+      (λ info rs made e. let same = parts _ _ _ _ _ _ e in
+      record { op = op; op_there = d.op_there; done = subst (AllDone op.shards) same.1 d.done; info_is = sym same.0 ∙ ap (info_of op) same.1; made_is = (w.blobs, sym same.2); root_is = refl })
+      (λ uuids s e. absurd (no_plan e))
     where
+      no_shard : {info : SnapInfo} {rs : List ShardResult} {made : Command} {i n : ℕ} → Finalize info rs made ≡ Shard i n → ⊥
+      no_shard e = cc
+
       no_plan : {info : SnapInfo} {rs : List ShardResult} {made : Command} {us : List ℕ} {p : Option Swap} → Finalize info rs made ≡ Deleting us p → ⊥
       no_plan e = cc
 

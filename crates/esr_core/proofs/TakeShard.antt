@@ -1,5 +1,5 @@
 -- A shard that is taken keeps what holds of shards and ops.
-use Rattle.std.proofs.Common.{◌≡◌, ◌≢◌, ◌⊎◌, ℕ, ◌<◌, List, ◌==◌, ◌&&◌, Option, Some, None, map, refl, sym, ap, ◌∙◌, subst, inl, inr, arith, nat_cmp}
+use Rattle.std.proofs.Common.{◌≡◌, ◌≢◌, ◌⊎◌, ℕ, ◌<◌, List, ◌==◌, ◌&&◌, Option, Some, None, refl, sym, ap, ◌∙◌, subst, inl, inr, arith, nat_cmp}
 use Rattle.std.specs.Cmp.{nat_cmp_total}
 use Rattle.std.specs.FinMap.{FinMap, nat_cmp-IsAntisymmetric}
 use Rattle.std.specs.FinMap as fin
@@ -10,10 +10,10 @@ use Rattle.esr_model.specs.Image.{Has}
 use Rattle.esr_core.specs.World.{World, Op, ShardWork, Pending, Out, Done, Shard, Finalize, Deleting, Ticket, Swap, HeldIn}
 use Rattle.esr_core.specs.Steps.{TakeShard, given, Largest, shard_ticket}
 use Rattle.esr_core.specs.Generations.{OpLaw, Base, ShardLaw, Carried}
-use Rattle.esr_core.proofs.Maps.{get_was, get_same, get_other, split}
+use Rattle.esr_core.proofs.Maps.{get_was, get_same, get_other}
 use Rattle.esr_core.proofs.Reading.{some_same, Has-map, Has-mapped}
 use Rattle.esr_core.proofs.Results.{choose_true, choose_false, done_of}
-use Rattle.esr_core.proofs.Ops.{GoesOn, op_now, ops_now, op_was, live_was, on_with, carries_now, base_now, op_law_now, together_now}
+use Rattle.esr_core.proofs.Ops.{shard_law_given, GoesOn, op_now, ops_now, op_was, live_was, on_with, carries_now, base_now, op_law_now, together_now}
 use Rattle.esr_core.proofs.Owning.{plan_on}
 
 out_same : {a b : ℕ} → Out a ≡ Out b → a ≡ b
@@ -97,26 +97,8 @@ module _ (f : Formats) (w : World) (o : ℕ) (op : Op) (s : ShardWork) (base : O
 
   old_law : (j : ℕ) (u : Ticket) (index shard : ℕ) → ShardLaw f (HeldIn f w) w.root w.ops j u index shard → ShardLaw f (HeldIn f w) w.root ops j u index shard
   old_law j u index shard l =
-      let base' : Base f (HeldIn f w) w.root ops index shard u.base = base_now f (HeldIn f w) w.root w.ops o op d.op_there g (goes_on k s.ref.id s.number) op.failed index shard u.base l.base in
-      elim (split nat_cmp_total nat_cmp-IsAntisymmetric u.op o) [
-        | inl same ↦
-            let one : l.op ≡ op = some_same _ _ (sym l.op_there ∙ ap (fin.get w.ops) same ∙ d.op_there) in
-            let there : Has op.shards l.s = subst (λ (x : Op). Has x.shards l.s) one l.s_there in
-            record {
-              op = now;
-              op_there = ap (fin.get ops) same ∙ get_same nat_cmp_total nat_cmp-IsAntisymmetric w.ops o now;
-              uuid_is = ap (λ (x : Op). x.uuid) (sym one) ∙ l.uuid_is;
-              source_is = l.source_is ∙ ap (λ (x : Op). x.source) one;
-              s = l.s;
-              s_there = subst (Has (map g op.shards)) (stays l.s j there l.state) (Has-map g op.shards l.s there);
-              state = l.state;
-              index_is = l.index_is;
-              shard_is = l.shard_is;
-              base = base';
-              ids = l.ids;
-            }
-        | inr h ↦ record { op = l.op; op_there = get_other nat_cmp_total nat_cmp-IsAntisymmetric w.ops o now u.op h.0 ∙ l.op_there; uuid_is = l.uuid_is; source_is = l.source_is; s = l.s; s_there = l.s_there; state = l.state; index_is = l.index_is; shard_is = l.shard_is; base = base'; ids = l.ids }
-      ]
+      shard_law_given f (HeldIn f w) w.root w.ops o op d.op_there g op.failed j u index shard l (λ z m e. stays z j m e)
+      (base_now f (HeldIn f w) w.root w.ops o op d.op_there g (goes_on k s.ref.id s.number) op.failed index shard u.base l.base)
 
   ticket_was : (j : ℕ) (u : Ticket) → fin.get (fin.insert w.tickets k v) j ≡ Some u → ((j ≡ k) × (v ≡ u)) ⊎ ((j ≢ k) × (fin.get w.tickets j ≡ Some u))
   ticket_was j u e = get_was nat_cmp_total nat_cmp-IsAntisymmetric w.tickets k v j u e

@@ -9,14 +9,15 @@ use Rattle.esr_model.specs.Shelf.{Shelved, Command}
 use Rattle.esr_model.specs.Image.{Has}
 use Rattle.esr_core.specs.World.{World, Op, Deletion, ShardWork, Pending, Out, Done, Work, Shard, Finalize, Deleting, Drop, Ticket, Swap, swap, swap_of, AllDone, ledger_of, HeldIn, metadata, info_of}
 use Rattle.esr_core.specs.Ready.{Goes, Waits, Barrier, IsMaster}
-use Rattle.esr_core.specs.Steps.{TakeShard, TakeFinalize, given, shard_ticket, final_ticket}
-use Rattle.esr_core.specs.Turns.{TakeReadyShard, TakeReadyFinal, TakeDrop, TakeDelete, TakeCleanup, plain_ticket, cleaning_ticket}
+use Rattle.esr_core.specs.Steps.{TakeShard, TakeFinalize, given, shard_ticket, final_ticket, plain_ticket}
+use Rattle.esr_core.specs.Turns.{TakeReadyShard, TakeReadyFinal, TakeDrop, TakeDelete, TakeCleanup, cleaning_ticket}
 use Rattle.esr_core.specs.Swaps.{Rooted, TicketLaw, IsSwapping}
 use Rattle.esr_core.specs.Generations.{Carried}
 use Rattle.esr_core.specs.Queue.{Queue, QueueIn, Lawful}
 use Rattle.esr_core.proofs.Reading.{some_same, none_some, Has-mapped}
 use Rattle.esr_core.proofs.Results.{done_of}
 use Rattle.esr_core.proofs.Tickets.{each_ticket}
+use Rattle.esr_core.proofs.Take.{carried_new}
 use Rattle.esr_core.proofs.TakeShard.{taken_shard, given_is}
 use Rattle.esr_core.proofs.Law.{take_law}
 use Rattle.esr_core.proofs.Queues.{was_in, other_in, same_in, split_at, Ops, queue_new}
@@ -65,32 +66,8 @@ module _ (f : Formats) (w : World) (shelf : List Shelved) (l : Rooted f w shelf)
 module _ (f : Formats) (w : World) (c : Carried f (HeldIn f w) w.safe w.term w.root w.ops w.tickets) (fresh : (k : ℕ) (t : Ticket) → fin.get w.tickets k ≡ Some t → k < w.next_ticket)
     (v : Ticket) (no_shard : (i n : ℕ) → v.work ≡ Shard i n → ⊥) (no_final : (info : SnapInfo) (results : List ShardResult) (made : Command) → v.work ≡ Finalize info results made → ⊥)
     (no_plan : (uuids : List ℕ) (s : Swap) → v.work ≡ Deleting uuids (Some s) → ⊥) where
-  shard_was : (j : ℕ) (u : Ticket) → fin.get (fin.insert w.tickets w.next_ticket v) j ≡ Some u → (index shard : ℕ) → u.work ≡ Shard index shard → fin.get w.tickets j ≡ Some u
-  shard_was j u e index shard is = elim (was_in w.tickets w.next_ticket v j u e) [
-    | inl h ↦ absurd (no_shard index shard (ap (λ (x : Ticket). x.work) h.1 ∙ is))
-    | inr h ↦ h.1
-  ]
-
   pub carried_plain : Carried f (HeldIn f w) w.safe w.term w.root w.ops (fin.insert w.tickets w.next_ticket v)
-  carried_plain =
-      record {
-        root_is = c.root_is;
-        ops = c.ops;
-        together = c.together;
-        carries = c.carries;
-        shards = λ j u e out index shard is. c.shards j u (shard_was j u e index shard is) out index shard is;
-        one_shard = λ i j t u a b ao bo index shard ai bi. c.one_shard i j t u (shard_was i t a index shard ai) (shard_was j u b index shard bi) ao bo index shard ai bi;
-        held = λ p q s k e m state. let h = c.held p q s k e m state in
-            record { t = h.t; there = other_in w.tickets w.next_ticket v k (λ same. let b : k < w.next_ticket = fresh k h.t h.there in omega arith) ∙ h.there; out = h.out; op_is = h.op_is; work = h.work };
-        finals = λ j u e out uns pres info rs made is. elim (was_in w.tickets w.next_ticket v j u e) [
-          | inl h ↦ absurd (no_final info rs made (ap (λ (x : Ticket). x.work) h.1 ∙ is))
-          | inr h ↦ c.finals j u h.1 out uns pres info rs made is
-        ];
-        plans = λ j u e out uns pres uuids s is. elim (was_in w.tickets w.next_ticket v j u e) [
-          | inl h ↦ absurd (no_plan uuids s (ap (λ (x : Ticket). x.work) h.1 ∙ is))
-          | inr h ↦ c.plans j u h.1 out uns pres uuids s is
-        ];
-      }
+  carried_plain = carried_new f w c fresh v no_shard (λ info rs made e. absurd (no_final info rs made e)) (λ uuids s e. absurd (no_plan uuids s e))
 
 module _ (f : Formats) (w : World) (shelf : List Shelved) (l : Lawful f w shelf) where
   -- an op that goes isn't being dropped

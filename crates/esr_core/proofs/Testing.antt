@@ -4,12 +4,12 @@ use Rattle.std.specs.Cmp.Lexicographic.{nat_list_cmp_total}
 use Rattle.std.specs.FinMap as fin
 use Rattle.esr_model.specs.Names.{BlobName, Root, Latest, Snap, Meta, IndexMeta, ShardSnap, ShardIndex, File, Part, TestMaster, TestNode}
 use Rattle.esr_model.specs.Values.{Bytes, Formats}
-use Rattle.esr_model.specs.Shelf.{Shelved, shelf_after}
+use Rattle.esr_model.specs.Shelf.{Shelved}
 use Rattle.esr_model.specs.Kept.{IdsBelow}
 use Rattle.esr_model.specs.Image.{Blobs, At}
-use Rattle.esr_core.specs.World.{World, Ticket, Swap, HeldIn, Safely, ledger_of}
+use Rattle.esr_core.specs.World.{World, Ticket, HeldIn, Safely, ledger_of}
 use Rattle.esr_core.specs.Restores.{IsTestOf}
-use Rattle.esr_core.specs.Swaps.{OrOwn, SwapLaw, TicketLaw}
+use Rattle.esr_core.specs.Swaps.{TicketLaw}
 use Rattle.esr_core.specs.Sound.{Sound}
 use Rattle.esr_core.specs.Queue.{Lawful}
 use Rattle.esr_core.specs.Texts.{IsMetaOf}
@@ -17,7 +17,7 @@ use Rattle.esr_core.specs.Ids.{OfUuid, OfId, DoomedIds, IdsIn, Law}
 use Rattle.esr_core.specs.Turns.{DrawTest, AddTest, TestTurn, DrawsTest, AddsTest, RemovesTests}
 use Rattle.esr_core.proofs.Maps.{get_was, texts_same}
 use Rattle.esr_core.proofs.Reading.{held_one, safely_one}
-use Rattle.esr_core.proofs.Frames.{root_kept, picked_kept, stands_kept}
+use Rattle.esr_core.proofs.Frames.{picked_kept, stands_kept, swap_kept}
 use Rattle.esr_core.proofs.Grows.{carried_kept}
 use Rattle.esr_core.proofs.Adds.{at_kept, at_was}
 use Rattle.esr_core.proofs.Removes.{removed}
@@ -94,17 +94,6 @@ module _ (f : Formats) (w : World) (shelf : List Shelved) (l : Law f w shelf) (n
   no_root : (n : ℕ) → name ≡ Root n → ⊥
   no_root n e = subst (IsTestOf a.id) e a.test
 
-  or_own : (own : List (BlobName × Bytes)) (m : BlobName) (b : Bytes) → OrOwn (HeldIn f w) own m b → OrOwn now own m b
-  or_own own m b (inl h) = inl (keeps m b h)
-  or_own own m b (inr h) = inr h
-
-  swap_law : (ns : List BlobName) (s : Swap) → SwapLaw f (HeldIn f w) shelf ns s → SwapLaw f now shelf ns s
-  swap_law ns s h = record {
-    staged = root_kept f (OrOwn (HeldIn f w) s.own) (OrOwn now s.own) (or_own s.own) s.root (shelf_after shelf s.commands) h.staged;
-    noted = λ m b own q. keeps m b (h.noted m b own q);
-    root_noted = λ n q. keeps (Root n) _ (h.root_noted n q);
-  }
-
   ticket : (u : Ticket) → TicketLaw f (HeldIn f w) w.doomed (ledger_of w) shelf u → TicketLaw f now doomed (ledger_of w) shelf u
   ticket u t =
       record {
@@ -115,7 +104,7 @@ module _ (f : Formats) (w : World) (shelf : List Shelved) (l : Law f w shelf) (n
         clean = λ s i c m b own d. elim d [ inl e ↦ (t.shape s i.is).no_test a.id m b own (subst (IsTestOf a.id) e a.test) | inr was ↦ t.clean s i c m b own was ];
         listed = t.listed;
         clean_root = λ n r above d. elim d [ inl e ↦ no_root n e | inr was ↦ t.clean_root n r above was ];
-        swaps = λ s i c. swap_law u.noted s (t.swaps s i c);
+        swaps = λ s i c. swap_kept f (HeldIn f w) now keeps shelf u.noted s (t.swaps s i c);
       }
 
   added_sound : Sound f (record w { blobs = fin.insert w.blobs (f.names.text name) bytes; doomed = name ∷ w.doomed }) shelf

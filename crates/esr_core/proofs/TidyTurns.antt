@@ -11,12 +11,12 @@ use Rattle.esr_model.specs.Finalize.{Finalizes, finalized_root, done_at}
 use Rattle.esr_model.specs.Delete.{left_uuids, uuids_of, pruned_blobs}
 use Rattle.esr_core.specs.World.{World, Op, ShardWork, ShardState, Pending, Out, Done, GivenUp, Shard, Finalize, Deleting, Drop, Ticket, Swap, HeldIn, Safely, info_of}
 use Rattle.esr_core.specs.Ready.{IsShard}
-use Rattle.esr_core.specs.Steps.{DoneShard, Largest, ExtendsBase, given, shard_ticket, final_ticket, reading, listing, noting, writing}
+use Rattle.esr_core.specs.Steps.{DoneShard, Largest, ExtendsBase, given, shard_ticket, final_ticket, reading, listing, noting, writing, plain_ticket}
 use Rattle.esr_core.specs.Generations.{DoneAt, IsLive, IsOwn, OpLaw, Base, ShardLaw, FinalLaw, Carried}
 use Rattle.esr_core.specs.Queue.{DeleteLaw}
 use Rattle.esr_core.specs.Pruning.{IsPlanned, PruneLaw, pruned_shards}
 use Rattle.esr_core.specs.Ids.{Law}
-use Rattle.esr_core.specs.Turns.{Aborts, TakeReadyShard, SettleFinal, SettleDelete, Failed, AddTest, TestTurn, DrawsTest, AddsTest, RemovesTests, fails, fails_by, plain_ticket, cleaning_ticket, Turn, Stays, Commits, CommitFails, Finds, Raises, Latests, Fetches, SettlesFinal, SettlesDelete, Elects, TakesShard, TakesFinal, TakesDrop, TakesDelete, TakesCleanup, AsksCleanup, CleanDrops, DrawsShard, DrawsPlan, Dones, Ending, Fails, FailsDelete, Drops, AsksCreate, AsksDelete, Merges, Removing, Pages, Deposes, Besides, Tests}
+use Rattle.esr_core.specs.Turns.{Aborts, TakeReadyShard, SettleFinal, SettleDelete, Failed, AddTest, TestTurn, DrawsTest, AddsTest, RemovesTests, fails, fails_by, cleaning_ticket, Turn, Stays, Commits, CommitFails, Finds, Raises, Latests, Fetches, SettlesFinal, SettlesDelete, Elects, TakesShard, TakesFinal, TakesDrop, TakesDelete, TakesCleanup, AsksCleanup, CleanDrops, DrawsShard, DrawsPlan, Dones, Ending, Fails, FailsDelete, Drops, AsksCreate, AsksDelete, Merges, Removing, Pages, Deposes, Besides, Tests}
 use Rattle.esr_core.specs.Tidy.{IsInIndex, ListsListed, IsTidy, TidyRoot, Tidy, TidyIn}
 use Rattle.esr_core.proofs.Reading.{some_same, reads_one, held_one, safely_one, safe_root_stands, Has-map, Has-mapped, Has-append, Has-right}
 use Rattle.esr_core.proofs.Results.{choose_true, choose_false, found_done, done_out}

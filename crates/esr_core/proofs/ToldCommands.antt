@@ -8,8 +8,8 @@ use Rattle.esr_model.specs.Values.{Has, SnapInfo, ShardResult, Formats}
 use Rattle.esr_model.specs.Shelf.{Shelved, Command, Create, shelf_after}
 use Rattle.esr_model.specs.Image.{Image}
 use Rattle.esr_core.specs.World.{World, Op, ShardWork, Work, Shard, Finalize, Deleting, Drop, Swap, Ticket, swap, swap_of, info_of, made_of, Opened, OpenedEmpty, OpenedRecord}
-use Rattle.esr_core.specs.Steps.{shard_ticket, final_ticket}
-use Rattle.esr_core.specs.Turns.{plain_ticket, cleaning_ticket}
+use Rattle.esr_core.specs.Steps.{shard_ticket, final_ticket, plain_ticket}
+use Rattle.esr_core.specs.Turns.{cleaning_ticket}
 use Rattle.esr_core.specs.Pruning.{commands_by}
 use Rattle.esr_core.specs.Ids.{Law}
 use Rattle.esr_core.specs.Entry.{Given, GivenShard, GivenClone, GivenFinalize, GivenDrop, GivenRestore, GivenDelete, GivenCleanup, Step, TakeStep, SettleStep, SettlePruned, PruneStep, DepotFault, Reply, Gave, Refused, Moment}

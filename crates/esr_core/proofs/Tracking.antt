@@ -14,28 +14,13 @@ use Rattle.esr_core.proofs.Reading.{some_same}
 use Rattle.esr_core.proofs.Queues.{Ops, was_in, same_in, other_in, split_at}
 use Rattle.esr_core.proofs.Naming.{named_up}
 use Rattle.esr_core.proofs.Below.{root_up}
+use Rattle.esr_core.proofs.Besides.{tracked_besides}
 
 -- what isn't read of a world
 pub tracked_aside : (w : World) → Tracked w → (blobs : Blobs) (safe pending : ℕ) (completed : List ℕ) (doomed : List BlobName) (deposed : Bool)
     → Tracked (record w { blobs = blobs; safe = safe; pending = pending; completed = completed; doomed = doomed; deposed = deposed })
 tracked_aside w l blobs safe pending completed doomed deposed =
-    record {
-      numbers = l.numbers;
-      delete_numbers = l.delete_numbers;
-      apart = l.apart;
-      tickets = l.tickets;
-      begun = l.begun;
-      first_ticket = l.first_ticket;
-      shards = l.shards;
-      held = l.held;
-      finals = l.finals;
-      drops = l.drops;
-      deleting = l.deleting;
-      deletions = l.deletions;
-      one_swap = l.one_swap;
-      named = l.named;
-      in_term = record { from = l.in_term.from; below = l.in_term.below };
-    }
+    tracked_besides w l blobs safe pending completed doomed deposed w.restores w.readers w.caller w.entries w.next_op w.next_ticket (omega arith) (omega arith)
 
 -- ---- a ticket given anew
 

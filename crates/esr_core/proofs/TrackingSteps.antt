@@ -14,8 +14,8 @@ use Rattle.esr_core.specs.Pruning.{delete_swap, planned_work, planned, dooms}
 use Rattle.esr_model.specs.Image.{Image, Blobs}
 use Rattle.esr_core.specs.World.{World, Op, ShardWork, Out, Done, Work, Shard, Finalize, Deleting, Drop, Ticket, Swap, AllDone, swap_of, marked, info_of, made_of, kept_deletes, opened, Deletion}
 use Rattle.esr_core.specs.Ready.{Goes, Stopped, IsShard, IsMaster, ReadyDrop, SwapIsOut}
-use Rattle.esr_core.specs.Steps.{with_ticket, completing, listing, final_ticket}
-use Rattle.esr_core.specs.Turns.{plain_ticket, cleaning_ticket, fails}
+use Rattle.esr_core.specs.Steps.{with_ticket, completing, listing, final_ticket, plain_ticket}
+use Rattle.esr_core.specs.Turns.{cleaning_ticket, fails}
 use Rattle.esr_core.specs.Entry.{AskedIndex, CloneOf, Snapshot, Clone, Given, GivenShard, GivenFinalize, GivenDrop, Step, Reply, Moment, GivenRestore, DeleteSnapshots, Restore, Cleanup, AskStep, ReadStep, Read, ReadBlob, RestoredShard, ReadFails, WasFetched, WasAbsent, HasEnded, GivenClone, GivenDelete, GivenCleanup, Prune, PruneStep}
 use Rattle.esr_core.specs.After.{asked, asked_op, cloned_op, clone_opened, taken_by, taken_shard, with_given, change, committing, fetching, told_blob, done_of, done_by, failed_of, failed_by, is_stale, settled_of, dropped_of, tried, answered, blobs_in, after, stepped, test_left, deletes_left, delete_settled, delete_failed, delete_failed_by}
 use Rattle.esr_core.specs.Allowed as allowed

@@ -11,8 +11,8 @@ use Rattle.esr_model.specs.Finalize.{Finalizes, finalized_root, done_at}
 use Rattle.esr_model.specs.Reach.{Reached, ReachSnap, ReachMeta, ReachIndexMeta, ReachIndex, ReachShardSnap, ReachPart}
 use Rattle.esr_core.specs.World.{World, Op, ShardWork, Pending, Done, Work, Shard, Finalize, Deleting, Drop, Ticket, Swap, AllDone, swap, HeldIn, info_of, marked}
 use Rattle.esr_core.specs.Ready.{IsShard}
-use Rattle.esr_core.specs.Steps.{IsOut, reading, listing, Largest, given, shard_ticket, final_ticket, noting, writing}
-use Rattle.esr_core.specs.Turns.{cleaning_ticket, Turn, Stays, Commits, CommitFails, Finds, Raises, Latests, Fetches, SettlesFinal, SettlesDelete, Elects, TakesShard, TakesFinal, TakesDrop, TakesDelete, TakesCleanup, AsksCleanup, CleanDrops, DrawsShard, DrawsPlan, Dones, Ending, Fails, FailsDelete, Drops, AsksCreate, AsksDelete, Merges, Removing, Pages, Deposes, SettleDelete, DrawPlan, AskCreate, Aborts, fails, plain_ticket, Besides, Tests}
+use Rattle.esr_core.specs.Steps.{IsOut, reading, listing, Largest, given, shard_ticket, final_ticket, noting, writing, plain_ticket}
+use Rattle.esr_core.specs.Turns.{cleaning_ticket, Turn, Stays, Commits, CommitFails, Finds, Raises, Latests, Fetches, SettlesFinal, SettlesDelete, Elects, TakesShard, TakesFinal, TakesDrop, TakesDelete, TakesCleanup, AsksCleanup, CleanDrops, DrawsShard, DrawsPlan, Dones, Ending, Fails, FailsDelete, Drops, AsksCreate, AsksDelete, Merges, Removing, Pages, Deposes, SettleDelete, DrawPlan, AskCreate, Aborts, fails, Besides, Tests}
 use Rattle.esr_core.specs.Generations.{DoneAt, OpLaw}
 use Rattle.esr_core.specs.Ids.{OfUuid, OfId, TicketIds, OpIds, DoomedIds, Ids, IdsIn, Law}
 use Rattle.esr_model.specs.Kept.{first_id, IdsBelow, RootIds}

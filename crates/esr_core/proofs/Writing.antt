@@ -7,11 +7,11 @@ use Rattle.esr_model.specs.Shelf.{Shelved}
 use Rattle.esr_model.specs.Image.{IsStored, Blobs, Reads, IndexStands, At}
 use Rattle.esr_core.specs.World.{World, Work, Shard, Finalize, Deleting, Drop, Ticket, Swap, swap_of, HeldIn}
 use Rattle.esr_core.specs.Ready.{IsShard}
-use Rattle.esr_core.specs.Steps.{Drew, ShardCommits, MayCommit, CommitDone, Remove, FetchFound, reading, listing, writing, noting, shard_ticket, final_ticket, Removes}
+use Rattle.esr_core.specs.Steps.{Drew, ShardCommits, MayCommit, CommitDone, Remove, FetchFound, reading, listing, writing, noting, shard_ticket, final_ticket, Removes, plain_ticket}
 use Rattle.esr_core.specs.Generations.{Base}
 use Rattle.esr_core.specs.Ids.{OfId, Law}
 use Rattle.esr_core.specs.Written.{WroteLaw, Written}
-use Rattle.esr_core.specs.Turns.{DrawShard, plain_ticket, cleaning_ticket, Turn, Stays, Commits, CommitFails, Finds, Raises, Latests, Fetches, SettlesFinal, SettlesDelete, Elects, TakesShard, TakesFinal, TakesDrop, TakesDelete, TakesCleanup, AsksCleanup, CleanDrops, DrawsShard, DrawsPlan, Dones, Ending, Fails, FailsDelete, Drops, AsksCreate, AsksDelete, Merges, Removing, Pages, Deposes, Besides, Tests, TestTurn, DrawsTest, AddsTest, RemovesTests}
+use Rattle.esr_core.specs.Turns.{DrawShard, cleaning_ticket, Turn, Stays, Commits, CommitFails, Finds, Raises, Latests, Fetches, SettlesFinal, SettlesDelete, Elects, TakesShard, TakesFinal, TakesDrop, TakesDelete, TakesCleanup, AsksCleanup, CleanDrops, DrawsShard, DrawsPlan, Dones, Ending, Fails, FailsDelete, Drops, AsksCreate, AsksDelete, Merges, Removing, Pages, Deposes, Besides, Tests, TestTurn, DrawsTest, AddsTest, RemovesTests}
 use Rattle.esr_core.proofs.Besides.{aside_of, kept_aside}
 use Rattle.esr_core.proofs.Adds.{at_kept, at_new}
 use Rattle.esr_core.proofs.Reading.{none_some, some_same}

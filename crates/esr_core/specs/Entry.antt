@@ -1,5 +1,5 @@
 -- A step of the repository as the history tells it: who made it, what was asked, and what was answered.
-use Rattle.std.specs.Prelude.{◌≢◌, ℕ, ℤ, Bool, true, false, List, Option}
+use Rattle.std.specs.Prelude.{◌≡◌, ◌≢◌, ℕ, ℤ, Bool, true, false, List, Option, refl}
 use Rattle.esr_model.specs.Names.{BlobName}
 use Rattle.esr_model.specs.Values.{Bytes, IndexRef, RootSnap, SnapInfo, ShardResult}
 use Rattle.esr_model.specs.Delete.{PrunedShard}
@@ -33,6 +33,11 @@ is_recorded (Clone source name indices moment taken) = true
 is_recorded (DeleteSnapshots names) = true
 is_recorded (Restore name place) = false
 is_recorded Cleanup = true
+
+-- of a restore alone it has none
+pub unrecorded : (command : Asked) → is_recorded command ≡ false → (name : Bytes) × (place : Bytes) × (command ≡ Restore name place)
+unrecorded (Restore name place) none = (name, place, refl)
+unrecorded command none = absurd cc
 
 -- the unit that a ticket was given
 pub data Given : Type 0 where
@@ -139,6 +144,10 @@ pub data Step : Type 0 where
 -- it asks for no clone
 abbrev pub AsksNoClone : Step → Type 0
 AsksNoClone step = (source name : Bytes) (indices : List Bytes) (moment : ℕ) (taken : Option CloneOf) → step ≢ AskStep (Clone source name indices moment taken)
+
+-- it asks for no snapshot
+abbrev pub AsksNoSnapshot : Step → Type 0
+AsksNoSnapshot step = (name : Bytes) (indices : List AskedIndex) (moment : ℕ) → step ≢ AskStep (Snapshot name indices moment)
 
 pub data Refusal : Type 0 where
   CleanupRunning : (op : ℕ) → Refusal

@@ -20,6 +20,7 @@ pub mod Turns
 pub mod Entry
 pub mod Deletes
 pub mod After
+pub mod Numbers
 pub mod Allowed
 pub mod ReadLaw
 pub mod Restored
@@ -33,3 +34,7 @@ pub mod Causes
 pub mod Tidy
 pub mod Cleaned
 pub mod Example
+pub mod NumberMaps
+pub mod AbortLaws
+pub mod UnitSteps
+pub mod RestoreShards

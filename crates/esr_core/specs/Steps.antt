@@ -10,7 +10,7 @@ use Rattle.esr_model.specs.Finalize.{finalized_root}
 use Rattle.esr_model.specs.Cleanup.{BlobSize, is_short}
 use Rattle.esr_core.specs.Generations.{IsLive, AreFilesOf}
 use Rattle.esr_core.specs.Ready.{IsShard}
-use Rattle.esr_core.specs.World.{World, Ticket, Op, ShardWork, ShardState, Pending, Shard, Finalize, Deleting, Out, Done, GivenUp, AllDone, Swap, swap, marked, info_of, made_of, metadata, HeldIn}
+use Rattle.esr_core.specs.World.{World, Ticket, Op, ShardWork, ShardState, Pending, Work, Shard, Finalize, Deleting, Out, Done, GivenUp, AllDone, Swap, swap, marked, info_of, made_of, metadata, HeldIn}
 
 -- the ticket is out under this number
 pub record IsOut (w : World) (k : ℕ) (t : Ticket) : Type 0 where
@@ -76,12 +76,13 @@ pub record CommitExists (f : Formats) (w : World) (k : ℕ) (name : BlobName) (n
   pub there : Present f w.blobs name
   pub new_is : new ≡ with_ticket w k (noting t name)
 
-abbrev pub final_ticket : Formats → World → ℕ → Op → List ShardResult → Ticket
-final_ticket f w o op results =
+-- a ticket that has done nothing yet
+abbrev pub plain_ticket : World → ℕ → Work → Ticket
+plain_ticket w o work =
     record {
-      work = Finalize (info_of op results) results (made_of f w.blobs op);
+      work = work;
       op = o;
-      uuid = op.uuid;
+      uuid = 0;
       place = [];
       name = [];
       source = None;
@@ -102,6 +103,9 @@ final_ticket f w o op results =
       listed = [];
       whole = false;
     }
+
+abbrev pub final_ticket : Formats → World → ℕ → Op → List ShardResult → Ticket
+final_ticket f w o op results = record (plain_ticket w o (Finalize (info_of op results) results (made_of f w.blobs op))) { uuid = op.uuid }
 
 -- commit: Done, Exists, and what a failed call may leave
 pub record CommitDone (f : Formats) (w : World) (k : ℕ) (name : BlobName) (new : World) : Type 0 where
@@ -283,30 +287,7 @@ Largest w index shard (Some base) = IsLive w.root w.ops index shard base × ((g 
 
 abbrev pub shard_ticket : World → ℕ → Op → ShardWork → Option ℕ → Ticket
 shard_ticket w o op s base =
-    record {
-      work = Shard s.ref.id s.number;
-      op = o;
-      uuid = op.uuid;
-      place = s.place;
-      name = s.ref.name;
-      source = op.source;
-      term = w.term;
-      safe = w.safe;
-      root = w.root;
-      base = base;
-      first = 0;
-      drawn = 0;
-      noted = [];
-      wrote = [];
-      read = [];
-      raised = None;
-      tried_latest = false;
-      settled = false;
-      out = true;
-      clean = false;
-      listed = [];
-      whole = false;
-    }
+    record (plain_ticket w o (Shard s.ref.id s.number)) { uuid = op.uuid; place = s.place; name = s.ref.name; source = op.source; base = base }
 
 pub record TakeShard (w : World) (o : ℕ) (op : Op) (s : ShardWork) (base : Option ℕ) (new : World) : Type 0 where
   pub op_there : fin.get w.ops o ≡ Some op

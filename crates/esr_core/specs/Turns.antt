@@ -16,13 +16,13 @@ use Rattle.esr_model.specs.Reach.{Reached}
 use Rattle.esr_model.specs.Places.{places}
 use Rattle.esr_core.specs.Generations.{OpTexts, Together, AreFilesOf, AreIndicesBy}
 use Rattle.esr_core.specs.Swaps.{SwapShape}
-use Rattle.esr_core.specs.World.{World, Ticket, Op, Deletion, ShardWork, ShardState, Pending, Out, Done, GivenUp, ReadState, RestoreShard, Restoring, Reader, Caller, Work, Shard, Finalize, Deleting, Drop, Swap, marked, info_of, HeldIn}
+use Rattle.esr_core.specs.World.{World, Ticket, Op, Deletion, ShardWork, ShardState, Pending, Out, Done, GivenUp, ReadState, RestoreShard, Restoring, Reader, Caller, Shard, Finalize, Deleting, Drop, Swap, marked, info_of, HeldIn}
 use Rattle.esr_core.specs.Ready.{IsShard, IsMaster, ReadyShard, ReadyFinalize, ReadyDrop, ReadyDelete, ReadyCleanup, ReadyRestore}
 use Rattle.esr_core.specs.Entry.{Entry}
 use Rattle.esr_core.specs.Restores.{IsTestOf, AreApart, IsReading, ListsPiece, waits, restore_opened, shard_handed, more_read, shard_ended}
 use Rattle.esr_core.specs.Queue.{Lists}
 use Rattle.esr_core.specs.Pruning.{IsPlanned, dooms}
-use Rattle.esr_core.specs.Steps.{IsOut, Largest, given, shard_ticket, final_ticket, completing, settled, MaySettle, CommitDone, CommitFault, CommitExists, Raise, Elect, TryLatest, FetchFound, Drew, ExtendsBase, Ends, Removes, Remove, ListMore}
+use Rattle.esr_core.specs.Steps.{IsOut, Largest, given, plain_ticket, shard_ticket, final_ticket, completing, settled, MaySettle, CommitDone, CommitFault, CommitExists, Raise, Elect, TryLatest, FetchFound, Drew, ExtendsBase, Ends, Removes, Remove, ListMore}
 
 -- take: the four kinds of unit
 pub record TakeReadyShard (w : World) (o : ℕ) (op : Op) (s : ShardWork) (base : Option ℕ) (new : World) : Type 0 where
@@ -35,33 +35,6 @@ pub record TakeReadyFinal (f : Formats) (w : World) (o : ℕ) (op : Op) (results
   -- its root can be written
   pub root_back : ReadsBack f.root (finalized_root w.root (info_of op results) results)
   pub new_is : new ≡ record w { tickets = fin.insert w.tickets w.next_ticket (final_ticket f w o op results); next_ticket = suc w.next_ticket }
-
-abbrev pub plain_ticket : World → ℕ → Work → Ticket
-plain_ticket w o work =
-    record {
-      work = work;
-      op = o;
-      uuid = 0;
-      place = [];
-      name = [];
-      source = None;
-      term = w.term;
-      safe = w.safe;
-      root = w.root;
-      base = None;
-      first = 0;
-      drawn = 0;
-      noted = [];
-      wrote = [];
-      read = [];
-      raised = None;
-      tried_latest = false;
-      settled = false;
-      out = true;
-      clean = false;
-      listed = [];
-      whole = false;
-    }
 
 -- of a cleanup, which names none
 abbrev pub cleaning_ticket : World → ℕ → Ticket

@@ -32,13 +32,14 @@ ghost use Rattle.std.specs.FinMap.{FinMap};
 ghost use Rattle.std.specs.Ordering.{nat_cmp};
 ghost use Rattle.esr_core.specs.Turns.{Turn, Turns, commands_of};
 ghost use Rattle.esr_core.specs.Doomed.{Dooms};
-ghost use Rattle.esr_core.specs.Entry.{Moment, AsksNoClone, Restore, AskStep, SettleStep, SettlePruned, PruneStep, WasSettled, Refusal, Refused, StaleTerm, AcceptedRestore, Given, Gave, Step, Reply, Entry};
-ghost use Rattle.esr_core.specs.After.{swaps_record, answered, after};
+ghost use Rattle.esr_core.specs.Entry.{Moment, Asked, AsksNoClone, AsksNoSnapshot, Restore, AskStep, SettleStep, SettlePruned, PruneStep, WasSettled, Refusal, Refused, StaleTerm, AcceptedRestore, Given, Gave, Step, Reply, Entry};
+ghost use Rattle.esr_core.specs.After.{swaps_record, done_step, answered, after};
+ghost use Rattle.esr_core.specs.Numbers.{DrawsFew};
 ghost use Rattle.esr_core.specs.Past.{is_counted, with_entry, begins_anew, entries_by};
 ghost use Rattle.esr_core.specs.Changes.{StepChange, StepFrame, BlobsChange, Maker};
 ghost use Rattle.esr_core.specs.Example.{CanWrite, HasSnapshot};
 ghost use Rattle.esr_core.specs.Allowed.{SameBlobs, SettlesDeletion, ClonedBy, Allowed, RestoredBy, Blocks, IsBlocked};
-ghost use Rattle.esr_core.specs.Causes.{RefusalCause, TakeGave, SettleDid};
+ghost use Rattle.esr_core.specs.Causes.{RefusalCause, TakeGave, SettleDid, RestoreBegan};
 ghost use Rattle.esr_core.specs.History.{world_from, IsLegal, TellsHandedOut, AreTold, committed, counts, Lasts};
 ghost use Rattle.esr_core.specs.Cleaned.{HoldsReachAlone, ListsListedAlone, IsTestCommit, ChangesBlobs, NoneOf, IsFirstPage, IsLastDrop};
 ghost use Rattle.esr_core.specs.Left.{cut_off, Leaves, safe_in};
@@ -118,10 +119,18 @@ pub fn each_refusal_has_its_cause()
         → Blocks w m.entry.who m.entry.step refusal ⊎ RefusalCause f part_size w m.entry.who m.entry.step m.image refusal }
 {}
 
-/// A unit that was given is the ready one of the lowest op; what was settled was so by an unsettled swap of the present term.
+/// An asked command takes neither the term nor the next generation on, and draws no more ids than it asks for.
+pub fn asks_draw_few()
+    ensures { (f : Formats) (w : World) (k : ℕ) (command : Asked) (reply : Reply) (image : Option Image) → DrawsFew w (AskStep command) (done_step f w k (AskStep command) reply image) }
+{}
+
+/// A unit that was given is the ready one of the lowest op; what was settled was so by an unsettled swap of the present term; a restore
+/// that was accepted was asked, and no rule stood against it.
 pub fn answers_tell_their_steps()
     ensures gave { (f : Formats) (part_size : ℕ) (w : World) (m : Moment) (k o : ℕ) (unit : Given) → Allowed f part_size w m → m.entry.reply ≡ Gave k o unit → TakeGave f w m.entry.who m.entry.step k o unit }
     ensures settled { (f : Formats) (part_size : ℕ) (w : World) (m : Moment) → Allowed f part_size w m → m.entry.reply ≡ WasSettled → SettleDid f w m.entry.who m.entry.step }
+    ensures began { (f : Formats) (part_size : ℕ) (w : World) (m : Moment) (o uuid : ℕ) (indices : List IndexRef) → Allowed f part_size w m → m.entry.reply ≡ AcceptedRestore o uuid indices
+        → RestoreBegan f w m.entry.who m.entry.step o uuid indices m.image }
 {}
 
 /// A world is deposed only after a record swap that failed.
@@ -482,4 +491,10 @@ pub fn the_law_has_these_parts()
 pub fn only_asks_open_clones()
     ensures { (f : Formats) (w : World) (m : Moment) → AsksNoClone m.entry.step → ((o : ℕ) (op : Op) → fin.get w.ops o ≡ Some op → op.source ≡ None) → (o : ℕ) (op : Op) → fin.get (after f w m).ops o ≡ Some op
         → op.source ≡ None }
+{}
+
+/// Where each open op copies a snapshot each does after a step that asks for no snapshot.
+pub fn only_asks_open_uploads()
+    ensures { (f : Formats) (w : World) (m : Moment) → AsksNoSnapshot m.entry.step → ((o : ℕ) (op : Op) → fin.get w.ops o ≡ Some op → op.source ≡ None → ⊥) → (o : ℕ) (op : Op) → fin.get (after f w m).ops o ≡ Some op
+        → op.source ≡ None → ⊥ }
 {}

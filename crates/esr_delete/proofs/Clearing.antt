@@ -105,36 +105,34 @@ pub once_layout : (items once : List CodeName) → ((name : CodeName) → Has on
 once_layout items once same laid name has = all_has IsName items name laid ((same name).0 has)
 
 -- all of it was named
-pub can_end : (s : Start) (old log : List Moment) (who : ℕ) (names : List BlobName) → ticket_of s log who ≡ ticket_of s old who → IsSettledPlan (ticket_of s old who) → (ticket_of s old who).clean ≡ false → (s.tells ≡ true → names ≡ dooms (formats_of s) (ticket_of s old who))
-    → HasRemoved false s old log who names → CanEndDelete s log who
-can_end s old log who names kept over mode are removed =
-    let here : IsSettledPlan (ticket_of s log who) = subst IsSettledPlan (sym kept) over in
-    record {
-      out = here.out;
-      settled = here.settled;
-      uuids = here.uuids;
-      plan = here.plan;
-      work = here.work;
-      deletes = ap (λ (t : Ticket). t.clean) kept ∙ mode;
-      removed = λ tells. subst (AreNamed s log who) (are tells ∙ ap (dooms (formats_of s)) (sym kept)) removed.named;
-    }
+module _ (s : Start) (old log : List Moment) (who : ℕ) (names : List BlobName) (kept : ticket_of s log who ≡ ticket_of s old who) (over : IsSettledPlan (ticket_of s old who)) where
+  kept_plan : IsSettledPlan (ticket_of s log who)
+  kept_plan = subst IsSettledPlan (sym kept) over
 
--- or taken away
-pub can_end_cleanup : (s : Start) (old log : List Moment) (who : ℕ) (names : List BlobName) → ticket_of s log who ≡ ticket_of s old who → IsSettledPlan (ticket_of s old who) → (ticket_of s old who).clean ≡ true → (s.tells ≡ true → names ≡ dooms (formats_of s) (ticket_of s old who))
-    → NoneFailed s old who → HasPutLatest (world_of s old) who → HasRemoved true s old log who names → CanEndCleanup s log who
-can_end_cleanup s old log who names kept over mode are well put removed =
-    let here : IsSettledPlan (ticket_of s log who) = subst IsSettledPlan (sym kept) over in
-    record {
-      out = here.out;
-      settled = here.settled;
-      uuids = here.uuids;
-      plan = here.plan;
-      work = here.work;
-      cleans = ap (λ (t : Ticket). t.clean) kept ∙ mode;
-      latest = removed.put put;
-      removals = removed.well refl well;
-      removed = λ tells. subst (AreGone s log who) (are tells ∙ ap (dooms (formats_of s)) (sym kept)) (removed.gone refl);
-    }
+  pub can_end : (ticket_of s old who).clean ≡ false → (s.tells ≡ true → names ≡ dooms (formats_of s) (ticket_of s old who)) → HasRemoved false s old log who names → CanEndDelete s log who
+  can_end mode are removed = record {
+    out = kept_plan.out;
+    settled = kept_plan.settled;
+    uuids = kept_plan.uuids;
+    plan = kept_plan.plan;
+    work = kept_plan.work;
+    deletes = ap (λ (t : Ticket). t.clean) kept ∙ mode;
+    removed = λ tells. subst (AreNamed s log who) (are tells ∙ ap (dooms (formats_of s)) (sym kept)) removed.named;
+  }
+
+  -- or taken away
+  pub can_end_cleanup : (ticket_of s old who).clean ≡ true → (s.tells ≡ true → names ≡ dooms (formats_of s) (ticket_of s old who)) → NoneFailed s old who → HasPutLatest (world_of s old) who → HasRemoved true s old log who names → CanEndCleanup s log who
+  can_end_cleanup mode are well put removed = record {
+    out = kept_plan.out;
+    settled = kept_plan.settled;
+    uuids = kept_plan.uuids;
+    plan = kept_plan.plan;
+    work = kept_plan.work;
+    cleans = ap (λ (t : Ticket). t.clean) kept ∙ mode;
+    latest = removed.put put;
+    removals = removed.well refl well;
+    removed = λ tells. subst (AreGone s log who) (are tells ∙ ap (dooms (formats_of s)) (sym kept)) (removed.gone refl);
+  }
 
 -- ---- the end
 

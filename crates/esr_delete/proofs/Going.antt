@@ -35,59 +35,34 @@ passed (Err y) P e is holds = subst P (sym is) holds
 
 -- ---- the ticket
 
-pub worked_read : (old new : Ticket) (uuids : List ℕ) (plan : Option Swap) → old.work ≡ Deleting uuids plan → HasRead old new → Worked old new
-worked_read old new uuids plan work h = record {
+-- it drew and planned nothing
+worked_as : (old new : Ticket) (uuids : List ℕ) (plan : Option Swap) (noted : List BlobName) (wrote read : List (BlobName × Bytes)) (raised : Option ℕ) (tried : Bool) (listed : List BlobSize) (whole : Bool) → old.work ≡ Deleting uuids plan
+    → new ≡ record old { noted = noted; wrote = wrote; read = read; raised = raised; tried_latest = tried; listed = listed; whole = whole } → Worked old new
+worked_as old new uuids plan noted wrote read raised tried listed whole work is = record {
   uuids = uuids;
   before = plan;
   was = work;
   plan = plan;
   first = old.first;
   drawn = old.drawn;
-  noted = old.noted;
-  wrote = old.wrote;
-  read = h.read;
-  raised = old.raised;
-  tried = old.tried_latest;
-  listed = old.listed;
-  whole = old.whole;
-  is = h.is ∙ ap (λ (w : Work). record old { work = w; read = h.read }) work;
-}
-
-pub worked_put : (old new : Ticket) (uuids : List ℕ) (plan : Option Swap) → old.work ≡ Deleting uuids plan → PutWorked old new → Worked old new
-worked_put old new uuids plan work h = record {
-  uuids = uuids;
-  before = plan;
-  was = work;
-  plan = plan;
-  first = old.first;
-  drawn = old.drawn;
-  noted = h.noted;
-  wrote = h.wrote;
-  read = old.read;
-  raised = h.raised;
-  tried = h.tried;
-  listed = old.listed;
-  whole = old.whole;
-  is = h.is ∙ ap (λ (w : Work). record old { work = w; noted = h.noted; wrote = h.wrote; raised = h.raised; tried_latest = h.tried }) work;
-}
-
-pub worked_listed : (old new : Ticket) (uuids : List ℕ) (plan : Option Swap) (listed : List BlobSize) (whole : Bool) → old.work ≡ Deleting uuids plan → new ≡ record old { listed = listed; whole = whole } → Worked old new
-worked_listed old new uuids plan listed whole work is = record {
-  uuids = uuids;
-  before = plan;
-  was = work;
-  plan = plan;
-  first = old.first;
-  drawn = old.drawn;
-  noted = old.noted;
-  wrote = old.wrote;
-  read = old.read;
-  raised = old.raised;
-  tried = old.tried_latest;
+  noted = noted;
+  wrote = wrote;
+  read = read;
+  raised = raised;
+  tried = tried;
   listed = listed;
   whole = whole;
-  is = is ∙ ap (λ (w : Work). record old { work = w; listed = listed; whole = whole }) work;
+  is = is ∙ ap (λ (w : Work). record old { work = w; noted = noted; wrote = wrote; read = read; raised = raised; tried_latest = tried; listed = listed; whole = whole }) work;
 }
+
+pub worked_read : (old new : Ticket) (uuids : List ℕ) (plan : Option Swap) → old.work ≡ Deleting uuids plan → HasRead old new → Worked old new
+worked_read old new uuids plan work h = worked_as old new uuids plan old.noted old.wrote h.read old.raised old.tried_latest old.listed old.whole work h.is
+
+pub worked_put : (old new : Ticket) (uuids : List ℕ) (plan : Option Swap) → old.work ≡ Deleting uuids plan → PutWorked old new → Worked old new
+worked_put old new uuids plan work h = worked_as old new uuids plan h.noted h.wrote old.read h.raised h.tried old.listed old.whole work h.is
+
+pub worked_listed : (old new : Ticket) (uuids : List ℕ) (plan : Option Swap) (listed : List BlobSize) (whole : Bool) → old.work ≡ Deleting uuids plan → new ≡ record old { listed = listed; whole = whole } → Worked old new
+worked_listed old new uuids plan listed whole work is = worked_as old new uuids plan old.noted old.wrote old.read old.raised old.tried_latest listed whole work is
 
 pub worked_same : (t : Ticket) (uuids : List ℕ) (plan : Option Swap) → t.work ≡ Deleting uuids plan → Worked t t
 worked_same t uuids plan work = worked_listed t t uuids plan t.listed t.whole work refl

@@ -15,9 +15,8 @@ use Rattle.esr_core.proofs.Deleting.{bool_told}
 use Rattle.esr_shardidx.specs.Indices.{IndexValue}
 use Rattle.esr_formats.specs.Formats.{formats}
 use Rattle.esr_formats.specs.Shards.{shard_index_of, shard_index_kind}
-use Rattle.esr_results.specs.declared.pruned_root.PrunedShard.{PrunedShard as CodePruned}
-use Rattle.esr_results.specs.Pruned.{pruned_of}
-use Rattle.esr_results.proofs.Pruning.{no_shard}
+use Rattle.esr_results.specs.declared.pruned.PrunedShard.{PrunedShard as CodePruned}
+use Rattle.esr_results.specs.Pruned.{pruned_of, no_shard}
 use Rattle.esr_reach.specs.Held.{HeldShard, held_at}
 use Rattle.esr_desk.specs.Start.{Start, formats_of}
 use Rattle.esr_desk.specs.Conditions.{CanCommit}

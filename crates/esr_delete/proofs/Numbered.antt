@@ -3,9 +3,8 @@ use Rattle.std.proofs.Common.{◌≡◌, ◌<◌, inl, inr, ℕ, zero, suc, List
 use Rattle.esr_model.specs.Values.{Has, RootData}
 use Rattle.esr_model.specs.Delete.{PrunedShard}
 use Rattle.esr_core.specs.Pruning.{AreOfRoot}
-use Rattle.esr_results.specs.declared.pruned_root.PrunedShard.{PrunedShard as CodePruned}
-use Rattle.esr_results.specs.Pruned.{pruned_of}
-use Rattle.esr_results.proofs.Pruning.{no_shard}
+use Rattle.esr_results.specs.declared.pruned.PrunedShard.{PrunedShard as CodePruned}
+use Rattle.esr_results.specs.Pruned.{pruned_of, no_shard}
 use Rattle.esr_dooming.proofs.Loops.{item_is}
 use Rattle.esr_dooming.proofs.Laid.{has_at}
 

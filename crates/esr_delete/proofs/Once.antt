@@ -4,30 +4,13 @@ use Rattle.std.proofs.lemmas.List.{map-append, take_more, take_at, take_all, get
 use Rattle.std.specs.Ordering.{is_eq}
 use Rattle.std.specs.BTreeSet.{BTreeSet, contains}
 use Rattle.esr_names.specs.declared.blob.BlobName.{BlobName as CodeName}
-use Rattle.esr_names.specs.declared.blob.BlobName.TheVariants as code
-use Rattle.esr_formats.specs.Names.{name_of, code_name}
+use Rattle.esr_formats.specs.Names.{name_of}
 use Rattle.esr_model.specs.Values.{Has}
-use Rattle.esr_reach.specs.Names.{AreOnce}
+use Rattle.esr_reach.specs.Names.{AreOnce, name_one}
 use Rattle.esr_reach.specs.Members.{has_push, has_left, has_right, has_only, has_map, once_both}
 use Rattle.esr_reach.proofs.Comparing.{name_cmp}
 use Rattle.esr_reach.proofs.Sets.{set_more}
 use Rattle.esr_delete.specs.Removed.{IsSetOf, IsWith}
-
-coded : (a : CodeName) → code_name (name_of a) ≡ a
-coded (code.Root n) = refl
-coded code.Latest = refl
-coded (code.Snap u) = refl
-coded (code.Meta u) = refl
-coded (code.IndexMeta i u) = refl
-coded (code.ShardSnap s u) = refl
-coded (code.ShardIndex s g) = refl
-coded (code.Whole s x) = refl
-coded (code.Part s x k) = refl
-coded (code.TestMaster v) = refl
-coded (code.TestNode v w) = refl
-
-name_one : (a b : CodeName) → name_of a ≡ name_of b → a ≡ b
-name_one a b e = sym (coded a) ∙ ap code_name e ∙ coded b
 
 -- ---- a name that is there
 

@@ -11,7 +11,7 @@ use Rattle.esr_core.specs.Past.{Repeats}
 use Rattle.esr_core.specs.Pruning.{AreRead, AreOfRoot, AreWritable, pruned_shards, planned}
 use Rattle.esr_core.proofs.DeletedRoots.{one_found}
 use Rattle.esr_formats.specs.Formats.{formats}
-use Rattle.esr_results.specs.declared.pruned_root.PrunedShard.{PrunedShard as CodePruned}
+use Rattle.esr_results.specs.declared.pruned.PrunedShard.{PrunedShard as CodePruned}
 use Rattle.esr_results.specs.Pruned.{pruned_of}
 use Rattle.esr_reach.specs.Held.{HeldShard}
 use Rattle.esr_dooming.specs.Reading.{IsHeld, AreToRead, AreHeldSome}

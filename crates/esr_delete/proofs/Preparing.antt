@@ -18,7 +18,7 @@ use Rattle.esr_desk.specs.Grew.{GrewBy, grew_by_none, grew_by_on}
 use Rattle.esr_desk.specs.Taken.{tried}
 use Rattle.esr_desk.specs.Delete.Conditions.{CanSettleDelete}
 use Rattle.esr_finish.specs.Blobs.{root_blob}
-use Rattle.esr_finish.specs.Ticket.{MayPutRoot, noted_with}
+use Rattle.esr_finish.specs.Ticket.{MayPutRoot, noted_with, has_noted}
 use Rattle.esr_finish.specs.Went.{Went as PutWent}
 use Rattle.esr_finish.proofs.Swaps.{noted_before}
 use Rattle.esr_delete.specs.Gathered.{IsUnplanned, HasRead}
@@ -29,15 +29,6 @@ use Rattle.esr_delete.proofs.Going.{worked_read, worked_put, worked_planned, wor
 use Rattle.esr_delete.proofs.Indexing.{plan_is, read_bare}
 
 -- ---- blobs that are noted
-
-noted_stays : (blobs : List (BlobName × Bytes)) (noted : List BlobName) (name : BlobName) → Has noted name → Has (noted_with blobs noted) name
-noted_stays [] noted name has = has
-noted_stays (b ∷ blobs) noted name has = noted_stays blobs (b.0 ∷ noted) name (inr has)
-
-has_noted : (blobs : List (BlobName × Bytes)) (noted : List BlobName) (b : BlobName × Bytes) → Has blobs b → Has (noted_with blobs noted) b.0
-has_noted [] noted b none = absurd none
-has_noted (x ∷ blobs) noted b (inl same) = noted_stays blobs (x.0 ∷ noted) b.0 (inl (ap (λ (y : BlobName × Bytes). y.0) same))
-has_noted (x ∷ blobs) noted b (inr later) = has_noted blobs (x.0 ∷ noted) b later
 
 no_root : (index number id n : ℕ) → ShardIndex index number id ≡ Root n → ⊥
 no_root index number id n e = cc

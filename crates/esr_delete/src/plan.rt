@@ -14,7 +14,7 @@ ghost use Rattle.esr_unit.specs.Shown.{Shown};
 ghost use Rattle.esr_delete.specs.Gathered.{IsUnplanned, HasMadeFetches, IsGathered};
 ghost use Rattle.esr_delete.specs.Planned.{HasPlanned};
 
-use esr_desk::{Desk, Planned};
+use esr_desk::{Basis, Desk, Planned};
 use esr_dooming::pruned;
 use esr_names::{Id, Ids};
 use esr_reach::ShardIndices;
@@ -80,7 +80,12 @@ pub fn plan<Q: Desk>(
 {
     esr_core::refusals_are_of_their_steps();
     let shards = pruned(alloc, clean, root, uuids, held)?;
-    let planned = desk.plan(alloc, ticket, root, uuids, &shards)?;
+    let basis = Basis {
+        root,
+        uuids,
+        shards: &shards,
+    };
+    let planned = desk.plan(alloc, ticket, &basis)?;
     let Planned { first, root } = planned;
     Ok(Draft {
         shards,

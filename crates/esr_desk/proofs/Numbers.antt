@@ -4,14 +4,14 @@ use Rattle.std.specs.Ordering.{eq_by_cmp}
 use Rattle.std.specs.Cmp.{nat_cmp_total}
 use Rattle.std.specs.FinMap.{FinMap, nat_cmp-IsAntisymmetric}
 use Rattle.std.specs.FinMap as fin
-use Rattle.esr_model.specs.Values.{Bytes, Has, Formats}
+use Rattle.esr_model.specs.Values.{Has, Formats}
 use Rattle.esr_model.specs.Image.{Image}
 use Rattle.esr_core.specs.World.{World, Op, ShardWork, Restoring, RestoreShard, Ticket, Reader}
 use Rattle.esr_core.specs.Restores.{reader_of, read_more, restore_shard}
-use Rattle.esr_core.specs.Entry.{CloneOf, Read, Prune, Step, TakeStep, Reply, Given, GivenShard, GivenFinalize, GivenDrop, GivenRestore, GivenClone, GivenDelete, GivenCleanup, Gave, Refusal, Refused, Moment}
+use Rattle.esr_core.specs.Entry.{Step, TakeStep, Reply, Given, GivenShard, GivenFinalize, GivenDrop, GivenRestore, GivenClone, GivenDelete, GivenCleanup, Gave, Refusal, Refused, Moment}
 use Rattle.esr_core.specs.After.{shard_of, taken_shard, taken_restore_shard, taken_restore, taken_by, answered, after}
-use Rattle.esr_core.specs.Allowed as allowed
-use Rattle.esr_core.specs.Allowed.{DeleteAllows, CleanupAllows, RestoreAllows, OpeningRestore, CloneAllows, OpeningClone, ReadAllows, ReadFound, VerifyAllows, DrawingTest, PruneAllows, Allows, Gives, Allowed, Blocks, ByFailedSwap, ByDelete, IsBlocked}
+use Rattle.esr_core.specs.Allowed.{Gives, Allowed, Blocks, ByFailedSwap, ByDelete, IsBlocked}
+use Rattle.esr_core.specs.Causes.{TakeGave}
 use Rattle.esr_core.specs.Changes.{StepChange, NoChange, NewOp, NewDeletion, MergedDeletion, NewRestore, NewTicket, NewReader, OwnTicket, Settlement, UnitEnd, DeletionFailure, OpDrop, Election, ReaderFetch, ReaderEnd, PlainDraw, TestBlob, SwapFault, Maker, ClientStep, ReaderStep, UnitStep}
 use Rattle.esr_core.specs.History.{world_from, IsLegal}
 use Rattle.esr_desk.specs.Start.{Start, formats_of, world_of, Legal}
@@ -139,57 +139,9 @@ all_below law makers f size (x ∷ log) w m n legal (inr has) made = all_below l
 
 -- ---- a unit is given
 
-abbrev IsGift : Formats → World → ℕ → Step → Reply → Type 0
-IsGift f w who step (Gave ticket op unit) = (who ≡ 0) × (ticket ≡ w.next_ticket) × (step ≡ TakeStep) × Gives f w op unit
-IsGift f w who step reply = Unit {0}
-
-gift_restore : (f : Formats) (w : World) (name : Bytes) (step : Step) (reply : Reply) (image : Option Image) → RestoreAllows f w name reply image → IsGift f w 0 step reply
-gift_restore f w name step reply image (OpeningRestore o uuid indices im h) = tt
-gift_restore f w name step reply image a = tt
-
-gift_clone : (f : Formats) (w : World) (source name : Bytes) (names : List Bytes) (time : ℕ) (taken : Option CloneOf) (step : Step) (reply : Reply) (image : Option Image) → CloneAllows f w source name names time taken reply image → IsGift f w 0 step reply
-gift_clone f w source name names time taken step reply image (OpeningClone of o im acc) = tt
-gift_clone f w source name names time taken step reply image a = tt
-
-gift_delete : (f : Formats) (w : World) (names : List Bytes) (step : Step) (reply : Reply) → DeleteAllows w names reply → IsGift f w 0 step reply
-gift_delete f w names step reply (allowed.GoingInto acc) = tt
-gift_delete f w names step reply a = tt
-
-gift_cleanup : (f : Formats) (w : World) (step : Step) (reply : Reply) → CleanupAllows w reply → IsGift f w 0 step reply
-gift_cleanup f w step reply (allowed.OpeningCleanup acc) = tt
-gift_cleanup f w step reply a = tt
-
-gift_read : (f : Formats) (w : World) (who : ℕ) (read : Read) (step : Step) (reply : Reply) (image : Option Image) → ReadAllows f w who read reply image → IsGift f w who step reply
-gift_read f w who read step reply image (ReadFound k name im stored by found) = tt
-gift_read f w who read step reply image a = tt
-
-gift_verify : (f : Formats) (w : World) (read : Read) (step : Step) (reply : Reply) (image : Option Image) → VerifyAllows f w read reply image → IsGift f w 0 step reply
-gift_verify f w read step reply image (DrawingTest im idle fits same) = tt
-gift_verify f w read step reply image a = tt
-
-gift_prune : (f : Formats) (w : World) (who : ℕ) (prune : Prune) (step : Step) (reply : Reply) (image : Option Image) → PruneAllows f w who prune reply image → IsGift f w who step reply
-gift_prune f w who prune step reply image (allowed.FetchingShard k name im g found) = tt
-gift_prune f w who prune step reply image a = tt
-
-gift : (f : Formats) (size : ℕ) (w : World) (who : ℕ) (step : Step) (reply : Reply) (image : Option Image) → Allows f size w who step reply image → IsGift f w who step reply
-gift f size w who step reply image (allowed.Giving k o unit im is lowest g same) = (refl, is, refl, g)
-gift f size w who step reply image (allowed.AskingRestore name place rep im a same) = gift_restore f w name step rep im a
-gift f size w who step reply image (allowed.AskingClone source name names time taken rep im a same) = gift_clone f w source name names time taken step rep im a
-gift f size w who step reply image (allowed.AskingDelete names rep im a same) = gift_delete f w names step rep a
-gift f size w who step reply image (allowed.AskingCleanup rep im a same) = gift_cleanup f w step rep a
-gift f size w who step reply image (allowed.Reading k read rep im a same) = gift_read f w k read step rep im a
-gift f size w who step reply image (allowed.Verifying read rep im a) = gift_verify f w read step rep im a
-gift f size w who step reply image (allowed.Pruning k prune rep im a) = gift_prune f w k prune step rep im a
-gift f size w who step reply image a = tt
-
-refused_gave : (refusal : Refusal) (ticket op : ℕ) (unit : Given) → Refused refusal ≡ Gave ticket op unit → ⊥
-refused_gave refusal ticket op unit e = cc
-
-given_by : (f : Formats) (size : ℕ) (w : World) (m : Moment) → Allowed f size w m → (ticket op : ℕ) (unit : Given) → m.entry.reply ≡ Gave ticket op unit → IsGift f w m.entry.who m.entry.step (Gave ticket op unit)
-given_by f size w m a ticket op unit is = elim a.answered [
-  | inl alive ↦ subst (IsGift f w m.entry.who m.entry.step) is (gift f size w m.entry.who m.entry.step m.entry.reply m.image alive.1)
-  | inr dead ↦ absurd (refused_gave dead.refusal ticket op unit (sym dead.refused ∙ is))
-]
+-- it is so by a take
+abbrev pub TakesGive : Type 0
+TakesGive = (f : Formats) (part_size : ℕ) (w : World) (m : Moment) (ticket op : ℕ) (unit : Given) → Allowed f part_size w m → m.entry.reply ≡ Gave ticket op unit → TakeGave f w m.entry.who m.entry.step ticket op unit
 
 -- ---- the next number
 
@@ -217,27 +169,27 @@ next_given f w o (GivenDelete uuids) (Some op) is g = refl
 next_given f w o GivenCleanup None is g = refl
 next_given f w o GivenCleanup (Some op) is g = refl
 
-next_after : (f : Formats) (w : World) (m : Moment) (ticket op : ℕ) (unit : Given) → IsGift f w m.entry.who m.entry.step (Gave ticket op unit) → m.entry.reply ≡ Gave ticket op unit → (after f w m).next_ticket ≡ suc w.next_ticket
+next_after : (f : Formats) (w : World) (m : Moment) (ticket op : ℕ) (unit : Given) → TakeGave f w m.entry.who m.entry.step ticket op unit → m.entry.reply ≡ Gave ticket op unit → (after f w m).next_ticket ≡ suc w.next_ticket
 next_after f w m ticket op unit gift is =
-    ap (λ (who : ℕ). (answered f w who m.entry.step m.entry.reply m.image).next_ticket) gift.0
-    ∙ ap (λ (step : Step). (answered f w 0 step m.entry.reply m.image).next_ticket) gift.2
+    ap (λ (who : ℕ). (answered f w who m.entry.step m.entry.reply m.image).next_ticket) gift.who_is
+    ∙ ap (λ (step : Step). (answered f w 0 step m.entry.reply m.image).next_ticket) gift.step_is
     ∙ ap (λ (reply : Reply). (answered f w 0 TakeStep reply m.image).next_ticket) is
-    ∙ next_given f w op unit (fin.get w.ops op) refl gift.3
+    ∙ next_given f w op unit (fin.get w.ops op) refl gift.gives
 
 -- so each ticket that was given is below it
-given_below : Changes → (f : Formats) (size : ℕ) (log : List Moment) (w : World) (m : Moment) (ticket op : ℕ) (unit : Given) → Numbered 1 w → IsLegal f size w log → Has log m → m.entry.reply ≡ Gave ticket op unit → ticket < (world_from f w log).next_ticket
-given_below law f size [] w m ticket op unit n legal none is = absurd none
-given_below law f size (x ∷ log) w m ticket op unit n legal (inl same) is =
-    let gift = given_by f size w m (subst (Allowed f size w) same legal.0) ticket op unit is in
-    let number : ticket ≡ w.next_ticket = gift.1 in
+given_below : Changes → TakesGive → (f : Formats) (size : ℕ) (log : List Moment) (w : World) (m : Moment) (ticket op : ℕ) (unit : Given) → Numbered 1 w → IsLegal f size w log → Has log m → m.entry.reply ≡ Gave ticket op unit → ticket < (world_from f w log).next_ticket
+given_below law takes f size [] w m ticket op unit n legal none is = absurd none
+given_below law takes f size (x ∷ log) w m ticket op unit n legal (inl same) is =
+    let gift = takes f size w m ticket op unit (subst (Allowed f size w) same legal.0) is in
+    let number : ticket ≡ w.next_ticket = gift.number in
     let next : (after f w x).next_ticket ≡ suc w.next_ticket = ap (λ (y : Moment). (after f w y).next_ticket) same ∙ next_after f w m ticket op unit gift is in
     let then_is = numbered_after 1 law f w x n in
     let more : (after f w x).next_ticket ≤ (world_from f (after f w x) log).next_ticket = (numbered_from (after f w x).next_ticket law f log (after f w x) (record { next = omega arith; tickets = then_is.tickets; readers = then_is.readers })).next in
     omega (arith, number, next, more)
-given_below law f size (x ∷ log) w m ticket op unit n legal (inr has) is = given_below law f size log (after f w x) m ticket op unit (numbered_after 1 law f w x n) legal.1 has is
+given_below law takes f size (x ∷ log) w m ticket op unit n legal (inr has) is = given_below law takes f size log (after f w x) m ticket op unit (numbered_after 1 law f w x n) legal.1 has is
 
-pub below_next : Changes → (s : Start) (log : List Moment) (m : Moment) (ticket op : ℕ) (unit : Given) → Numbered 1 s.world → Legal s log → Has log m → m.entry.reply ≡ Gave ticket op unit → ticket < (world_of s log).next_ticket
-below_next law s log m ticket op unit n legal has is = given_below law (formats_of s) s.part_size log s.world m ticket op unit n legal has is
+pub below_next : Changes → TakesGive → (s : Start) (log : List Moment) (m : Moment) (ticket op : ℕ) (unit : Given) → Numbered 1 s.world → Legal s log → Has log m → m.entry.reply ≡ Gave ticket op unit → ticket < (world_of s log).next_ticket
+below_next law takes s log m ticket op unit n legal has is = given_below law takes (formats_of s) s.part_size log s.world m ticket op unit n legal has is
 
 -- ---- the history ends with it
 
@@ -245,8 +197,8 @@ pub front_legal : (f : Formats) (size : ℕ) (log : List Moment) (w : World) (m 
 front_legal f size [] w m legal = (tt, legal.0)
 front_legal f size (x ∷ log) w m legal = let rest = front_legal f size log (after f w x) m legal.1 in ((legal.0, rest.0), rest.1)
 
-pub is_next : (s : Start) (log : List Moment) (m : Moment) (ticket op : ℕ) (unit : Given) → Legal s (log ++ m ∷ []) → m.entry.reply ≡ Gave ticket op unit → ticket ≡ (world_of s log).next_ticket
-is_next s log m ticket op unit legal is = (given_by (formats_of s) s.part_size (world_of s log) m (front_legal (formats_of s) s.part_size log s.world m legal).1 ticket op unit is).1
+pub is_next : TakesGive → (s : Start) (log : List Moment) (m : Moment) (ticket op : ℕ) (unit : Given) → Legal s (log ++ m ∷ []) → m.entry.reply ≡ Gave ticket op unit → ticket ≡ (world_of s log).next_ticket
+is_next takes s log m ticket op unit legal is = (takes (formats_of s) s.part_size (world_of s log) m ticket op unit (front_legal (formats_of s) s.part_size log s.world m legal).1 is).number
 
 has_either : (log : List Moment) (m x : Moment) → Has (log ++ m ∷ []) x → Has log x ⊎ (m ≡ x)
 has_either [] m x (inl same) = inr same
@@ -254,20 +206,20 @@ has_either [] m x (inr none) = absurd none
 has_either (y ∷ log) m x (inl same) = inl (inl same)
 has_either (y ∷ log) m x (inr has) = ⊎_elim (λ before. inl (inr before)) (λ same. inr same) (has_either log m x has)
 
-pub none_made : Changes → Makers → (s : Start) (log : List Moment) (m : Moment) (ticket op : ℕ) (unit : Given) → Numbered 1 s.world → Legal s (log ++ m ∷ []) → m.entry.reply ≡ Gave ticket op unit → HasMadeNone (log ++ m ∷ []) ticket
-none_made law makers s log m ticket op unit n legal is x has by made =
+pub none_made : Changes → Makers → TakesGive → (s : Start) (log : List Moment) (m : Moment) (ticket op : ℕ) (unit : Given) → Numbered 1 s.world → Legal s (log ++ m ∷ []) → m.entry.reply ≡ Gave ticket op unit → HasMadeNone (log ++ m ∷ []) ticket
+none_made law makers takes s log m ticket op unit n legal is x has by made =
     let f = formats_of s in
     let w = world_of s log in
     let front = front_legal f s.part_size log s.world m legal in
-    let given = given_by f s.part_size w m front.1 ticket op unit is in
+    let given = takes f s.part_size w m ticket op unit front.1 is in
     ⊎_elim
     (λ (before : Has log x).
     let less : x.entry.who < w.next_ticket = all_below law makers f s.part_size log s.world x n front.0 before made in
-    let same : x.entry.who ≡ w.next_ticket = by ∙ given.1 in
+    let same : x.entry.who ≡ w.next_ticket = by ∙ given.number in
     omega (arith, less, same))
     (λ (here : m ≡ x).
-    let zero_is : x.entry.who ≡ 0 = ap (λ (y : Moment). y.entry.who) (sym here) ∙ given.0 in
-    let same : x.entry.who ≡ w.next_ticket = by ∙ given.1 in
+    let zero_is : x.entry.who ≡ 0 = ap (λ (y : Moment). y.entry.who) (sym here) ∙ given.who_is in
+    let same : x.entry.who ≡ w.next_ticket = by ∙ given.number in
     let some : 1 ≤ w.next_ticket = (numbered_from 1 law f log s.world n).next in
     omega (arith, zero_is, same, some))
     (has_either log m x has)

@@ -16,6 +16,7 @@ pub mod Caller
 pub mod Sources
 pub mod Last
 pub mod Halts
+pub mod Asks
 pub mod Grew
 pub mod Delete
 pub mod Restore

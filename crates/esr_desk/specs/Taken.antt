@@ -23,34 +23,22 @@ use Rattle.esr_desk.specs.declared.unit.Unit.{Unit as Given}
 use Rattle.esr_desk.specs.declared.refusal.StepRefusal.{StepRefusal}
 use Rattle.esr_desk.specs.declared.refusal.StepRefusal.TheVariants as steps
 use Rattle.esr_desk.specs.declared.refusal.EntryRefusal.TheVariants.{DepotFault}
-use Rattle.esr_desk.specs.Start.{Start, ticket_of, told_bytes}
+use Rattle.esr_desk.specs.Start.{Start, no_ticket, ticket_of, told_bytes}
 
 -- a ticket that has done nothing yet
 abbrev pub fresh : Work → ℕ → ℕ → Bytes → Bytes → ℕ → Copied → Ticket
 fresh work op uuid place name term copy =
-    record {
+    record no_ticket {
       work = work;
       op = op;
       uuid = uuid;
       place = place;
       name = name;
-      source = None;
       term = term;
       safe = count_of copy.safe;
       root = root_of copy.root;
       base = option_map number_of copy.base;
-      first = 0;
-      drawn = 0;
-      noted = [];
-      wrote = [];
-      read = [];
-      raised = None;
-      tried_latest = false;
-      settled = false;
       out = true;
-      clean = false;
-      listed = [];
-      whole = false;
     }
 
 -- the root that a finalization is to write

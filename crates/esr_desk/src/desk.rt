@@ -32,10 +32,10 @@ ghost use Rattle.esr_desk.specs.Readers.{TookUnit, IsBare};
 ghost use Rattle.esr_desk.specs.Taken.{committed_by, begun_by, tried_by, LeftBy, HasRaised, IsSettled, HasEndedAs};
 ghost use Rattle.esr_desk.specs.declared.refusal.StepRefusal.{StepRefusal};
 
-use crate::{By, Hand, Named, Planned, RestoredTarget, StepRefusal, Unended, Unit, Why};
+use crate::{Attempt, Basis, Failure, Named, NewBlob, Planned, RestoreEnd, Unended, Unit, Who};
 use esr_depot::{Commit, Fetch, Listing, Stage};
-use esr_names::{BlobName, Id, Ids};
-use esr_results::{PrunedShards, ShardResult};
+use esr_names::{BlobName, Id};
+use esr_results::ShardResult;
 use esr_root::RootData;
 use esr_seq::Seq;
 use esr_source::{Shard, Target};
@@ -69,7 +69,7 @@ pub trait Desk {
         ensures { start.quiet ≡ true → NeverFailed (seen self.now) };
 
     /// Takes the first ready unit of the lowest op, or `None` where no unit is ready. Its ticket has made no step.
-    fn take(&mut self, alloc: Global) -> Result<Option<Unit>, StepRefusal>
+    fn take(&mut self, alloc: Global) -> Attempt<Option<Unit>>
         ensures step { Outcome start (seen self.old) (seen self.new) 0 TakeStep take_reply result }
         ensures took { IfOk result (λ o. IfSome o (λ u. TookUnit start (seen self.new) u)) }
         ensures bare { IfOk result (λ o. IfSome o (λ u. IsBare start (seen self.new) u)) }
@@ -78,56 +78,47 @@ pub trait Desk {
         ensures calls { calls self.new ≡ called (seen self.new) TakeStep take_reply result (calls self.old) };
 
     /// Begins the next term, and answers it. Tickets of earlier terms begin and settle no root any more.
-    fn elect(&mut self, alloc: Global) -> Result<u64, StepRefusal>
+    fn elect(&mut self, alloc: Global) -> Attempt<u64>
         ensures step { Outcome start (seen self.old) (seen self.new) 0 ElectStep (λ term. ElectedTerm term) result }
         ensures range { IfOk result (λ term. term < 2 ^ 63) }
         ensures calls { calls self.new ≡ called (seen self.new) ElectStep (λ term. ElectedTerm term) result (calls self.old) };
 
     /// The blob of that name, to be read from its first byte, or `None` where there is none. Who 0 fetches for a check or a
     /// verification.
-    fn fetch(
-        &mut self,
-        alloc: Global,
-        hand: Hand,
-        who: u64,
-        name: BlobName,
-    ) -> Result<Option<Self::Fetch>, StepRefusal>
-        requires mine { IsMine hand (calls self.old) who }
+    fn fetch(&mut self, alloc: Global, who: Who, name: BlobName) -> Attempt<Option<Self::Fetch>>
+        requires mine { IsMine who.hand (calls self.old) who.number }
         requires layout { IsName name }
-        requires may { MayFetch hand start (seen self.old) who (name_of name) }
-        requires new { IsFresh start (seen self.old) who (fetch_step hand (name_of name)) }
-        ensures step { Outcome start (seen self.old) (seen self.new) who (fetch_step hand (name_of name)) fetch_reply result }
-        ensures own { IfOk result (λ o. own_of start (seen self.new) who
-            ≡ own_fetched hand Self.Fetch.left (name_of name) o (own_of start (seen self.old) who)) }
+        requires may { MayFetch who.hand start (seen self.old) who.number (name_of name) }
+        requires new { IsFresh start (seen self.old) who.number (fetch_step who.hand (name_of name)) }
+        ensures step { Outcome start (seen self.old) (seen self.new) who.number (fetch_step who.hand (name_of name)) fetch_reply result }
+        ensures own { IfOk result (λ o. own_of start (seen self.new) who.number
+            ≡ own_fetched who.hand Self.Fetch.left (name_of name) o (own_of start (seen self.old) who.number)) }
         ensures told { IfOk result (λ o. IfSome o (λ f. (bytes : Bytes) × Holds start (Self.Fetch.left f) bytes)) }
         ensures count { IfOk result (λ o. IfSome o (λ f. Self.Fetch.faults f ≡ 0)) }
         ensures sure { IfOk result (λ o. IfSome o (λ f. start.quiet ≡ true → IsTrue (Self.Fetch.is_sure f))) }
         // There are 2^40 turns, of which each entry took one.
         ensures few { OnOk result (start.alone ≡ true → length (seen self.new) ≤ 2 ^ 40) }
-        ensures kept { OnErr result (own_of start (seen self.new) who ≡ own_of start (seen self.old) who) }
-        ensures calls { calls self.new ≡ called_by hand (seen self.new) (fetch_step hand (name_of name)) fetch_reply result (calls self.old) };
+        ensures kept { OnErr result (own_of start (seen self.new) who.number ≡ own_of start (seen self.old) who.number) }
+        ensures calls { calls self.new ≡ called_by who.hand (seen self.new) (fetch_step who.hand (name_of name)) fetch_reply result (calls self.old) };
 
     /// A unit, a check or a verification failed, as `by` shows, and ends. An object that failed is given up in each answer.
     fn fail(
         &mut self,
         alloc: Global,
-        hand: Hand,
-        who: u64,
-        why: Why,
-        by: By<Self::Stage, Self::Fetch, Self::Shard, Self::Target>,
-    ) -> Result<(), StepRefusal>
-        requires mine { IsMine hand (calls self.old) who }
-        requires may { MayFail hand start (seen self.old) who }
-        requires shown { IsShown hand
+        failure: Failure<Self::Stage, Self::Fetch, Self::Shard, Self::Target>,
+    ) -> Attempt<()>
+        requires mine { IsMine failure.who.hand (calls self.old) failure.who.number }
+        requires may { MayFail failure.who.hand start (seen self.old) failure.who.number }
+        requires shown { IsShown failure.who.hand
             (evidence Self.Stage.faults Self.Fetch.faults Self.Shard.faults Self.Target.faults Self.Shard.told Self.Target.told)
-            start (seen self.old) who (why_of why) by }
-        ensures step { Outcome start (seen self.old) (seen self.new) who (fail_step hand (why_of why)) (λ _. HasEnded) result }
-        ensures own { OnOk result (own_of start (seen self.new) who ≡ own_failed hand (own_of start (seen self.old) who)) }
-        ensures kept { OnErr result (own_of start (seen self.new) who ≡ own_of start (seen self.old) who) }
-        ensures calls { calls self.new ≡ called_by hand (seen self.new) (fail_step hand (why_of why)) (λ _. HasEnded) result (calls self.old) };
+            start (seen self.old) failure.who.number (why_of failure.why) failure.by }
+        ensures step { Outcome start (seen self.old) (seen self.new) failure.who.number (fail_step failure.who.hand (why_of failure.why)) (λ _. HasEnded) result }
+        ensures own { OnOk result (own_of start (seen self.new) failure.who.number ≡ own_failed failure.who.hand (own_of start (seen self.old) failure.who.number)) }
+        ensures kept { OnErr result (own_of start (seen self.new) failure.who.number ≡ own_of start (seen self.old) failure.who.number) }
+        ensures calls { calls self.new ≡ called_by failure.who.hand (seen self.new) (fail_step failure.who.hand (why_of failure.why)) (λ _. HasEnded) result (calls self.old) };
 
     /// Draws so many ids, one after another, and answers the first.
-    fn draw(&mut self, alloc: Global, ticket: u64, count: u64) -> Result<Id, StepRefusal>
+    fn draw(&mut self, alloc: Global, ticket: u64, count: u64) -> Attempt<Id>
         requires mine { HasTaken (calls self.old) ticket }
         requires may { CanDraw start (ticket_of start (seen self.old) ticket) count }
         requires new { IsFresh start (seen self.old) ticket (DrawStep count) }
@@ -139,22 +130,16 @@ pub trait Desk {
         ensures calls { calls self.new ≡ calls self.old };
 
     /// A new stage for a blob of that name, for at most `room` bytes.
-    fn begin(
-        &mut self,
-        alloc: Global,
-        ticket: u64,
-        name: BlobName,
-        room: usize,
-    ) -> Result<Named<Self::Stage>, StepRefusal>
+    fn begin(&mut self, alloc: Global, ticket: u64, blob: NewBlob) -> Attempt<Named<Self::Stage>>
         requires mine { HasTaken (calls self.old) ticket }
-        requires layout { IsName name }
-        requires may { CanBegin start (ticket_of start (seen self.old) ticket) (name_of name) }
-        requires new { IsFresh start (seen self.old) ticket (BeginStep (name_of name)) }
-        ensures step { Outcome start (seen self.old) (seen self.new) ticket (BeginStep (name_of name)) (λ stage. WasBegun) result }
+        requires layout { IsName blob.name }
+        requires may { CanBegin start (ticket_of start (seen self.old) ticket) (name_of blob.name) }
+        requires new { IsFresh start (seen self.old) ticket (BeginStep (name_of blob.name)) }
+        ensures step { Outcome start (seen self.old) (seen self.new) ticket (BeginStep (name_of blob.name)) (λ stage. WasBegun) result }
         ensures own { ticket_of start (seen self.new) ticket
-            ≡ begun_by (name_of name) result (ticket_of start (seen self.old) ticket) }
-        ensures name { IfOk result (λ s. s.name ≡ name) }
-        ensures room { IfOk result (λ s. Self.Stage.room s.stage ≡ room) }
+            ≡ begun_by (name_of blob.name) result (ticket_of start (seen self.old) ticket) }
+        ensures name { IfOk result (λ s. s.name ≡ blob.name) }
+        ensures room { IfOk result (λ s. Self.Stage.room s.stage ≡ blob.room) }
         ensures contents { IfOk result (λ s. Holds start (Self.Stage.contents s.stage) []) }
         ensures count { IfOk result (λ s. Self.Stage.faults s.stage ≡ 0) }
         ensures sure { IfOk result (λ s. start.quiet ≡ true → IsTrue (Self.Stage.is_sure s.stage)) }
@@ -168,7 +153,7 @@ pub trait Desk {
         ticket: u64,
         name: BlobName,
         stage: Self::Stage,
-    ) -> Result<Commit, StepRefusal>
+    ) -> Attempt<Commit>
         requires mine { HasTaken (calls self.old) ticket }
         requires named { Self.Stage.name stage ≡ name_kind.text (name_of name) }
         requires layout { IsName name }
@@ -190,7 +175,7 @@ pub trait Desk {
         ticket: u64,
         name: BlobName,
         stage: Self::Stage,
-    ) -> Result<(), StepRefusal>
+    ) -> Attempt<()>
         requires mine { HasTaken (calls self.old) ticket }
         requires named { Self.Stage.name stage ≡ name_kind.text (name_of name) }
         requires name { name_of name ≡ Latest }
@@ -202,7 +187,7 @@ pub trait Desk {
         ensures calls { calls self.new ≡ calls self.old };
 
     /// Begins a generation for the root that the ticket is to write, and answers it.
-    fn raise(&mut self, alloc: Global, ticket: u64) -> Result<u64, StepRefusal>
+    fn raise(&mut self, alloc: Global, ticket: u64) -> Attempt<u64>
         requires mine { HasTaken (calls self.old) ticket }
         requires may { CanRaise start (ticket_of start (seen self.old) ticket) }
         requires new { IsFresh start (seen self.old) ticket RaiseStep }
@@ -214,7 +199,7 @@ pub trait Desk {
         ensures calls { calls self.new ≡ calls self.old };
 
     /// Makes the root that the ticket of a snapshot or a clone committed the safe one.
-    fn settle(&mut self, alloc: Global, ticket: u64, root: &RootData) -> Result<(), StepRefusal>
+    fn settle(&mut self, alloc: Global, ticket: u64, root: &RootData) -> Attempt<()>
         requires mine { HasTaken (calls self.old) ticket }
         requires may { CanSettle start (ticket_of start (seen self.old) ticket) (root_of root.now) }
         requires unpruned { IsUnpruned (ticket_of start (seen self.old) ticket) }
@@ -225,36 +210,24 @@ pub trait Desk {
         ensures kept { LeftBy (IsSettled (ticket_of start (seen self.old) ticket)) result (ticket_of start (seen self.old) ticket) (ticket_of start (seen self.new) ticket) }
         ensures calls { calls self.new ≡ calls self.old };
 
-    /// Plans a delete or cleanup: draws an id for each of these shards of which something is left, and answers the first one and
-    /// the root without the named snapshots. `root` and `uuids` are those of the ticket; a cleanup names none.
-    fn plan(
-        &mut self,
-        alloc: Global,
-        ticket: u64,
-        root: &RootData,
-        uuids: &Ids,
-        shards: &PrunedShards,
-    ) -> Result<Planned, StepRefusal>
+    /// Plans a delete or cleanup: draws an id for each shard of which something is left, and answers the first one and the root
+    /// without the named snapshots.
+    fn plan(&mut self, alloc: Global, ticket: u64, basis: &Basis<'_>) -> Attempt<Planned>
         requires mine { HasTaken (calls self.old) ticket }
-        requires copied { root_of root.now ≡ (ticket_of start (seen self.old) ticket).root }
-        requires may { CanPlan start (ticket_of start (seen self.old) ticket) (map number_of uuids.now) (map pruned_of shards.now) }
-        requires new { IsFresh start (seen self.old) ticket (PruneStep (PlanShards (map pruned_of shards.now))) }
-        ensures step { Outcome start (seen self.old) (seen self.new) ticket (PruneStep (PlanShards (map pruned_of shards.now))) (λ p. DrawnFrom p.first.number) result }
+        requires copied { root_of basis.now.root.now ≡ (ticket_of start (seen self.old) ticket).root }
+        requires may { CanPlan start (ticket_of start (seen self.old) ticket) (map number_of basis.now.uuids.now) (map pruned_of basis.now.shards.now) }
+        requires new { IsFresh start (seen self.old) ticket (PruneStep (PlanShards (map pruned_of basis.now.shards.now))) }
+        ensures step { Outcome start (seen self.old) (seen self.new) ticket (PruneStep (PlanShards (map pruned_of basis.now.shards.now))) (λ p. DrawnFrom p.first.number) result }
         ensures own { IfOk result (λ p. ticket_of start (seen self.new) ticket
-            ≡ planned (formats_of start) (map pruned_of shards.now) p.first.number (ticket_of start (seen self.old) ticket)) }
-        ensures root { IfOk result (λ p. root_of p.root ≡ deleted_root (root_of root.now) (map number_of uuids.now) (map pruned_of shards.now) p.first.number) }
-        ensures range { IfOk result (λ p. p.first.number + length shards.now < 2 ^ 128) }
+            ≡ planned (formats_of start) (map pruned_of basis.now.shards.now) p.first.number (ticket_of start (seen self.old) ticket)) }
+        ensures root { IfOk result (λ p. root_of p.root ≡ deleted_root (root_of basis.now.root.now) (map number_of basis.now.uuids.now) (map pruned_of basis.now.shards.now) p.first.number) }
+        ensures range { IfOk result (λ p. p.first.number + length basis.now.shards.now < 2 ^ 128) }
         ensures kept { OnErr result (ticket_of start (seen self.new) ticket ≡ ticket_of start (seen self.old) ticket) }
         ensures calls { calls self.new ≡ calls self.old };
 
     /// A page of the container's blobs, by name and length: the first 1,000 after this name, or from the first one on, in the byte
     /// order of their names. A cleanup lists page after page, until one of fewer than 1,000 ends the listing.
-    fn list(
-        &mut self,
-        alloc: Global,
-        ticket: u64,
-        after: Option<&str>,
-    ) -> Result<Listing, StepRefusal>
+    fn list(&mut self, alloc: Global, ticket: u64, after: Option<&str>) -> Attempt<Listing>
         requires mine { HasTaken (calls self.old) ticket }
         requires may { CanList (ticket_of start (seen self.old) ticket) (option_copied after) }
         requires new { IsFresh start (seen self.old) ticket (ListStep (option_copied after)) }
@@ -267,12 +240,7 @@ pub trait Desk {
 
     /// Makes the root that the ticket of a delete or cleanup committed the safe one, and what it dooms may be removed. A delete
     /// leaves the list, a cleanup stays.
-    fn settle_delete(
-        &mut self,
-        alloc: Global,
-        ticket: u64,
-        root: &RootData,
-    ) -> Result<(), StepRefusal>
+    fn settle_delete(&mut self, alloc: Global, ticket: u64, root: &RootData) -> Attempt<()>
         requires mine { HasTaken (calls self.old) ticket }
         requires may { CanSettleDelete start (ticket_of start (seen self.old) ticket) (root_of root.now) }
         requires new { IsFresh start (seen self.old) ticket (PruneStep SettlePruned) }
@@ -284,12 +252,7 @@ pub trait Desk {
 
     /// Takes blobs that the ticket dooms away; those that are gone already are no failure. Where the container fails in it, they
     /// count as named, too.
-    fn remove(
-        &mut self,
-        alloc: Global,
-        ticket: u64,
-        names: &Seq<BlobName>,
-    ) -> Result<(), StepRefusal>
+    fn remove(&mut self, alloc: Global, ticket: u64, names: &Seq<BlobName>) -> Attempt<()>
         requires mine { HasTaken (calls self.old) ticket }
         requires layout { (name : BlobName) → Has names.now name → IsName name }
         requires may { CanRemove start (ticket_of start (seen self.old) ticket) (map name_of names.now) }
@@ -299,12 +262,7 @@ pub trait Desk {
         ensures calls { calls self.new ≡ calls self.old };
 
     /// A shard is done; its ticket ends.
-    fn end_shard(
-        &mut self,
-        alloc: Global,
-        ticket: u64,
-        outcome: &ShardResult,
-    ) -> Result<(), StepRefusal>
+    fn end_shard(&mut self, alloc: Global, ticket: u64, outcome: &ShardResult) -> Attempt<()>
         requires mine { HasTaken (calls self.old) ticket }
         requires may { CanEnd start (ticket_of start (seen self.old) ticket) (result_of outcome.now) }
         ensures step { Outcome start (seen self.old) (seen self.new) ticket (DoneStep (result_of outcome.now)) (λ _. HasEnded) result }
@@ -312,30 +270,26 @@ pub trait Desk {
         ensures kept { OnErr result (ticket_of start (seen self.new) ticket ≡ ticket_of start (seen self.old) ticket) }
         ensures calls { calls self.new ≡ calls self.old };
 
-    /// A shard is restored, with so many files of so many bytes, which the target has; its ticket ends. The target is listed, or
-    /// given back where that is refused.
+    /// A shard is restored; its ticket ends. The target is listed, or given back where that is refused.
     fn end_restore(
         &mut self,
         alloc: Global,
-        ticket: u64,
-        files: u64,
-        bytes: u64,
-        target: RestoredTarget<Self::Target>,
+        done: RestoreEnd<Self::Target>,
     ) -> Result<(), Unended<Self::Target>>
-        requires mine { HasTaken (calls self.old) ticket }
-        requires may { CanEndRestore start (reader_of start (seen self.old) ticket) files bytes }
+        requires mine { HasTaken (calls self.old) done.ticket }
+        requires may { CanEndRestore start (reader_of start (seen self.old) done.ticket) done.files done.bytes }
         requires filled { IsFilled
             (evidence Self.Stage.faults Self.Fetch.faults Self.Shard.faults Self.Target.faults Self.Shard.told Self.Target.told)
-            start (reader_of start (seen self.old) ticket) files bytes target }
-        ensures step { Outcome start (seen self.old) (seen self.new) ticket (ReadStep (RestoredShard files bytes)) (λ _. HasEnded) (refused_of result) }
-        ensures own { OnOk result (reader_of start (seen self.new) ticket
-            ≡ record (reader_of start (seen self.old) ticket) { out = false }) }
-        ensures kept { OnErr result (reader_of start (seen self.new) ticket ≡ reader_of start (seen self.old) ticket) }
-        ensures target { IfErr result (λ u. u.target ≡ target) }
+            start (reader_of start (seen self.old) done.ticket) done.files done.bytes done.target }
+        ensures step { Outcome start (seen self.old) (seen self.new) done.ticket (ReadStep (RestoredShard done.files done.bytes)) (λ _. HasEnded) (refused_of result) }
+        ensures own { OnOk result (reader_of start (seen self.new) done.ticket
+            ≡ record (reader_of start (seen self.old) done.ticket) { out = false }) }
+        ensures kept { OnErr result (reader_of start (seen self.new) done.ticket ≡ reader_of start (seen self.old) done.ticket) }
+        ensures target { IfErr result (λ u. u.target ≡ done.target) }
         ensures calls { calls self.new ≡ calls self.old };
 
     /// A delete is over: its removals have named all that its plan dooms. Its ticket ends.
-    fn end_delete(&mut self, alloc: Global, ticket: u64) -> Result<(), StepRefusal>
+    fn end_delete(&mut self, alloc: Global, ticket: u64) -> Attempt<()>
         requires mine { HasTaken (calls self.old) ticket }
         requires may { CanEndDelete start (seen self.old) ticket }
         ensures step { Outcome start (seen self.old) (seen self.new) ticket (PruneStep EndDelete) (λ _. HasEnded) result }
@@ -344,7 +298,7 @@ pub trait Desk {
         ensures calls { calls self.new ≡ calls self.old };
 
     /// An op that failed leaves the list; its ticket ends.
-    fn end_drop(&mut self, alloc: Global, ticket: u64) -> Result<(), StepRefusal>
+    fn end_drop(&mut self, alloc: Global, ticket: u64) -> Attempt<()>
         requires mine { HasTaken (calls self.old) ticket }
         requires may { CanDrop (ticket_of start (seen self.old) ticket) }
         requires new { IsFresh start (seen self.old) ticket DroppedStep }
@@ -354,7 +308,7 @@ pub trait Desk {
         ensures calls { calls self.new ≡ calls self.old };
 
     /// A cleanup is over: its removals took all that it dooms away. Its op leaves the list; its ticket ends.
-    fn end_cleanup(&mut self, alloc: Global, ticket: u64) -> Result<(), StepRefusal>
+    fn end_cleanup(&mut self, alloc: Global, ticket: u64) -> Attempt<()>
         requires mine { HasTaken (calls self.old) ticket }
         requires may { CanEndCleanup start (seen self.old) ticket }
         requires new { IsFresh start (seen self.old) ticket DroppedStep }
@@ -365,7 +319,7 @@ pub trait Desk {
 
     /// The unit of a snapshot or a clone that has settled ends, and so does any but a shard's once its term is over, as a step of
     /// its own was told.
-    fn finish(&mut self, alloc: Global, ticket: u64) -> Result<(), StepRefusal>
+    fn finish(&mut self, alloc: Global, ticket: u64) -> Attempt<()>
         requires mine { HasTaken (calls self.old) ticket }
         requires may { CanFinish start (seen self.old) ticket }
         ensures step { Outcome start (seen self.old) (seen self.new) ticket FinishStep (λ _. HasEnded) result }

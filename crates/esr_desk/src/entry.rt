@@ -101,6 +101,15 @@ pub enum Prune {
     Failed { why: Why },
 }
 
+/// A clone that is asked for: of the snapshot `source` under a name, of these indices, or of all where none is named.
+#[derive(Clone, Copy)]
+pub struct CloneAsk<'a> {
+    pub source: &'a SnapName,
+    pub name: &'a SnapName,
+    pub indices: &'a IndexNames,
+    pub moment: u64,
+}
+
 /// What a clone takes: the snapshot that it copies, and these of its indices.
 #[derive(Drop)]
 pub struct CloneOf {

@@ -1,5 +1,6 @@
 //! Objects of the outside that failed.
 
+use crate::{Who, Why};
 use esr_seq::Seq;
 
 /// An object that failed. `S` is the type of stages, `F` that of fetches, `H` that of shards, `T` that of targets.
@@ -31,4 +32,12 @@ pub enum By<S, F, H, T> {
     Entry,
     /// What the unit read.
     Nothing,
+}
+
+/// A failure as it is told: who failed, why, and what shows it.
+#[derive(Drop)]
+pub struct Failure<S, F, H, T> {
+    pub who: Who,
+    pub why: Why,
+    pub by: By<S, F, H, T>,
 }

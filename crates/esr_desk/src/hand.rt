@@ -14,3 +14,10 @@ pub enum Hand {
     /// Who 0, who verifies the container.
     Verify,
 }
+
+/// Who makes a step: the ticket of this number, or who 0, for this hand.
+#[derive(Clone, Copy)]
+pub struct Who {
+    pub hand: Hand,
+    pub number: u64,
+}

@@ -13,6 +13,7 @@ pub fn each_ticket_is_new()
 {
     esr_core::each_step_is_one_change();
     esr_core::each_step_has_its_maker();
+    esr_core::answers_tell_their_steps();
 }
 
 /// Each ticket that was given is below the next one, which the next unit is given.
@@ -23,6 +24,7 @@ pub fn each_ticket_is_given_once()
         → m.entry.reply ≡ Gave ticket op unit → ticket ≡ (world_of s log).next_ticket }
 {
     esr_core::each_step_is_one_change();
+    esr_core::answers_tell_their_steps();
 }
 
 /// In a legal history no ticket makes a step twice on one name.

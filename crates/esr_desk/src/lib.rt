@@ -15,12 +15,14 @@ mod unit;
 
 pub use client::Client;
 pub use desk::Desk;
-pub use entry::{Answer, BlobNames, CloneOf, Entry, Given, History, Prune, Read, Step, Why};
-pub use fault::{By, FailedObject, Fault, Faults};
-pub use hand::Hand;
+pub use entry::{
+    Answer, BlobNames, CloneAsk, CloneOf, Entry, Given, History, Prune, Read, Step, Why,
+};
+pub use fault::{By, FailedObject, Failure, Fault, Faults};
+pub use hand::{Hand, Who};
 pub use law::{each_ticket_is_given_once, each_ticket_is_new, no_step_is_made_twice};
-pub use named::Named;
-pub use refusal::{EntryRefusal, StepRefusal};
+pub use named::{Named, NewBlob};
+pub use refusal::{Attempt, EntryRefusal, StepRefusal};
 pub use sole::Sole;
-pub use target::{RestoredTarget, RestoredTargets, Unended};
-pub use unit::{AcceptedRestore, Look, Planned, Unit, UnitRefusal};
+pub use target::{RestoreEnd, RestoredTarget, RestoredTargets, Unended};
+pub use unit::{AcceptedRestore, Basis, Look, Planned, Unit, UnitRefusal};

@@ -5,6 +5,13 @@ ghost use Rattle.esr_formats.specs.Names.{name_of, name_kind};
 use esr_depot::{Counted, Failed, Stage};
 use esr_names::BlobName;
 
+/// A blob that is to be written: its name, and how many bytes it has at most.
+#[derive(Clone, Copy)]
+pub struct NewBlob {
+    pub name: BlobName,
+    pub room: usize,
+}
+
 /// A blob that is being written, with its name.
 #[derive(Drop)]
 pub struct Named<S: Stage> {

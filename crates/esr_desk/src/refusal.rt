@@ -57,6 +57,9 @@ pub enum StepRefusal {
     Refused(EntryRefusal),
 }
 
+/// What a step answers, or why it isn't made.
+pub type Attempt<X> = Result<X, StepRefusal>;
+
 impl From<AllocError> for StepRefusal {
     ghost from_gives = { λ _ e. e ≡ Memory };
 

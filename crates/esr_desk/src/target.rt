@@ -13,6 +13,15 @@ pub struct RestoredTarget<T> {
     pub target: T,
 }
 
+/// The end of a shard that was restored by this ticket: with so many files of so many bytes, which the target has.
+#[derive(Drop)]
+pub struct RestoreEnd<T> {
+    pub ticket: u64,
+    pub files: u64,
+    pub bytes: u64,
+    pub target: RestoredTarget<T>,
+}
+
 /// A restored target whose end was refused.
 #[derive(Drop)]
 pub struct Unended<T> {

@@ -3,8 +3,9 @@ ghost use Rattle.std.specs.Prelude.{◌≡◌};
 ghost use Rattle.esr_desk.specs.declared.unit.UnitRefusal.TheVariants.{Stopped};
 
 use crate::{StepRefusal, Why};
-use esr_names::{Id, IndexRefs};
+use esr_names::{Id, Ids, IndexRefs};
 use esr_ops::ReadyUnit;
+use esr_results::PrunedShards;
 use esr_root::{RootData, RootSnaps};
 
 /// A unit that was taken. A finalization has the root that it is to write, too.
@@ -27,6 +28,15 @@ pub struct AcceptedRestore {
     pub op: u64,
     pub uuid: Id,
     pub indices: IndexRefs,
+}
+
+/// What a delete or cleanup is planned by: the root of its ticket, the uuids that it names, which are none for a cleanup, and its
+/// shards, each with what is left of it.
+#[derive(Clone, Copy)]
+pub struct Basis<'a> {
+    pub root: &'a RootData,
+    pub uuids: &'a Ids,
+    pub shards: &'a PrunedShards,
 }
 
 /// What a delete or cleanup writes: the root, and the first id of its shard indices.

@@ -8,7 +8,7 @@ use crate::folder::{copy_of, list, open_plain, read_some};
 use crate::paths::{path_in, source_folder};
 use esr_depot::{CallError, Counted, Failed};
 use esr_seq::Text;
-use esr_source::{Address, Files as FileList, Shard, Sources};
+use esr_source::{Address, Files as FileList, New, Shard, Sources};
 use std::alloc::{AllocError, Global};
 use std::io::{self, ErrorKind};
 use std::rt::Files;
@@ -132,13 +132,7 @@ where
 
     ghost may_be_listed = { λ _ _ _ _. tt };
 
-    fn shard(
-        &self,
-        alloc: Global,
-        place: &str,
-        index: &str,
-        number: u32,
-    ) -> Result<DirShard<'a, R>, AllocError> {
+    fn shard(&self, alloc: Global, place: &str, index: &str, number: u32) -> New<Self::Shard> {
         Ok(DirShard {
             rt: self.rt,
             address: Address::new(alloc, place, index, number)?,

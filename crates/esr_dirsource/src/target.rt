@@ -10,8 +10,8 @@ use crate::folder;
 use crate::paths::{Folders, file_name, is_folder_name, path_in};
 use esr_depot::{CallError, Counted, Failed};
 use esr_seq::Text;
-use esr_source::{Address, Target, Targets};
-use std::alloc::{AllocError, Global};
+use esr_source::{Address, New, Target, Targets};
+use std::alloc::Global;
 use std::fs::OpenOptions;
 use std::io::{self, ErrorKind};
 use std::rt::Files;
@@ -179,13 +179,7 @@ where
 
     ghost told = { λ _. record { tells = false; is_quiet = false } };
 
-    fn target(
-        &self,
-        alloc: Global,
-        place: &str,
-        index: &str,
-        number: u32,
-    ) -> Result<DirTarget<'a, R>, AllocError> {
+    fn target(&self, alloc: Global, place: &str, index: &str, number: u32) -> New<Self::Target> {
         Ok(DirTarget {
             rt: self.rt,
             address: Address::new(alloc, place, index, number)?,

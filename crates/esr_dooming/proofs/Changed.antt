@@ -11,7 +11,7 @@ use Rattle.esr_formats.specs.Roots.{root_of, root_index_of}
 use Rattle.esr_model.specs.Values.{RootIndex, RootData}
 use Rattle.esr_model.specs.Image.{index_at, at_shard, at_shard_of}
 use Rattle.esr_model.specs.Delete.{PrunedShard, gone_by, gone_from, gone_shards}
-use Rattle.esr_results.specs.declared.pruned_root.PrunedShard.{PrunedShard as CodePruned}
+use Rattle.esr_results.specs.declared.pruned.PrunedShard.{PrunedShard as CodePruned}
 use Rattle.esr_results.specs.Pruned.{pruned_of}
 use Rattle.esr_dooming.specs.Pieces.{Added, one_shard, gone_place, gone_index, of_places}
 

@@ -22,7 +22,7 @@ use Rattle.esr_reach.specs.Held.{HeldShard, held_at}
 use Rattle.esr_reach.specs.Listing.{is_listed}
 use Rattle.esr_reach.specs.Names.{Pushed}
 use Rattle.esr_reach.proofs.Pushing.{pushed_none, pushed_one, pushed_as}
-use Rattle.esr_results.specs.declared.pruned_root.PrunedShard.{PrunedShard as CodePruned}
+use Rattle.esr_results.specs.declared.pruned.PrunedShard.{PrunedShard as CodePruned}
 use Rattle.esr_results.specs.Pruned.{pruned_of}
 use Rattle.esr_dooming.specs.Pieces.{is_one, has_left_file, root_piece, root_count, snap_piece, meta_piece, metas_piece, list_piece, file_piece, held_piece, files_piece, shard_piece, snaps_names, gone_names}
 use Rattle.esr_dooming.specs.Reading.{AreHeld}

@@ -24,7 +24,7 @@ use Rattle.esr_reach.specs.Held.{HeldShard, held_at, AreWhole}
 use Rattle.esr_reach.specs.Names.{AreOnce}
 use Rattle.esr_reach.specs.Members.{has_left, has_right, has_either, has_if, in_then, has_map, in_map, has_flat, in_flat, all_has}
 use Rattle.esr_reach.proofs.Apart.{indices_once, one_each}
-use Rattle.esr_results.specs.declared.pruned_root.PrunedShard.{PrunedShard as CodePruned}
+use Rattle.esr_results.specs.declared.pruned.PrunedShard.{PrunedShard as CodePruned}
 use Rattle.esr_results.specs.Pruned.{pruned_of}
 use Rattle.esr_dooming.specs.declared.prune.Loss.{Loss}
 use Rattle.esr_dooming.specs.Pieces.{Added, is_one, one_shard, of_places, touches, loss_of, kept_by, one_piece, read_piece, place_piece, loses_all, index_piece, read_place, read_index}

@@ -16,7 +16,7 @@ use Rattle.esr_model.specs.Delete.{PrunedShard, names_uuid, left_uuids, uuids_of
 use Rattle.esr_core.specs.Pruning.{is_left, is_victim, has_none, has_named, is_touched, pruned_by, bare_shard, pruned_of_index, pruned_of_indices, pruned_shards}
 use Rattle.esr_reach.specs.Held.{HeldShard, held_at}
 use Rattle.esr_reach.specs.Listing.{is_listed}
-use Rattle.esr_results.specs.declared.pruned_root.PrunedShard.{PrunedShard as CodePruned}
+use Rattle.esr_results.specs.declared.pruned.PrunedShard.{PrunedShard as CodePruned}
 use Rattle.esr_results.specs.Pruned.{pruned_of}
 use Rattle.esr_dooming.specs.Pieces.{Added, is_one, of_places, one_shard, touches, has_unlisted, has_left, loss_of, one_piece, read_piece, place_piece, loses_all, index_piece}
 use Rattle.esr_dooming.specs.Reading.{IsHeld}

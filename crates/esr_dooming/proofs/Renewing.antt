@@ -8,7 +8,7 @@ use Rattle.esr_model.specs.Delete.{PrunedShard, surviving}
 use Rattle.esr_reach.specs.Held.{HeldShard, held_at, Holds}
 use Rattle.esr_reach.specs.Members.{has_push, has_left, has_right, has_only, in_map}
 use Rattle.esr_reach.specs.Names.{AreOnce}
-use Rattle.esr_results.specs.declared.pruned_root.PrunedShard.{PrunedShard as CodePruned}
+use Rattle.esr_results.specs.declared.pruned.PrunedShard.{PrunedShard as CodePruned}
 use Rattle.esr_results.specs.Pruned.{pruned_of}
 use Rattle.esr_dooming.specs.Reading.{AreHeldSome}
 use Rattle.esr_dooming.specs.Unreached.{place_of, Renewed}

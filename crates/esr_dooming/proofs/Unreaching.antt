@@ -1,31 +1,17 @@
 -- The names among what a cleanup lists that are appended.
-use Rattle.std.proofs.Common.{◌≡◌, ◌<◌, ◌≤◌, ◌+◌, ℕ, zero, suc, Bool, true, false, List, [], ◌∷◌, ◌++◌, map, flat_map, length, take, get_or, Some, refl, sym, ap, ◌∙◌, inl, inr, arith, append_assoc}
+use Rattle.std.proofs.Common.{◌≡◌, ◌<◌, ◌≤◌, ◌+◌, ℕ, zero, suc, Bool, true, false, List, [], ◌∷◌, ◌++◌, map, flat_map, length, take, get_or, Some, sym, ap, ◌∙◌, inl, inr, arith, append_assoc}
 use Rattle.std.specs.Prelude.{◌||◌, if◌then◌else◌}
 use Rattle.std.proofs.lemmas.List.{append-nil, map-append, take_more, take_all}
 use Rattle.std.proofs.lemmas.Grind.{flat_map-append}
 use Rattle.esr_names.specs.declared.blob.BlobName.{BlobName as CodeName}
-use Rattle.esr_names.specs.declared.blob.BlobName.TheVariants as code
 use Rattle.esr_core.specs.After.{is_latest}
 use Rattle.esr_model.specs.Names.{BlobName}
 use Rattle.esr_model.specs.Values.{Has}
-use Rattle.esr_formats.specs.Names.{name_of, code_name}
-use Rattle.esr_reach.specs.Names.{Pushed}
+use Rattle.esr_formats.specs.Names.{name_of}
+use Rattle.esr_reach.specs.Names.{Pushed, coded}
 use Rattle.esr_dooming.specs.Unreached.{is_spared, name_piece, is_root, rest_piece}
 
 -- ---- one name
-
-coded : (a : CodeName) → code_name (name_of a) ≡ a
-coded (code.Root n) = refl
-coded code.Latest = refl
-coded (code.Snap u) = refl
-coded (code.Meta u) = refl
-coded (code.IndexMeta i u) = refl
-coded (code.ShardSnap s u) = refl
-coded (code.ShardIndex s g) = refl
-coded (code.Whole s x) = refl
-coded (code.Part s x k) = refl
-coded (code.TestMaster v) = refl
-coded (code.TestNode v w) = refl
 
 pub spared_by : (has : CodeName → Bool) (a : CodeName) → (is_latest (name_of a) || has a) ≡ is_spared has (name_of a)
 spared_by has a = ap (λ (b : CodeName). is_latest (name_of a) || has b) (sym (coded a))

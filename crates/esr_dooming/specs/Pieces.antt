@@ -7,7 +7,7 @@ use Rattle.esr_model.specs.Parts.{part_names}
 use Rattle.esr_model.specs.Image.{index_at, at_shard_of}
 use Rattle.esr_model.specs.Delete.{PrunedShard, names_uuid, uuids_of, gone_by, gone_shards}
 use Rattle.esr_reach.specs.Held.{HeldShard, held_at}
-use Rattle.esr_results.specs.declared.pruned_root.PrunedShard.{PrunedShard as CodePruned}
+use Rattle.esr_results.specs.declared.pruned.PrunedShard.{PrunedShard as CodePruned}
 use Rattle.esr_results.specs.Pruned.{pruned_of}
 use Rattle.esr_dooming.specs.declared.prune.Loss.{Loss}
 use Rattle.esr_dooming.specs.declared.prune.Loss.TheVariants as losses

@@ -8,3 +8,8 @@ pub mod Rounds
 pub mod Taking
 pub mod Works
 pub mod Electing
+mod Closing
+mod Joining
+mod Places
+mod Weights
+mod Working

@@ -1,5 +1,5 @@
 -- The calls that a round adds, and that their tickets have ended; what a take says of readiness.
-use Rattle.std.proofs.Common.{◌≡◌, ◌⊎◌, ℕ, ◌+◌, ◌-◌, ◌≤◌, Bool, true, false, List, [], ◌∷◌, ◌++◌, length, Option, Some, None, Result, Ok, Err, append-nil, append_assoc, refl, sym, ap, ◌∙◌, subst, inl, inr, ⊎_elim, arith}
+use Rattle.std.proofs.Common.{◌≡◌, ◌⊎◌, ℕ, ◌+◌, ◌-◌, Bool, true, false, List, [], ◌∷◌, ◌++◌, length, Option, Some, None, Ok, Err, append-nil, append_assoc, refl, sym, ap, ◌∙◌, subst, inl, inr, ⊎_elim, arith}
 use Rattle.esr_model.specs.Values.{Has, Formats}
 use Rattle.esr_model.specs.Image.{Image}
 use Rattle.esr_core.specs.World.{World}
@@ -69,16 +69,13 @@ pub calls_refused : (log : List Moment) (refusal : Option Refusal) (old new : Li
 calls_refused log None old new is = subst (TakeCalls 0 old) (sym is) (calls_none old)
 calls_refused log (Some refusal) old new is = calls_took log (Refused refusal) old new is
 
-pub calls_worked : (count : ℕ) (old new : List Call) → count ≤ 1 → TakeCalls count old new → WorkedCalls old new
-calls_worked count old new few t =
-    let most : count ≤ 1 = few in
-    let so : idle_calls t.more ≡ count = t.idle in
-    record { more = t.more; is = t.is; takes = t.takes; idle = omega (arith, most, so) }
+-- the work came to its end by a take that found none
+pub worked_out : (old new : List Call) → TakeCalls 1 old new → WorkedCalls old new (Ok tt)
+worked_out old new t = let last : idle_calls t.more ≡ 1 = t.idle in record { more = t.more; is = t.is; takes = t.takes; idle = omega (arith, last); one = t.idle }
 
-pub found_few : (r : Result Bool StepRefusal) → found_none r ≤ 1
-found_few (Ok true) = omega arith
-found_few (Ok false) = omega arith
-found_few (Err refusal) = omega arith
+-- ... or was stopped before
+pub worked_some : (old new : List Call) (e : StepRefusal) → TakeCalls 0 old new → WorkedCalls old new (Err e)
+worked_some old new e t = let none : idle_calls t.more ≡ 0 = t.idle in record { more = t.more; is = t.is; takes = t.takes; idle = omega (arith, none); one = tt }
 
 pub found_true : (did : Bool) → did ≡ true → found_none (Ok did) ≡ 0
 found_true did is = ap (λ (b : Bool). found_none (Ok b)) is

@@ -7,3 +7,4 @@ pub mod Takes
 pub mod Calls
 pub mod Laws
 pub mod Elections
+pub mod Worked

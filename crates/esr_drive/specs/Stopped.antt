@@ -62,20 +62,19 @@ IsStopped s log (steps.Refused refusal) = (who : ℕ) × (step : Step) × IsLast
 
 -- ---- in a history that has gone on since
 
--- what the code says of itself: a step of a ticket, or a take, was refused, which stops the work
-pub record WasStopped (log : List Moment) : Type 0 where
+-- what the code says of itself: a step of a ticket, or a take, had this refusal, which stops the work
+pub record WasStopped (log : List Moment) (refusal : Refusal) : Type 0 where
   pub moment : Moment
   pub there : Has log moment
-  pub refusal : Refusal
-  pub refused : moment.entry.reply ≡ Refused refusal
+  pub same : moment.entry.reply ≡ Refused refusal
   pub step : (moment.entry.who ≢ 0) ⊎ (moment.entry.step ≡ TakeStep)
   pub stops : StopsWork moment.entry.step refusal
 
--- memory was wanting, or turns were spent; or some step was refused so that the work stops
+-- memory was wanting, or turns were spent; or some step had the refusal that is answered, which stops the work
 abbrev pub StoppedIn : Start → List Moment → StepRefusal → Type 0
 StoppedIn s log steps.Memory = Unit {0}
 StoppedIn s log steps.TurnsSpent = Grounds s log 0 steps.TurnsSpent
-StoppedIn s log (steps.Refused refusal) = WasStopped log
+StoppedIn s log (steps.Refused refusal) = WasStopped log (refusal_of refusal)
 
 has_last : (front : List Moment) (m : Moment) → Has (front ++ m ∷ []) m
 has_last [] m = inl refl
@@ -89,8 +88,7 @@ stopped_in s log (steps.Refused refusal) h =
     record {
       moment = last;
       there = subst (λ (l : List Moment). Has l last) (sym h.2.is) (has_last h.2.front last);
-      refusal = refusal_of refusal;
-      refused = refl;
+      same = refl;
       step = h.4;
       stops = h.3;
     }

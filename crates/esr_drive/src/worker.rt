@@ -79,7 +79,7 @@ pub fn work<Q: Desk<Shard = S::Shard, Target = T::Target>, S: Sources, T: Target
     ensures grew { GrewAsking Q.start [] (Q.seen desk.old) (Q.seen desk.new) }
     ensures only { Q.start.alone ≡ true → WorksOnly (Q.seen desk.old) (Q.seen desk.new) }
     ensures takes { Q.start.alone ≡ true → idle_takes (Q.seen desk.new) ≤ idle_takes (Q.seen desk.old) + 1 }
-    ensures calls { WorkedCalls (Q.calls desk.old) (Q.calls desk.new) }
+    ensures calls { WorkedCalls (Q.calls desk.old) (Q.calls desk.new) result }
     ensures ended { OnOk result (AllEnded Q.start (Q.seen desk.new) (Q.calls desk.old) (Q.calls desk.new)) }
 {
     laws();

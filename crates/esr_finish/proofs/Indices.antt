@@ -8,7 +8,7 @@ use Rattle.esr_core.specs.World.{Ticket}
 use Rattle.esr_names.specs.declared.ids.Id.{Id}
 use Rattle.esr_names.specs.declared.index_ref.IndexRef.{IndexRef}
 use Rattle.esr_meta.specs.Info.{Info}
-use Rattle.esr_meta.specs.Indices.{IsRef, AreRefs}
+use Rattle.esr_names.specs.Indices.{IsRef, AreRefs}
 use Rattle.esr_formats.specs.Infos.{info_of_code}
 use Rattle.esr_formats.specs.Refs.{ref_of_code}
 use Rattle.esr_desk.specs.Start.{Start, formats_of}

@@ -8,7 +8,7 @@ use Rattle.esr_model.specs.Values as values
 use Rattle.esr_core.specs.World.{Ticket}
 use Rattle.esr_names.specs.declared.ids.Id.{Id}
 use Rattle.esr_names.specs.declared.index_ref.IndexRef.{IndexRef}
-use Rattle.esr_meta.specs.Indices.{clashes, AreRefs}
+use Rattle.esr_names.specs.Indices.{clashes, AreRefs}
 use Rattle.esr_core.specs.Entry.{Moment}
 use Rattle.esr_desk.specs.Start.{Start, formats_of, ticket_of}
 use Rattle.esr_finish.specs.Blobs.{info_blob, global_blob}

@@ -19,19 +19,9 @@ use Rattle.esr_desk.specs.Start.{Start, formats_of, ticket_of}
 use Rattle.esr_desk.specs.Conditions.{CanSettle, CanFail, CanFinish, IsUnpruned}
 use Rattle.esr_desk.specs.Taken.{fresh, TookWork}
 use Rattle.esr_finish.specs.Blobs.{index_blob}
-use Rattle.esr_finish.specs.Ticket.{HasSwap, IsUnsettledMaster, MayWrite, MayPutRoot, noted_with, Wrote, IsWritten}
+use Rattle.esr_finish.specs.Ticket.{HasSwap, IsUnsettledMaster, MayWrite, MayPutRoot, noted_with, has_noted, Wrote, IsWritten}
 use Rattle.esr_finish.specs.Went.{Worked}
 use Rattle.esr_finish.proofs.Writing.{swap_stays}
-
-noted_stays : (blobs : List (BlobName × Bytes)) (noted : List BlobName) (name : BlobName) → Has noted name → Has (noted_with blobs noted) name
-noted_stays [] noted name has = has
-noted_stays (b ∷ blobs) noted name has = noted_stays blobs (b.0 ∷ noted) name (inr has)
-
--- each of the blobs is noted
-has_noted : (blobs : List (BlobName × Bytes)) (noted : List BlobName) (b : BlobName × Bytes) → Has blobs b → Has (noted_with blobs noted) b.0
-has_noted [] noted b none = absurd none
-has_noted (x ∷ blobs) noted b (inl same) = noted_stays blobs (x.0 ∷ noted) b.0 (inl (ap (λ (y : BlobName × Bytes). y.0) same))
-has_noted (x ∷ blobs) noted b (inr later) = has_noted blobs (x.0 ∷ noted) b later
 
 -- a name of none of the blobs was noted before
 pub noted_before : (blobs : List (BlobName × Bytes)) (noted : List BlobName) (name : BlobName) → ((b : BlobName × Bytes) → Has blobs b → b.0 ≡ name → ⊥) → Has (noted_with blobs noted) name → Has noted name

@@ -1,16 +1,13 @@
 -- A ticket whose swap's blobs are put one after another.
-use Rattle.std.proofs.Common.{◌≡◌, ◌≢◌, inl, inr, ⊎_elim, ℕ, Bool, true, false, List, [], ◌∷◌, ◌++◌, Option, Some, None, Result, Ok, Err, OnOk, refl, sym, ap, ◌∙◌, subst, true≢false}
-use Rattle.std.specs.Prelude.{if◌then◌else◌}
-use Rattle.std.specs.Result.{is_err}
-use Rattle.std.specs.Io.KnownBytes.{append_known}
+use Rattle.std.proofs.Common.{◌≡◌, ◌≢◌, inl, inr, ⊎_elim, ℕ, List, [], ◌∷◌, ◌++◌, Option, Some, None, refl, sym, ap, ◌∙◌, subst, true≢false}
 use Rattle.esr_model.specs.Names.{BlobName, Root, Latest}
 use Rattle.esr_model.specs.Values.{Bytes, Has, RootData, Formats}
 use Rattle.esr_core.specs.World.{Work, Shard, Ticket, Swap, swap_of}
 use Rattle.esr_core.specs.Allowed.{IsMetadata}
-use Rattle.esr_desk.specs.Start.{Start, formats_of, told_bytes}
+use Rattle.esr_desk.specs.Start.{Start, formats_of}
 use Rattle.esr_desk.specs.Conditions.{CanCommit}
 use Rattle.esr_finish.specs.Blobs.{root_blob}
-use Rattle.esr_finish.specs.Ticket.{HasSwap, MayPut, MayPutRoot, noted_with, Wrote, raised_to}
+use Rattle.esr_finish.specs.Ticket.{HasSwap, MayStore, MayPut, MayPutRoot, noted_with, Wrote, raised_to}
 use Rattle.esr_finish.specs.Went.{Worked}
 
 -- a ticket that has worked has its swap still
@@ -19,18 +16,6 @@ swap_stays s a b change worked has = subst (λ (t : Ticket). HasSwap s t change)
 
 -- ---- one blob
 
--- the bytes of a stage that began empty
-pub told_append : (s : Start) (bytes : Bytes) → append_known (told_bytes s []) bytes ≡ told_bytes s bytes
-told_append s bytes = by_tells s.tells bytes
-  where
-    by_tells : (tells : Bool) (bytes : Bytes) → append_known (if tells then Some [] else None) bytes ≡ (if tells then Some bytes else None)
-    by_tells true bytes = refl
-    by_tells false bytes = refl
-
-pub on_ok : {T E : Type 0} (result : Result T E) (P : Type 0) → is_err result ≡ false → OnOk result P → P
-on_ok (Ok x) P ok h = h
-on_ok (Err e) P ok h = absurd cc
-
 -- what has a swap is no shard
 pub swaps_no_shard : (f : Formats) (work : Work) (root : RootData) (change : Swap) → swap_of f work root ≡ Some change → (index number : ℕ) → work ≡ Shard index number → ⊥
 swaps_no_shard f work root change is index number shard = none change (subst (λ (w : Work). swap_of f w root ≡ Some change) shard is)
@@ -38,7 +23,7 @@ swaps_no_shard f work root change is index number shard = none change (subst (λ
     none : (x : Swap) → ◌≡◌ {A = Option Swap} None (Some x) → ⊥
     none x same = cc
 
-pub may_commit : (s : Start) (t : Ticket) (b : BlobName × Bytes) → MayPut s t (b ∷ []) → b.0 ≢ Latest → IsMetadata b.0 → CanCommit s t b.0 b.1
+may_commit : (s : Start) (t : Ticket) (b : BlobName × Bytes) → MayPut s t (b ∷ []) → b.0 ≢ Latest → IsMetadata b.0 → CanCommit s t b.0 b.1
 may_commit s t b may stored metadata = record {
   out = may.1.out;
   unsettled = may.1.unsettled;
@@ -48,6 +33,10 @@ may_commit s t b may stored metadata = record {
   numbered = λ index number shard. absurd (swaps_no_shard (formats_of s) t.work t.root may.0 may.1.is index number shard);
   late = λ uuids plan deletes clean. absurd (true≢false (sym clean ∙ may.3));
 }
+
+-- so may the bytes that the code makes of it, under the code's name
+pub may_store : (s : Start) (t : Ticket) (b : BlobName × Bytes) (name : BlobName) (bytes : Bytes) → ◌≡◌ {A = BlobName × Bytes} (name, bytes) b → MayPut s t (b ∷ []) → b.0 ≢ Latest → IsMetadata b.0 → MayStore s t name bytes
+may_store s t b name bytes is may stored metadata = (bytes, refl, subst (λ (x : BlobName × Bytes). CanCommit s t x.0 x.1) (sym is) (may_commit s t b may stored metadata))
 
 -- the root of the swap, under the generation that was raised
 pub root_commits : (s : Start) (a b : Ticket) (root : RootData) (n : ℕ) (text : Bytes) → MayPutRoot s a root → b ≡ raised_to a n → text ≡ (root_blob (formats_of s) n root).1 → CanCommit s b (Root n) text

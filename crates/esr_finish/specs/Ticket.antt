@@ -1,5 +1,6 @@
 -- What a finalization's ticket may do next, and what its steps make of it.
 use Rattle.std.specs.Prelude.{◌≡◌, ◌⊎◌, ℕ, Bool, true, false, List, [], ◌∷◌, Some, None}
+use Rattle.std.proofs.Common.{inl, inr, ap}
 use Rattle.esr_model.specs.Names.{BlobName, Root}
 use Rattle.esr_model.specs.Values.{Bytes, Has, RootData, SnapInfo, Formats}
 use Rattle.esr_core.specs.World.{Ticket, Swap, swap, metadata}
@@ -60,6 +61,16 @@ pub record IsUnsettledMaster (t : Ticket) : Type 0 where
 abbrev pub noted_with : List (BlobName × Bytes) → List BlobName → List BlobName
 noted_with [] noted = noted
 noted_with (b ∷ blobs) noted = noted_with blobs (b.0 ∷ noted)
+
+noted_stays : (blobs : List (BlobName × Bytes)) (noted : List BlobName) (name : BlobName) → Has noted name → Has (noted_with blobs noted) name
+noted_stays [] noted name has = has
+noted_stays (b ∷ blobs) noted name has = noted_stays blobs (b.0 ∷ noted) name (inr has)
+
+-- each of the blobs is noted
+pub has_noted : (blobs : List (BlobName × Bytes)) (noted : List BlobName) (b : BlobName × Bytes) → Has blobs b → Has (noted_with blobs noted) b.0
+has_noted [] noted b none = absurd none
+has_noted (x ∷ blobs) noted b (inl same) = noted_stays blobs (x.0 ∷ noted) b.0 (inl (ap (λ (y : BlobName × Bytes). y.0) same))
+has_noted (x ∷ blobs) noted b (inr later) = has_noted blobs (x.0 ∷ noted) b later
 
 -- the blobs were committed one after another, each added or found
 pub record Wrote (old new : Ticket) (blobs : List (BlobName × Bytes)) : Type 0 where

@@ -24,6 +24,9 @@ use esr_seq::Bytes;
 use esr_unit::Trouble;
 use std::alloc::{AllocError, Global};
 
+/// What a store of blobs answers.
+type Store<Q> = Result<(), Trouble<<Q as Desk>::Stage, <Q as Desk>::Fetch>>;
+
 /// The text of the global metadata that an info gives.
 fn global_text(alloc: Global, info: &SnapInfo) -> Result<Bytes, AllocError>
     ensures { IfOk result (λ b. b ≡ global_kind.text (global_of (info_of_code info.now))) }
@@ -53,12 +56,7 @@ fn index_text(alloc: Global, index: &IndexRef, uuid: Id) -> Result<Bytes, AllocE
     write_index_meta(alloc, &meta)
 }
 
-fn put_info<Q: Desk>(
-    alloc: Global,
-    desk: &mut Q,
-    ticket: u64,
-    info: &SnapInfo,
-) -> Result<(), Trouble<Q::Stage, Q::Fetch>>
+fn put_info<Q: Desk>(alloc: Global, desk: &mut Q, ticket: u64, info: &SnapInfo) -> Store<Q>
     requires mine { HasTaken (Q.calls desk.old) ticket }
     requires may { MayPut Q.start (ticket_of Q.start (Q.seen desk.old) ticket) (info_blob (formats_of Q.start) (info_of_code info.now) ∷ []) }
     requires new { IsUnnoted (ticket_of Q.start (Q.seen desk.old) ticket) (Snap info.now.uuid.number) }
@@ -79,12 +77,7 @@ fn put_info<Q: Desk>(
     )
 }
 
-fn put_global<Q: Desk>(
-    alloc: Global,
-    desk: &mut Q,
-    ticket: u64,
-    info: &SnapInfo,
-) -> Result<(), Trouble<Q::Stage, Q::Fetch>>
+fn put_global<Q: Desk>(alloc: Global, desk: &mut Q, ticket: u64, info: &SnapInfo) -> Store<Q>
     requires mine { HasTaken (Q.calls desk.old) ticket }
     requires may { MayPut Q.start (ticket_of Q.start (Q.seen desk.old) ticket) (global_blob (formats_of Q.start) (info_of_code info.now) ∷ []) }
     requires new { IsUnnoted (ticket_of Q.start (Q.seen desk.old) ticket) (Meta info.now.uuid.number) }
@@ -134,12 +127,7 @@ fn put_index<Q: Desk>(
     )
 }
 
-fn put_indices<Q: Desk>(
-    alloc: Global,
-    desk: &mut Q,
-    ticket: u64,
-    info: &SnapInfo,
-) -> Result<(), Trouble<Q::Stage, Q::Fetch>>
+fn put_indices<Q: Desk>(alloc: Global, desk: &mut Q, ticket: u64, info: &SnapInfo) -> Store<Q>
     requires mine { HasTaken (Q.calls desk.old) ticket }
     requires may { MayPut Q.start (ticket_of Q.start (Q.seen desk.old) ticket) (index_blobs (formats_of Q.start) (info_of_code info.now)) }
     requires new { (id : ℕ) → IsUnnoted (ticket_of Q.start (Q.seen desk.old) ticket) (IndexMetaName id info.now.uuid.number) }

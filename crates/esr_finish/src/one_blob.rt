@@ -10,7 +10,7 @@ ghost use Rattle.esr_finish.specs.Went.{Went};
 ghost use Rattle.esr_finish.specs.Refused.{IsPutRefused};
 
 use esr_depot::Stage;
-use esr_desk::{Desk, Named};
+use esr_desk::{Desk, Named, NewBlob};
 use esr_names::BlobName;
 use esr_unit::Trouble;
 use std::alloc::Global;
@@ -34,7 +34,8 @@ pub fn put<Q: Desk>(
     ensures went { Went Q.start (Q.seen desk.old) (Q.seen desk.new) ticket }
     ensures calls { Q.calls desk.new ≡ Q.calls desk.old }
 {
-    let mut named = desk.begin(alloc, ticket, name, bytes.len())?;
+    let room = bytes.len();
+    let mut named = desk.begin(alloc, ticket, NewBlob { name, room })?;
     if named.stage.write(bytes).is_err() {
         return Err(Trouble::Stage { stage: named.stage });
     }

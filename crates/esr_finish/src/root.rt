@@ -15,7 +15,7 @@ use crate::end::is_fault;
 use crate::metadata::put_metadata;
 use crate::one_blob::put;
 use esr_depot::Stage;
-use esr_desk::{Desk, EntryRefusal, Named, StepRefusal};
+use esr_desk::{Desk, EntryRefusal, Named, NewBlob, StepRefusal};
 use esr_formats::write_root;
 use esr_meta::SnapInfo;
 use esr_names::BlobName;
@@ -69,7 +69,8 @@ pub fn try_latest<Q: Desk>(
     ensures went { Went Q.start (Q.seen desk.old) (Q.seen desk.new) ticket }
     ensures calls { Q.calls desk.new ≡ Q.calls desk.old }
 {
-    let mut named = match desk.begin(alloc, ticket, BlobName::Latest, 8) {
+    let name = BlobName::Latest;
+    let mut named = match desk.begin(alloc, ticket, NewBlob { name, room: 8 }) {
         Ok(named) => named,
         Err(StepRefusal::Refused(EntryRefusal::DepotFault)) => return Ok(false),
         Err(refusal) => return Err(Trouble::Step(refusal)),

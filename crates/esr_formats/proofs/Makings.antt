@@ -7,7 +7,7 @@ use Rattle.std.proofs.lemmas.Slice.Eq.{bytes_eq-Decides}
 use Rattle.esr_names.specs.declared.ids.Id.{Id}
 use Rattle.esr_names.specs.declared.index_ref.IndexRef.{IndexRef as CodeRef}
 use Rattle.esr_names.specs.NameRule.{snap_name_fault, index_name_fault}
-use Rattle.esr_meta.specs.Indices.{clashes, IsRef, AreRefs}
+use Rattle.esr_names.specs.Indices.{clashes, IsRef, AreRefs}
 use Rattle.esr_meta.specs.Info.{Info}
 use Rattle.esr_meta.specs.declared.global.GlobalMeta.{GlobalMeta as CodeGlobal}
 use Rattle.esr_meta.specs.Index.{Index}

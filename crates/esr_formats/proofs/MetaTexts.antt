@@ -8,7 +8,7 @@ use Rattle.esr_json.specs.Plain.{IsPlain}
 use Rattle.esr_json.proofs.Plain.{parsed-compact_text}
 use Rattle.esr_json.proofs.PlainParts.{IsUtf8-key_text, ItemsArePlain-map}
 use Rattle.esr_meta.specs.declared.global.GlobalMeta.{GlobalMeta}
-use Rattle.esr_meta.specs.Indices.{ref_data, indices_data, IsRef, AreRefs}
+use Rattle.esr_names.specs.Indices.{ref_data, indices_data, IsRef, AreRefs}
 use Rattle.esr_meta.specs.Info.{Info, IsInfo, info_data, info_text, info_from}
 use Rattle.esr_meta.specs.Global.{IsGlobal, global_data, global_text, global_from}
 use Rattle.esr_meta.specs.Index.{Index, IsIndexMeta, index_meta_data, index_meta_text, index_meta_from}

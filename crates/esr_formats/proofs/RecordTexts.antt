@@ -9,7 +9,7 @@ use Rattle.esr_json.specs.declared.key.Key.TheVariants as keys
 use Rattle.esr_json.specs.Plain.{IsPlain}
 use Rattle.esr_json.proofs.Plain.{parsed-compact_text}
 use Rattle.esr_json.proofs.PlainParts.{IsUtf8-key_text, IsWhole-of_integer, ItemsArePlain-map}
-use Rattle.esr_meta.specs.Indices.{id_data}
+use Rattle.esr_names.specs.Indices.{id_data}
 use Rattle.esr_record.specs.declared.op.OpWork.{OpWork}
 use Rattle.esr_record.specs.declared.op.OpWork.TheVariants as works
 use Rattle.esr_record.specs.declared.op.RecordOp.{RecordOp}

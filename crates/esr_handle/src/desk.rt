@@ -11,12 +11,13 @@ ghost use Rattle.esr_desk.specs.Restore.Conditions.{CanEndRestore};
 ghost use Rattle.esr_desk.specs.Restore.Targets.{IsFilled, refused_of};
 ghost use Rattle.esr_desk.specs.Shown.{IsShown};
 
-use crate::steps::StepResult;
 use crate::{Since, Sitting};
 use esr_depot::{Commit, Listing};
-use esr_desk::{By, Desk, Hand, Named, Planned, RestoredTarget, Sole, Unended, Unit, Why};
-use esr_names::{BlobName, Id, Ids};
-use esr_results::{PrunedShards, ShardResult};
+use esr_desk::{
+    Attempt, Basis, Desk, Failure, Named, NewBlob, Planned, RestoreEnd, Sole, Unended, Unit, Who,
+};
+use esr_names::{BlobName, Id};
+use esr_results::ShardResult;
 use esr_root::RootData;
 use esr_seq::Seq;
 use std::alloc::Global;
@@ -40,56 +41,41 @@ impl<Q: Sole, B: Since> Desk for Sitting<Q, B> {
         self.desk.never_fails();
     }
 
-    fn take(&mut self, alloc: Global) -> StepResult<Option<Unit>> {
+    fn take(&mut self, alloc: Global) -> Attempt<Option<Unit>> {
         self.desk.take(alloc)
     }
 
-    fn elect(&mut self, alloc: Global) -> StepResult<u64> {
+    fn elect(&mut self, alloc: Global) -> Attempt<u64> {
         self.desk.elect(alloc)
     }
 
-    fn fetch(
-        &mut self,
-        alloc: Global,
-        hand: Hand,
-        who: u64,
-        name: BlobName,
-    ) -> StepResult<Option<Self::Fetch>> {
-        self.desk.fetch(alloc, hand, who, name)
+    fn fetch(&mut self, alloc: Global, who: Who, name: BlobName) -> Attempt<Option<Self::Fetch>> {
+        self.desk.fetch(alloc, who, name)
     }
 
     fn fail(
         &mut self,
         alloc: Global,
-        hand: Hand,
-        who: u64,
-        why: Why,
-        by: By<Q::Stage, Q::Fetch, Q::Shard, Q::Target>,
-    ) -> StepResult<()>
-        requires mine { IsMine hand (calls_at 0 self.old) who }
-        requires may { MayFail hand Q.start self.old who }
-        requires shown { IsShown hand (evidence Q.Stage.faults Q.Fetch.faults Q.Shard.faults Q.Target.faults Q.Shard.told Q.Target.told)
-            Q.start self.old who (why_of why) by }
-        ensures step { Outcome Q.start self.old self.new who (fail_step hand (why_of why)) (λ _. HasEnded) result }
-        ensures own { OnOk result (own_of Q.start self.new who ≡ own_failed hand (own_of Q.start self.old who)) }
-        ensures kept { OnErr result (own_of Q.start self.new who ≡ own_of Q.start self.old who) }
-        ensures calls { calls_at 0 self.new ≡ called_by hand self.new (fail_step hand (why_of why)) (λ _. HasEnded) result (calls_at 0 self.old) }
+        failure: Failure<Q::Stage, Q::Fetch, Q::Shard, Q::Target>,
+    ) -> Attempt<()>
+        requires mine { IsMine failure.who.hand (calls_at 0 self.old) failure.who.number }
+        requires may { MayFail failure.who.hand Q.start self.old failure.who.number }
+        requires shown { IsShown failure.who.hand (evidence Q.Stage.faults Q.Fetch.faults Q.Shard.faults Q.Target.faults Q.Shard.told Q.Target.told)
+            Q.start self.old failure.who.number (why_of failure.why) failure.by }
+        ensures step { Outcome Q.start self.old self.new failure.who.number (fail_step failure.who.hand (why_of failure.why)) (λ _. HasEnded) result }
+        ensures own { OnOk result (own_of Q.start self.new failure.who.number ≡ own_failed failure.who.hand (own_of Q.start self.old failure.who.number)) }
+        ensures kept { OnErr result (own_of Q.start self.new failure.who.number ≡ own_of Q.start self.old failure.who.number) }
+        ensures calls { calls_at 0 self.new ≡ called_by failure.who.hand self.new (fail_step failure.who.hand (why_of failure.why)) (λ _. HasEnded) result (calls_at 0 self.old) }
     {
-        self.desk.fail(alloc, hand, who, why, by)
+        self.desk.fail(alloc, failure)
     }
 
-    fn draw(&mut self, alloc: Global, ticket: u64, count: u64) -> StepResult<Id> {
+    fn draw(&mut self, alloc: Global, ticket: u64, count: u64) -> Attempt<Id> {
         self.desk.draw(alloc, ticket, count)
     }
 
-    fn begin(
-        &mut self,
-        alloc: Global,
-        ticket: u64,
-        name: BlobName,
-        room: usize,
-    ) -> StepResult<Named<Self::Stage>> {
-        self.desk.begin(alloc, ticket, name, room)
+    fn begin(&mut self, alloc: Global, ticket: u64, blob: NewBlob) -> Attempt<Named<Self::Stage>> {
+        self.desk.begin(alloc, ticket, blob)
     }
 
     fn commit(
@@ -98,7 +84,7 @@ impl<Q: Sole, B: Since> Desk for Sitting<Q, B> {
         ticket: u64,
         name: BlobName,
         stage: Self::Stage,
-    ) -> StepResult<Commit> {
+    ) -> Attempt<Commit> {
         self.desk.commit(alloc, ticket, name, stage)
     }
 
@@ -108,80 +94,70 @@ impl<Q: Sole, B: Since> Desk for Sitting<Q, B> {
         ticket: u64,
         name: BlobName,
         stage: Self::Stage,
-    ) -> StepResult<()> {
+    ) -> Attempt<()> {
         self.desk.latest(alloc, ticket, name, stage)
     }
 
-    fn raise(&mut self, alloc: Global, ticket: u64) -> StepResult<u64> {
+    fn raise(&mut self, alloc: Global, ticket: u64) -> Attempt<u64> {
         self.desk.raise(alloc, ticket)
     }
 
-    fn settle(&mut self, alloc: Global, ticket: u64, root: &RootData) -> StepResult<()> {
+    fn settle(&mut self, alloc: Global, ticket: u64, root: &RootData) -> Attempt<()> {
         self.desk.settle(alloc, ticket, root)
     }
 
-    fn plan(
-        &mut self,
-        alloc: Global,
-        ticket: u64,
-        root: &RootData,
-        uuids: &Ids,
-        shards: &PrunedShards,
-    ) -> StepResult<Planned> {
-        self.desk.plan(alloc, ticket, root, uuids, shards)
+    fn plan(&mut self, alloc: Global, ticket: u64, basis: &Basis<'_>) -> Attempt<Planned> {
+        self.desk.plan(alloc, ticket, basis)
     }
 
-    fn list(&mut self, alloc: Global, ticket: u64, after: Option<&str>) -> StepResult<Listing> {
+    fn list(&mut self, alloc: Global, ticket: u64, after: Option<&str>) -> Attempt<Listing> {
         self.desk.list(alloc, ticket, after)
     }
 
-    fn settle_delete(&mut self, alloc: Global, ticket: u64, root: &RootData) -> StepResult<()> {
+    fn settle_delete(&mut self, alloc: Global, ticket: u64, root: &RootData) -> Attempt<()> {
         self.desk.settle_delete(alloc, ticket, root)
     }
 
-    fn remove(&mut self, alloc: Global, ticket: u64, names: &Seq<BlobName>) -> StepResult<()> {
+    fn remove(&mut self, alloc: Global, ticket: u64, names: &Seq<BlobName>) -> Attempt<()> {
         self.desk.remove(alloc, ticket, names)
     }
 
-    fn end_shard(&mut self, alloc: Global, ticket: u64, outcome: &ShardResult) -> StepResult<()> {
+    fn end_shard(&mut self, alloc: Global, ticket: u64, outcome: &ShardResult) -> Attempt<()> {
         self.desk.end_shard(alloc, ticket, outcome)
     }
 
     fn end_restore(
         &mut self,
         alloc: Global,
-        ticket: u64,
-        files: u64,
-        bytes: u64,
-        target: RestoredTarget<Q::Target>,
+        done: RestoreEnd<Q::Target>,
     ) -> Result<(), Unended<Q::Target>>
-        requires mine { HasTaken (calls_at 0 self.old) ticket }
-        requires may { CanEndRestore Q.start (reader_of Q.start self.old ticket) files bytes }
+        requires mine { HasTaken (calls_at 0 self.old) done.ticket }
+        requires may { CanEndRestore Q.start (reader_of Q.start self.old done.ticket) done.files done.bytes }
         requires filled { IsFilled (evidence Q.Stage.faults Q.Fetch.faults Q.Shard.faults Q.Target.faults Q.Shard.told Q.Target.told)
-            Q.start (reader_of Q.start self.old ticket) files bytes target }
-        ensures step { Outcome Q.start self.old self.new ticket (ReadStep (RestoredShard files bytes)) (λ _. HasEnded) (refused_of result) }
-        ensures own { OnOk result (reader_of Q.start self.new ticket
-            ≡ record (reader_of Q.start self.old ticket) { out = false }) }
-        ensures kept { OnErr result (reader_of Q.start self.new ticket ≡ reader_of Q.start self.old ticket) }
-        ensures target { IfErr result (λ u. u.target ≡ target) }
+            Q.start (reader_of Q.start self.old done.ticket) done.files done.bytes done.target }
+        ensures step { Outcome Q.start self.old self.new done.ticket (ReadStep (RestoredShard done.files done.bytes)) (λ _. HasEnded) (refused_of result) }
+        ensures own { OnOk result (reader_of Q.start self.new done.ticket
+            ≡ record (reader_of Q.start self.old done.ticket) { out = false }) }
+        ensures kept { OnErr result (reader_of Q.start self.new done.ticket ≡ reader_of Q.start self.old done.ticket) }
+        ensures target { IfErr result (λ u. u.target ≡ done.target) }
         ensures calls { calls_at 0 self.new ≡ calls_at 0 self.old }
     {
-        self.desk.end_restore(alloc, ticket, files, bytes, target)
+        self.desk.end_restore(alloc, done)
     }
 
-    fn end_delete(&mut self, alloc: Global, ticket: u64) -> StepResult<()> {
+    fn end_delete(&mut self, alloc: Global, ticket: u64) -> Attempt<()> {
         self.desk.end_delete(alloc, ticket)
     }
 
-    fn end_drop(&mut self, alloc: Global, ticket: u64) -> StepResult<()> {
+    fn end_drop(&mut self, alloc: Global, ticket: u64) -> Attempt<()> {
         self.desk.end_drop(alloc, ticket)
     }
 
-    fn end_cleanup(&mut self, alloc: Global, ticket: u64) -> StepResult<()> {
+    fn end_cleanup(&mut self, alloc: Global, ticket: u64) -> Attempt<()> {
         self.desk.end_cleanup(alloc, ticket)
     }
 
-    fn finish(&mut self, alloc: Global, ticket: u64) -> StepResult<()> {
+    fn finish(&mut self, alloc: Global, ticket: u64) -> Attempt<()> {
         self.desk.finish(alloc, ticket)
     }
 }

@@ -14,12 +14,14 @@ ghost use Rattle.esr_handle.specs.Owned.{calls_in};
 ghost use Rattle.esr_handle.specs.Turned.{shared, IsFit};
 
 use crate::seat::Seat;
-use crate::steps::{StepResult, Steps};
+use crate::steps::Steps;
 use crate::{Share, Since, Sitting};
 use esr_depot::{Commit, Listing};
-use esr_desk::{By, Desk, Hand, Named, Planned, RestoredTarget, Sole, Unended, Unit, Why};
-use esr_names::{BlobName, Id, Ids};
-use esr_results::{PrunedShards, ShardResult};
+use esr_desk::{
+    Attempt, Basis, Desk, Failure, Named, NewBlob, Planned, RestoreEnd, Sole, Unended, Unit, Who,
+};
+use esr_names::{BlobName, Id};
+use esr_results::ShardResult;
 use esr_root::RootData;
 use esr_seq::Seq;
 use esr_turns::{Pass, TurnLock};
@@ -59,7 +61,8 @@ impl<'a, Q: Sole, B: Since, W: Share, R> Handle<'a, Q, B, W, R> {
         requires turns { (pass.left ≡ W.total) × (pass.used ≡ 0) }
         requires much { 2 ^ 33 ≤ Q.start.earlier_turns + W.total }
         requires fit { IsFit Q.start B.before pass }
-        ensures { result.pass ≡ pass }
+        ensures pass { result.pass ≡ pass }
+        ensures live { result.is_over ≡ false }
     {
         Handle {
             seat: Some(Seat::new(lock, rt, pass)),
@@ -101,29 +104,23 @@ impl<'a, Q: Sole, B: Since, W: Share, R: Wait + Sync> Desk for Handle<'a, Q, B, 
         let _is_over = seat.is_over;
     }
 
-    fn take(&mut self, alloc: Global) -> StepResult<Option<Unit>> {
+    fn take(&mut self, alloc: Global) -> Attempt<Option<Unit>> {
         let seat = self.seat.take().unwrap();
         let (seat, answer) = seat.take(alloc);
         drop(self.seat.replace(seat));
         answer
     }
 
-    fn elect(&mut self, alloc: Global) -> StepResult<u64> {
+    fn elect(&mut self, alloc: Global) -> Attempt<u64> {
         let seat = self.seat.take().unwrap();
         let (seat, answer) = seat.elect(alloc);
         drop(self.seat.replace(seat));
         answer
     }
 
-    fn fetch(
-        &mut self,
-        alloc: Global,
-        hand: Hand,
-        who: u64,
-        name: BlobName,
-    ) -> StepResult<Option<Self::Fetch>> {
+    fn fetch(&mut self, alloc: Global, who: Who, name: BlobName) -> Attempt<Option<Self::Fetch>> {
         let seat = self.seat.take().unwrap();
-        let (seat, answer) = seat.fetch(alloc, hand, who, name);
+        let (seat, answer) = seat.fetch(alloc, who, name);
         drop(self.seat.replace(seat));
         answer
     }
@@ -131,43 +128,34 @@ impl<'a, Q: Sole, B: Since, W: Share, R: Wait + Sync> Desk for Handle<'a, Q, B, 
     fn fail(
         &mut self,
         alloc: Global,
-        hand: Hand,
-        who: u64,
-        why: Why,
-        by: By<Q::Stage, Q::Fetch, Q::Shard, Q::Target>,
-    ) -> StepResult<()>
-        requires mine { IsMine hand (calls_in (length B.before) self.old.pass.seen self.old.pass.mine) who }
-        requires may { MayFail hand (shared Q.start) (B.before ++ self.old.pass.seen) who }
-        requires shown { IsShown hand (evidence Q.Stage.faults Q.Fetch.faults Q.Shard.faults Q.Target.faults Q.Shard.told Q.Target.told)
-            (shared Q.start) (B.before ++ self.old.pass.seen) who (why_of why) by }
-        ensures step { Outcome (shared Q.start) (B.before ++ self.old.pass.seen) (B.before ++ self.new.pass.seen) who (fail_step hand (why_of why)) (λ _. HasEnded) result }
-        ensures own { OnOk result (own_of (shared Q.start) (B.before ++ self.new.pass.seen) who ≡ own_failed hand (own_of (shared Q.start) (B.before ++ self.old.pass.seen) who)) }
-        ensures kept { OnErr result (own_of (shared Q.start) (B.before ++ self.new.pass.seen) who ≡ own_of (shared Q.start) (B.before ++ self.old.pass.seen) who) }
+        failure: Failure<Q::Stage, Q::Fetch, Q::Shard, Q::Target>,
+    ) -> Attempt<()>
+        requires mine { IsMine failure.who.hand (calls_in (length B.before) self.old.pass.seen self.old.pass.mine) failure.who.number }
+        requires may { MayFail failure.who.hand (shared Q.start) (B.before ++ self.old.pass.seen) failure.who.number }
+        requires shown { IsShown failure.who.hand (evidence Q.Stage.faults Q.Fetch.faults Q.Shard.faults Q.Target.faults Q.Shard.told Q.Target.told)
+            (shared Q.start) (B.before ++ self.old.pass.seen) failure.who.number (why_of failure.why) failure.by }
+        ensures step { Outcome (shared Q.start) (B.before ++ self.old.pass.seen) (B.before ++ self.new.pass.seen) failure.who.number (fail_step failure.who.hand (why_of failure.why)) (λ _. HasEnded) result }
+        ensures own { OnOk result (own_of (shared Q.start) (B.before ++ self.new.pass.seen) failure.who.number ≡ own_failed failure.who.hand (own_of (shared Q.start) (B.before ++ self.old.pass.seen) failure.who.number)) }
+        ensures kept { OnErr result (own_of (shared Q.start) (B.before ++ self.new.pass.seen) failure.who.number ≡ own_of (shared Q.start) (B.before ++ self.old.pass.seen) failure.who.number) }
         ensures calls { calls_in (length B.before) self.new.pass.seen self.new.pass.mine
-            ≡ called_by hand (B.before ++ self.new.pass.seen) (fail_step hand (why_of why)) (λ _. HasEnded) result (calls_in (length B.before) self.old.pass.seen self.old.pass.mine) }
+            ≡ called_by failure.who.hand (B.before ++ self.new.pass.seen) (fail_step failure.who.hand (why_of failure.why)) (λ _. HasEnded) result (calls_in (length B.before) self.old.pass.seen self.old.pass.mine) }
     {
         let seat = self.seat.take().unwrap();
-        let (seat, answer) = seat.fail(alloc, hand, who, why, by);
+        let (seat, answer) = seat.fail(alloc, failure);
         drop(self.seat.replace(seat));
         answer
     }
 
-    fn draw(&mut self, alloc: Global, ticket: u64, count: u64) -> StepResult<Id> {
+    fn draw(&mut self, alloc: Global, ticket: u64, count: u64) -> Attempt<Id> {
         let seat = self.seat.take().unwrap();
         let (seat, answer) = seat.draw(alloc, ticket, count);
         drop(self.seat.replace(seat));
         answer
     }
 
-    fn begin(
-        &mut self,
-        alloc: Global,
-        ticket: u64,
-        name: BlobName,
-        room: usize,
-    ) -> StepResult<Named<Self::Stage>> {
+    fn begin(&mut self, alloc: Global, ticket: u64, blob: NewBlob) -> Attempt<Named<Self::Stage>> {
         let seat = self.seat.take().unwrap();
-        let (seat, answer) = seat.begin(alloc, ticket, name, room);
+        let (seat, answer) = seat.begin(alloc, ticket, blob);
         drop(self.seat.replace(seat));
         answer
     }
@@ -178,7 +166,7 @@ impl<'a, Q: Sole, B: Since, W: Share, R: Wait + Sync> Desk for Handle<'a, Q, B, 
         ticket: u64,
         name: BlobName,
         stage: Self::Stage,
-    ) -> StepResult<Commit> {
+    ) -> Attempt<Commit> {
         let seat = self.seat.take().unwrap();
         let (seat, answer) = seat.commit(alloc, ticket, name, stage);
         drop(self.seat.replace(seat));
@@ -191,63 +179,56 @@ impl<'a, Q: Sole, B: Since, W: Share, R: Wait + Sync> Desk for Handle<'a, Q, B, 
         ticket: u64,
         name: BlobName,
         stage: Self::Stage,
-    ) -> StepResult<()> {
+    ) -> Attempt<()> {
         let seat = self.seat.take().unwrap();
         let (seat, answer) = seat.latest(alloc, ticket, name, stage);
         drop(self.seat.replace(seat));
         answer
     }
 
-    fn raise(&mut self, alloc: Global, ticket: u64) -> StepResult<u64> {
+    fn raise(&mut self, alloc: Global, ticket: u64) -> Attempt<u64> {
         let seat = self.seat.take().unwrap();
         let (seat, answer) = seat.raise(alloc, ticket);
         drop(self.seat.replace(seat));
         answer
     }
 
-    fn settle(&mut self, alloc: Global, ticket: u64, root: &RootData) -> StepResult<()> {
+    fn settle(&mut self, alloc: Global, ticket: u64, root: &RootData) -> Attempt<()> {
         let seat = self.seat.take().unwrap();
         let (seat, answer) = seat.settle(alloc, ticket, root);
         drop(self.seat.replace(seat));
         answer
     }
 
-    fn plan(
-        &mut self,
-        alloc: Global,
-        ticket: u64,
-        root: &RootData,
-        uuids: &Ids,
-        shards: &PrunedShards,
-    ) -> StepResult<Planned> {
+    fn plan(&mut self, alloc: Global, ticket: u64, basis: &Basis<'_>) -> Attempt<Planned> {
         let seat = self.seat.take().unwrap();
-        let (seat, answer) = seat.plan(alloc, ticket, root, uuids, shards);
+        let (seat, answer) = seat.plan(alloc, ticket, basis);
         drop(self.seat.replace(seat));
         answer
     }
 
-    fn list(&mut self, alloc: Global, ticket: u64, after: Option<&str>) -> StepResult<Listing> {
+    fn list(&mut self, alloc: Global, ticket: u64, after: Option<&str>) -> Attempt<Listing> {
         let seat = self.seat.take().unwrap();
         let (seat, answer) = seat.list(alloc, ticket, after);
         drop(self.seat.replace(seat));
         answer
     }
 
-    fn settle_delete(&mut self, alloc: Global, ticket: u64, root: &RootData) -> StepResult<()> {
+    fn settle_delete(&mut self, alloc: Global, ticket: u64, root: &RootData) -> Attempt<()> {
         let seat = self.seat.take().unwrap();
         let (seat, answer) = seat.settle_delete(alloc, ticket, root);
         drop(self.seat.replace(seat));
         answer
     }
 
-    fn remove(&mut self, alloc: Global, ticket: u64, names: &Seq<BlobName>) -> StepResult<()> {
+    fn remove(&mut self, alloc: Global, ticket: u64, names: &Seq<BlobName>) -> Attempt<()> {
         let seat = self.seat.take().unwrap();
         let (seat, answer) = seat.remove(alloc, ticket, names);
         drop(self.seat.replace(seat));
         answer
     }
 
-    fn end_shard(&mut self, alloc: Global, ticket: u64, outcome: &ShardResult) -> StepResult<()> {
+    fn end_shard(&mut self, alloc: Global, ticket: u64, outcome: &ShardResult) -> Attempt<()> {
         let seat = self.seat.take().unwrap();
         let (seat, answer) = seat.end_shard(alloc, ticket, outcome);
         drop(self.seat.replace(seat));
@@ -257,50 +238,47 @@ impl<'a, Q: Sole, B: Since, W: Share, R: Wait + Sync> Desk for Handle<'a, Q, B, 
     fn end_restore(
         &mut self,
         alloc: Global,
-        ticket: u64,
-        files: u64,
-        bytes: u64,
-        target: RestoredTarget<Q::Target>,
+        done: RestoreEnd<Q::Target>,
     ) -> Result<(), Unended<Q::Target>>
-        requires mine { HasTaken (calls_in (length B.before) self.old.pass.seen self.old.pass.mine) ticket }
-        requires may { CanEndRestore (shared Q.start) (reader_of (shared Q.start) (B.before ++ self.old.pass.seen) ticket) files bytes }
+        requires mine { HasTaken (calls_in (length B.before) self.old.pass.seen self.old.pass.mine) done.ticket }
+        requires may { CanEndRestore (shared Q.start) (reader_of (shared Q.start) (B.before ++ self.old.pass.seen) done.ticket) done.files done.bytes }
         requires filled { IsFilled (evidence Q.Stage.faults Q.Fetch.faults Q.Shard.faults Q.Target.faults Q.Shard.told Q.Target.told)
-            (shared Q.start) (reader_of (shared Q.start) (B.before ++ self.old.pass.seen) ticket) files bytes target }
-        ensures step { Outcome (shared Q.start) (B.before ++ self.old.pass.seen) (B.before ++ self.new.pass.seen) ticket (ReadStep (RestoredShard files bytes)) (λ _. HasEnded) (refused_of result) }
-        ensures own { OnOk result (reader_of (shared Q.start) (B.before ++ self.new.pass.seen) ticket
-            ≡ record (reader_of (shared Q.start) (B.before ++ self.old.pass.seen) ticket) { out = false }) }
-        ensures kept { OnErr result (reader_of (shared Q.start) (B.before ++ self.new.pass.seen) ticket ≡ reader_of (shared Q.start) (B.before ++ self.old.pass.seen) ticket) }
-        ensures target { IfErr result (λ u. u.target ≡ target) }
+            (shared Q.start) (reader_of (shared Q.start) (B.before ++ self.old.pass.seen) done.ticket) done.files done.bytes done.target }
+        ensures step { Outcome (shared Q.start) (B.before ++ self.old.pass.seen) (B.before ++ self.new.pass.seen) done.ticket (ReadStep (RestoredShard done.files done.bytes)) (λ _. HasEnded) (refused_of result) }
+        ensures own { OnOk result (reader_of (shared Q.start) (B.before ++ self.new.pass.seen) done.ticket
+            ≡ record (reader_of (shared Q.start) (B.before ++ self.old.pass.seen) done.ticket) { out = false }) }
+        ensures kept { OnErr result (reader_of (shared Q.start) (B.before ++ self.new.pass.seen) done.ticket ≡ reader_of (shared Q.start) (B.before ++ self.old.pass.seen) done.ticket) }
+        ensures target { IfErr result (λ u. u.target ≡ done.target) }
         ensures calls { calls_in (length B.before) self.new.pass.seen self.new.pass.mine ≡ calls_in (length B.before) self.old.pass.seen self.old.pass.mine }
     {
         let seat = self.seat.take().unwrap();
-        let (seat, answer) = seat.end_restore(alloc, ticket, files, bytes, target);
+        let (seat, answer) = seat.end_restore(alloc, done);
         drop(self.seat.replace(seat));
         answer
     }
 
-    fn end_delete(&mut self, alloc: Global, ticket: u64) -> StepResult<()> {
+    fn end_delete(&mut self, alloc: Global, ticket: u64) -> Attempt<()> {
         let seat = self.seat.take().unwrap();
         let (seat, answer) = seat.end_delete(alloc, ticket);
         drop(self.seat.replace(seat));
         answer
     }
 
-    fn end_drop(&mut self, alloc: Global, ticket: u64) -> StepResult<()> {
+    fn end_drop(&mut self, alloc: Global, ticket: u64) -> Attempt<()> {
         let seat = self.seat.take().unwrap();
         let (seat, answer) = seat.end_drop(alloc, ticket);
         drop(self.seat.replace(seat));
         answer
     }
 
-    fn end_cleanup(&mut self, alloc: Global, ticket: u64) -> StepResult<()> {
+    fn end_cleanup(&mut self, alloc: Global, ticket: u64) -> Attempt<()> {
         let seat = self.seat.take().unwrap();
         let (seat, answer) = seat.end_cleanup(alloc, ticket);
         drop(self.seat.replace(seat));
         answer
     }
 
-    fn finish(&mut self, alloc: Global, ticket: u64) -> StepResult<()> {
+    fn finish(&mut self, alloc: Global, ticket: u64) -> Attempt<()> {
         let seat = self.seat.take().unwrap();
         let (seat, answer) = seat.finish(alloc, ticket);
         drop(self.seat.replace(seat));

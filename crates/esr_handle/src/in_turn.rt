@@ -14,15 +14,15 @@ ghost use Rattle.esr_handle.specs.Owned.{calls_in};
 ghost use Rattle.esr_handle.specs.Turned.{shared, was_told};
 
 use crate::seat::{Ends, Seat, Turns, is_told};
-use crate::steps::{StepResult, Steps};
+use crate::steps::Steps;
 use crate::{Share, Since};
 use esr_depot::{Commit, Listing};
 use esr_desk::{
-    By, Desk, Hand, Named, Planned, RestoredTarget, Sole, StepRefusal, Unended, Unit, Why,
-    each_ticket_is_given_once,
+    Attempt, Basis, Desk, Failure, Named, NewBlob, Planned, RestoreEnd, Sole, StepRefusal, Unended,
+    Unit, Who, each_ticket_is_given_once,
 };
-use esr_names::{BlobName, Id, Ids};
-use esr_results::{PrunedShards, ShardResult};
+use esr_names::{BlobName, Id};
+use esr_results::ShardResult;
 use esr_root::RootData;
 use esr_seq::Seq;
 use std::alloc::Global;
@@ -43,7 +43,7 @@ impl<'a, Q: Sole, B: Since, W: Share, R: Wait> Steps for Seat<'a, Q, B, W, R> {
 
     ghost calls = { λ s. calls_in (length B.before) s.pass.seen s.pass.mine };
 
-    fn take(self, alloc: Global) -> (Self, StepResult<Option<Unit>>) {
+    fn take(self, alloc: Global) -> (Self, Attempt<Option<Unit>>) {
         each_ticket_is_given_once();
         if self.is_over() {
             return (self, Err(StepRefusal::Memory));
@@ -56,7 +56,7 @@ impl<'a, Q: Sole, B: Since, W: Share, R: Wait> Steps for Seat<'a, Q, B, W, R> {
         (lent.home(is_told(&answer)), answer)
     }
 
-    fn elect(self, alloc: Global) -> (Self, StepResult<u64>) {
+    fn elect(self, alloc: Global) -> (Self, Attempt<u64>) {
         if self.is_over() {
             return (self, Err(StepRefusal::Memory));
         }
@@ -71,10 +71,9 @@ impl<'a, Q: Sole, B: Since, W: Share, R: Wait> Steps for Seat<'a, Q, B, W, R> {
     fn fetch(
         self,
         alloc: Global,
-        hand: Hand,
-        who: u64,
+        who: Who,
         name: BlobName,
-    ) -> (Self, StepResult<Option<Self::Fetch>>) {
+    ) -> (Self, Attempt<Option<Self::Fetch>>) {
         if self.is_over() {
             return (self, Err(StepRefusal::Memory));
         }
@@ -82,41 +81,38 @@ impl<'a, Q: Sole, B: Since, W: Share, R: Wait> Steps for Seat<'a, Q, B, W, R> {
             return (self, Err(StepRefusal::TurnsSpent));
         }
         let mut lent = self.turn();
-        let answer = lent.held.value.fetch(alloc, hand, who, name);
+        let answer = lent.held.value.fetch(alloc, who, name);
         (lent.home(is_told(&answer)), answer)
     }
 
     fn fail(
         self,
         alloc: Global,
-        hand: Hand,
-        who: u64,
-        why: Why,
-        by: By<Q::Stage, Q::Fetch, Q::Shard, Q::Target>,
-    ) -> (Self, StepResult<()>)
-        requires mine { IsMine hand (calls_in (length B.before) self.pass.seen self.pass.mine) who }
-        requires may { MayFail hand (shared Q.start) (B.before ++ self.pass.seen) who }
-        requires shown { IsShown hand (evidence Q.Stage.faults Q.Fetch.faults Q.Shard.faults Q.Target.faults Q.Shard.told Q.Target.told) (shared Q.start) (B.before ++ self.pass.seen) who (why_of why) by }
-        ensures step { Outcome (shared Q.start) (B.before ++ self.entry.pass.seen) (B.before ++ result.0.pass.seen) who (fail_step hand (why_of why)) (λ _. HasEnded) result.1 }
-        ensures own { OnOk result.1 (own_of (shared Q.start) (B.before ++ result.0.pass.seen) who ≡ own_failed hand (own_of (shared Q.start) (B.before ++ self.entry.pass.seen) who)) }
-        ensures kept { OnErr result.1 (own_of (shared Q.start) (B.before ++ result.0.pass.seen) who ≡ own_of (shared Q.start) (B.before ++ self.entry.pass.seen) who) }
+        failure: Failure<Q::Stage, Q::Fetch, Q::Shard, Q::Target>,
+    ) -> (Self, Attempt<()>)
+        requires mine { IsMine failure.who.hand (calls_in (length B.before) self.pass.seen self.pass.mine) failure.who.number }
+        requires may { MayFail failure.who.hand (shared Q.start) (B.before ++ self.pass.seen) failure.who.number }
+        requires shown { IsShown failure.who.hand (evidence Q.Stage.faults Q.Fetch.faults Q.Shard.faults Q.Target.faults Q.Shard.told Q.Target.told) (shared Q.start) (B.before ++ self.pass.seen) failure.who.number (why_of failure.why) failure.by }
+        ensures step { Outcome (shared Q.start) (B.before ++ self.entry.pass.seen) (B.before ++ result.0.pass.seen) failure.who.number (fail_step failure.who.hand (why_of failure.why)) (λ _. HasEnded) result.1 }
+        ensures own { OnOk result.1 (own_of (shared Q.start) (B.before ++ result.0.pass.seen) failure.who.number ≡ own_failed failure.who.hand (own_of (shared Q.start) (B.before ++ self.entry.pass.seen) failure.who.number)) }
+        ensures kept { OnErr result.1 (own_of (shared Q.start) (B.before ++ result.0.pass.seen) failure.who.number ≡ own_of (shared Q.start) (B.before ++ self.entry.pass.seen) failure.who.number) }
         ensures calls { calls_in (length B.before) result.0.pass.seen result.0.pass.mine
-            ≡ called_by hand (B.before ++ result.0.pass.seen) (fail_step hand (why_of why)) (λ _. HasEnded) result.1 (calls_in (length B.before) self.entry.pass.seen self.entry.pass.mine) }
+            ≡ called_by failure.who.hand (B.before ++ result.0.pass.seen) (fail_step failure.who.hand (why_of failure.why)) (λ _. HasEnded) result.1 (calls_in (length B.before) self.entry.pass.seen self.entry.pass.mine) }
     {
         if self.is_over() {
-            drop(by);
+            drop(failure);
             return (self, Err(StepRefusal::Memory));
         }
         if self.left() == 0 {
-            drop(by);
+            drop(failure);
             return (self, Err(StepRefusal::TurnsSpent));
         }
         let mut lent = self.turn();
-        let answer = lent.held.value.fail(alloc, hand, who, why, by);
+        let answer = lent.held.value.fail(alloc, failure);
         (lent.home(is_told(&answer)), answer)
     }
 
-    fn draw(self, alloc: Global, ticket: u64, count: u64) -> (Self, StepResult<Id>) {
+    fn draw(self, alloc: Global, ticket: u64, count: u64) -> (Self, Attempt<Id>) {
         if self.is_over() {
             return (self, Err(StepRefusal::Memory));
         }
@@ -132,9 +128,8 @@ impl<'a, Q: Sole, B: Since, W: Share, R: Wait> Steps for Seat<'a, Q, B, W, R> {
         self,
         alloc: Global,
         ticket: u64,
-        name: BlobName,
-        room: usize,
-    ) -> (Self, StepResult<Named<Self::Stage>>) {
+        blob: NewBlob,
+    ) -> (Self, Attempt<Named<Self::Stage>>) {
         if self.is_over() {
             return (self, Err(StepRefusal::Memory));
         }
@@ -142,7 +137,7 @@ impl<'a, Q: Sole, B: Since, W: Share, R: Wait> Steps for Seat<'a, Q, B, W, R> {
             return (self, Err(StepRefusal::TurnsSpent));
         }
         let mut lent = self.turn();
-        let answer = lent.held.value.begin(alloc, ticket, name, room);
+        let answer = lent.held.value.begin(alloc, ticket, blob);
         (lent.home(is_told(&answer)), answer)
     }
 
@@ -152,7 +147,7 @@ impl<'a, Q: Sole, B: Since, W: Share, R: Wait> Steps for Seat<'a, Q, B, W, R> {
         ticket: u64,
         name: BlobName,
         stage: Self::Stage,
-    ) -> (Self, StepResult<Commit>) {
+    ) -> (Self, Attempt<Commit>) {
         if self.is_over() {
             return (self, Err(StepRefusal::Memory));
         }
@@ -170,7 +165,7 @@ impl<'a, Q: Sole, B: Since, W: Share, R: Wait> Steps for Seat<'a, Q, B, W, R> {
         ticket: u64,
         name: BlobName,
         stage: Self::Stage,
-    ) -> (Self, StepResult<()>) {
+    ) -> (Self, Attempt<()>) {
         if self.is_over() {
             return (self, Err(StepRefusal::Memory));
         }
@@ -182,7 +177,7 @@ impl<'a, Q: Sole, B: Since, W: Share, R: Wait> Steps for Seat<'a, Q, B, W, R> {
         (lent.home(is_told(&answer)), answer)
     }
 
-    fn raise(self, alloc: Global, ticket: u64) -> (Self, StepResult<u64>) {
+    fn raise(self, alloc: Global, ticket: u64) -> (Self, Attempt<u64>) {
         if self.is_over() {
             return (self, Err(StepRefusal::Memory));
         }
@@ -194,7 +189,7 @@ impl<'a, Q: Sole, B: Since, W: Share, R: Wait> Steps for Seat<'a, Q, B, W, R> {
         (lent.home(is_told(&answer)), answer)
     }
 
-    fn settle(self, alloc: Global, ticket: u64, root: &RootData) -> (Self, StepResult<()>) {
+    fn settle(self, alloc: Global, ticket: u64, root: &RootData) -> (Self, Attempt<()>) {
         if self.is_over() {
             return (self, Err(StepRefusal::Memory));
         }
@@ -206,14 +201,7 @@ impl<'a, Q: Sole, B: Since, W: Share, R: Wait> Steps for Seat<'a, Q, B, W, R> {
         (lent.home(is_told(&answer)), answer)
     }
 
-    fn plan(
-        self,
-        alloc: Global,
-        ticket: u64,
-        root: &RootData,
-        uuids: &Ids,
-        shards: &PrunedShards,
-    ) -> (Self, StepResult<Planned>) {
+    fn plan(self, alloc: Global, ticket: u64, basis: &Basis<'_>) -> (Self, Attempt<Planned>) {
         if self.is_over() {
             return (self, Err(StepRefusal::Memory));
         }
@@ -221,11 +209,11 @@ impl<'a, Q: Sole, B: Since, W: Share, R: Wait> Steps for Seat<'a, Q, B, W, R> {
             return (self, Err(StepRefusal::TurnsSpent));
         }
         let mut lent = self.turn();
-        let answer = lent.held.value.plan(alloc, ticket, root, uuids, shards);
+        let answer = lent.held.value.plan(alloc, ticket, basis);
         (lent.home(is_told(&answer)), answer)
     }
 
-    fn list(self, alloc: Global, ticket: u64, after: Option<&str>) -> (Self, StepResult<Listing>) {
+    fn list(self, alloc: Global, ticket: u64, after: Option<&str>) -> (Self, Attempt<Listing>) {
         if self.is_over() {
             return (self, Err(StepRefusal::Memory));
         }
@@ -237,7 +225,7 @@ impl<'a, Q: Sole, B: Since, W: Share, R: Wait> Steps for Seat<'a, Q, B, W, R> {
         (lent.home(is_told(&answer)), answer)
     }
 
-    fn settle_delete(self, alloc: Global, ticket: u64, root: &RootData) -> (Self, StepResult<()>) {
+    fn settle_delete(self, alloc: Global, ticket: u64, root: &RootData) -> (Self, Attempt<()>) {
         if self.is_over() {
             return (self, Err(StepRefusal::Memory));
         }
@@ -249,7 +237,7 @@ impl<'a, Q: Sole, B: Since, W: Share, R: Wait> Steps for Seat<'a, Q, B, W, R> {
         (lent.home(is_told(&answer)), answer)
     }
 
-    fn remove(self, alloc: Global, ticket: u64, names: &Seq<BlobName>) -> (Self, StepResult<()>) {
+    fn remove(self, alloc: Global, ticket: u64, names: &Seq<BlobName>) -> (Self, Attempt<()>) {
         if self.is_over() {
             return (self, Err(StepRefusal::Memory));
         }
@@ -261,12 +249,7 @@ impl<'a, Q: Sole, B: Since, W: Share, R: Wait> Steps for Seat<'a, Q, B, W, R> {
         (lent.home(is_told(&answer)), answer)
     }
 
-    fn end_shard(
-        self,
-        alloc: Global,
-        ticket: u64,
-        outcome: &ShardResult,
-    ) -> (Self, StepResult<()>) {
+    fn end_shard(self, alloc: Global, ticket: u64, outcome: &ShardResult) -> (Self, Attempt<()>) {
         if self.is_over() {
             return (self, Err(StepRefusal::Memory));
         }
@@ -281,37 +264,34 @@ impl<'a, Q: Sole, B: Since, W: Share, R: Wait> Steps for Seat<'a, Q, B, W, R> {
     fn end_restore(
         self,
         alloc: Global,
-        ticket: u64,
-        files: u64,
-        bytes: u64,
-        target: RestoredTarget<Q::Target>,
+        done: RestoreEnd<Q::Target>,
     ) -> (Self, Result<(), Unended<Q::Target>>)
-        requires mine { HasTaken (calls_in (length B.before) self.pass.seen self.pass.mine) ticket }
-        requires may { CanEndRestore (shared Q.start) (reader_of (shared Q.start) (B.before ++ self.pass.seen) ticket) files bytes }
-        requires filled { IsFilled (evidence Q.Stage.faults Q.Fetch.faults Q.Shard.faults Q.Target.faults Q.Shard.told Q.Target.told) (shared Q.start) (reader_of (shared Q.start) (B.before ++ self.pass.seen) ticket) files bytes target }
-        ensures step { Outcome (shared Q.start) (B.before ++ self.entry.pass.seen) (B.before ++ result.0.pass.seen) ticket (ReadStep (RestoredShard files bytes)) (λ _. HasEnded) (refused_of result.1) }
-        ensures own { OnOk result.1 (reader_of (shared Q.start) (B.before ++ result.0.pass.seen) ticket ≡ record (reader_of (shared Q.start) (B.before ++ self.entry.pass.seen) ticket) { out = false }) }
-        ensures kept { OnErr result.1 (reader_of (shared Q.start) (B.before ++ result.0.pass.seen) ticket ≡ reader_of (shared Q.start) (B.before ++ self.entry.pass.seen) ticket) }
-        ensures target { IfErr result.1 (λ u. u.target ≡ target) }
+        requires mine { HasTaken (calls_in (length B.before) self.pass.seen self.pass.mine) done.ticket }
+        requires may { CanEndRestore (shared Q.start) (reader_of (shared Q.start) (B.before ++ self.pass.seen) done.ticket) done.files done.bytes }
+        requires filled { IsFilled (evidence Q.Stage.faults Q.Fetch.faults Q.Shard.faults Q.Target.faults Q.Shard.told Q.Target.told)
+            (shared Q.start) (reader_of (shared Q.start) (B.before ++ self.pass.seen) done.ticket) done.files done.bytes done.target }
+        ensures step { Outcome (shared Q.start) (B.before ++ self.entry.pass.seen) (B.before ++ result.0.pass.seen) done.ticket (ReadStep (RestoredShard done.files done.bytes)) (λ _. HasEnded) (refused_of result.1) }
+        ensures own { OnOk result.1 (reader_of (shared Q.start) (B.before ++ result.0.pass.seen) done.ticket ≡ record (reader_of (shared Q.start) (B.before ++ self.entry.pass.seen) done.ticket) { out = false }) }
+        ensures kept { OnErr result.1 (reader_of (shared Q.start) (B.before ++ result.0.pass.seen) done.ticket ≡ reader_of (shared Q.start) (B.before ++ self.entry.pass.seen) done.ticket) }
+        ensures target { IfErr result.1 (λ u. u.target ≡ done.target) }
         ensures calls { calls_in (length B.before) result.0.pass.seen result.0.pass.mine ≡ calls_in (length B.before) self.entry.pass.seen self.entry.pass.mine }
     {
         if self.is_over() {
             let refusal = StepRefusal::Memory;
+            let target = done.target;
             return (self, Err(Unended { refusal, target }));
         }
         if self.left() == 0 {
             let refusal = StepRefusal::TurnsSpent;
+            let target = done.target;
             return (self, Err(Unended { refusal, target }));
         }
         let mut lent = self.turn();
-        let answer = lent
-            .held
-            .value
-            .end_restore(alloc, ticket, files, bytes, target);
+        let answer = lent.held.value.end_restore(alloc, done);
         (lent.home(is_end_told(&answer)), answer)
     }
 
-    fn end_delete(self, alloc: Global, ticket: u64) -> (Self, StepResult<()>) {
+    fn end_delete(self, alloc: Global, ticket: u64) -> (Self, Attempt<()>) {
         if self.is_over() {
             return (self, Err(StepRefusal::Memory));
         }
@@ -323,7 +303,7 @@ impl<'a, Q: Sole, B: Since, W: Share, R: Wait> Steps for Seat<'a, Q, B, W, R> {
         (lent.home(is_told(&answer)), answer)
     }
 
-    fn end_drop(self, alloc: Global, ticket: u64) -> (Self, StepResult<()>) {
+    fn end_drop(self, alloc: Global, ticket: u64) -> (Self, Attempt<()>) {
         if self.is_over() {
             return (self, Err(StepRefusal::Memory));
         }
@@ -335,7 +315,7 @@ impl<'a, Q: Sole, B: Since, W: Share, R: Wait> Steps for Seat<'a, Q, B, W, R> {
         (lent.home(is_told(&answer)), answer)
     }
 
-    fn end_cleanup(self, alloc: Global, ticket: u64) -> (Self, StepResult<()>) {
+    fn end_cleanup(self, alloc: Global, ticket: u64) -> (Self, Attempt<()>) {
         if self.is_over() {
             return (self, Err(StepRefusal::Memory));
         }
@@ -347,7 +327,7 @@ impl<'a, Q: Sole, B: Since, W: Share, R: Wait> Steps for Seat<'a, Q, B, W, R> {
         (lent.home(is_told(&answer)), answer)
     }
 
-    fn finish(self, alloc: Global, ticket: u64) -> (Self, StepResult<()>) {
+    fn finish(self, alloc: Global, ticket: u64) -> (Self, Attempt<()>) {
         if self.is_over() {
             return (self, Err(StepRefusal::Memory));
         }

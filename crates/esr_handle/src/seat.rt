@@ -1,5 +1,5 @@
 //! A worker's pass at its lock, and a turn of it.
-ghost use Rattle.std.specs.Prelude.{◌≡◌, ◌+◌, ◌<◌, ◌≤◌, ◌^◌, ◌++◌, length, Bool, false};
+ghost use Rattle.std.specs.Prelude.{◌≡◌, ◌+◌, ◌<◌, ◌≤◌, ◌^◌, ◌++◌, length, Bool, false, not};
 ghost use Rattle.esr_desk.specs.Start.{Legal};
 ghost use Rattle.esr_handle.specs.Turned.{was_told, IsFit, IsLent, Turned, Came, Homed};
 
@@ -53,7 +53,8 @@ impl<'a, Q: Sole, B: Since, W: Share, R> Seat<'a, Q, B, W, R> {
         requires turns { (pass.left ≡ W.total) × (pass.used ≡ 0) }
         requires much { 2 ^ 33 ≤ Q.start.earlier_turns + W.total }
         requires fit { IsFit Q.start B.before pass }
-        ensures { result.pass ≡ pass }
+        ensures pass { result.pass ≡ pass }
+        ensures live { result.is_over ≡ false }
     {
         Seat {
             lock,
@@ -149,7 +150,8 @@ impl<'a, Q: Sole, B: Since, W: Share, R> Ends for Lent<'a, Q, B, W, R> {
 
     fn home(self, is_told: bool) -> Seat<'a, Q, B, W, R>
         requires { IsLent Q.start W.lock W.total self.lock.now self.held.turn × Came B.before self.held.turn self.held.value is_told }
-        ensures { Homed B.before self.entry.held.turn self.entry.held.value result.pass }
+        ensures pass { Homed B.before self.entry.held.turn self.entry.held.value result.pass }
+        ensures over { result.is_over ≡ not is_told }
     {
         let Lent {
             lock,

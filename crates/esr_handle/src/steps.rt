@@ -33,16 +33,13 @@ ghost use Rattle.esr_desk.specs.Taken.{committed_by, begun_by, tried_by, LeftBy,
 ghost use Rattle.esr_desk.specs.declared.refusal.StepRefusal.{StepRefusal};
 
 use esr_depot::{Commit, Fetch, Listing, Stage};
-use esr_desk::{By, Hand, Named, Planned, RestoredTarget, StepRefusal, Unended, Unit, Why};
-use esr_names::{BlobName, Id, Ids};
-use esr_results::{PrunedShards, ShardResult};
+use esr_desk::{Attempt, Basis, Failure, Named, NewBlob, Planned, RestoreEnd, Unended, Unit, Who};
+use esr_names::{BlobName, Id};
+use esr_results::ShardResult;
 use esr_root::RootData;
 use esr_seq::Seq;
 use esr_source::{Shard, Target};
 use std::alloc::Global;
-
-/// The answer to a step, or why it was refused.
-pub(crate) type StepResult<X> = Result<X, StepRefusal>;
 
 /// The steps of a desk, each of which takes it and gives it back.
 pub(crate) trait Steps {
@@ -60,7 +57,7 @@ pub(crate) trait Steps {
 
     ghost calls: { Self → List Call };
 
-    fn take(self, alloc: Global) -> (Self, StepResult<Option<Unit>>)
+    fn take(self, alloc: Global) -> (Self, Attempt<Option<Unit>>)
         ensures step { Outcome start (seen self) (seen result.0) 0 TakeStep take_reply result.1 }
         ensures took { IfOk result.1 (λ o. IfSome o (λ u. TookUnit start (seen result.0) u)) }
         ensures bare { IfOk result.1 (λ o. IfSome o (λ u. IsBare start (seen result.0) u)) }
@@ -68,50 +65,41 @@ pub(crate) trait Steps {
         ensures mine { IfOk result.1 (λ o. IfSome o (λ u. HasTaken (calls result.0) u.ready.ticket)) }
         ensures calls { calls result.0 ≡ called (seen result.0) TakeStep take_reply result.1 (calls self) };
 
-    fn elect(self, alloc: Global) -> (Self, StepResult<u64>)
+    fn elect(self, alloc: Global) -> (Self, Attempt<u64>)
         ensures step { Outcome start (seen self) (seen result.0) 0 ElectStep (λ term. ElectedTerm term) result.1 }
         ensures range { IfOk result.1 (λ term. term < 2 ^ 63) }
         ensures calls { calls result.0 ≡ called (seen result.0) ElectStep (λ term. ElectedTerm term) result.1 (calls self) };
 
-    fn fetch(
-        self,
-        alloc: Global,
-        hand: Hand,
-        who: u64,
-        name: BlobName,
-    ) -> (Self, StepResult<Option<Self::Fetch>>)
-        requires mine { IsMine hand (calls self) who }
+    fn fetch(self, alloc: Global, who: Who, name: BlobName) -> (Self, Attempt<Option<Self::Fetch>>)
+        requires mine { IsMine who.hand (calls self) who.number }
         requires layout { IsName name }
-        requires may { MayFetch hand start (seen self) who (name_of name) }
-        requires new { IsFresh start (seen self) who (fetch_step hand (name_of name)) }
-        ensures step { Outcome start (seen self) (seen result.0) who (fetch_step hand (name_of name)) fetch_reply result.1 }
-        ensures own { IfOk result.1 (λ o. own_of start (seen result.0) who
-            ≡ own_fetched hand Self.Fetch.left (name_of name) o (own_of start (seen self) who)) }
+        requires may { MayFetch who.hand start (seen self) who.number (name_of name) }
+        requires new { IsFresh start (seen self) who.number (fetch_step who.hand (name_of name)) }
+        ensures step { Outcome start (seen self) (seen result.0) who.number (fetch_step who.hand (name_of name)) fetch_reply result.1 }
+        ensures own { IfOk result.1 (λ o. own_of start (seen result.0) who.number
+            ≡ own_fetched who.hand Self.Fetch.left (name_of name) o (own_of start (seen self) who.number)) }
         ensures told { IfOk result.1 (λ o. IfSome o (λ f. (bytes : Bytes) × Holds start (Self.Fetch.left f) bytes)) }
         ensures count { IfOk result.1 (λ o. IfSome o (λ f. Self.Fetch.faults f ≡ 0)) }
         ensures sure { IfOk result.1 (λ o. IfSome o (λ f. start.quiet ≡ true → IsTrue (Self.Fetch.is_sure f))) }
-        ensures kept { OnErr result.1 (own_of start (seen result.0) who ≡ own_of start (seen self) who) }
-        ensures calls { calls result.0 ≡ called_by hand (seen result.0) (fetch_step hand (name_of name)) fetch_reply result.1 (calls self) };
+        ensures kept { OnErr result.1 (own_of start (seen result.0) who.number ≡ own_of start (seen self) who.number) }
+        ensures calls { calls result.0 ≡ called_by who.hand (seen result.0) (fetch_step who.hand (name_of name)) fetch_reply result.1 (calls self) };
 
     fn fail(
         self,
         alloc: Global,
-        hand: Hand,
-        who: u64,
-        why: Why,
-        by: By<Self::Stage, Self::Fetch, Self::Shard, Self::Target>,
-    ) -> (Self, StepResult<()>)
-        requires mine { IsMine hand (calls self) who }
-        requires may { MayFail hand start (seen self) who }
-        requires shown { IsShown hand
+        failure: Failure<Self::Stage, Self::Fetch, Self::Shard, Self::Target>,
+    ) -> (Self, Attempt<()>)
+        requires mine { IsMine failure.who.hand (calls self) failure.who.number }
+        requires may { MayFail failure.who.hand start (seen self) failure.who.number }
+        requires shown { IsShown failure.who.hand
             (evidence Self.Stage.faults Self.Fetch.faults Self.Shard.faults Self.Target.faults Self.Shard.told Self.Target.told)
-            start (seen self) who (why_of why) by }
-        ensures step { Outcome start (seen self) (seen result.0) who (fail_step hand (why_of why)) (λ _. HasEnded) result.1 }
-        ensures own { OnOk result.1 (own_of start (seen result.0) who ≡ own_failed hand (own_of start (seen self) who)) }
-        ensures kept { OnErr result.1 (own_of start (seen result.0) who ≡ own_of start (seen self) who) }
-        ensures calls { calls result.0 ≡ called_by hand (seen result.0) (fail_step hand (why_of why)) (λ _. HasEnded) result.1 (calls self) };
+            start (seen self) failure.who.number (why_of failure.why) failure.by }
+        ensures step { Outcome start (seen self) (seen result.0) failure.who.number (fail_step failure.who.hand (why_of failure.why)) (λ _. HasEnded) result.1 }
+        ensures own { OnOk result.1 (own_of start (seen result.0) failure.who.number ≡ own_failed failure.who.hand (own_of start (seen self) failure.who.number)) }
+        ensures kept { OnErr result.1 (own_of start (seen result.0) failure.who.number ≡ own_of start (seen self) failure.who.number) }
+        ensures calls { calls result.0 ≡ called_by failure.who.hand (seen result.0) (fail_step failure.who.hand (why_of failure.why)) (λ _. HasEnded) result.1 (calls self) };
 
-    fn draw(self, alloc: Global, ticket: u64, count: u64) -> (Self, StepResult<Id>)
+    fn draw(self, alloc: Global, ticket: u64, count: u64) -> (Self, Attempt<Id>)
         requires mine { HasTaken (calls self) ticket }
         requires may { CanDraw start (ticket_of start (seen self) ticket) count }
         requires new { IsFresh start (seen self) ticket (DrawStep count) }
@@ -122,22 +110,16 @@ pub(crate) trait Steps {
         ensures kept { OnErr result.1 (ticket_of start (seen result.0) ticket ≡ ticket_of start (seen self) ticket) }
         ensures calls { calls result.0 ≡ calls self };
 
-    fn begin(
-        self,
-        alloc: Global,
-        ticket: u64,
-        name: BlobName,
-        room: usize,
-    ) -> (Self, StepResult<Named<Self::Stage>>)
+    fn begin(self, alloc: Global, ticket: u64, blob: NewBlob) -> (Self, Attempt<Named<Self::Stage>>)
         requires mine { HasTaken (calls self) ticket }
-        requires layout { IsName name }
-        requires may { CanBegin start (ticket_of start (seen self) ticket) (name_of name) }
-        requires new { IsFresh start (seen self) ticket (BeginStep (name_of name)) }
-        ensures step { Outcome start (seen self) (seen result.0) ticket (BeginStep (name_of name)) (λ stage. WasBegun) result.1 }
+        requires layout { IsName blob.name }
+        requires may { CanBegin start (ticket_of start (seen self) ticket) (name_of blob.name) }
+        requires new { IsFresh start (seen self) ticket (BeginStep (name_of blob.name)) }
+        ensures step { Outcome start (seen self) (seen result.0) ticket (BeginStep (name_of blob.name)) (λ stage. WasBegun) result.1 }
         ensures own { ticket_of start (seen result.0) ticket
-            ≡ begun_by (name_of name) result.1 (ticket_of start (seen self) ticket) }
-        ensures name { IfOk result.1 (λ s. s.name ≡ name) }
-        ensures room { IfOk result.1 (λ s. Self.Stage.room s.stage ≡ room) }
+            ≡ begun_by (name_of blob.name) result.1 (ticket_of start (seen self) ticket) }
+        ensures name { IfOk result.1 (λ s. s.name ≡ blob.name) }
+        ensures room { IfOk result.1 (λ s. Self.Stage.room s.stage ≡ blob.room) }
         ensures contents { IfOk result.1 (λ s. Holds start (Self.Stage.contents s.stage) []) }
         ensures count { IfOk result.1 (λ s. Self.Stage.faults s.stage ≡ 0) }
         ensures sure { IfOk result.1 (λ s. start.quiet ≡ true → IsTrue (Self.Stage.is_sure s.stage)) }
@@ -149,7 +131,7 @@ pub(crate) trait Steps {
         ticket: u64,
         name: BlobName,
         stage: Self::Stage,
-    ) -> (Self, StepResult<Commit>)
+    ) -> (Self, Attempt<Commit>)
         requires mine { HasTaken (calls self) ticket }
         requires named { Self.Stage.name stage ≡ name_kind.text (name_of name) }
         requires layout { IsName name }
@@ -169,7 +151,7 @@ pub(crate) trait Steps {
         ticket: u64,
         name: BlobName,
         stage: Self::Stage,
-    ) -> (Self, StepResult<()>)
+    ) -> (Self, Attempt<()>)
         requires mine { HasTaken (calls self) ticket }
         requires named { Self.Stage.name stage ≡ name_kind.text (name_of name) }
         requires name { name_of name ≡ Latest }
@@ -180,7 +162,7 @@ pub(crate) trait Steps {
         ensures own { ticket_of start (seen result.0) ticket ≡ tried_by result.1 (ticket_of start (seen self) ticket) }
         ensures calls { calls result.0 ≡ calls self };
 
-    fn raise(self, alloc: Global, ticket: u64) -> (Self, StepResult<u64>)
+    fn raise(self, alloc: Global, ticket: u64) -> (Self, Attempt<u64>)
         requires mine { HasTaken (calls self) ticket }
         requires may { CanRaise start (ticket_of start (seen self) ticket) }
         requires new { IsFresh start (seen self) ticket RaiseStep }
@@ -191,7 +173,7 @@ pub(crate) trait Steps {
         ensures kept { LeftBy (HasRaised (ticket_of start (seen self) ticket)) result.1 (ticket_of start (seen self) ticket) (ticket_of start (seen result.0) ticket) }
         ensures calls { calls result.0 ≡ calls self };
 
-    fn settle(self, alloc: Global, ticket: u64, root: &RootData) -> (Self, StepResult<()>)
+    fn settle(self, alloc: Global, ticket: u64, root: &RootData) -> (Self, Attempt<()>)
         requires mine { HasTaken (calls self) ticket }
         requires may { CanSettle start (ticket_of start (seen self) ticket) (root_of root.now) }
         requires unpruned { IsUnpruned (ticket_of start (seen self) ticket) }
@@ -202,27 +184,20 @@ pub(crate) trait Steps {
         ensures kept { LeftBy (IsSettled (ticket_of start (seen self) ticket)) result.1 (ticket_of start (seen self) ticket) (ticket_of start (seen result.0) ticket) }
         ensures calls { calls result.0 ≡ calls self };
 
-    fn plan(
-        self,
-        alloc: Global,
-        ticket: u64,
-        root: &RootData,
-        uuids: &Ids,
-        shards: &PrunedShards,
-    ) -> (Self, StepResult<Planned>)
+    fn plan(self, alloc: Global, ticket: u64, basis: &Basis<'_>) -> (Self, Attempt<Planned>)
         requires mine { HasTaken (calls self) ticket }
-        requires copied { root_of root.now ≡ (ticket_of start (seen self) ticket).root }
-        requires may { CanPlan start (ticket_of start (seen self) ticket) (map number_of uuids.now) (map pruned_of shards.now) }
-        requires new { IsFresh start (seen self) ticket (PruneStep (PlanShards (map pruned_of shards.now))) }
-        ensures step { Outcome start (seen self) (seen result.0) ticket (PruneStep (PlanShards (map pruned_of shards.now))) (λ p. DrawnFrom p.first.number) result.1 }
+        requires copied { root_of basis.now.root.now ≡ (ticket_of start (seen self) ticket).root }
+        requires may { CanPlan start (ticket_of start (seen self) ticket) (map number_of basis.now.uuids.now) (map pruned_of basis.now.shards.now) }
+        requires new { IsFresh start (seen self) ticket (PruneStep (PlanShards (map pruned_of basis.now.shards.now))) }
+        ensures step { Outcome start (seen self) (seen result.0) ticket (PruneStep (PlanShards (map pruned_of basis.now.shards.now))) (λ p. DrawnFrom p.first.number) result.1 }
         ensures own { IfOk result.1 (λ p. ticket_of start (seen result.0) ticket
-            ≡ planned (formats_of start) (map pruned_of shards.now) p.first.number (ticket_of start (seen self) ticket)) }
-        ensures root { IfOk result.1 (λ p. root_of p.root ≡ deleted_root (root_of root.now) (map number_of uuids.now) (map pruned_of shards.now) p.first.number) }
-        ensures range { IfOk result.1 (λ p. p.first.number + length shards.now < 2 ^ 128) }
+            ≡ planned (formats_of start) (map pruned_of basis.now.shards.now) p.first.number (ticket_of start (seen self) ticket)) }
+        ensures root { IfOk result.1 (λ p. root_of p.root ≡ deleted_root (root_of basis.now.root.now) (map number_of basis.now.uuids.now) (map pruned_of basis.now.shards.now) p.first.number) }
+        ensures range { IfOk result.1 (λ p. p.first.number + length basis.now.shards.now < 2 ^ 128) }
         ensures kept { OnErr result.1 (ticket_of start (seen result.0) ticket ≡ ticket_of start (seen self) ticket) }
         ensures calls { calls result.0 ≡ calls self };
 
-    fn list(self, alloc: Global, ticket: u64, after: Option<&str>) -> (Self, StepResult<Listing>)
+    fn list(self, alloc: Global, ticket: u64, after: Option<&str>) -> (Self, Attempt<Listing>)
         requires mine { HasTaken (calls self) ticket }
         requires may { CanList (ticket_of start (seen self) ticket) (option_copied after) }
         requires new { IsFresh start (seen self) ticket (ListStep (option_copied after)) }
@@ -233,7 +208,7 @@ pub(crate) trait Steps {
         ensures kept { OnErr result.1 (ticket_of start (seen result.0) ticket ≡ ticket_of start (seen self) ticket) }
         ensures calls { calls result.0 ≡ calls self };
 
-    fn settle_delete(self, alloc: Global, ticket: u64, root: &RootData) -> (Self, StepResult<()>)
+    fn settle_delete(self, alloc: Global, ticket: u64, root: &RootData) -> (Self, Attempt<()>)
         requires mine { HasTaken (calls self) ticket }
         requires may { CanSettleDelete start (ticket_of start (seen self) ticket) (root_of root.now) }
         requires new { IsFresh start (seen self) ticket (PruneStep SettlePruned) }
@@ -243,7 +218,7 @@ pub(crate) trait Steps {
         ensures kept { LeftBy (IsSettled (ticket_of start (seen self) ticket)) result.1 (ticket_of start (seen self) ticket) (ticket_of start (seen result.0) ticket) }
         ensures calls { calls result.0 ≡ calls self };
 
-    fn remove(self, alloc: Global, ticket: u64, names: &Seq<BlobName>) -> (Self, StepResult<()>)
+    fn remove(self, alloc: Global, ticket: u64, names: &Seq<BlobName>) -> (Self, Attempt<()>)
         requires mine { HasTaken (calls self) ticket }
         requires layout { (name : BlobName) → Has names.now name → IsName name }
         requires may { CanRemove start (ticket_of start (seen self) ticket) (map name_of names.now) }
@@ -252,7 +227,7 @@ pub(crate) trait Steps {
         ensures own { ticket_of start (seen result.0) ticket ≡ ticket_of start (seen self) ticket }
         ensures calls { calls result.0 ≡ calls self };
 
-    fn end_shard(self, alloc: Global, ticket: u64, outcome: &ShardResult) -> (Self, StepResult<()>)
+    fn end_shard(self, alloc: Global, ticket: u64, outcome: &ShardResult) -> (Self, Attempt<()>)
         requires mine { HasTaken (calls self) ticket }
         requires may { CanEnd start (ticket_of start (seen self) ticket) (result_of outcome.now) }
         ensures step { Outcome start (seen self) (seen result.0) ticket (DoneStep (result_of outcome.now)) (λ _. HasEnded) result.1 }
@@ -263,24 +238,21 @@ pub(crate) trait Steps {
     fn end_restore(
         self,
         alloc: Global,
-        ticket: u64,
-        files: u64,
-        bytes: u64,
-        target: RestoredTarget<Self::Target>,
+        done: RestoreEnd<Self::Target>,
     ) -> (Self, Result<(), Unended<Self::Target>>)
-        requires mine { HasTaken (calls self) ticket }
-        requires may { CanEndRestore start (reader_of start (seen self) ticket) files bytes }
+        requires mine { HasTaken (calls self) done.ticket }
+        requires may { CanEndRestore start (reader_of start (seen self) done.ticket) done.files done.bytes }
         requires filled { IsFilled
             (evidence Self.Stage.faults Self.Fetch.faults Self.Shard.faults Self.Target.faults Self.Shard.told Self.Target.told)
-            start (reader_of start (seen self) ticket) files bytes target }
-        ensures step { Outcome start (seen self) (seen result.0) ticket (ReadStep (RestoredShard files bytes)) (λ _. HasEnded) (refused_of result.1) }
-        ensures own { OnOk result.1 (reader_of start (seen result.0) ticket
-            ≡ record (reader_of start (seen self) ticket) { out = false }) }
-        ensures kept { OnErr result.1 (reader_of start (seen result.0) ticket ≡ reader_of start (seen self) ticket) }
-        ensures target { IfErr result.1 (λ u. u.target ≡ target) }
+            start (reader_of start (seen self) done.ticket) done.files done.bytes done.target }
+        ensures step { Outcome start (seen self) (seen result.0) done.ticket (ReadStep (RestoredShard done.files done.bytes)) (λ _. HasEnded) (refused_of result.1) }
+        ensures own { OnOk result.1 (reader_of start (seen result.0) done.ticket
+            ≡ record (reader_of start (seen self) done.ticket) { out = false }) }
+        ensures kept { OnErr result.1 (reader_of start (seen result.0) done.ticket ≡ reader_of start (seen self) done.ticket) }
+        ensures target { IfErr result.1 (λ u. u.target ≡ done.target) }
         ensures calls { calls result.0 ≡ calls self };
 
-    fn end_delete(self, alloc: Global, ticket: u64) -> (Self, StepResult<()>)
+    fn end_delete(self, alloc: Global, ticket: u64) -> (Self, Attempt<()>)
         requires mine { HasTaken (calls self) ticket }
         requires may { CanEndDelete start (seen self) ticket }
         ensures step { Outcome start (seen self) (seen result.0) ticket (PruneStep EndDelete) (λ _. HasEnded) result.1 }
@@ -288,7 +260,7 @@ pub(crate) trait Steps {
         ensures kept { OnErr result.1 (ticket_of start (seen result.0) ticket ≡ ticket_of start (seen self) ticket) }
         ensures calls { calls result.0 ≡ calls self };
 
-    fn end_drop(self, alloc: Global, ticket: u64) -> (Self, StepResult<()>)
+    fn end_drop(self, alloc: Global, ticket: u64) -> (Self, Attempt<()>)
         requires mine { HasTaken (calls self) ticket }
         requires may { CanDrop (ticket_of start (seen self) ticket) }
         requires new { IsFresh start (seen self) ticket DroppedStep }
@@ -297,7 +269,7 @@ pub(crate) trait Steps {
         ensures kept { LeftBy (HasEndedAs (ticket_of start (seen self) ticket)) result.1 (ticket_of start (seen self) ticket) (ticket_of start (seen result.0) ticket) }
         ensures calls { calls result.0 ≡ calls self };
 
-    fn end_cleanup(self, alloc: Global, ticket: u64) -> (Self, StepResult<()>)
+    fn end_cleanup(self, alloc: Global, ticket: u64) -> (Self, Attempt<()>)
         requires mine { HasTaken (calls self) ticket }
         requires may { CanEndCleanup start (seen self) ticket }
         requires new { IsFresh start (seen self) ticket DroppedStep }
@@ -306,7 +278,7 @@ pub(crate) trait Steps {
         ensures kept { LeftBy (HasEndedAs (ticket_of start (seen self) ticket)) result.1 (ticket_of start (seen self) ticket) (ticket_of start (seen result.0) ticket) }
         ensures calls { calls result.0 ≡ calls self };
 
-    fn finish(self, alloc: Global, ticket: u64) -> (Self, StepResult<()>)
+    fn finish(self, alloc: Global, ticket: u64) -> (Self, Attempt<()>)
         requires mine { HasTaken (calls self) ticket }
         requires may { CanFinish start (seen self) ticket }
         ensures step { Outcome start (seen self) (seen result.0) ticket FinishStep (λ _. HasEnded) result.1 }

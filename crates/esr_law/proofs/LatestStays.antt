@@ -16,13 +16,14 @@ use Rattle.esr_core.specs.Past.{entries_by, Repeats}
 use Rattle.esr_core.specs.Ids.{Law}
 use Rattle.esr_core.specs.Tracked.{CleanTracked, Tracked}
 use Rattle.esr_core.specs.ReadTracked.{ReadTracked}
-use Rattle.esr_core.specs.Changes.{SameUnit, StepChange, Election, SwapFault, BlobsChange, NoBlobChange, NewBlob, NewLatest, Removal, Maker, ClientStep, ReaderStep, UnitStep, IsUnits, IsClients, IsReaders}
-use Rattle.esr_core.specs.Entry.{RemoveTests, Prune, RemoveDoomed, SettlePruned, Step, AskStep, TakeStep, LatestStep, SettleStep, DroppedStep, ElectStep, LookStep, ReadStep, PruneStep, Refusal, Refused, Reply, WasReplaced, Entry, Moment}
+use Rattle.esr_core.specs.Changes.{SameUnit, StepChange, Election, SwapFault, BlobsChange, NoBlobChange, NewBlob, NewLatest, Removal, Maker, ClientStep, ReaderStep, UnitStep, IsUnits}
+use Rattle.esr_core.specs.Entry.{RemoveTests, Prune, RemoveDoomed, Step, TakeStep, LatestStep, DroppedStep, ReadStep, PruneStep, Refusal, Refused, Reply, WasReplaced, Entry, Moment}
 use Rattle.esr_core.specs.After.{answered, after, blobs_in}
 use Rattle.esr_core.specs.Allowed as allowed
 use Rattle.esr_core.specs.Allowed.{Told, latest_text, Puts, RemovesDoomed, PruneAllows, Allows, IsBlocked, Allowed}
 use Rattle.esr_core.specs.History.{world_from, is_settle}
 use Rattle.esr_core.specs.Cleaned.{IsLastDrop}
+use Rattle.esr_core.specs.UnitSteps.{other_unit, settle_unit}
 use Rattle.esr_law.specs.Cleanups.{IsGivenCleanup, IsEndedCleanup}
 use Rattle.esr_law.specs.Latest.{HasLatest}
 use Rattle.esr_law.proofs.Maps.{some_same, none_some, get_put, get_kept}
@@ -77,21 +78,6 @@ prune_asks f w k prune reply image h = tt
 
 removes_by : (f : Formats) (size : ℕ) (w : World) (who : ℕ) (prune : Prune) (reply : Reply) (image : Option Image) → Allows f size w who (PruneStep prune) reply image → PruneAsks f w who image prune
 removes_by f size w who prune reply image (allowed.Pruning k p rep im h) = prune_asks f w k p rep im h
-
--- a step of who 0 or of a restore's ticket
-other_unit : (step : Step) → IsClients step ⊎ IsReaders step → IsUnits step → ⊥
-other_unit (AskStep command) h unit = unit
-other_unit TakeStep h unit = unit
-other_unit ElectStep h unit = unit
-other_unit LookStep h unit = unit
-other_unit (ReadStep read) h unit = unit
-other_unit step (inl client) unit = client
-other_unit step (inr reader) unit = reader
-
-settle_unit : (step : Step) → is_settle step ≡ true → IsUnits step
-settle_unit SettleStep e = tt
-settle_unit (PruneStep SettlePruned) e = tt
-settle_unit step e = absurd (true≢false (sym e))
 
 not_replaced : (refusal : Refusal) → WasReplaced ≡ Refused refusal → ⊥
 not_replaced refusal e = cc

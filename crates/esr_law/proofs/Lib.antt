@@ -1,4 +1,3 @@
-pub mod NoSnapshots
 pub mod Sourceless
 pub mod Whole
 pub mod Retold

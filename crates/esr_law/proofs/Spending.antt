@@ -1,5 +1,5 @@
 -- How far each step takes the term, the next generation and the next id, and where they are spent.
-use Rattle.std.proofs.Common.{◌≡◌, ◌⊎◌, ℕ, zero, suc, ◌+◌, ◌^◌, ◌≤◌, List, [], ◌∷◌, length, Bool, true, false, Option, Some, None, refl, sym, ap, ◌∙◌, subst, inl, inr, arith}
+use Rattle.std.proofs.Common.{◌≡◌, ◌⊎◌, ℕ, zero, suc, ◌+◌, ◌^◌, ◌≤◌, List, [], ◌∷◌, Bool, true, false, Option, Some, None, refl, sym, ap, ◌∙◌, subst, inl, inr, arith}
 use Rattle.std.specs.Prelude.{◌*◌, if◌then◌else◌}
 use Rattle.std.specs.FinMap as fin
 use Rattle.esr_model.specs.Names.{BlobName}
@@ -11,14 +11,14 @@ use Rattle.esr_core.specs.World.{World, Op, Deletion, ShardWork, ReadState, Rest
 use Rattle.esr_core.specs.Restores.{restore_shard}
 use Rattle.esr_core.specs.Steps.{with_ticket, noting, listing}
 use Rattle.esr_core.specs.Pruning.{planned}
-use Rattle.esr_core.specs.Deletes.{named_uuids, waiting_delete, running_delete, delete_merged, delete_by}
 use Rattle.esr_core.specs.Changes.{IsReaders, IsUnits, Maker, ClientStep, ReaderStep, UnitStep}
-use Rattle.esr_core.specs.Entry.{AskedIndex, CloneOf, Snapshot, Clone, DeleteSnapshots, Restore, Cleanup, Given, GivenShard, GivenClone, GivenFinalize, GivenDrop, GivenRestore, GivenDelete, GivenCleanup, Read, ReadBlob, RestoredShard, DrawTest, CommitTest, ReadFails, Prune, FetchShard, PlanShards, SettlePruned, RemoveDoomed, EndDelete, DeleteFails, Step, AskStep, TakeStep, DrawStep, BeginStep, CommitStep, LatestStep, FetchStep, ListStep, RaiseStep, SettleStep, DoneStep, FailedStep, FinishStep, DroppedStep, ElectStep, ReadStep, PruneStep, Refusal, GenerationsSpent, TermsSpent, IdsSpent, DepotFault, Reply, Gave, DrawnFrom, WasDone, WasThere, WasFetched, WasListed, HasEnded, Refused, AcceptedRestore, Moment}
-use Rattle.esr_core.specs.After.{known_id, next_by, new_names, asked, shard_of, taken_shard, taken_restore_shard, taken_restore, taken_by, with_given, committing, told_blob, fetching, settled_by, settled_of, done_by, done_of, is_stale, failed_by, failed_of, dropped_of, delete_settled_by, delete_settled, delete_failed_by, delete_failed, prune_step, read_told, shard_over, read_over, read_step, read_by, done_step, has_text, fallen, is_latest, tried, test_left, faulted, answered, after}
-use Rattle.esr_core.specs.Allowed as allowed
-use Rattle.esr_core.specs.Allowed.{RestoreAllows, CloneAllows, DeleteAllows, CleanupAllows, ReadAllows, VerifyAllows, PruneAllows, Allows, Blocks, ByFailedSwap, ByDelete, IsBlocked, Allowed}
+use Rattle.esr_core.specs.Entry.{Asked, Given, GivenShard, GivenClone, GivenFinalize, GivenDrop, GivenRestore, GivenDelete, GivenCleanup, Read, ReadBlob, RestoredShard, DrawTest, CommitTest, ReadFails, Prune, FetchShard, PlanShards, SettlePruned, RemoveDoomed, EndDelete, DeleteFails, Step, AskStep, TakeStep, DrawStep, BeginStep, CommitStep, LatestStep, FetchStep, ListStep, RaiseStep, SettleStep, DoneStep, FailedStep, FinishStep, DroppedStep, ElectStep, ReadStep, PruneStep, Refusal, GenerationsSpent, TermsSpent, IdsSpent, DepotFault, Reply, Gave, DrawnFrom, WasDone, WasThere, WasFetched, WasListed, HasEnded, Refused, Moment}
+use Rattle.esr_core.specs.After.{shard_of, taken_shard, taken_restore_shard, taken_restore, taken_by, with_given, committing, told_blob, fetching, settled_by, settled_of, done_by, done_of, is_stale, failed_by, failed_of, dropped_of, delete_settled_by, delete_settled, delete_failed_by, delete_failed, prune_step, read_told, shard_over, read_over, read_step, read_by, done_step, swaps_record, has_text, fallen, is_latest, tried, test_left, faulted, answered, after}
+use Rattle.esr_core.specs.Numbers.{ids_by, DrawsFew}
+use Rattle.esr_core.specs.Causes.{IsRule, RefusalCause, OfRule, OfCleanup, OfName, OfTestName, OfTerm, OfIds, OfGenerations, OfTerms, OfCall}
+use Rattle.esr_core.specs.Allowed.{Blocks, ByFailedSwap, ByDelete, IsBlocked, Allowed}
 use Rattle.esr_core.specs.History.{IsLegal}
-use Rattle.esr_law.specs.Spent.{terms_by, generations_by, ids_by, terms_in, generations_in, ids_in, SpentSo}
+use Rattle.esr_law.specs.Spent.{terms_by, generations_by, terms_in, generations_in, ids_in, SpentSo}
 use Rattle.esr_law.proofs.Turns.{blocked_leaves}
 
 -- ---- numbers
@@ -105,19 +105,11 @@ counts_drawn w terms step new n term pending next few =
           (subst (λ (m : ℕ). m ≤ first_id w.term + (c + ids_by step)) (sym next) (drawn_on (first_id w.term) w.next_id c n (ids_by step) below few));
     }
 
--- an asked snapshot draws its own id, and one for each new name
-next_few : (o : Option ℕ) (n l : ℕ) → n ≤ l → next_by o n ≤ suc l
-next_few None n l h = let less : n ≤ l = h in let is : suc n ≤ suc l = omega (arith, less) in is
-next_few (Some id) n l h = let less : n ≤ l = h in let is : n ≤ suc l = omega (arith, less) in is
+-- an asked command draws no more ids than it asks for
+abbrev pub AsksFew : Formats → Type 0
+AsksFew f = (w : World) (k : ℕ) (command : Asked) (reply : Reply) (image : Option Image) → DrawsFew w (AskStep command) (done_step f w k (AskStep command) reply image)
 
-few_new : (w : World) (indices : List AskedIndex) → new_names w indices ≤ length indices
-few_new w [] = same_le 0
-few_new w (a ∷ indices) = next_few (known_id w a.name) (new_names w indices) (length indices) (few_new w indices)
-
-suc_few : (n l : ℕ) → n ≤ l → suc n ≤ suc l
-suc_few n l h = let less : n ≤ l = h in omega (arith, less)
-
-module _ (f : Formats) (w : World) where
+module _ (f : Formats) (asks : AsksFew f) (w : World) where
   given_same : (k : ℕ) (g : Ticket → Ticket) (o : Option Ticket) → SameNumbers w (with_given w k g o)
   given_same k g None = same_numbers w
   given_same k g (Some t) = record { term = refl; pending = refl; next = refl }
@@ -199,15 +191,6 @@ module _ (f : Formats) (w : World) where
   delete_failed_same k (Some t) =
       either_same w (with_ticket w k (record t { out = false })) (delete_failed_by w k t (fin.get w.deletes t.op)) (is_stale w t t.work) (over_same k t) (delete_failed_by_same k t (fin.get w.deletes t.op))
 
-  merged_same : (names : List Bytes) (d : ℕ) (x : Option Deletion) → SameNumbers w (delete_merged w names d x)
-  merged_same names d None = same_numbers w
-  merged_same names d (Some x) = record { term = refl; pending = refl; next = refl }
-
-  delete_by_same : (names : List Bytes) (waiting running : Option ℕ) → SameNumbers w (delete_by w names waiting running)
-  delete_by_same names (Some d) running = merged_same names d (fin.get w.deletes d)
-  delete_by_same names None (Some d) = same_numbers w
-  delete_by_same names None None = record { term = refl; pending = refl; next = refl }
-
   read_told_same : (k : ℕ) (name : BlobName) (bytes : Option Bytes) (o : Option Reader) → SameNumbers w (read_told w k name bytes o)
   read_told_same k name bytes None = same_numbers w
   read_told_same k name None (Some q) = same_numbers w
@@ -252,15 +235,6 @@ module _ (f : Formats) (w : World) where
   prune_counts k EndDelete reply image = counts_kept w 0 (PruneStep EndDelete) _ (given_same k (λ t. record t { out = false }) (fin.get w.tickets k))
   prune_counts k (DeleteFails why) reply image = counts_kept w 0 (PruneStep (DeleteFails why)) _ (delete_failed_same k (fin.get w.tickets k))
 
-  clone_counts : (source name : Bytes) (names : List Bytes) (moment : ℕ) (taken : Option CloneOf) → Counts w 0 (AskStep (Clone source name names moment taken)) (asked w (Clone source name names moment taken))
-  clone_counts source name names moment None = counts_kept w 0 (AskStep (Clone source name names moment None)) w (same_numbers w)
-  clone_counts source name names moment (Some t) =
-      counts_drawn w 0 (AskStep (Clone source name names moment (Some t))) (asked w (Clone source name names moment (Some t))) 1 refl refl (next_one w.next_id) (same_le 1)
-
-  snapshot_counts : (name : Bytes) (indices : List AskedIndex) (moment : ℕ) → Counts w 0 (AskStep (Snapshot name indices moment)) (asked w (Snapshot name indices moment))
-  snapshot_counts name indices moment =
-      counts_drawn w 0 (AskStep (Snapshot name indices moment)) (asked w (Snapshot name indices moment)) (suc (new_names w indices)) refl refl refl (suc_few (new_names w indices) (length indices) (few_new w indices))
-
   raise_counts : (k : ℕ) (o : Option Ticket) → Counts w 0 RaiseStep (record (with_given w k (λ t. record t { raised = Some w.pending }) o) { pending = suc w.pending })
   raise_counts k o =
       let kept : SameNumbers w (with_given w k (λ t. record t { raised = Some w.pending }) o) = given_same k (λ t. record t { raised = Some w.pending }) o in
@@ -271,11 +245,9 @@ module _ (f : Formats) (w : World) where
   elect_counts = record { term = up_one w.term; pending = le_plus w.pending 0; ids = λ c below. le_plus (first_id (suc w.term)) (c + 0) }
 
   done_counts : (k : ℕ) (step : Step) (reply : Reply) (image : Option Image) → Counts w (terms_by 0 step) step (done_step f w k step reply image)
-  done_counts k (AskStep (Snapshot name indices moment)) reply image = snapshot_counts name indices moment
-  done_counts k (AskStep (Clone source name names moment taken)) reply image = clone_counts source name names moment taken
-  done_counts k (AskStep (DeleteSnapshots names)) reply image = counts_kept w 0 (AskStep (DeleteSnapshots names)) _ (delete_by_same names (waiting_delete w) (running_delete w (named_uuids w names)))
-  done_counts k (AskStep (Restore name place)) (AcceptedRestore o uuid indices) image = counts_kept w 0 (AskStep (Restore name place)) _ (record { term = refl; pending = refl; next = refl })
-  done_counts k (AskStep Cleanup) reply image = counts_kept w 0 (AskStep Cleanup) _ (record { term = refl; pending = refl; next = refl })
+  done_counts k (AskStep command) reply image =
+      let few : DrawsFew w (AskStep command) (done_step f w k (AskStep command) reply image) = asks w k command reply image in
+      counts_drawn w 0 (AskStep command) (done_step f w k (AskStep command) reply image) few.count few.term few.pending few.next few.few
   done_counts k TakeStep (Gave ticket op unit) image = counts_kept w 0 TakeStep _ (taken_same op unit (fin.get w.ops op))
   done_counts k (DrawStep n) reply image = draw_counts k (DrawStep n) (λ t. record t { first = w.next_id; drawn = n }) n (fin.get w.tickets k) (same_le n)
   done_counts k (CommitStep name) WasDone image = counts_kept w 0 (CommitStep name) _ (given_same k (committing name (told_blob f image name)) (fin.get w.tickets k))
@@ -305,14 +277,15 @@ module _ (f : Formats) (w : World) where
       by true = record { term = h.term; pending = h.pending; ids = h.ids }
       by false = record { term = same.term; pending = same.pending; ids = same.ids }
 
+  asked_fault : (k : ℕ) (command : Asked) (image : Option Image) (swaps : Bool) → Counts w 0 (AskStep command) (if swaps then fallen f w (done_step f w k (AskStep command) HasEnded image) image else w)
+  asked_fault k command image true = fallen_counts (AskStep command) (done_step f w k (AskStep command) HasEnded image) image (done_counts k (AskStep command) HasEnded image)
+  asked_fault k command image false = counts_kept w 0 (AskStep command) w (same_numbers w)
+
   fault_counts : (k : ℕ) (step : Step) (image : Option Image) → Counts w (terms_by 0 step) step (faulted f w k step image)
   fault_counts k LatestStep image = counts_kept w 0 LatestStep _ (tried_same k)
   fault_counts k (BeginStep name) image = counts_kept w 0 (BeginStep name) _ (either_same w (tried w k) w (is_latest name) (tried_same k) (same_numbers w))
   fault_counts k (ReadStep (CommitTest name)) image = counts_kept w 0 (ReadStep (CommitTest name)) _ (test_same name (fin.get w.blobs (f.names.text name)) (told_blob f image name))
-  fault_counts k (AskStep (Snapshot name indices moment)) image = fallen_counts (AskStep (Snapshot name indices moment)) _ image (done_counts k (AskStep (Snapshot name indices moment)) HasEnded image)
-  fault_counts k (AskStep (Clone source name names moment taken)) image = fallen_counts (AskStep (Clone source name names moment taken)) _ image (done_counts k (AskStep (Clone source name names moment taken)) HasEnded image)
-  fault_counts k (AskStep (DeleteSnapshots names)) image = fallen_counts (AskStep (DeleteSnapshots names)) _ image (done_counts k (AskStep (DeleteSnapshots names)) HasEnded image)
-  fault_counts k (AskStep Cleanup) image = fallen_counts (AskStep Cleanup) _ image (done_counts k (AskStep Cleanup) HasEnded image)
+  fault_counts k (AskStep command) image = asked_fault k command image (swaps_record (AskStep command))
   fault_counts k RaiseStep image = fallen_counts RaiseStep _ image (done_counts k RaiseStep HasEnded image)
   fault_counts k SettleStep image = fallen_counts SettleStep _ image (done_counts k SettleStep HasEnded image)
   fault_counts k DroppedStep image = fallen_counts DroppedStep _ image (done_counts k DroppedStep HasEnded image)
@@ -342,10 +315,10 @@ fewer_terms w new step a b few h =
 none_le : (a b : ℕ) → a ≡ 0 → a ≤ b
 none_le a b e = let none : a ≡ 0 = e in omega (arith, none)
 
-step_counts : (f : Formats) (size : ℕ) → ((w : World) (m : Moment) → Allowed f size w m → Maker w m.entry.who m.entry.step ⊎ IsBlocked w m) → (w : World) (m : Moment) → Allowed f size w m
+step_counts : (f : Formats) (size : ℕ) → AsksFew f → ((w : World) (m : Moment) → Allowed f size w m → Maker w m.entry.who m.entry.step ⊎ IsBlocked w m) → (w : World) (m : Moment) → Allowed f size w m
     → Counts w (terms_by m.entry.who m.entry.step) m.entry.step (after f w m)
-step_counts f size maker w m a = elim (maker w m a) [
-  | inl made ↦ after_counts (fewer_terms w (answered f w m.entry.who m.entry.step m.entry.reply m.image) m.entry.step (terms_by 0 m.entry.step) (terms_by m.entry.who m.entry.step) (few made) (answered_counts f w m.entry.who m.entry.step m.entry.reply m.image))
+step_counts f size asks maker w m a = elim (maker w m a) [
+  | inl made ↦ after_counts (fewer_terms w (answered f w m.entry.who m.entry.step m.entry.reply m.image) m.entry.step (terms_by 0 m.entry.step) (terms_by m.entry.who m.entry.step) (few made) (answered_counts f asks w m.entry.who m.entry.step m.entry.reply m.image))
   | inr blocked ↦ after_counts (counts_kept w (terms_by m.entry.who m.entry.step) m.entry.step (answered f w m.entry.who m.entry.step m.entry.reply m.image) (subst (SameNumbers w) (sym (blocked_leaves f w m blocked)) (same_numbers w)))
 ]
   where
@@ -374,89 +347,36 @@ blocked_here : (w : World) (who : ℕ) (step : Step) (refusal : Refusal) → Blo
 blocked_here w who step refusal (ByFailedSwap place dead) = tt
 blocked_here w who step refusal (ByDelete by alive aborted) = tt
 
-module _ (f : Formats) (size : ℕ) (w : World) where
-  restore_here : (who : ℕ) (name place : Bytes) (refusal : Refusal) (image : Option Image) → RestoreAllows f w name (Refused refusal) image → SpentHere w who (AskStep (Restore name place)) refusal
-  restore_here who name place refusal image (allowed.NotListed im none) = tt
-  restore_here who name place refusal image (allowed.NamedByDelete uuid d im listed named) = tt
-  restore_here who name place refusal image (allowed.FullOfRestores uuid im listed spared full) = tt
+-- no rule of accepting commands tells of numbers
+rule_here : (w : World) (who : ℕ) (step : Step) (refusal : Refusal) → IsRule refusal → SpentHere w who step refusal
+rule_here w who step (TermsSpent term) rule = absurd rule
+rule_here w who step (GenerationsSpent pending) rule = absurd rule
+rule_here w who step (IdsSpent next) rule = absurd rule
+rule_here w who step refusal rule = tt
 
-  clone_here : (who : ℕ) (source name : Bytes) (names : List Bytes) (moment : ℕ) (taken : Option CloneOf) (refusal : Refusal) (image : Option Image) → CloneAllows f w source name names moment taken (Refused refusal) image
-      → SpentHere w who (AskStep (Clone source name names moment taken)) refusal
-  clone_here who source name names moment taken refusal image (allowed.CloneUsed uuid im clear is) = tt
-  clone_here who source name names moment taken refusal image (allowed.SourceNotListed im may none) = tt
-  clone_here who source name names moment taken refusal image (allowed.SourceDeleted uuid d im may listed named) = tt
-  clone_here who source name names moment taken refusal image (allowed.IndexMissing uuid place im may missing) = tt
-  clone_here who source name names moment taken refusal image (allowed.FullOfClones uuid im may full) = tt
-  clone_here who source name names moment taken refusal image (allowed.CloneSpent uuid im may room spent) = (1, same_le 1, next_le (first_id (suc w.term)) w.next_id spent)
-  clone_here who source name names moment taken refusal image (allowed.CloneFault t im acc) = tt
+elected_here : (w : World) (who : ℕ) (step : Step) → who ≡ 0 → step ≡ ElectStep → 2 ^ 63 ≤ suc w.term → 2 ^ 63 ≤ w.term + terms_by who step
+elected_here w who step nobody elects spent =
+    subst (λ (n : ℕ). 2 ^ 63 ≤ w.term + terms_by n step) (sym nobody) (subst (λ (x : Step). 2 ^ 63 ≤ w.term + terms_by 0 x) (sym elects) (next_le (2 ^ 63) w.term spent))
 
-  delete_here : (who : ℕ) (names : List Bytes) (refusal : Refusal) → DeleteAllows w names (Refused refusal) → SpentHere w who (AskStep (DeleteSnapshots names)) refusal
-  delete_here who names refusal (allowed.NotNamed place clear first) = tt
-  delete_here who names refusal (allowed.CloneStands o clear named lowest) = tt
-  delete_here who names refusal (allowed.RestoreStands o clear named no_clone lowest) = tt
-  delete_here who names refusal (allowed.FullOfOps may new full) = tt
-  delete_here who names refusal (allowed.DeleteFault acc) = tt
+cause_here : (f : Formats) (size : ℕ) (w : World) (who : ℕ) (step : Step) (refusal : Refusal) (image : Option Image) → RefusalCause f size w who step image refusal → SpentHere w who step refusal
+cause_here f size w who step refusal image (OfRule r command is rule) = rule_here w who step r rule
+cause_here f size w who step refusal image (OfCleanup command d x is there clean) = tt
+cause_here f size w who step refusal image (OfName name c is aside there) = tt
+cause_here f size w who step refusal image (OfTestName name own is there) = tt
+cause_here f size w who step refusal image (OfTerm t out apart) = tt
+cause_here f size w who step refusal image (OfIds count few spent) = (count, few, spent)
+cause_here f size w who step refusal image (OfGenerations spent) = spent
+cause_here f size w who step refusal image (OfTerms nobody elects spent) = elected_here w who step nobody elects spent
+cause_here f size w who step refusal image OfCall = tt
 
-  cleanup_here : (who : ℕ) (refusal : Refusal) → CleanupAllows w (Refused refusal) → SpentHere w who (AskStep Cleanup) refusal
-  cleanup_here who refusal (allowed.OpStands o clear lowest) = tt
-  cleanup_here who refusal (allowed.TicketStands k none lowest) = tt
-  cleanup_here who refusal (allowed.CleanupFault acc) = tt
+-- each refusal has its cause, unless the step was not looked at
+abbrev pub Caused : Formats → ℕ → Type 0
+Caused f size = (w : World) (m : Moment) (refusal : Refusal) → Allowed f size w m → m.entry.reply ≡ Refused refusal → Blocks w m.entry.who m.entry.step refusal ⊎ RefusalCause f size w m.entry.who m.entry.step m.image refusal
 
-  read_here : (who k : ℕ) (read : Read) (refusal : Refusal) (image : Option Image) → ReadAllows f w k read (Refused refusal) image → SpentHere w who (ReadStep read) refusal
-  read_here who k read refusal image (allowed.ReadFault j name im stored by) = tt
-
-  verify_here : (who : ℕ) (read : Read) (refusal : Refusal) (image : Option Image) → VerifyAllows f w read (Refused refusal) image → SpentHere w who (ReadStep read) refusal
-  verify_here who read refusal image (allowed.TestSpent im may spent same) = (1, same_le 1, next_le (first_id (suc w.term)) w.next_id spent)
-  verify_here who read refusal image (allowed.BeginTestFails name im own same) = tt
-  verify_here who read refusal image (allowed.TestTaken name im own there) = tt
-  verify_here who read refusal image (allowed.CommitTestFails name bytes im own leaves) = tt
-  verify_here who read refusal image (allowed.RemoveTestsFails names im may left) = tt
-
-  prune_here : (who k : ℕ) (prune : Prune) (refusal : Refusal) (image : Option Image) → PruneAllows f w k prune (Refused refusal) image → SpentHere w who (PruneStep prune) refusal
-  prune_here who j prune refusal image (allowed.FetchShardFails k name im g same) = tt
-  prune_here who j prune refusal image (allowed.PlanSpent k shards im p spent same) = (kept_count shards, same_le (kept_count shards), spent)
-  prune_here who j prune refusal image (allowed.SettleDeleteStale k im s apart same) = tt
-  prune_here who j prune refusal image (allowed.SettleDeleteFails k im s present same) = tt
-  prune_here who j prune refusal image (allowed.RemoveDoomedFails k names im r removes) = tt
-
-  spent_here : (who : ℕ) (step : Step) (refusal : Refusal) (image : Option Image) → Allows f size w who step (Refused refusal) image → SpentHere w who step refusal
-  spent_here who step refusal image (allowed.AskingRestore name place rep im h same) = restore_here 0 name place refusal image h
-  spent_here who step refusal image (allowed.AskingClone source name names moment taken rep im h same) = clone_here 0 source name names moment taken refusal image h
-  spent_here who step refusal image (allowed.AskingDelete names rep im h same) = delete_here 0 names refusal h
-  spent_here who step refusal image (allowed.AskingCleanup rep im h same) = cleanup_here 0 refusal h
-  spent_here who step refusal image (allowed.Verifying read rep im h) = verify_here 0 read refusal image h
-  spent_here who step refusal image (allowed.Pruning k prune rep im h) = prune_here k k prune refusal image h
-  spent_here who step refusal image (allowed.Reading k read rep im h same) = read_here k k read refusal image h
-  spent_here who step refusal image (allowed.Cleaning command d x im recorded there clean same) = tt
-  spent_here who step refusal image (allowed.Used name indices moment uuid im clear is same) = tt
-  spent_here who step refusal image (allowed.Full name indices moment im clear unused full same) = tt
-  spent_here who step refusal image (allowed.AskSpent name indices moment im clear unused room spent same) = (suc (new_names w indices), suc_few (new_names w indices) (length indices) (few_new w indices), spent)
-  spent_here who step refusal image (allowed.DrawSpent k n im may spent same) = (n, same_le n, spent)
-  spent_here who step refusal image (allowed.RaiseStale k im may apart same) = tt
-  spent_here who step refusal image (allowed.SettleStale k n t s im may apart same) = tt
-  spent_here who step refusal image (allowed.DropStale k im may apart same) = tt
-  spent_here who step refusal image (allowed.RaiseSpent k im may present spent same) = spent
-  spent_here who step refusal image (allowed.ElectSpent im spent same) = next_le (2 ^ 63) w.term spent
-  spent_here who step refusal image (allowed.Taken k name im c aside there) = tt
-  spent_here who step refusal image (allowed.BeginFails k name im c same) = tt
-  spent_here who step refusal image (allowed.BeginLatestFails k im p same) = tt
-  spent_here who step refusal image (allowed.CommitFails k name im c leaves) = tt
-  spent_here who step refusal image (allowed.ReplaceFails k im p back leaves) = tt
-  spent_here who step refusal image (allowed.FetchFails k name im g same) = tt
-  spent_here who step refusal image (allowed.ListFails k from im g same) = tt
-  spent_here who step refusal image (allowed.AskFails name indices moment im acc same) = tt
-  spent_here who step refusal image (allowed.RaiseFails k im r same) = tt
-  spent_here who step refusal image (allowed.SettleFails k im s same) = tt
-  spent_here who step refusal image (allowed.DropFails k im d same) = tt
-  spent_here who step refusal image (allowed.ElectFails im room same) = tt
-
-same_refusal : (a b : Refusal) → Refused a ≡ Refused b → a ≡ b
-same_refusal a b e = cc
-
-spent_at : (f : Formats) (size : ℕ) (w : World) (m : Moment) (refusal : Refusal) → Allowed f size w m → m.entry.reply ≡ Refused refusal → SpentHere w m.entry.who m.entry.step refusal
-spent_at f size w m refusal a is = elim a.answered [
-  | inl alive ↦ spent_here f size w m.entry.who m.entry.step refusal m.image (subst (λ (reply : Reply). Allows f size w m.entry.who m.entry.step reply m.image) is alive.1)
-  | inr dead ↦ blocked_here w m.entry.who m.entry.step refusal (subst (Blocks w m.entry.who m.entry.step) (same_refusal _ refusal (sym dead.refused ∙ is)) dead.blocks)
+spent_at : (f : Formats) (size : ℕ) → Caused f size → (w : World) (m : Moment) (refusal : Refusal) → Allowed f size w m → m.entry.reply ≡ Refused refusal → SpentHere w m.entry.who m.entry.step refusal
+spent_at f size caused w m refusal a is = elim (caused w m refusal a is) [
+  | inl blocks ↦ blocked_here w m.entry.who m.entry.step refusal blocks
+  | inr cause ↦ cause_here f size w m.entry.who m.entry.step refusal m.image cause
 ]
 
 -- ---- over a history
@@ -480,12 +400,12 @@ later_from w new c m log counts (GenerationsSpent pending) h = reached_on (2 ^ 6
 later_from w new c m log counts (IdsSpent next) h = counted_on (2 ^ 64) c (ids_by m.entry.step) (ids_in log) h
 later_from w new c m log counts refusal h = tt
 
-module _ (f : Formats) (size : ℕ) (maker : (w : World) (m : Moment) → Allowed f size w m → Maker w m.entry.who m.entry.step ⊎ IsBlocked w m) where
+module _ (f : Formats) (size : ℕ) (asks : AsksFew f) (caused : Caused f size) (maker : (w : World) (m : Moment) → Allowed f size w m → Maker w m.entry.who m.entry.step ⊎ IsBlocked w m) where
   spent_from : (log : List Moment) (w : World) (c : ℕ) → w.next_id ≤ first_id w.term + c → IsLegal f size w log → (m : Moment) (refusal : Refusal) → Has log m → m.entry.reply ≡ Refused refusal → SpentFrom w c log refusal
   spent_from [] w c below legal m refusal h is = absurd h
-  spent_from (x ∷ log) w c below legal m refusal (inl e) is = here_from w c x log below refusal (spent_at f size w x refusal legal.0 (ap (λ (y : Moment). y.entry.reply) e ∙ is))
+  spent_from (x ∷ log) w c below legal m refusal (inl e) is = here_from w c x log below refusal (spent_at f size caused w x refusal legal.0 (ap (λ (y : Moment). y.entry.reply) e ∙ is))
   spent_from (x ∷ log) w c below legal m refusal (inr h) is =
-      let counts : Counts w (terms_by x.entry.who x.entry.step) x.entry.step (after f w x) = step_counts f size maker w x legal.0 in
+      let counts : Counts w (terms_by x.entry.who x.entry.step) x.entry.step (after f w x) = step_counts f size asks maker w x legal.0 in
       later_from w (after f w x) c x log counts refusal (spent_from log (after f w x) (c + ids_by x.entry.step) (counts.ids c below) legal.1 m refusal h is)
 
   first_le : (n : ℕ) (a : ℕ) → n ≡ a → n ≤ a + 0

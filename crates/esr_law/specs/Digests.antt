@@ -1,20 +1,16 @@
 -- Histories that ask nothing of sources and digests, and images that are whole by their digests.
-use Rattle.std.specs.Prelude.{◌≡◌, ◌≢◌, ℕ, Bool, List, Option, Some, None}
+use Rattle.std.specs.Prelude.{◌≡◌, ℕ, Bool, List, Option, Some, None}
 use Rattle.std.specs.Ordering.{nat_cmp}
 use Rattle.std.specs.FinMap.{FinMap}
 use Rattle.std.specs.FinMap as fin
 use Rattle.esr_model.specs.Values.{Bytes, Has, Formats}
 use Rattle.esr_model.specs.Image.{Image}
 use Rattle.esr_core.specs.World.{Op}
-use Rattle.esr_core.specs.Entry.{AskedIndex, Snapshot, Step, AskStep, Moment}
+use Rattle.esr_core.specs.Entry.{AsksNoSnapshot, Moment}
 use Rattle.esr_core.specs.Allowed.{IsWhole}
 use Rattle.esr_core.specs.Left.{safe_in}
 
--- it asks for no snapshot
-abbrev pub AsksNoSnapshot : Step → Type 0
-AsksNoSnapshot step = (name : Bytes) (indices : List AskedIndex) (moment : ℕ) → step ≢ AskStep (Snapshot name indices moment)
-
--- no step of the caller does
+-- no step of the caller asks for a snapshot
 abbrev pub AskNoSnapshot : List Moment → Type 0
 AskNoSnapshot log = (m : Moment) → Has log m → m.entry.who ≡ 0 → AsksNoSnapshot m.entry.step
 

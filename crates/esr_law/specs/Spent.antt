@@ -1,8 +1,8 @@
 -- How many terms, generations and ids a history asks for, and which of them are spent where a step is refused so.
-use Rattle.std.specs.Prelude.{ℕ, zero, suc, ◌+◌, ◌^◌, ◌≤◌, List, [], ◌∷◌, length}
-use Rattle.esr_model.specs.Delete.{kept_count}
+use Rattle.std.specs.Prelude.{ℕ, zero, ◌+◌, ◌^◌, ◌≤◌, List, [], ◌∷◌}
 use Rattle.esr_core.specs.World.{World}
-use Rattle.esr_core.specs.Entry.{Snapshot, Clone, DrawTest, PlanShards, Step, AskStep, DrawStep, RaiseStep, ElectStep, ReadStep, PruneStep, Refusal, GenerationsSpent, TermsSpent, IdsSpent, Moment}
+use Rattle.esr_core.specs.Entry.{Step, RaiseStep, ElectStep, Refusal, GenerationsSpent, TermsSpent, IdsSpent, Moment}
+use Rattle.esr_core.specs.Numbers.{ids_by}
 
 -- whether who 0 asks for a term by the step: 1, or 0
 abbrev pub terms_by : ℕ → Step → ℕ
@@ -13,15 +13,6 @@ terms_by who step = 0
 abbrev pub generations_by : Step → ℕ
 generations_by RaiseStep = 1
 generations_by step = 0
-
--- how many ids it asks for at most: a snapshot asks for its own, and for one for each index
-abbrev pub ids_by : Step → ℕ
-ids_by (AskStep (Snapshot name indices moment)) = suc (length indices)
-ids_by (AskStep (Clone source name indices moment taken)) = 1
-ids_by (DrawStep count) = count
-ids_by (ReadStep DrawTest) = 1
-ids_by (PruneStep (PlanShards shards)) = kept_count shards
-ids_by step = 0
 
 -- how many a history asks for
 abbrev pub terms_in : List Moment → ℕ

@@ -30,6 +30,8 @@ pub fn no_snapshot_asks_nothing_of_sources()
     ensures honest { (f : Formats) (part_size : ℕ) (w : World) (log : List Moment) → Tracked w → AreClones w.ops → IsLegal f part_size w log → AskNoSnapshot log → HonestUploads f w log }
 {
     esr_core::each_step_is_tracked();
+    esr_core::each_step_has_its_maker();
+    esr_core::only_asks_open_uploads();
 }
 
 /// The safe root of a kept image is whole by its digests.
@@ -114,4 +116,6 @@ pub fn only_spent_numbers_refuse()
         → SpentSo w log refusal }
 {
     esr_core::each_step_has_its_maker();
+    esr_core::each_refusal_has_its_cause();
+    esr_core::asks_draw_few();
 }

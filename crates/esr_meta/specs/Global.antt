@@ -8,7 +8,7 @@ use Rattle.esr_json.specs.declared.refusal.Reason.{Reason}
 use Rattle.esr_json.specs.Steps.{◌>>=◌}
 use Rattle.esr_json.specs.Access.{parsed, number_at}
 use Rattle.esr_meta.specs.declared.global.GlobalMeta.{GlobalMeta}
-use Rattle.esr_meta.specs.Indices.{id_at, snap_name_at, id_data}
+use Rattle.esr_names.specs.Indices.{id_at, snap_name_at, id_data}
 
 -- what holds of all global metadata
 pub record IsGlobal (m : GlobalMeta) : Type 0 where

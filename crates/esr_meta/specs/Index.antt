@@ -8,7 +8,7 @@ use Rattle.esr_json.specs.declared.key.Key.TheVariants as keys
 use Rattle.esr_json.specs.declared.refusal.Reason.{Reason}
 use Rattle.esr_json.specs.Steps.{◌>>=◌}
 use Rattle.esr_json.specs.Access.{parsed, number_at}
-use Rattle.esr_meta.specs.Indices.{id_at, index_name_at, id_data}
+use Rattle.esr_names.specs.Indices.{id_at, index_name_at, id_data}
 
 -- the metadata of an index
 pub record Index : Type 0 where

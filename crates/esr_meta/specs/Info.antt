@@ -9,7 +9,7 @@ use Rattle.esr_json.specs.declared.key.Key.TheVariants as keys
 use Rattle.esr_json.specs.declared.refusal.Reason.{Reason}
 use Rattle.esr_json.specs.Steps.{◌>>=◌}
 use Rattle.esr_json.specs.Access.{parsed, number_at}
-use Rattle.esr_meta.specs.Indices.{id_at, snap_name_at, indices_at, id_data, indices_data, AreRefs}
+use Rattle.esr_names.specs.Indices.{id_at, snap_name_at, indices_at, id_data, indices_data, AreRefs}
 
 -- the info of a snapshot
 pub record Info : Type 0 where

@@ -1,4 +1,3 @@
-pub mod Indices
 pub mod Info
 pub mod Global
 pub mod Index

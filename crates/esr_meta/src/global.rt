@@ -4,9 +4,8 @@ ghost use Rattle.serde_json.specs.View.{view};
 ghost use Rattle.esr_json.specs.Steps.{Gives};
 ghost use Rattle.esr_meta.specs.Global.{global_of, global_from, global_data, global_text, IsGlobal};
 
-use crate::{id_at, id_value, snap_name_at};
 use esr_json::{Key, ReadRefusal, number, parse, write};
-use esr_names::{Id, SnapName};
+use esr_names::{Id, SnapName, id_at, id_value, snap_name_at};
 use esr_seq::Bytes;
 use serde_json::{Value, json};
 use std::alloc::{AllocError, Global};

@@ -4,9 +4,8 @@ ghost use Rattle.serde_json.specs.View.{view};
 ghost use Rattle.esr_json.specs.Steps.{Gives};
 ghost use Rattle.esr_meta.specs.Index.{index_meta_of, index_meta_from, index_meta_data, index_meta_text, IsIndexMeta};
 
-use crate::{id_at, id_value, index_name_at};
 use esr_json::{Key, ReadRefusal, number, parse, write};
-use esr_names::{Id, IndexName};
+use esr_names::{Id, IndexName, id_at, id_value, index_name_at};
 use esr_seq::Bytes;
 use serde_json::{Value, json};
 use std::alloc::{AllocError, Global};

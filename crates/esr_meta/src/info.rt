@@ -4,9 +4,10 @@ ghost use Rattle.serde_json.specs.View.{view};
 ghost use Rattle.esr_json.specs.Steps.{Gives};
 ghost use Rattle.esr_meta.specs.Info.{info_of, info_from, info_data, info_text, IsInfo};
 
-use crate::{id_at, id_value, indices_at, indices_value, snap_name_at};
 use esr_json::{Key, ReadRefusal, number, parse, write};
-use esr_names::{Id, IndexRefs, SnapName};
+use esr_names::{
+    Id, IndexRefs, SnapName, id_at, id_value, indices_at, indices_value, snap_name_at,
+};
 use esr_seq::Bytes;
 use serde_json::{Value, json};
 use std::alloc::{AllocError, Global};

@@ -4,8 +4,8 @@ ghost use Rattle.std.specs.Prelude.{◌≡◌};
 use crate::meter::Meter;
 use crate::way::{Way, Work};
 use esr_depot::{CallError, Counted, Failed};
-use esr_source::{Files, Shard, Sources};
-use std::alloc::{AllocError, Global};
+use esr_source::{Files, New, Shard, Sources};
+use std::alloc::Global;
 use std::rt::Clock;
 
 /// Sources that pass each call on, and count what is read of their shards.
@@ -74,13 +74,7 @@ impl<'a, R: Eprint + Clock + Sync, S: Sources> Sources for MeterSources<'a, R, S
 
     ghost may_be_listed = { λ s place index number. S.may_be_listed s.sources place index number };
 
-    fn shard(
-        &self,
-        alloc: Global,
-        place: &str,
-        index: &str,
-        number: u32,
-    ) -> Result<MeterShard<'a, R, S::Shard>, AllocError> {
+    fn shard(&self, alloc: Global, place: &str, index: &str, number: u32) -> New<Self::Shard> {
         let way = Way::new(alloc, Work::Read, index, number)?;
         let shard = self.sources.shard(alloc, place, index, number)?;
         Ok(MeterShard {

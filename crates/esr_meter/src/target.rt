@@ -4,8 +4,8 @@ ghost use Rattle.std.specs.Prelude.{◌≡◌};
 use crate::meter::Meter;
 use crate::way::{Way, Work};
 use esr_depot::{CallError, Counted, Failed};
-use esr_source::{Target, Targets};
-use std::alloc::{AllocError, Global};
+use esr_source::{New, Target, Targets};
+use std::alloc::Global;
 use std::rt::Clock;
 
 /// Targets that pass each call on, and count what is written to them.
@@ -68,13 +68,7 @@ impl<'a, R: Eprint + Clock + Sync, T: Targets> Targets for MeterTargets<'a, R, T
 
     ghost told = { λ t. T.told t.targets };
 
-    fn target(
-        &self,
-        alloc: Global,
-        place: &str,
-        index: &str,
-        number: u32,
-    ) -> Result<MeterTarget<'a, R, T::Target>, AllocError> {
+    fn target(&self, alloc: Global, place: &str, index: &str, number: u32) -> New<Self::Target> {
         let way = Way::new(alloc, Work::Restore, index, number)?;
         let target = self.targets.target(alloc, place, index, number)?;
         Ok(MeterTarget {

@@ -1,3 +1,5 @@
 pub mod Front
 pub mod IdTexts
 pub mod Inverse
+pub mod Distinct
+pub mod RefTexts

@@ -2,3 +2,4 @@ pub mod IdText
 pub mod Layout
 pub mod NameRule
 pub mod Reading
+pub mod Indices

@@ -30,7 +30,7 @@ use Rattle.esr_root.specs.declared.indices.RootIndex.{RootIndex as CodeIndex}
 use Rattle.esr_formats.specs.Ids.{number_of}
 use Rattle.esr_formats.specs.Roots.{root_of, root_snap_of, root_index_of}
 use Rattle.esr_formats.specs.Clusters.{count_of, work_of_code, op_of, cluster_of, cluster_kind}
-use Rattle.esr_results.proofs.Choices.{named_so, below}
+use Rattle.esr_newroot.proofs.Choices.{named_so, below}
 use Rattle.esr_ops.specs.Deletes.{deletion_entry, kept_delete, kept_from}
 use Rattle.esr_ops.specs.Inside.{numbers_of, Rise}
 use Rattle.esr_ops.specs.Entries.{find-cons, get_from, get_put, same_maps}

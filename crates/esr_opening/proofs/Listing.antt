@@ -17,14 +17,14 @@ use Rattle.esr_depot.specs.Image.{Image as Held, Blobs}
 use Rattle.esr_record.specs.Record.{Record}
 use Rattle.esr_root.specs.Root.{Root}
 use Rattle.esr_root.specs.declared.snaps.RootSnap.{RootSnap as CodeSnap}
-use Rattle.esr_meta.specs.Indices.{AreRefs}
+use Rattle.esr_names.specs.Indices.{AreRefs}
 use Rattle.esr_meta.specs.Info.{Info, info_from}
 use Rattle.esr_formats.specs.Names.{name_kind}
 use Rattle.esr_formats.specs.Refs.{ref_of_code}
 use Rattle.esr_formats.specs.Roots.{root_of, root_snap_of}
 use Rattle.esr_formats.specs.Infos.{info_of_code, info_kind}
 use Rattle.esr_formats.specs.Formats.{formats}
-use Rattle.esr_results.proofs.Refs.{one_id, ids_distinct, other_later}
+use Rattle.esr_newroot.proofs.Refs.{one_id, ids_distinct, other_later}
 use Rattle.esr_progress.specs.Infos.{AreInfosOf}
 use Rattle.esr_agreement.specs.Agreement.{agrees, Agrees}
 use Rattle.esr_opening.specs.Found.{Obstacle, read_as, info_name, agreed}

@@ -21,6 +21,7 @@ use Rattle.std.specs.Prelude.{IfSome}
 use Rattle.esr_ops.specs.Lists.{Has-mapped, Has-map, all_member}
 use Rattle.esr_ops.specs.Most.{most_like, most_more}
 use Rattle.esr_ops.proofs.Lists.{all_mapped}
+use Rattle.esr_ops.proofs.Alike.{alike_by}
 
 -- ---- tests
 
@@ -88,12 +89,7 @@ module _ (m : Making) (places : List Bytes) (xs : List OpenShard) (h : IsOpenOp 
     making = h.making;
     placed = h.placed;
     within = all_mapped (Within places) (λ s. record s { state = g s }) (λ s w. w) xs h.within;
-    alike = λ a b ha hb i n.
-        let (x, hx, ex) = Has-mapped {A = OpenShard} (λ s. record s { state = g s }) xs a ha in
-        let (y, hy, ey) = Has-mapped {A = OpenShard} (λ s. record s { state = g s }) xs b hb in
-        let id : x.shard.index.number ≡ y.shard.index.number = ap (λ (s : OpenShard). s.shard.index.number) ex ∙ i ∙ sym (ap (λ (s : OpenShard). s.shard.index.number) ey) in
-        let number : x.shard.number ≡ y.shard.number = ap (λ (s : OpenShard). s.shard.number) ex ∙ n ∙ sym (ap (λ (s : OpenShard). s.shard.number) ey) in
-        sym (ap (λ (s : OpenShard). s.state) ex) ∙ same x y id number (h.alike x y hx hy id number) ∙ ap (λ (s : OpenShard). s.state) ey;
+    alike = alike_by g same xs h.alike;
   }
 
   pub kept-given : (k : ℕ) (shard : ShardId) → IsOpenOp m places (map (given_open k shard) xs)

@@ -14,6 +14,7 @@ use Rattle.esr_ops.specs.Shards.{state_of, waits, waits_on, is_open_waiting, giv
 use Rattle.esr_ops.specs.Restores.{work_of_read, LiesIn, IsOpenRestore, is_waiting}
 use Rattle.esr_ops.specs.Lists.{Has-mapped, all_member}
 use Rattle.esr_ops.proofs.Lists.{all_mapped}
+use Rattle.esr_ops.proofs.Alike.{alike_by}
 
 module _ (refs : List CodeRef) (place : Bytes) where
   pub any_waits-reads : (xs : List OpenShard) → list_any is_waiting (map (work_of_read refs place) xs) ≡ list_any (λ s. waits (state_of s.state)) xs
@@ -67,12 +68,7 @@ module _ (refs : List CodeRef) (xs : List OpenShard) (h : IsOpenRestore refs xs)
       → IsOpenRestore refs (map {A = OpenShard} (λ s. record s { state = g s }) xs)
   kept_by g same = record {
     within = all_mapped (LiesIn refs) (λ s. record s { state = g s }) (λ s w. w) xs h.within;
-    alike = λ a b ha hb i n.
-        let (x, hx, ex) = Has-mapped {A = OpenShard} (λ s. record s { state = g s }) xs a ha in
-        let (y, hy, ey) = Has-mapped {A = OpenShard} (λ s. record s { state = g s }) xs b hb in
-        let id : x.shard.index.number ≡ y.shard.index.number = ap (λ (s : OpenShard). s.shard.index.number) ex ∙ i ∙ sym (ap (λ (s : OpenShard). s.shard.index.number) ey) in
-        let number : x.shard.number ≡ y.shard.number = ap (λ (s : OpenShard). s.shard.number) ex ∙ n ∙ sym (ap (λ (s : OpenShard). s.shard.number) ey) in
-        sym (ap (λ (s : OpenShard). s.state) ex) ∙ same x y id number (h.alike x y hx hy id number) ∙ ap (λ (s : OpenShard). s.state) ey;
+    alike = alike_by g same xs h.alike;
   }
 
   pub kept-given : (k : ℕ) (shard : ShardId) → IsOpenRestore refs (map (given_open k shard) xs)

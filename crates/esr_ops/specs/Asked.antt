@@ -22,8 +22,14 @@ asked_of commands.Cleanup = Cleanup
 abbrev pub HasShards : AskedIndex → Type 0
 HasShards a = (1 ≤ a.shards) × (a.shards ≤ 1024)
 
--- It asks for a snapshot; the names of its indices are distinct, and each has 1 to 1,024 shards. A clone, a restore, a delete and a
--- cleanup are asked for by steps of their own.
+-- It asks for a snapshot; the names of its indices are distinct, and each has 1 to 1,024 shards.
 abbrev pub IsAskable : Asked → Type 0
 IsAskable (Snapshot name indices moment) = AreDistinct indices × AllByRecursion HasShards indices
 IsAskable command = ⊥
+
+-- It is asked for as it stands, and answered by its op: a snapshot that may be asked for, a delete, a cleanup. The entry of a clone tells
+-- what it takes besides, and the answer of a restore its indices.
+abbrev pub IsForOp : Asked → Type 0
+IsForOp (DeleteSnapshots names) = Unit {0}
+IsForOp Cleanup = Unit {0}
+IsForOp command = IsAskable command

@@ -1,6 +1,9 @@
 //! What a caller asks for.
+ghost use Rattle.std.specs.Prelude.{◌≡◌, IfOk};
+
 use esr_names::{IndexName, IndexNames, SnapName, SnapNames};
 use esr_seq::{Seq, Text};
+use std::alloc::{AllocError, Global};
 
 /// An index that a snapshot is to hold.
 #[derive(Drop)]
@@ -48,4 +51,80 @@ pub enum Command {
 pub struct Accepted {
     pub op: u64,
     pub drawn: u64,
+}
+
+/// A copy of the indices of a command.
+fn indices_copy(alloc: Global, indices: &AskedIndices) -> Result<AskedIndices, AllocError>
+    ensures { IfOk result (λ copy. copy ≡ indices.now) }
+{
+    let mut copy = AskedIndices::with_capacity(alloc, indices.len())?;
+    for index in indices.as_slice() {
+        copy.push(AskedIndex {
+            name: index.name.try_clone(alloc)?,
+            shards: index.shards,
+            place: index.place.try_clone(alloc)?,
+        })?;
+    }
+    Ok(copy)
+}
+
+/// A copy of the names of indices.
+pub fn index_names_copy(alloc: Global, names: &IndexNames) -> Result<IndexNames, AllocError>
+    ensures { IfOk result (λ copy. copy ≡ names.now) }
+{
+    let mut copy = IndexNames::with_capacity(alloc, names.len())?;
+    for name in names.as_slice() {
+        copy.push(name.try_clone(alloc)?)?;
+    }
+    Ok(copy)
+}
+
+/// A copy of the names of snapshots.
+pub fn snap_names_copy(alloc: Global, names: &SnapNames) -> Result<SnapNames, AllocError>
+    ensures { IfOk result (λ copy. copy ≡ names.now) }
+{
+    let mut copy = SnapNames::with_capacity(alloc, names.len())?;
+    for name in names.as_slice() {
+        copy.push(name.try_clone(alloc)?)?;
+    }
+    Ok(copy)
+}
+
+impl Command {
+    /// A copy.
+    pub fn try_clone(&self, alloc: Global) -> Result<Command, AllocError>
+        ensures { IfOk result (λ copy. copy ≡ self.now) }
+    {
+        match self {
+            Command::Create {
+                name,
+                indices,
+                moment,
+            } => Ok(Command::Create {
+                name: name.try_clone(alloc)?,
+                indices: indices_copy(alloc, indices)?,
+                moment: *moment,
+            }),
+            Command::Clone {
+                source,
+                name,
+                indices,
+                moment,
+            } => Ok(Command::Clone {
+                source: source.try_clone(alloc)?,
+                name: name.try_clone(alloc)?,
+                indices: index_names_copy(alloc, indices)?,
+                moment: *moment,
+            }),
+            Command::Delete { names } => {
+                let names = snap_names_copy(alloc, names)?;
+                Ok(Command::Delete { names })
+            }
+            Command::Restore { name, place } => Ok(Command::Restore {
+                name: name.try_clone(alloc)?,
+                place: place.try_clone(alloc)?,
+            }),
+            Command::Cleanup => Ok(Command::Cleanup),
+        }
+    }
 }

@@ -14,8 +14,8 @@ ghost use Rattle.esr_ops.specs.Ops.{op_with, IsOpenOp, IsMakingOf, has_stopped, 
 
 use crate::shard::{self, OpenShard, ShardState};
 use crate::{OpenRestore, Work};
-use esr_meta::{SnapInfo, indices_copy};
-use esr_names::{Id, IndexName, ShardId};
+use esr_meta::SnapInfo;
+use esr_names::{Id, IndexName, ShardId, indices_copy};
 use esr_record::{Making, OpWork, RecordOp};
 use esr_results::ShardResult;
 use esr_seq::{Seq, Text};

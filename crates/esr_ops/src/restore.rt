@@ -8,8 +8,7 @@ ghost use Rattle.esr_ops.specs.Restores.{restore_with, IsOpenRestore, is_unread,
 
 use crate::Work;
 use crate::shard::{self, OpenShard, ShardState};
-use esr_meta::indices_copy;
-use esr_names::{Id, IndexRefs, ShardId};
+use esr_names::{Id, IndexRefs, ShardId, indices_copy};
 use esr_seq::Text;
 use std::alloc::{AllocError, Global};
 use std::marker::Model;

@@ -4,10 +4,6 @@ use Rattle.esr_model.specs.Names.{BlobName, ShardSnap}
 use Rattle.esr_model.specs.Values.{Bytes, Has, RootSnap, RootData, ShardSnapshot, SnapList, Formats}
 use Rattle.esr_model.specs.Image.{Reads}
 
--- the root lists a snapshot of this uuid
-abbrev pub IsListed : RootData → ℕ → Type 0
-IsListed root uuid = (s : RootSnap) × Has root.snapshots s × (uuid ≡ s.uuid)
-
 -- where the root lists a snapshot of this uuid, what it has of the shard reads
 abbrev pub HasSnap : (f : Formats) → (BlobName → Bytes → Type 0) → RootData → ℕ → ℕ → ℕ → Type 0
 HasSnap f has root index shard uuid = (s : RootSnap) → Has root.snapshots s → uuid ≡ s.uuid → (v : ShardSnapshot) × Reads has (ShardSnap index shard s.uuid) f.shard_snap v

@@ -1,36 +1,18 @@
 //! What the listed snapshots have of a shard.
-ghost use Rattle.std.specs.Prelude.{◌≡◌, ◌↔◌, IfOk, IsTrue};
-ghost use Rattle.esr_formats.specs.Roots.{root_of, root_snap_of};
+ghost use Rattle.std.specs.Prelude.{◌↔◌, IfOk, IsTrue};
+ghost use Rattle.esr_formats.specs.Roots.{root_of};
 ghost use Rattle.esr_formats.specs.Shards.{shard_index_of};
 ghost use Rattle.esr_model.specs.Image.{At};
 ghost use Rattle.esr_plain.specs.Exactly.{Always};
-ghost use Rattle.esr_plain.specs.Listed.{IsListed, HasSnap, HaveSnaps};
+ghost use Rattle.esr_plain.specs.Listed.{HasSnap, HaveSnaps};
 
 use crate::Image;
 use crate::reading::shard_snap_at;
+use esr_agreement::is_listed;
 use esr_names::{Id, ShardId};
-use esr_root::{RootData, RootSnap};
+use esr_root::RootData;
 use esr_shardidx::ShardIndex;
 use std::alloc::{AllocError, Global};
-
-/// Whether the listed snapshot has this uuid.
-fn is_snap(snap: &RootSnap, uuid: Id) -> bool
-    ensures { IsTrue result ↔ (uuid.number ≡ (root_snap_of snap.now).uuid) }
-{
-    uuid.number == snap.uuid.number
-}
-
-/// Whether the root lists a snapshot of this uuid.
-fn lists_snap(root: &RootData, uuid: Id) -> bool
-    ensures { IsTrue result ↔ IsListed (root_of root.now) uuid.number }
-{
-    for snap in root.snapshots.as_slice() {
-        if is_snap(snap, uuid) {
-            return true;
-        }
-    }
-    false
-}
 
 /// Whether what the snapshot has of the shard reads, where the root lists it.
 fn has_snap(
@@ -42,7 +24,7 @@ fn has_snap(
 ) -> Result<bool, AllocError>
     ensures { IfOk result (λ b. Always (λ f. IsTrue b ↔ HasSnap f (At f image.now) (root_of root.now) shard.index.number shard.number uuid.number)) }
 {
-    if !lists_snap(root, uuid) {
+    if !is_listed(root, uuid) {
         return Ok(true);
     }
     let Some(_snap) = shard_snap_at(alloc, image, shard, uuid)? else {

@@ -13,8 +13,7 @@ use Rattle.esr_model.specs.Image.{Generation}
 use Rattle.esr_core.specs.World.{World, Op, Deletion, ShardState, Pending, Out, Done, GivenUp, ShardWork, ReadState, Unread, BeingRead, Restored, NotRestored, RestoreShard, Restoring, Ticket, Work, Shard, Finalize, Deleting, Drop, AllDone}
 use Rattle.esr_core.specs.Ready.{Barrier, Waits, Before, IsMaster, IsShard, SwapIsOut, UnitIsOut, ReadyShard, ReadyFinalize, ReadyDrop}
 use Rattle.esr_core.specs.Restores.{waits}
-use Rattle.esr_core.specs.Steps.{all_done, is_done, given, Largest, final_ticket, shard_ticket}
-use Rattle.esr_core.specs.Turns.{plain_ticket}
+use Rattle.esr_core.specs.Steps.{all_done, is_done, given, Largest, final_ticket, shard_ticket, plain_ticket}
 use Rattle.esr_core.specs.Generations.{IsLive}
 use Rattle.esr_core.specs.Allowed.{GivesShard}
 use Rattle.esr_core.specs.After.{shard_of, taken_by, taken_shard}

@@ -1,5 +1,5 @@
 -- What the steps of restores make of a plan.
-use Rattle.std.proofs.Common.{◌≡◌, ℕ, Bool, true, false, cond, eqb, List, [], ◌∷◌, Option, Some, None, option_map, map, refl, sym, ap, ◌∙◌, subst, true≢false}
+use Rattle.std.proofs.Common.{◌≡◌, ℕ, Bool, true, false, cond, eqb, List, [], ◌∷◌, Option, Some, None, option_map, map, refl, sym, ap, ◌∙◌, subst, true≢false, nat_cmp}
 use Rattle.std.specs.Prelude.{◌&&◌, ◌==◌}
 use Rattle.std.specs.List.{list_any}
 use Rattle.std.specs.FinMap as fin
@@ -8,7 +8,7 @@ use Rattle.esr_core.specs.World.{World, Out, GivenUp, ShardWork, ReadState, Unre
 use Rattle.esr_core.specs.Restores.{waits, any_waits, handed, ended, ended_by}
 use Rattle.esr_core.specs.Steps.{given}
 use Rattle.esr_core.specs.After.{shard_over, read_over}
-use Rattle.esr_ops.specs.Plan.{Plan, read_state, read_work, restore_plan, reader_seat, IsPlanOf}
+use Rattle.esr_ops.specs.Plan.{Plan, RestorePlan, read_state, read_work, restore_plan, reader_seat, IsPlanOf}
 use Rattle.esr_ops.specs.Restores.{is_waiting}
 use Rattle.esr_progress.specs.Changes.{restore_over, read_by, read_in}
 use Rattle.esr_ops.specs.Seats.{reader_ended}
@@ -52,30 +52,28 @@ module _ (w : World) (p : Plan) (is : IsPlanOf w p) (k : ℕ) (state : ReadState
   pub plan_over : (r : Restoring) → restore_plan (record r { shards = map (ended k state) r.shards }) ≡ restore_over k (restore_plan r)
   plan_over r = λ j. record { uuid = r.uuid; shards = works-ended r.place k state over r.shards j }
 
+  ended_in : (restores : fin.FinMap nat_cmp Restoring) (plans : fin.FinMap nat_cmp RestorePlan) (q : Reader) → ((o : ℕ) → fin.get plans o ≡ option_map restore_plan (fin.get restores o)) → fin.len plans ≡ fin.len restores
+      → IsPlanOf (record w { restores = restores; readers = fin.insert w.readers k (record q { out = false }) }) (record p { restores = plans; readers = fin.insert p.readers k (reader_ended (reader_seat q)) })
+  ended_in restores plans q are count =
+      record {
+        ops = is.ops;
+        deletes = is.deletes;
+        completed = is.completed;
+        seats = is.seats;
+        next_op = is.next_op;
+        next_ticket = is.next_ticket;
+        restores = are;
+        restore_count = count;
+        readers = readers_put w p is k (record q { out = false }) (reader_ended (reader_seat q)) refl;
+      }
+
   ended_with : (q : Reader) (r : Restoring) (b c : Bool) → b ≡ c → IsPlanOf (record w { restores = cond b (fin.insert w.restores q.op (record r { shards = map (ended k state) r.shards })) (fin.remove w.restores q.op); readers = fin.insert w.readers k (record q { out = false }) })
       (record p { restores = cond c (fin.insert p.restores q.op (restore_over k (restore_plan r))) (fin.remove p.restores q.op); readers = fin.insert p.readers k (reader_ended (reader_seat q)) })
-  ended_with q r true true e = record {
-    ops = is.ops;
-    deletes = is.deletes;
-    completed = is.completed;
-    seats = is.seats;
-    next_op = is.next_op;
-    next_ticket = is.next_ticket;
-    restores = restores_put w p is q.op (record r { shards = map (ended k state) r.shards }) (restore_over k (restore_plan r)) (plan_over r);
-    restore_count = restores_put_count w p is q.op (record r { shards = map (ended k state) r.shards }) (restore_over k (restore_plan r));
-    readers = readers_put w p is k (record q { out = false }) (reader_ended (reader_seat q)) refl;
-  }
-  ended_with q r false false e = record {
-    ops = is.ops;
-    deletes = is.deletes;
-    completed = is.completed;
-    seats = is.seats;
-    next_op = is.next_op;
-    next_ticket = is.next_ticket;
-    restores = restores_left w p is q.op;
-    restore_count = restores_left_count w p is q.op;
-    readers = readers_put w p is k (record q { out = false }) (reader_ended (reader_seat q)) refl;
-  }
+  ended_with q r true true e =
+      ended_in (fin.insert w.restores q.op (record r { shards = map (ended k state) r.shards })) (fin.insert p.restores q.op (restore_over k (restore_plan r))) q
+      (restores_put w p is q.op (record r { shards = map (ended k state) r.shards }) (restore_over k (restore_plan r)) (plan_over r))
+      (restores_put_count w p is q.op (record r { shards = map (ended k state) r.shards }) (restore_over k (restore_plan r)))
+  ended_with q r false false e = ended_in (fin.remove w.restores q.op) (fin.remove p.restores q.op) q (restores_left w p is q.op) (restores_left_count w p is q.op)
   ended_with q r true false e = absurd (true≢false e)
   ended_with q r false true e = absurd (true≢false (sym e))
 

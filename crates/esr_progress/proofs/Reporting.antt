@@ -1,11 +1,13 @@
 -- Worlds after a report, and the plans that the code makes.
-use Rattle.std.proofs.Common.{◌≡◌, ℕ, Bool, true, false, cond, ◌&&◌, ◌==◌, Option, Some, None, option_map, refl, sym, ap, ◌∙◌, subst}
+use Rattle.std.proofs.Common.{◌≡◌, ℕ, suc, List, ◌++◌, nat_cmp, Bool, true, false, cond, ◌&&◌, ◌==◌, Option, Some, None, option_map, refl, sym, ap, ◌∙◌, subst}
 use Rattle.std.specs.Prelude.{not}
 use Rattle.std.specs.FinMap as fin
-use Rattle.esr_model.specs.Values.{ShardResult, Formats}
+use Rattle.esr_model.specs.Names.{BlobName}
+use Rattle.esr_model.specs.Values.{RootData, ShardResult, Formats}
 use Rattle.esr_core.specs.World.{World, Op, Deletion, Ticket, Swap, swap, Work, Shard, Finalize, Deleting, Drop}
 use Rattle.esr_core.specs.Steps.{completing}
-use Rattle.esr_core.specs.After.{with_given, change, raised, settled_by, settled_of, done_of, failed_of, is_stale, dropped_of, delete_failed_by, delete_failed, delete_settled_by, delete_settled}
+use Rattle.esr_core.specs.Pruning.{dooms}
+use Rattle.esr_core.specs.After.{with_given, change, raised, settled_by, settled_of, done_of, failed_of, is_stale, dropped_of, delete_failed_by, delete_failed, deletes_left, delete_settled_by, delete_settled}
 use Rattle.esr_core.specs.After as after
 use Rattle.esr_ops.specs.Plan.{Plan, Seat, seat_of, kind_of, IsPlanOf}
 use Rattle.esr_ops.specs.Seats.{is_of_shard, seat_ended, is_stale_seat}
@@ -15,12 +17,33 @@ use Rattle.esr_progress.proofs.Plans.{seats_put}
 module _ (w : World) (p : Plan) (is : IsPlanOf w p) (k : ℕ) where
   -- ---- the ticket alone
 
+  -- it is given anew, and its op, its delete and what has completed with it
+  ticket_put : (safe : ℕ) (root : RootData) (doomed : List BlobName) (ops now_ops : fin.FinMap nat_cmp Op) (deletes now_deletes : fin.FinMap nat_cmp Deletion) (completed now_completed : List ℕ) (v : Ticket) (s : Seat)
+      → now_ops ≡ ops → now_deletes ≡ deletes → now_completed ≡ completed → seat_of v ≡ s
+      → IsPlanOf (record w { safe = safe; root = root; doomed = doomed; ops = ops; deletes = deletes; completed = completed; tickets = fin.insert w.tickets k v }) (record p { ops = now_ops; deletes = now_deletes; completed = now_completed; seats = fin.insert p.seats k s })
+  ticket_put safe root doomed ops now_ops deletes now_deletes completed now_completed v s ops_are deletes_are completed_are seat =
+      record {
+        ops = ops_are;
+        deletes = deletes_are;
+        completed = completed_are;
+        seats = seats_put w p is k v s seat;
+        next_op = is.next_op;
+        next_ticket = is.next_ticket;
+        restores = is.restores;
+        restore_count = is.restore_count;
+        readers = is.readers;
+      }
+
+  -- the ticket has ended
+  end_put : (t : Ticket) → IsPlanOf (record w { tickets = fin.insert w.tickets k (record t { out = false }) }) (with_seat p k (seat_ended (seat_of t)))
+  end_put t = ticket_put w.safe w.root w.doomed w.ops p.ops w.deletes p.deletes w.completed p.completed (record t { out = false }) (seat_ended (seat_of t)) is.ops is.deletes is.completed refl
+
   changed : (g : Seat → Seat) (h : Ticket → Ticket) → ((t : Ticket) → seat_of (h t) ≡ g (seat_of t)) → IsPlanOf (change w k h) (seat_changed g p k (fin.get p.seats k))
   changed g h keeps = subst (λ o. IsPlanOf (change w k h) (seat_changed g p k o)) (sym (is.seats k)) (go (fin.get w.tickets k))
     where
       go : (o : Option Ticket) → IsPlanOf (with_given w k h o) (seat_changed g p k (option_map seat_of o))
       go None = is
-      go (Some t) = record { ops = is.ops; deletes = is.deletes; completed = is.completed; seats = seats_put w p is k (h t) (g (seat_of t)) (keeps t); next_op = is.next_op; next_ticket = is.next_ticket; restores = is.restores; restore_count = is.restore_count; readers = is.readers }
+      go (Some t) = ticket_put w.safe w.root w.doomed w.ops p.ops w.deletes p.deletes w.completed p.completed (h t) (g (seat_of t)) is.ops is.deletes is.completed (keeps t)
 
   raised_by : (n : ℕ) → w.pending ≡ n → IsPlanOf (raised w k) (seat_changed (seat_raised n) p k (fin.get p.seats k))
   raised_by n e =
@@ -34,49 +57,25 @@ module _ (w : World) (p : Plan) (is : IsPlanOf w p) (k : ℕ) where
     where
       go : (o : Option Ticket) → IsPlanOf (dropped_of w k o) (op_left seat_ended p k (option_map seat_of o))
       go None = is
-      go (Some t) = record {
-        ops = λ j. fin.remove (is.ops j) t.op;
-        deletes = λ j. fin.remove (is.deletes j) t.op;
-        completed = is.completed;
-        seats = seats_put w p is k (record t { out = false }) (seat_ended (seat_of t)) refl;
-        next_op = is.next_op;
-        next_ticket = is.next_ticket;
-        restores = is.restores;
-        restore_count = is.restore_count;
-        readers = is.readers;
-      }
+      go (Some t) =
+          ticket_put w.safe w.root w.doomed (fin.remove w.ops t.op) (fin.remove p.ops t.op) (fin.remove w.deletes t.op) (fin.remove p.deletes t.op) w.completed p.completed
+          (record t { out = false }) (seat_ended (seat_of t)) (λ j. fin.remove (is.ops j) t.op) (λ j. fin.remove (is.deletes j) t.op) is.completed refl
 
   settled_there : (f : Formats) (t : Ticket) (s : Swap) (n : ℕ) → fin.get w.tickets k ≡ Some t → swap f t ≡ Some s → t.raised ≡ Some n → IsPlanOf (settled_of f w k (Some t)) (op_left seat_settled p k (fin.get p.seats k))
   settled_there f t s n there swaps raises =
       subst (λ o. IsPlanOf (settled_of f w k (Some t)) (op_left seat_settled p k o)) (sym (is.seats k ∙ ap (option_map seat_of) there))
       (subst (λ (o : Option Swap). IsPlanOf (settled_by f w k t o t.raised) (op_left seat_settled p k (Some (seat_of t)))) (sym swaps)
-      (subst (λ (o : Option ℕ). IsPlanOf (settled_by f w k t (Some s) o) (op_left seat_settled p k (Some (seat_of t)))) (sym raises) (record {
-        ops = λ j. fin.remove (is.ops j) t.op;
-        deletes = λ j. fin.remove (is.deletes j) t.op;
-        completed = is.completed;
-        seats = seats_put w p is k (record t { settled = true }) (seat_settled (seat_of t)) refl;
-        next_op = is.next_op;
-        next_ticket = is.next_ticket;
-        restores = is.restores;
-        restore_count = is.restore_count;
-        readers = is.readers;
-      })))
+      (subst (λ (o : Option ℕ). IsPlanOf (settled_by f w k t (Some s) o) (op_left seat_settled p k (Some (seat_of t)))) (sym raises)
+      (ticket_put (suc n) s.root w.doomed (fin.remove w.ops t.op) (fin.remove p.ops t.op) (fin.remove w.deletes t.op) (fin.remove p.deletes t.op) w.completed p.completed
+      (record t { settled = true }) (seat_settled (seat_of t)) (λ j. fin.remove (is.ops j) t.op) (λ j. fin.remove (is.deletes j) t.op) is.completed refl)))
 
   delete_settled_there : (f : Formats) (t : Ticket) (s : Swap) (n : ℕ) → fin.get w.tickets k ≡ Some t → swap f t ≡ Some s → t.raised ≡ Some n → IsPlanOf (delete_settled f w k (Some t)) (delete_left p k (fin.get p.seats k))
   delete_settled_there f t s n there swaps raises =
       subst (λ o. IsPlanOf (delete_settled f w k (Some t)) (delete_left p k o)) (sym (is.seats k ∙ ap (option_map seat_of) there))
       (subst (λ (o : Option Swap). IsPlanOf (delete_settled_by f w k t o t.raised) (delete_left p k (Some (seat_of t)))) (sym swaps)
-      (subst (λ (o : Option ℕ). IsPlanOf (delete_settled_by f w k t (Some s) o) (delete_left p k (Some (seat_of t)))) (sym raises) (record {
-        ops = λ j. fin.remove (is.ops j) t.op;
-        deletes = λ j. cond t.clean (is.deletes j) (fin.remove (is.deletes j) t.op);
-        completed = is.completed;
-        seats = seats_put w p is k (record t { settled = true }) (seat_settled (seat_of t)) refl;
-        next_op = is.next_op;
-        next_ticket = is.next_ticket;
-        restores = is.restores;
-        restore_count = is.restore_count;
-        readers = is.readers;
-      })))
+      (subst (λ (o : Option ℕ). IsPlanOf (delete_settled_by f w k t (Some s) o) (delete_left p k (Some (seat_of t)))) (sym raises)
+      (ticket_put (suc n) s.root (dooms f t ++ w.doomed) (fin.remove w.ops t.op) (fin.remove p.ops t.op) (deletes_left w t) (cond t.clean p.deletes (fin.remove p.deletes t.op)) w.completed p.completed
+      (record t { settled = true }) (seat_settled (seat_of t)) (λ j. fin.remove (is.ops j) t.op) (λ j. cond t.clean (is.deletes j) (fin.remove (is.deletes j) t.op)) is.completed refl)))
 
   -- ---- its op goes on
 
@@ -85,17 +84,9 @@ module _ (w : World) (p : Plan) (is : IsPlanOf w p) (k : ℕ) where
     where
       inner : (t : Ticket) (o : Option Op) → IsPlanOf (after.done_by w k r t o) (done_by p k r (seat_of t) o)
       inner t None = is
-      inner t (Some op) = record {
-        ops = λ j. fin.insert (is.ops j) t.op (op_marked k r op);
-        deletes = is.deletes;
-        completed = λ j. completing (is.completed j) t.op (op_marked k r op).shards;
-        seats = seats_put w p is k (record t { out = false }) (seat_ended (seat_of t)) refl;
-        next_op = is.next_op;
-        next_ticket = is.next_ticket;
-        restores = is.restores;
-        restore_count = is.restore_count;
-        readers = is.readers;
-      }
+      inner t (Some op) =
+          ticket_put w.safe w.root w.doomed (fin.insert w.ops t.op (op_marked k r op)) (fin.insert p.ops t.op (op_marked k r op)) w.deletes p.deletes (completing w.completed t.op (op_marked k r op).shards) (completing p.completed t.op (op_marked k r op).shards)
+          (record t { out = false }) (seat_ended (seat_of t)) (λ j. fin.insert (is.ops j) t.op (op_marked k r op)) is.deletes (λ j. completing (is.completed j) t.op (op_marked k r op).shards) refl
 
       go : (o : Option Ticket) → IsPlanOf (done_of w k r o) (done_in p k r (option_map seat_of o))
       go None = is
@@ -116,27 +107,16 @@ module _ (w : World) (p : Plan) (is : IsPlanOf w p) (k : ℕ) where
     where
       inner : (t : Ticket) (o : Option Op) → IsPlanOf (after.failed_by w k t o) (failed_by p k (seat_of t) o)
       inner t None = is
-      inner t (Some op) = record {
-        ops = λ j. fin.insert (is.ops j) t.op (op_failed k op);
-        deletes = is.deletes;
-        completed = is.completed;
-        seats = seats_put w p is k (record t { out = false }) (seat_ended (seat_of t)) refl;
-        next_op = is.next_op;
-        next_ticket = is.next_ticket;
-        restores = is.restores;
-        restore_count = is.restore_count;
-        readers = is.readers;
-      }
+      inner t (Some op) =
+          ticket_put w.safe w.root w.doomed (fin.insert w.ops t.op (op_failed k op)) (fin.insert p.ops t.op (op_failed k op)) w.deletes p.deletes w.completed p.completed
+          (record t { out = false }) (seat_ended (seat_of t)) (λ j. fin.insert (is.ops j) t.op (op_failed k op)) is.deletes is.completed refl
 
       fresh : (t : Ticket) → IsPlanOf (after.failed_by w k t (fin.get w.ops t.op)) (failed_by p k (seat_of t) (fin.get p.ops t.op))
       fresh t = subst (λ m. IsPlanOf (after.failed_by w k t (fin.get w.ops t.op)) (failed_by p k (seat_of t) (fin.get m t.op))) (sym is.ops) (inner t (fin.get w.ops t.op))
 
-      stale : (t : Ticket) → IsPlanOf (record w { tickets = fin.insert w.tickets k (record t { out = false }) }) (with_seat p k (seat_ended (seat_of t)))
-      stale t = record { ops = is.ops; deletes = is.deletes; completed = is.completed; seats = seats_put w p is k (record t { out = false }) (seat_ended (seat_of t)) refl; next_op = is.next_op; next_ticket = is.next_ticket; restores = is.restores; restore_count = is.restore_count; readers = is.readers }
-
       either : (t : Ticket) (b : Bool) → IsPlanOf (cond b (record w { tickets = fin.insert w.tickets k (record t { out = false }) }) (after.failed_by w k t (fin.get w.ops t.op)))
           (cond b (with_seat p k (seat_ended (seat_of t))) (failed_by p k (seat_of t) (fin.get p.ops t.op)))
-      either t true = stale t
+      either t true = end_put t
       either t false = fresh t
 
       go : (o : Option Ticket) → IsPlanOf (failed_of w k o) (failed_in term p k (option_map seat_of o))
@@ -150,27 +130,16 @@ module _ (w : World) (p : Plan) (is : IsPlanOf w p) (k : ℕ) where
     where
       inner : (t : Ticket) (o : Option Deletion) → IsPlanOf (delete_failed_by w k t o) (deletion_failed_by p k (seat_of t) o)
       inner t None = is
-      inner t (Some x) = record {
-        ops = is.ops;
-        deletes = λ j. fin.insert (is.deletes j) t.op (delete_failing x);
-        completed = is.completed;
-        seats = seats_put w p is k (record t { out = false }) (seat_ended (seat_of t)) refl;
-        next_op = is.next_op;
-        next_ticket = is.next_ticket;
-        restores = is.restores;
-        restore_count = is.restore_count;
-        readers = is.readers;
-      }
+      inner t (Some x) =
+          ticket_put w.safe w.root w.doomed w.ops p.ops (fin.insert w.deletes t.op (delete_failing x)) (fin.insert p.deletes t.op (delete_failing x)) w.completed p.completed
+          (record t { out = false }) (seat_ended (seat_of t)) is.ops (λ j. fin.insert (is.deletes j) t.op (delete_failing x)) is.completed refl
 
       fresh : (t : Ticket) → IsPlanOf (delete_failed_by w k t (fin.get w.deletes t.op)) (deletion_failed_by p k (seat_of t) (fin.get p.deletes t.op))
       fresh t = subst (λ m. IsPlanOf (delete_failed_by w k t (fin.get w.deletes t.op)) (deletion_failed_by p k (seat_of t) (fin.get m t.op))) (sym is.deletes) (inner t (fin.get w.deletes t.op))
 
-      stale : (t : Ticket) → IsPlanOf (record w { tickets = fin.insert w.tickets k (record t { out = false }) }) (with_seat p k (seat_ended (seat_of t)))
-      stale t = record { ops = is.ops; deletes = is.deletes; completed = is.completed; seats = seats_put w p is k (record t { out = false }) (seat_ended (seat_of t)) refl; next_op = is.next_op; next_ticket = is.next_ticket; restores = is.restores; restore_count = is.restore_count; readers = is.readers }
-
       either : (t : Ticket) (b : Bool) → IsPlanOf (cond b (record w { tickets = fin.insert w.tickets k (record t { out = false }) }) (delete_failed_by w k t (fin.get w.deletes t.op)))
           (cond b (with_seat p k (seat_ended (seat_of t))) (deletion_failed_by p k (seat_of t) (fin.get p.deletes t.op)))
-      either t true = stale t
+      either t true = end_put t
       either t false = fresh t
 
       go : (o : Option Ticket) → IsPlanOf (delete_failed w k o) (deletion_failed_in term p k (option_map seat_of o))

@@ -13,7 +13,7 @@ use Rattle.esr_core.proofs.Pieces.{in_parts}
 use Rattle.esr_core.proofs.TurningIds.{pairs_has}
 use Rattle.esr_formats.specs.Reasons.{IsUnreadable}
 use Rattle.esr_desk.specs.Restore.Parts.{AreFronts, AreExact}
-use Rattle.esr_quiet.proofs.Maps.{some_none}
+use Rattle.esr_core.specs.NumberMaps.{some_none}
 use Rattle.esr_quiet.proofs.Fronts.{file_whole}
 use Rattle.esr_quiet.proofs.Rooted.{AreListed}
 

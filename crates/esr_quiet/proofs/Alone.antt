@@ -7,8 +7,7 @@ use Rattle.esr_model.specs.Values.{Bytes, Formats}
 use Rattle.esr_model.specs.Image.{Image}
 use Rattle.esr_core.specs.World.{World, Op, ShardWork, Deleting, Drop, Ticket, RestoreShard, Restoring, Caller, no_caller, Opened, OpenedEmpty, OpenedRecord}
 use Rattle.esr_core.specs.Restores.{restore_shard}
-use Rattle.esr_core.specs.Steps.{shard_ticket, final_ticket}
-use Rattle.esr_core.specs.Turns.{plain_ticket}
+use Rattle.esr_core.specs.Steps.{shard_ticket, final_ticket, plain_ticket}
 use Rattle.esr_core.specs.Entry.{Given, GivenShard, GivenFinalize, GivenDrop, GivenRestore, GivenClone, GivenDelete, GivenCleanup, Read, ReadBlob, CheckedAll, DrawTest, CommitTest, RemoveTests, VerifiedAll, ReadFails, Step, AskStep, TakeStep, LookStep, ReadStep, DepotFault, Reply, Gave, WasDone, WasFetched, WasRemoved, HasEnded, Refused, Moment}
 use Rattle.esr_core.specs.After.{shard_of, taken_by, taken_shard, taken_restore, taken_restore_shard, told_blob, is_heard, caller_told, caller_wrote, caller_ended, caller_read, caller_by, caller_after, answered}
 use Rattle.esr_core.specs.Changes.{StepChange, NoChange, NewOp, NewDeletion, MergedDeletion, NewRestore, NewTicket, NewReader, OwnTicket, Settlement, UnitEnd, DeletionFailure, OpDrop, Election, ReaderFetch, ReaderEnd, PlainDraw, TestBlob, SwapFault}
@@ -16,7 +15,7 @@ use Rattle.esr_core.specs.History.{world_from}
 use Rattle.esr_desk.specs.Start.{Start, formats_of, world_of, or_no_ticket}
 use Rattle.esr_quiet.specs.Smooth.{AreTestsApart}
 use Rattle.esr_quiet.proofs.Callers.{caller_one}
-use Rattle.esr_quiet.proofs.Maps.{some_none, get_was}
+use Rattle.esr_core.specs.NumberMaps.{some_none, get_was}
 use Rattle.esr_quiet.proofs.Prefixes.{world_both}
 
 abbrev pub IsAlone : World → Type 0

@@ -13,7 +13,7 @@ use Rattle.esr_core.specs.Written.{WroteLaw}
 use Rattle.esr_core.specs.Ids.{Law}
 use Rattle.esr_desk.specs.Unit.Shown.{HasSnapshot, HasDrawn}
 use Rattle.esr_quiet.specs.Free.{Free}
-use Rattle.esr_quiet.proofs.Maps.{some_same, some_none}
+use Rattle.esr_core.specs.NumberMaps.{some_same, some_none}
 
 module _ (f : Formats) (w : World) (shelf : List Shelved) (l : Law f w shelf) (k : ℕ) (t : Ticket) (out : IsOut w k t) (index number base : ℕ) (work : t.work ≡ Shard index number) (base_is : t.base ≡ Some base) where
   held_law : ShardLaw f (HeldIn f w) w.root w.ops k t index number

@@ -32,7 +32,7 @@ use Rattle.esr_quiet.specs.Smooth.{IsSmooth, NoneUnverified}
 use Rattle.esr_quiet.specs.Prefixes.{Prefixes}
 use Rattle.esr_quiet.specs.OverKept.{IsLawful}
 use Rattle.esr_quiet.specs.Undamaged.{IsDamage, NoCheckFindsDamage}
-use Rattle.esr_quiet.proofs.Maps.{some_same, some_none}
+use Rattle.esr_core.specs.NumberMaps.{some_same, some_none}
 use Rattle.esr_quiet.proofs.Prefixes.{world_both, told_at, place_of, has_at}
 use Rattle.esr_quiet.proofs.OverKept.{IsAlive, lawful_front, step_at, smooth_lawful, smooth_alive, alive_before}
 use Rattle.esr_quiet.proofs.Numbers.{Numbered, numbered_from, client_unblocked}

@@ -6,7 +6,7 @@ use Rattle.esr_model.specs.Image.{Present}
 use Rattle.esr_core.specs.World.{World, Work, Shard, Finalize, Deleting, Drop, Swap, swap_of, metadata}
 use Rattle.esr_core.specs.Allowed.{Commits, IsMetadata}
 use Rattle.esr_quiet.specs.Free.{Free}
-use Rattle.esr_quiet.proofs.Maps.{some_same}
+use Rattle.esr_core.specs.NumberMaps.{some_same}
 
 -- the name of a blob among a finalization's metadata
 named_metadata : (f : Formats) (info : SnapInfo) (name : BlobName) (bytes : Bytes) → Has (metadata f info) (name, bytes) → IsMetadata name

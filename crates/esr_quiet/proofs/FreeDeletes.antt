@@ -1,5 +1,5 @@
 -- A delete or a cleanup that is asked for, and each step of its ticket, keeps what is to be written free, where no call of the container fails.
-use Rattle.std.proofs.Common.{◌≡◌, ◌≢◌, ◌⊎◌, ℕ, suc, ◌+◌, ◌<◌, ◌≤◌, List, [], ◌∷◌, ◌++◌, Bool, true, false, Option, Some, None, refl, sym, ap, ◌∙◌, subst, inl, inr, arith}
+use Rattle.std.proofs.Common.{◌≡◌, ◌≢◌, ◌⊎◌, ℕ, suc, ◌+◌, ◌≤◌, List, [], ◌∷◌, ◌++◌, Bool, true, false, Option, Some, None, refl, sym, ap, ◌∙◌, subst, inl, inr, arith}
 use Rattle.std.specs.Prelude.{if◌then◌else◌, filter}
 use Rattle.std.specs.Ordering.{nat_cmp}
 use Rattle.std.specs.FinMap.{FinMap}
@@ -7,15 +7,14 @@ use Rattle.std.specs.FinMap as fin
 use Rattle.esr_model.specs.Names.{BlobName, ShardIndex}
 use Rattle.esr_model.specs.Values.{Bytes, Has, RootSnap, RootData, SnapList, ShardFiles, Formats}
 use Rattle.esr_model.specs.Shelf.{Shelved, names_uuid}
-use Rattle.esr_model.specs.Kept.{IdsBelow}
 use Rattle.esr_model.specs.Image.{Image, Blobs, At, Reads}
 use Rattle.esr_model.specs.Delete.{PrunedShard, kept_count, left_uuids, uuids_of, surviving, files_by, files_read, left_text, pruned_blobs}
-use Rattle.esr_core.specs.World.{World, Op, Deletion, ShardWork, Shard, Deleting, Ticket, Swap, no_caller}
+use Rattle.esr_core.specs.World.{World, Op, Deletion, ShardWork, Ticket, Swap, no_caller}
 use Rattle.esr_core.specs.Generations.{IsLive, IsNewIndex}
 use Rattle.esr_core.specs.Ready.{Waits}
 use Rattle.esr_core.specs.Restores.{IsTestOf}
 use Rattle.esr_core.specs.Steps.{Removes, with_ticket, settled}
-use Rattle.esr_core.specs.Pruning.{bare_shard, pruned_shards, IsPlanned, delete_swap, planned_work, planned, dooms}
+use Rattle.esr_core.specs.Pruning.{bare_shard, pruned_shards, IsPlanned, planned, dooms}
 use Rattle.esr_core.specs.Deletes.{named_uuids, waiting_delete, running_delete, aborted_ops, with_named, delete_merged, delete_by}
 use Rattle.esr_core.specs.Ids.{Law}
 use Rattle.esr_core.specs.Turns.{Aborts}
@@ -30,15 +29,15 @@ use Rattle.esr_core.proofs.DeletionLaws.{dooms_is}
 use Rattle.esr_core.proofs.DoomedNames.{IsDoomed, TheRoot, ASnap, AMeta, AnIndexMeta, AnIndex, AList, APart, doomed_is}
 use Rattle.esr_core.proofs.Moments.{moment, delete_settled_plain}
 use Rattle.esr_core.proofs.Pieces.{in_parts}
-use Rattle.esr_core.proofs.Plans.{own_is}
 use Rattle.esr_core.proofs.PrunedShards.{of_indices}
 use Rattle.esr_core.proofs.Queues.{left_in}
 use Rattle.esr_core.proofs.Reading.{none_some, some_same, Has-mapped}
 use Rattle.esr_core.proofs.Results.{choose_true, choose_false}
 use Rattle.esr_quiet.proofs.Alone.{IsAlone}
-use Rattle.esr_quiet.proofs.FreeFrame.{IsFree, own_all, Tests, Follows, Waited, IsNewShard, ListsDone, IsNewPlan, framed, heard_after}
+use Rattle.esr_quiet.proofs.FreeFrame.{IsFree, own_all, Tests, Follows, Waited, IsNewShard, ListsDone, framed, heard_after}
 use Rattle.esr_quiet.proofs.FreeNames.{one_place}
 use Rattle.esr_quiet.proofs.FreeParts.{Were, Back, at_same, told_same, was_shards, own_were, tests_was, tests_none, follows_same, came_all, came_put, own_put, own_drawn, waited_left, live_left}
+use Rattle.esr_quiet.proofs.PlanNames.{plan_no_shard, new_plan}
 use Rattle.esr_quiet.proofs.FreeTickets.{waited, kept, called, changed, ended, fetches, ends}
 
 -- ---- what a delete dooms
@@ -79,12 +78,6 @@ left_alone : (left : List ℕ) (was : ShardFiles) (l : SnapList) → Has (surviv
 left_alone left was l m = names_has left l.uuid (passed (λ (x : SnapList). names_uuid left x.uuid) was.snapshots l m)
 
 -- ---- a plan
-
-same_plan : {a b : List ℕ} {p q : Option Swap} → Deleting a p ≡ Deleting b q → p ≡ q
-same_plan e = cc
-
-shard_plan : {i n : ℕ} {us : List ℕ} {p : Option Swap} → Deleting us p ≡ Shard i n → ⊥
-shard_plan e = cc
 
 not_less : (n : ℕ) → n ≤ n
 not_less n = omega arith
@@ -167,36 +160,15 @@ module _ (f : Formats) (w : World) (shelf : List Shelved) (law : Law f w shelf) 
     abbrev next : Ticket
     next = planned f shards w.next_id p.t
 
-    abbrev its : Swap
-    its = delete_swap f p.t.clean p.t.root p.t.read p.uuids shards w.next_id
-
-    work_is : (planned f shards w.next_id p.t).work ≡ Deleting p.uuids (Some (delete_swap f p.t.clean p.t.root p.t.read p.uuids shards w.next_id))
-    work_is = ap (planned_work f p.t shards w.next_id) p.deleting.work
-
-    no_shard : (i n : ℕ) → (planned f shards w.next_id p.t).work ≡ Shard i n → ⊥
-    no_shard i n e = shard_plan (sym work_is ∙ e)
-
-    -- its indices are new
-    new_plan : (uuids : List ℕ) (s : Swap) → (planned f shards w.next_id p.t).work ≡ Deleting uuids (Some s) → IsNewPlan f w (planned f shards w.next_id p.t) s
-    new_plan uuids s e name bytes own =
-        let same : its ≡ s = some_same its s (same_plan (sym work_is ∙ e)) in
-        let o = own_is f p.t.read (left_uuids p.uuids (uuids_of p.t.root)) shards w.next_id name bytes (subst (λ (x : Swap). Has x.own (name, bytes)) (sym same) own) in (
-          record { index = o.q.index; number = o.q.number; id = o.id; name_is = o.name_is; drew = record { from = o.from; below = o.below } },
-          λ present.
-              let below : o.id < w.next_id = (subst (λ (n : BlobName). IdsBelow n w.next_id) o.name_is (law.ids.blobs name present)).1 in
-              let above : w.next_id ≤ o.id = o.from in
-              omega (arith, below, above),
-        )
-
     like : Follows f w p.t (planned f shards w.next_id p.t)
     like =
         record {
-          work = λ i n e. absurd (no_shard i n e);
-          plans = λ uuids s e. inr (new_plan uuids s e);
+          work = λ i n e. absurd (plan_no_shard f w shelf law k shards image p i n e);
+          plans = λ uuids s e. inr (new_plan f w shelf law k shards image p uuids s e);
           base = refl;
           out = λ e. e;
           noted = λ name h. h;
-          commits = λ name c. let (i, n, work, same) = one_place (planned f shards w.next_id p.t) (planned f shards w.next_id p.t) name c c in absurd (no_shard i n work);
+          commits = λ name c. let (i, n, work, same) = one_place (planned f shards w.next_id p.t) (planned f shards w.next_id p.t) name c c in absurd (plan_no_shard f w shelf law k shards image p i n work);
           raised = λ n e. inl e;
         }
 

@@ -5,15 +5,17 @@ use Rattle.std.specs.FinMap.{FinMap}
 use Rattle.std.specs.FinMap as fin
 use Rattle.esr_model.specs.Names.{BlobName}
 use Rattle.esr_model.specs.Values.{Bytes, Has, IndexRef, RootData, Formats}
+use Rattle.esr_model.specs.Shelf.{Shelved}
 use Rattle.esr_model.specs.Image.{Image, Blobs, At}
 use Rattle.esr_core.specs.World.{World, Op, ShardWork, Pending, Ticket, Caller}
 use Rattle.esr_core.specs.Generations.{DoneAt, IsLive}
 use Rattle.esr_core.specs.Ready.{Waits}
 use Rattle.esr_core.specs.Steps.{Drew}
+use Rattle.esr_core.specs.Ids.{Law}
 use Rattle.esr_core.specs.Allowed.{Told, SameBlobs}
 use Rattle.esr_core.specs.After.{blobs_in}
 use Rattle.esr_core.proofs.Queues.{was_in, left_in}
-use Rattle.esr_core.proofs.Reading.{none_some, Has-mapped}
+use Rattle.esr_core.proofs.Reading.{some_same, none_some, Has-mapped}
 use Rattle.esr_core.specs.Restores.{IsTestOf}
 use Rattle.esr_quiet.specs.Free.{AreOwnTests}
 use Rattle.esr_quiet.proofs.FreeFrame.{IsFree, Tests, OwnRoots, OwnIds, Own, Follows, IsNewTicket, Came, Waited}
@@ -132,6 +134,19 @@ module _ (tickets : FinMap nat_cmp Ticket) (own : Own tickets) where
   -- one that has neither raised nor drawn
   pub own_new : (k : ℕ) (v : Ticket) → v.raised ≡ None → v.drawn ≡ 0 → Own (fin.insert tickets k v)
   own_new k v none undrawn = (roots_insert k v (λ n j u is away e raised. none_some n (sym none ∙ is)), ids_insert k v (λ id j u mine away e its. none_drawn v id undrawn mine))
+
+-- the next root to be begun no ticket has raised
+pub own_pending : (f : Formats) (w : World) (shelf : List Shelved) → Law f w shelf → Own w.tickets → (k : ℕ) (t : Ticket) → fin.get w.tickets k ≡ Some t → Own (fin.insert w.tickets k (record t { raised = Some w.pending }))
+own_pending f w shelf law own k t there = own_raised w.tickets own k t (record t { raised = Some w.pending }) there refl refl alone
+  where
+    one : (m : ℕ) → ◌≡◌ {A = Option ℕ} (Some w.pending) (Some m) → w.pending ≡ m
+    one m e = some_same _ _ e
+
+    alone : (m j : ℕ) (u : Ticket) → Some w.pending ≡ Some m → j ≢ k → fin.get w.tickets j ≡ Some u → u.raised ≡ Some m → ⊥
+    alone m j u e away there raised =
+        let b : m < w.pending = (law.lawful.sound.rooted.tickets j u there).raised m raised in
+        let same : w.pending ≡ m = one m e in
+        omega (arith, b, same)
 
 -- ---- ops
 

@@ -18,7 +18,7 @@ use Rattle.esr_core.specs.Allowed.{Raises}
 use Rattle.esr_core.proofs.Reading.{some_same}
 use Rattle.esr_quiet.proofs.FreeFrame.{IsFree, own_all, Tests, Follows, Waited, IsNewShard, framed}
 use Rattle.esr_quiet.proofs.FreeNames.{drew_same, commits_same, drawn_new}
-use Rattle.esr_quiet.proofs.FreeParts.{Were, Back, tests_was, follows_same, came_all, came_put, own_put, own_raised, own_drawn, waited_all}
+use Rattle.esr_quiet.proofs.FreeParts.{Were, Back, tests_was, follows_same, came_all, came_put, own_put, own_pending, own_drawn, waited_all}
 
 not_less : (n : ℕ) → n ≤ n
 not_less n = omega arith
@@ -104,7 +104,7 @@ module _ (f : Formats) (w : World) (shelf : List Shelved) (law : Law f w shelf) 
   raises k n r blobs back =
       subst (λ o. IsFree f (record (with_given w k (λ (x : Ticket). record x { raised = Some w.pending }) o) { pending = suc w.pending; blobs = blobs })) (sym r.may.out.there)
       (framed f w (record w { tickets = fin.insert w.tickets k (record r.may.t { raised = Some w.pending }); pending = suc w.pending; blobs = blobs }) l
-      (came_put f w k r.may.t (record r.may.t { raised = Some w.pending }) r.may.out.there like) (own_raised w.tickets (own_all f w l) k r.may.t (record r.may.t { raised = Some w.pending }) r.may.out.there refl refl alone) waited (λ i m g h. inl h) back.were (tests_was f w l blobs back))
+      (came_put f w k r.may.t (record r.may.t { raised = Some w.pending }) r.may.out.there like) (own_pending f w shelf law (own_all f w l) k r.may.t r.may.out.there) waited (λ i m g h. inl h) back.were (tests_was f w l blobs back))
     where
       one : (m : ℕ) → ◌≡◌ {A = Option ℕ} (Some w.pending) (Some m) → w.pending ≡ m
       one m e = some_same _ _ e
@@ -120,9 +120,3 @@ module _ (f : Formats) (w : World) (shelf : List Shelved) (law : Law f w shelf) 
             commits = λ name c. inl (commits_same r.may.t (record r.may.t { raised = Some w.pending }) refl refl refl refl name c);
             raised = λ m e. inr (λ p. let b : m < w.pending = law.lawful.sound.rooted.kept.begun m p in let same : w.pending ≡ m = one m e in omega (arith, b, same));
           }
-
-      alone : (m j : ℕ) (u : Ticket) → Some w.pending ≡ Some m → j ≢ k → fin.get w.tickets j ≡ Some u → u.raised ≡ Some m → ⊥
-      alone m j u e away there raised =
-          let b : m < w.pending = (law.lawful.sound.rooted.tickets j u there).raised m raised in
-          let same : w.pending ≡ m = one m e in
-          omega (arith, b, same)

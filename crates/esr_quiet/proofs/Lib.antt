@@ -1,4 +1,3 @@
-pub mod Maps
 pub mod Prefixes
 pub mod Others
 pub mod Callers
@@ -31,6 +30,8 @@ pub mod Alone
 pub mod FreeFrame
 pub mod FreeNames
 pub mod FreeParts
+pub mod CommitNames
+pub mod PlanNames
 pub mod FreeBlobs
 pub mod FreeEnds
 pub mod FreeTickets

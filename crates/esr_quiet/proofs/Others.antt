@@ -14,7 +14,7 @@ use Rattle.esr_core.proofs.Causes.{take_gave}
 use Rattle.esr_core.proofs.Changes.{change_of}
 use Rattle.esr_desk.specs.Start.{Start, Legal, formats_of, or_no_ticket, ticket_of}
 use Rattle.esr_desk.specs.Grew.{AllOf}
-use Rattle.esr_quiet.proofs.Maps.{get_other}
+use Rattle.esr_core.specs.NumberMaps.{get_other}
 use Rattle.esr_quiet.proofs.Prefixes.{world_both, legal_rest}
 
 abbrev held : World → ℕ → Option Ticket

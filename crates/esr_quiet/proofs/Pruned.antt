@@ -10,7 +10,7 @@ use Rattle.esr_core.specs.Pruning.{IsToRead}
 use Rattle.esr_core.specs.Ids.{Law}
 use Rattle.esr_core.proofs.DeletedRoots.{one_found}
 use Rattle.esr_core.proofs.Finalizing.{root_one_each}
-use Rattle.esr_quiet.proofs.Maps.{some_same, some_none}
+use Rattle.esr_core.specs.NumberMaps.{some_same, some_none}
 
 module _ (f : Formats) (w : World) (shelf : List Shelved) (l : Law f w shelf) (k : ℕ) (t : Ticket) (uuids : List ℕ) (plan : Option Swap) (there : fin.get w.tickets k ≡ Some t) (out : t.out ≡ true) (unsettled : t.settled ≡ false) (present : t.term ≡ w.term)
     (work : t.work ≡ Deleting uuids plan) (index number base : ℕ) (to_read : IsToRead t.clean t.root uuids index number base) where

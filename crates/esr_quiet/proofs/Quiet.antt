@@ -11,10 +11,10 @@ use Rattle.esr_model.specs.Delete.{PrunedShard}
 use Rattle.esr_model.specs.Image.{Image}
 use Rattle.esr_core.specs.World.{World, Op, Deletion, ShardWork, ShardState, Pending, Out, Done, GivenUp, Work, Shard, Finalize, Deleting, Drop, Swap, Ticket, ReadState, Restored, NotRestored, RestoreShard, Restoring, Reader, swap, marked, marked_by, kept_deletes, numbered_deletes, Opened, OpenedEmpty, OpenedRecord}
 use Rattle.esr_core.specs.Restores.{restore_shard}
-use Rattle.esr_core.specs.Steps.{noting, listing, given, shard_ticket, final_ticket}
+use Rattle.esr_core.specs.Steps.{noting, listing, given, shard_ticket, final_ticket, plain_ticket}
 use Rattle.esr_core.specs.Deletes.{named_uuids, waiting_delete, running_delete, aborted_ops, with_named, delete_merged, delete_by}
 use Rattle.esr_core.specs.Pruning.{planned_work, planned}
-use Rattle.esr_core.specs.Turns.{Aborts, plain_ticket, cleaning_ticket, fails, fails_by}
+use Rattle.esr_core.specs.Turns.{Aborts, cleaning_ticket, fails, fails_by}
 use Rattle.esr_core.specs.Entry.{AskedIndex, Snapshot, Clone, CloneOf, DeleteSnapshots, Restore, Cleanup, Given, GivenShard, GivenClone, GivenFinalize, GivenDrop, GivenRestore, Read, ReadBlob, RestoredShard, CheckedAll, DrawTest, CommitTest, ReadFails, Step, AskStep, TakeStep, DrawStep, CommitStep, LatestStep, FetchStep, ListStep, RaiseStep, SettleStep, DoneStep, FailedStep, FinishStep, DroppedStep, ElectStep, ReadStep, DepotFault, Reply, Gave, DrawnFrom, WasDone, WasThere, WasFetched, WasListed, Refused, AcceptedRestore, Moment, GivenDelete, GivenCleanup, Prune, FetchShard, PlanShards, SettlePruned, RemoveDoomed, EndDelete, DeleteFails, PruneStep}
 use Rattle.esr_core.specs.After.{asked, asked_op, cloned_op, known_id, ref_by, next_by, refs_from, pending_shards, all_pending, taken_shard, taken_restore_shard, taken_restore, taken_by, read_told, shard_over, read_over, read_step, read_by, shard_of, with_given, committing, told_blob, fetching, settled_by, settled_of, done_by, done_of, is_stale, failed_by, failed_of, dropped_of, cleanup_opened, delete_settled_by, delete_settled, delete_failed_by, delete_failed, prune_step, done_step, answered, after}
 use Rattle.esr_core.specs.History.{world_from, IsLegal}
@@ -27,7 +27,7 @@ use Rattle.esr_quiet.specs.Asked.{IsSteady, AreSteady}
 use Rattle.esr_quiet.specs.Smooth.{AreCalm}
 use Rattle.esr_quiet.proofs.Askers.{AsksOrElects, made_zero}
 use Rattle.esr_quiet.proofs.FreeParts.{was_shards}
-use Rattle.esr_quiet.proofs.Maps.{some_same, some_none, get_was, get_left, nothing}
+use Rattle.esr_core.specs.NumberMaps.{some_same, some_none, get_was, get_left, nothing}
 
 abbrev Ops : Type 0
 Ops = FinMap nat_cmp Op

@@ -36,7 +36,7 @@ use Rattle.esr_quiet.specs.Caused.{AreCaused}
 use Rattle.esr_quiet.specs.Smooth.{IsSmooth, NoneUnrestored}
 use Rattle.esr_quiet.specs.OverKept.{OverKept, IsLawful}
 use Rattle.esr_quiet.specs.Undamaged.{IsDamage, NoRestoreFindsDamage}
-use Rattle.esr_quiet.proofs.Maps.{some_none}
+use Rattle.esr_core.specs.NumberMaps.{some_none}
 use Rattle.esr_quiet.proofs.Prefixes.{told_at, place_of, has_at}
 use Rattle.esr_quiet.proofs.Passing.{quiet_at, legal_at}
 use Rattle.esr_quiet.proofs.OverKept.{IsAlive, kept_front, lawful_front, step_at, smooth_alive, alive_before}

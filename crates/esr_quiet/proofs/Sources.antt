@@ -10,7 +10,7 @@ use Rattle.esr_core.specs.Ready.{IsShard}
 use Rattle.esr_core.specs.Steps.{IsOut}
 use Rattle.esr_core.specs.Ids.{Law}
 use Rattle.esr_core.proofs.Copying.{SourceStands, source_stands}
-use Rattle.esr_quiet.proofs.Maps.{some_same, some_none}
+use Rattle.esr_core.specs.NumberMaps.{some_same, some_none}
 
 module _ (f : Formats) (w : World) (shelf : List Shelved) (l : Law f w shelf) (k : ℕ) (t : Ticket) (out : IsOut w k t) (index number source : ℕ) (work : t.work ≡ Shard index number) (copies : t.source ≡ Some source) where
   stands : SourceStands f w t index number source

@@ -1,20 +1,19 @@
 -- Each step keeps what is to be written spare, whatever calls fail, unless a record swap failed.
-use Rattle.std.proofs.Common.{◌≡◌, ◌≢◌, ◌⊎◌, ℕ, zero, suc, ◌<◌, ◌≤◌, List, [], Bool, true, false, Option, Some, None, map, refl, sym, ap, ◌∙◌, subst, inl, inr, arith}
+use Rattle.std.proofs.Common.{◌≡◌, ◌⊎◌, ℕ, zero, suc, ◌<◌, ◌≤◌, List, [], Bool, true, false, Option, Some, None, map, refl, sym, ap, ◌∙◌, subst, inl, inr, arith}
 use Rattle.std.specs.Prelude.{if◌then◌else◌}
 use Rattle.std.specs.FinMap as fin
 use Rattle.esr_model.specs.Names.{BlobName, Latest, ShardSnap}
 use Rattle.esr_model.specs.Values.{Bytes, Has, ShardResult, ReadsBack, Formats}
 use Rattle.esr_model.specs.Shelf.{Shelved}
-use Rattle.esr_model.specs.Kept.{IdsBelow}
 use Rattle.esr_model.specs.Image.{Image, Blobs, At, Present}
-use Rattle.esr_model.specs.Delete.{PrunedShard, left_uuids, uuids_of}
+use Rattle.esr_model.specs.Delete.{PrunedShard}
 use Rattle.esr_model.specs.Cleanup.{BlobSize, IsPageOf}
 use Rattle.esr_core.specs.World.{World, Op, Deletion, ShardWork, Pending, Done, GivenUp, Shard, Deleting, Drop, Ticket, Swap, ReadState, Restored, NotRestored, Restoring, Reader, marked}
 use Rattle.esr_core.specs.Ready.{IsShard}
 use Rattle.esr_core.specs.Restores.{IsTestOf}
-use Rattle.esr_core.specs.Steps.{Removes, with_ticket, noting, listing, given, shard_ticket, final_ticket}
-use Rattle.esr_core.specs.Turns.{Aborts, plain_ticket, cleaning_ticket, fails}
-use Rattle.esr_core.specs.Pruning.{delete_swap, planned_work, planned}
+use Rattle.esr_core.specs.Steps.{Removes, with_ticket, noting, listing, given, shard_ticket, final_ticket, plain_ticket}
+use Rattle.esr_core.specs.Turns.{Aborts, cleaning_ticket, fails}
+use Rattle.esr_core.specs.Pruning.{planned}
 use Rattle.esr_core.specs.Deletes.{named_uuids, waiting_delete, running_delete, aborted_ops, delete_merged, delete_by}
 use Rattle.esr_core.specs.Ids.{Law}
 use Rattle.esr_core.specs.Entry.{CloneOf, Clone, DeleteSnapshots, Restore, Cleanup, Given, GivenShard, GivenFinalize, GivenDrop, GivenRestore, GivenClone, GivenDelete, GivenCleanup, Why, Read, ReadBlob, RestoredShard, ReadFails, Prune, Step, AskStep, CommitStep, LatestStep, ReadStep, PruneStep, DepotFault, Reply, WasDone, WasFetched, WasAbsent, WasReplaced, HasEnded, Refused, Moment}
@@ -28,13 +27,12 @@ use Rattle.esr_core.proofs.Blocked.{blocked_stays}
 use Rattle.esr_core.proofs.LatestPut.{at_back}
 use Rattle.esr_core.proofs.Marked.{marked_is}
 use Rattle.esr_core.proofs.Moments.{moment, settled_plain, delete_settled_plain}
-use Rattle.esr_core.proofs.Plans.{own_is}
 use Rattle.esr_core.proofs.Reading.{none_some, some_same}
 use Rattle.esr_core.proofs.TakeShard.{given_is}
 use Rattle.esr_quiet.specs.Untaken.{MayLeave}
-use Rattle.esr_quiet.proofs.FreeFrame.{IsNewPlan}
 use Rattle.esr_quiet.proofs.FreeNames.{drew_same, commits_same, one_place, snap_alone, drawn_new}
-use Rattle.esr_quiet.proofs.FreeParts.{was_shards, own_put, own_new, own_raised, own_drawn}
+use Rattle.esr_quiet.proofs.FreeParts.{was_shards, own_put, own_new, own_pending, own_drawn}
+use Rattle.esr_quiet.proofs.PlanNames.{plan_no_shard, new_plan}
 use Rattle.esr_quiet.proofs.SpareFrame.{Ops, IsSpare, Spare, Goes, IsFresh, ArePending, Were, KeepsPending, framed, goes_same, goes_out, came_all, came_put, came_new, pending_all, pending_left, pending_map, pending_new}
 use Rattle.esr_quiet.proofs.SpareBlobs.{beside_put, added_spare}
 
@@ -43,9 +41,6 @@ not_less n = omega arith
 
 given_up_pending : GivenUp ≡ Pending → ⊥
 given_up_pending e = cc
-
-shard_plan : {i n : ℕ} {us : List ℕ} {p : Option Swap} → Deleting us p ≡ Shard i n → ⊥
-shard_plan e = cc
 
 same_plan : {a b : List ℕ} {p q : Option Swap} → Deleting a p ≡ Deleting b q → p ≡ q
 same_plan h = cc
@@ -144,7 +139,7 @@ module _ (f : Formats) (tried : ℕ → BlobName → Type 0) (w : World) (shelf 
   raises k n r blobs were =
       subst (λ o. IsSpare f tried blobs (with_given w k (λ (x : Ticket). record x { raised = Some w.pending }) o).ops (with_given w k (λ (x : Ticket). record x { raised = Some w.pending }) o).tickets) (sym r.may.out.there)
       (framed f tried w l blobs w.ops (fin.insert w.tickets k (record r.may.t { raised = Some w.pending })) (came_put f w k r.may.t (record r.may.t { raised = Some w.pending }) r.may.out.there like)
-      (own_raised w.tickets l.own k r.may.t (record r.may.t { raised = Some w.pending }) r.may.out.there refl refl alone) (pending_all f w) were)
+      (own_pending f w shelf law l.own k r.may.t r.may.out.there) (pending_all f w) were)
     where
       one : (m : ℕ) → ◌≡◌ {A = Option ℕ} (Some w.pending) (Some m) → w.pending ≡ m
       one m e = some_same _ _ e
@@ -157,12 +152,6 @@ module _ (f : Formats) (tried : ℕ → BlobName → Type 0) (w : World) (shelf 
             commits = λ name c. inl (commits_same r.may.t (record r.may.t { raised = Some w.pending }) refl refl refl refl name c);
             raised = λ m e. inr (λ p. let b : m < w.pending = law.lawful.sound.rooted.kept.begun m p in let same : w.pending ≡ m = one m e in omega (arith, b, same));
           }
-
-      alone : (m j : ℕ) (u : Ticket) → Some w.pending ≡ Some m → j ≢ k → fin.get w.tickets j ≡ Some u → u.raised ≡ Some m → ⊥
-      alone m j u e away there raised =
-          let b : m < w.pending = (law.lawful.sound.rooted.tickets j u there).raised m raised in
-          let same : w.pending ≡ m = one m e in
-          omega (arith, b, same)
 
   -- ---- ops
 
@@ -293,33 +282,12 @@ module _ (f : Formats) (tried : ℕ → BlobName → Type 0) (w : World) (shelf 
     abbrev next : Ticket
     next = planned f shards w.next_id p.t
 
-    abbrev its : Swap
-    its = delete_swap f p.t.clean p.t.root p.t.read p.uuids shards w.next_id
-
-    work_is : (planned f shards w.next_id p.t).work ≡ Deleting p.uuids (Some (delete_swap f p.t.clean p.t.root p.t.read p.uuids shards w.next_id))
-    work_is = ap (planned_work f p.t shards w.next_id) p.deleting.work
-
-    no_shard : (i n : ℕ) → (planned f shards w.next_id p.t).work ≡ Shard i n → ⊥
-    no_shard i n e = shard_plan (sym work_is ∙ e)
-
-    -- its indices are new
-    new_plan : (uuids : List ℕ) (s : Swap) → (planned f shards w.next_id p.t).work ≡ Deleting uuids (Some s) → IsNewPlan f w (planned f shards w.next_id p.t) s
-    new_plan uuids s e name bytes own =
-        let same : its ≡ s = some_same its s (same_plan (sym work_is ∙ e)) in
-        let o = own_is f p.t.read (left_uuids p.uuids (uuids_of p.t.root)) shards w.next_id name bytes (subst (λ (x : Swap). Has x.own (name, bytes)) (sym same) own) in (
-          record { index = o.q.index; number = o.q.number; id = o.id; name_is = o.name_is; drew = record { from = o.from; below = o.below } },
-          λ present.
-              let below : o.id < w.next_id = (subst (λ (n : BlobName). IdsBelow n w.next_id) o.name_is (law.ids.blobs name present)).1 in
-              let above : w.next_id ≤ o.id = o.from in
-              omega (arith, below, above),
-        )
-
     like : Goes f w p.t (planned f shards w.next_id p.t)
     like =
         record {
-          plans = λ uuids s e. inr (new_plan uuids s e);
+          plans = λ uuids s e. inr (new_plan f w shelf law k shards image p uuids s e);
           out = λ e. e;
-          commits = λ name c. let (i, n, work, same) = one_place (planned f shards w.next_id p.t) (planned f shards w.next_id p.t) name c c in absurd (no_shard i n work);
+          commits = λ name c. let (i, n, work, same) = one_place (planned f shards w.next_id p.t) (planned f shards w.next_id p.t) name c c in absurd (plan_no_shard f w shelf law k shards image p i n work);
           raised = λ n e. inl e;
         }
 

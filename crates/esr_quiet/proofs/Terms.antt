@@ -18,7 +18,7 @@ use Rattle.esr_core.proofs.StepFrames.{step_frame}
 use Rattle.esr_desk.specs.Start.{Start, formats_of, world_of, Legal, or_no_ticket}
 use Rattle.esr_quiet.specs.Smooth.{HasElection, IsStaleTicket}
 use Rattle.esr_quiet.specs.OverKept.{IsLawful}
-use Rattle.esr_quiet.proofs.Maps.{some_same, nothing}
+use Rattle.esr_core.specs.NumberMaps.{some_same, nothing}
 use Rattle.esr_quiet.proofs.Askers.{AsksOrElects, asker}
 use Rattle.esr_quiet.proofs.Prefixes.{world_both, legal_front, has_front}
 

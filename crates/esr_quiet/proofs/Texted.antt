@@ -21,7 +21,7 @@ use Rattle.esr_desk.specs.Own.{caller_of}
 use Rattle.esr_quiet.specs.Free.{Free}
 use Rattle.esr_quiet.specs.Smooth.{IsSmooth}
 use Rattle.esr_quiet.specs.Prefixes.{Prefixes}
-use Rattle.esr_quiet.proofs.Maps.{some_same, some_none}
+use Rattle.esr_core.specs.NumberMaps.{some_same, some_none}
 use Rattle.esr_quiet.proofs.Prefixes.{world_both, told_at, has_at}
 use Rattle.esr_quiet.proofs.Passing.{legal_at}
 use Rattle.esr_quiet.proofs.Callers.{caller_one}

@@ -5,8 +5,8 @@ use Rattle.std.specs.FinMap as fin
 use Rattle.esr_model.specs.Values.{Formats}
 use Rattle.esr_model.specs.Image.{Image}
 use Rattle.esr_core.specs.World.{World, Op, Deletion, ShardWork, Deleting, Drop, Swap, Ticket, RestoreShard, Restoring, Opened, OpenedEmpty, OpenedRecord}
-use Rattle.esr_core.specs.Steps.{given, shard_ticket, final_ticket}
-use Rattle.esr_core.specs.Turns.{plain_ticket, cleaning_ticket}
+use Rattle.esr_core.specs.Steps.{given, shard_ticket, final_ticket, plain_ticket}
+use Rattle.esr_core.specs.Turns.{cleaning_ticket}
 use Rattle.esr_core.specs.Entry.{Asked, Given, GivenShard, GivenFinalize, GivenDrop, GivenRestore, GivenClone, GivenDelete, GivenCleanup, Step, AskStep, TakeStep, Refusal, DepotFault, Reply, Gave, Refused, Moment}
 use Rattle.esr_core.specs.After.{taken_by, taken_shard, taken_restore, taken_restore_shard, answered, after}
 use Rattle.esr_core.specs.Allowed.{Gives, GivesShard, Blocks, ByFailedSwap, ByDelete, Allowed}
@@ -17,7 +17,7 @@ use Rattle.esr_desk.specs.Start.{Start, formats_of, world_of, or_no_ticket}
 use Rattle.esr_quiet.specs.Smooth.{IsSmooth}
 use Rattle.esr_quiet.specs.Prefixes.{Prefixes}
 use Rattle.esr_quiet.proofs.Askers.{AsksOrElects, asker}
-use Rattle.esr_quiet.proofs.Maps.{some_same, some_none, get_same, get_was, get_left, nothing}
+use Rattle.esr_core.specs.NumberMaps.{some_same, some_none, get_same, get_was, get_left, nothing}
 use Rattle.esr_quiet.proofs.Prefixes.{world_both}
 use Rattle.esr_quiet.proofs.Passing.{quiet_at, legal_at}
 

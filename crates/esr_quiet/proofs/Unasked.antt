@@ -18,7 +18,7 @@ use Rattle.esr_desk.specs.Start.{Start, formats_of, world_of}
 use Rattle.esr_quiet.specs.Smooth.{IsSmooth, NoneAsked, NoneUnrestored}
 use Rattle.esr_quiet.specs.Prefixes.{Prefixes}
 use Rattle.esr_quiet.proofs.Askers.{AsksOrElects, made_zero}
-use Rattle.esr_quiet.proofs.Maps.{nothing}
+use Rattle.esr_core.specs.NumberMaps.{nothing}
 use Rattle.esr_quiet.proofs.Prefixes.{legal_front, place_of, has_front}
 use Rattle.esr_quiet.proofs.Passing.{quiet_at, legal_at}
 use Rattle.esr_quiet.proofs.Restores.{reading_at}

@@ -22,7 +22,7 @@ use Rattle.esr_desk.specs.Unit.Shown.{IsUnitShown}
 use Rattle.esr_quiet.specs.Caused.{AreCaused}
 use Rattle.esr_quiet.specs.OverKept.{IsLawful}
 use Rattle.esr_quiet.specs.Undamaged.{IsDamage, NoUnitFindsDamage}
-use Rattle.esr_quiet.proofs.Maps.{some_same, some_none}
+use Rattle.esr_core.specs.NumberMaps.{some_same, some_none}
 use Rattle.esr_quiet.proofs.Prefixes.{told_at, place_of, has_at}
 use Rattle.esr_quiet.proofs.Bases as bases
 use Rattle.esr_quiet.proofs.OverKept.{IsAlive, lawful_front, step_at, alive_before}

@@ -16,7 +16,7 @@ use Rattle.esr_desk.specs.Start.{Start, formats_of, world_of}
 use Rattle.esr_quiet.specs.OverKept.{IsLawful}
 use Rattle.esr_quiet.specs.Untaken.{MayLeave, WasTried, NoneTaken}
 use Rattle.esr_quiet.proofs.FreeCommits.{own_metadata}
-use Rattle.esr_quiet.proofs.Maps.{some_none}
+use Rattle.esr_core.specs.NumberMaps.{some_none}
 use Rattle.esr_quiet.proofs.Numbers.{Numbered, numbered_from}
 use Rattle.esr_quiet.proofs.OverKept.{step_at}
 use Rattle.esr_quiet.proofs.Prefixes.{world_both, told_at, place_of, has_at}

@@ -17,7 +17,7 @@ use Rattle.esr_desk.specs.Verify.Shown.{HadAfterDraw, HadRefusalIn, HadNoId, IsA
 use Rattle.esr_quiet.specs.Caused.{AreVerifyCaused}
 use Rattle.esr_quiet.specs.Smooth.{IsSmooth, NoneUnverified}
 use Rattle.esr_quiet.specs.Prefixes.{Prefixes}
-use Rattle.esr_quiet.proofs.Maps.{some_same, some_none}
+use Rattle.esr_core.specs.NumberMaps.{some_same, some_none}
 use Rattle.esr_quiet.proofs.Prefixes.{told_at, place_of, has_front}
 use Rattle.esr_quiet.proofs.Passing.{quiet_at, legal_at}
 use Rattle.esr_quiet.proofs.Failures.{read_shown, step_shown, no_depot_fault}

@@ -10,10 +10,10 @@ use Rattle.std.specs.BTreeSet.{BTreeSet, contains}
 use Rattle.esr_names.specs.declared.blob.ShardId.{ShardId}
 use Rattle.esr_names.specs.declared.blob.BlobName.{BlobName as CodeName}
 use Rattle.esr_names.specs.declared.blob.BlobName.TheVariants as code
-use Rattle.esr_formats.specs.Names.{name_of, code_name}
+use Rattle.esr_formats.specs.Names.{name_of}
 use Rattle.esr_model.specs.Names.{BlobName}
 use Rattle.esr_model.specs.Values.{Has}
-use Rattle.esr_reach.specs.Names.{AreNames, AreOnce, IsWithout, NoneLeft, LeftOut, Kept}
+use Rattle.esr_reach.specs.Names.{AreNames, AreOnce, IsWithout, NoneLeft, LeftOut, Kept, name_one}
 use Rattle.esr_reach.specs.Members.{has_push, has_left, has_right}
 use Rattle.esr_reach.proofs.Loops.{next, all}
 use Rattle.esr_reach.proofs.Comparing.{shard_cmp, name_cmp, name_same}
@@ -42,22 +42,6 @@ name_self (code.Part s x p) =
     then_self (shard_cmp s s) (ordering_then (nat_cmp x.number x.number) (nat_cmp p p)) (shard_self s) (then_self (nat_cmp x.number x.number) (nat_cmp p p) (nat_self x.number) (nat_self p))
 name_self (code.TestMaster v) = nat_self v.number
 name_self (code.TestNode v w) = then_self (nat_cmp v.number v.number) (nat_cmp w w) (nat_self v.number) (nat_self w)
-
-coded : (a : CodeName) → code_name (name_of a) ≡ a
-coded (code.Root n) = refl
-coded code.Latest = refl
-coded (code.Snap u) = refl
-coded (code.Meta u) = refl
-coded (code.IndexMeta i u) = refl
-coded (code.ShardSnap s u) = refl
-coded (code.ShardIndex s g) = refl
-coded (code.Whole s x) = refl
-coded (code.Part s x p) = refl
-coded (code.TestMaster v) = refl
-coded (code.TestNode v w) = refl
-
-name_one : (a b : CodeName) → name_of a ≡ name_of b → a ≡ b
-name_one a b e = sym (coded a) ∙ ap code_name e ∙ coded b
 
 -- ---- a set of names
 

@@ -1,7 +1,9 @@
 -- Lists of names of blobs.
 use Rattle.std.specs.Prelude.{◌≡◌, ◌↔◌, List, [], ◌∷◌, ◌++◌, map}
+use Rattle.std.proofs.Common.{refl, sym, ap, ◌∙◌}
 use Rattle.esr_names.specs.declared.blob.BlobName.{BlobName as CodeName}
-use Rattle.esr_formats.specs.Names.{name_of}
+use Rattle.esr_names.specs.declared.blob.BlobName.TheVariants as code
+use Rattle.esr_formats.specs.Names.{name_of, code_name}
 use Rattle.esr_model.specs.Names.{BlobName}
 use Rattle.esr_model.specs.Values.{Has}
 
@@ -23,3 +25,21 @@ pub data IsWithout (new : List BlobName) : List BlobName → List BlobName → T
   NoneLeft : IsWithout new [] []
   LeftOut : (name : BlobName) (old rest : List BlobName) → Has new name → IsWithout new old rest → IsWithout new (name ∷ old) rest
   Kept : (name : BlobName) (old rest : List BlobName) → (Has new name → ⊥) → IsWithout new old rest → IsWithout new (name ∷ old) (name ∷ rest)
+
+-- ---- a name of the layout is one name of the code
+
+pub coded : (a : CodeName) → code_name (name_of a) ≡ a
+coded (code.Root n) = refl
+coded code.Latest = refl
+coded (code.Snap u) = refl
+coded (code.Meta u) = refl
+coded (code.IndexMeta i u) = refl
+coded (code.ShardSnap s u) = refl
+coded (code.ShardIndex s g) = refl
+coded (code.Whole s x) = refl
+coded (code.Part s x k) = refl
+coded (code.TestMaster v) = refl
+coded (code.TestNode v w) = refl
+
+pub name_one : (a b : CodeName) → name_of a ≡ name_of b → a ≡ b
+name_one a b e = sym (coded a) ∙ ap code_name e ∙ coded b

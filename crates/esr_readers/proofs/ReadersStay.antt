@@ -1,7 +1,6 @@
 -- Over any container the tickets of restores stay what they are given for and are of what was asked, and no shard is restored twice.
-use Rattle.std.proofs.Common.{◌≡◌, ◌≢◌, ℕ, zero, suc, ◌<◌, ◌≤◌, List, [], ◌∷◌, ◌++◌, true, false, true≢false, ◌&&◌, Option, Some, None, map, refl, sym, ap, ◌∙◌, subst, inl, inr, arith, nat_cmp}
-use Rattle.std.specs.Prelude.{◌==◌}
-use Rattle.std.proofs.lemmas.Bool.Decides.{eqb_tells}
+use Rattle.std.proofs.Common.{◌≡◌, ◌≢◌, ℕ, zero, suc, ◌<◌, ◌≤◌, List, [], ◌∷◌, ◌++◌, true, false, true≢false, Option, Some, None, map, refl, sym, ap, ◌∙◌, subst, inl, inr, arith, nat_cmp}
+use Rattle.std.specs.Prelude.{Bool, T}
 use Rattle.std.specs.FinMap.{FinMap}
 use Rattle.std.specs.FinMap as fin
 use Rattle.esr_model.specs.Names.{BlobName}
@@ -10,17 +9,19 @@ use Rattle.esr_model.specs.Kept.{first_id}
 use Rattle.esr_model.specs.Places.{places}
 use Rattle.esr_model.specs.Image.{Image, Blobs}
 use Rattle.esr_core.specs.World.{World, ReadState, Unread, BeingRead, Restored, NotRestored, RestoreShard, Restoring, Reader, Caller}
-use Rattle.esr_core.specs.Restores.{IsReading, restore_of, waits, put_restore, restore_shard, handed, ended, reader_of, read_more, restore_opened, shard_ended}
-use Rattle.esr_core.specs.Entry.{Asked, Snapshot, Restore, Clone, DeleteSnapshots, Cleanup, LookStep, GivenRestore, Given, Why, Read, ReadBlob, RestoredShard, DrawTest, CommitTest, ReadFails, Step, AskStep, TakeStep, ReadStep, DepotFault, Refusal, Reply, Gave, DrawnFrom, WasDone, WasFetched, WasAbsent, HasEnded, Refused, AcceptedRestore, Entry, Moment}
+use Rattle.esr_core.specs.Restores.{IsReading, restore_of, waits, put_restore, handed, ended, reader_of, read_more, restore_opened, shard_ended}
+use Rattle.esr_core.specs.Entry.{Asked, Restore, LookStep, GivenRestore, Given, Why, Read, ReadBlob, RestoredShard, DrawTest, CommitTest, ReadFails, Step, AskStep, TakeStep, ReadStep, DepotFault, Reply, Gave, DrawnFrom, WasDone, WasFetched, WasAbsent, HasEnded, Refused, AcceptedRestore, Entry, Moment, is_recorded, unrecorded}
 use Rattle.esr_core.specs.After.{told_blob, taken_restore, taken_restore_shard, read_told, shard_over, read_over, read_by, faulted, answered, blobs_in, after, test_left}
 use Rattle.esr_core.specs.Allowed as allowed
-use Rattle.esr_core.specs.Allowed.{GivesRestore, RestoreAllows, AcceptsRestore, OpeningRestore, NotListed, NamedByDelete, FullOfRestores, ReadAllows, ReadFound, ReadMissing, ReadFault, RestoringShard, ReaderFailing, CheckingAll, CheckFailing, Allows, Allowed, VerifyAllows, DrawingTest, TestSpent, BeginningTest, BeginTestFails, CommittingTest, TestTaken, CommitTestFails, RemovingTests, RemoveTestsFails, VerifyingAll, VerifyFailing}
+use Rattle.esr_core.specs.Allowed.{GivesRestore, RestoreAllows, OpeningRestore, NotListed, NamedByDelete, FullOfRestores, ReadAllows, ReadFound, ReadMissing, ReadFault, RestoringShard, ReaderFailing, CheckingAll, CheckFailing, Allows, Allowed, VerifyAllows, DrawingTest, TestSpent, BeginningTest, BeginTestFails, CommittingTest, TestTaken, CommitTestFails, RemovingTests, RemoveTestsFails, VerifyingAll, VerifyFailing}
+use Rattle.esr_core.specs.Causes.{TakeGave, RestoreBegan}
 use Rattle.esr_core.specs.History.{world_from, IsLegal}
 use Rattle.esr_core.specs.Tracked.{Tracked}
 use Rattle.esr_core.specs.ReadTracked.{ReaderTracked, RestoresTracked, ReadTracked}
+use Rattle.esr_core.specs.RestoreShards.{shard_is}
 use Rattle.esr_readers.specs.Readers.{RestoresIn, IsSameReader, IsThereAs, IsGiven, IsReaderOf, IsRestoreOf, ReadsAs}
+use Rattle.esr_readers.specs.RestoredShards.{restores_out}
 use Rattle.esr_core.proofs.Reading.{some_same, Has-map, Has-mapped}
-use Rattle.esr_core.proofs.Results.{choose_true, choose_false}
 use Rattle.esr_core.proofs.Histories.{legal_parts}
 use Rattle.esr_core.proofs.Blocked.{blocked_stays}
 use Rattle.esr_core.proofs.Queues.{was_in, same_in, other_in, split_at}
@@ -191,57 +192,18 @@ stays_there f size w (m ∷ log) k q t l legal e =
 
 -- ---- a ticket is given
 
-alive_allows : (f : Formats) (size : ℕ) (w : World) (m : Moment) (reply : Reply) → ((refusal : Refusal) → reply ≡ Refused refusal → ⊥) → Allowed f size w m → m.entry.reply ≡ reply → Allows f size w m.entry.who m.entry.step reply m.image
-alive_allows f size w m reply not a is = elim a.answered [
-  | inl alive ↦ subst (λ x. Allows f size w m.entry.who m.entry.step x m.image) is alive.1
-  | inr dead ↦ absurd (not dead.refusal (sym is ∙ dead.refused))
-]
+-- a unit that is given is so by a take
+abbrev pub TakesGive : Type 0
+TakesGive = (f : Formats) (size : ℕ) (w : World) (m : Moment) (k o : ℕ) (unit : Given) → Allowed f size w m → m.entry.reply ≡ Gave k o unit → TakeGave f w m.entry.who m.entry.step k o unit
 
--- the first shard of this index and number has them
-shard_is : (shards : List RestoreShard) (index number : ℕ) (s : RestoreShard) → restore_shard shards index number ≡ Some s → (s.ref.id ≡ index) × (s.number ≡ number)
-shard_is [] index number s e = absurd (none_found e)
-  where
-    none_found : ◌≡◌ {A = Option RestoreShard} None (Some s) → ⊥
-    none_found e = cc
-shard_is (z ∷ shards) index number s e = elim (eqb_tells z.ref.id index) [
-  | inl a ↦ elim (eqb_tells z.number number) [
-    | inl b ↦
-        let one : z ≡ s = some_same z s (sym (choose_true _ (Some z) (restore_shard shards index number) (ap (λ x. x && (z.number == number)) a.0 ∙ b.0)) ∙ e) in
-        (ap (λ (x : RestoreShard). x.ref.id) (sym one) ∙ a.1, ap (λ (x : RestoreShard). x.number) (sym one) ∙ b.1)
-    | inr b ↦ shard_is shards index number s (sym (choose_false _ (Some z) (restore_shard shards index number) (ap (λ x. x && (z.number == number)) a.0 ∙ b.0)) ∙ e)
-  ]
-  | inr a ↦ shard_is shards index number s (sym (choose_false _ (Some z) (restore_shard shards index number) (ap (λ x. x && (z.number == number)) a.0)) ∙ e)
-]
+-- a restore that is accepted was asked
+abbrev pub AsksBegin : Type 0
+AsksBegin = (f : Formats) (size : ℕ) (w : World) (m : Moment) (o uuid : ℕ) (indices : List IndexRef) → Allowed f size w m → m.entry.reply ≡ AcceptedRestore o uuid indices → RestoreBegan f w m.entry.who m.entry.step o uuid indices m.image
 
--- what holds where the answer gives a shard of a restore
-record GivesIt (w : World) (step : Step) (k o index number uuid : ℕ) : Type 0 where
-  step_is : step ≡ TakeStep
-  k_is : k ≡ w.next_ticket
-  gives : GivesRestore w o index number uuid
-
-restore_gives : {f : Formats} {w : World} {name : Bytes} {k o : ℕ} {unit : Given} {reply : Reply} {image : Option Image} → RestoreAllows f w name reply image → reply ≡ Gave k o unit → ⊥
-restore_gives (OpeningRestore o uuid indices im acc) e = cc
-restore_gives (NotListed im none) e = cc
-restore_gives (NamedByDelete uuid d im listed named) e = cc
-restore_gives (FullOfRestores uuid im listed spared full) e = cc
-
-gives_it : (f : Formats) (size : ℕ) (w : World) (who : ℕ) (step : Step) (k o index number uuid : ℕ) (image : Option Image) → Allows f size w who step (Gave k o (GivenRestore index number uuid)) image → GivesIt w step k o index number uuid
-gives_it f size w who step k o index number uuid image (allowed.Giving j p unit im is lowest g same) = record { step_is = refl; k_is = is; gives = g }
-gives_it f size w who step k o index number uuid image (allowed.AskingRestore name place rep im h same) = absurd (restore_gives h refl)
-gives_it f size w who step k o index number uuid image (allowed.AskingClone source name names moment taken rep im h same) = elim h [ ]
-gives_it f size w who step k o index number uuid image (allowed.AskingDelete names rep im h same) = elim h [ ]
-gives_it f size w who step k o index number uuid image (allowed.AskingCleanup rep im h same) = elim h [ ]
-gives_it f size w who step k o index number uuid image (allowed.Verifying read rep im h) = elim h [ ]
-gives_it f size w who step k o index number uuid image (allowed.Pruning j prune rep im h) = elim h [ ]
-gives_it f size w who step k o index number uuid image (allowed.Reading j read rep im h same) = elim h [ ]
-
-no_refusal : {k o : ℕ} {unit : Given} (refusal : Refusal) → Gave k o unit ≡ Refused refusal → ⊥
-no_refusal refusal e = cc
-
-pub is_given : (f : Formats) (size : ℕ) (w : World) (m : Moment) (k o index number uuid : ℕ) → Allowed f size w m → m.entry.reply ≡ Gave k o (GivenRestore index number uuid) → IsGiven (after f w m) k o index number uuid
-is_given f size w m k o index number uuid a e =
+pub is_given : TakesGive → (f : Formats) (size : ℕ) (w : World) (m : Moment) (k o index number uuid : ℕ) → Allowed f size w m → m.entry.reply ≡ Gave k o (GivenRestore index number uuid) → IsGiven (after f w m) k o index number uuid
+is_given takes f size w m k o index number uuid a e =
     let reply : Reply = Gave k o (GivenRestore index number uuid) in
-    let at = gives_it f size w m.entry.who m.entry.step k o index number uuid m.image (alive_allows f size w m reply no_refusal a e) in
+    let at = takes f size w m k o (GivenRestore index number uuid) a e in
     let g : GivesRestore w o index number uuid = at.gives in
     let q : Reader = reader_of o g.r g.s in
     let shard = shard_is g.r.shards index number g.s g.found in
@@ -250,7 +212,7 @@ is_given f size w m k o index number uuid a e =
     ∙ ap (λ x. (taken_restore w o index number x).readers) g.ready.there ∙ ap (λ x. (taken_restore_shard w o g.r x).readers) g.found in
     record {
       q = q;
-      there = ap (λ (x : Readers). fin.get x k) now ∙ ap (fin.get (fin.insert w.readers w.next_ticket q)) at.k_is ∙ same_in w.readers w.next_ticket q;
+      there = ap (λ (x : Readers). fin.get x k) now ∙ ap (fin.get (fin.insert w.readers w.next_ticket q)) at.number ∙ same_in w.readers w.next_ticket q;
       out = refl;
       op_is = refl;
       index_is = shard.0;
@@ -260,30 +222,9 @@ is_given f size w m k o index number uuid a e =
 
 -- ---- a restore is asked
 
-record AcceptsIt (f : Formats) (w : World) (step : Step) (o uuid : ℕ) (indices : List IndexRef) (image : Option Image) : Type 0 where
-  name : Bytes
-  place : Bytes
-  step_is : step ≡ AskStep (Restore name place)
-  accepts : AcceptsRestore f w name o uuid indices image
-
-accepts_restore : {f : Formats} {w : World} {name : Bytes} {o uuid : ℕ} {indices : List IndexRef} {image : Option Image} → RestoreAllows f w name (AcceptedRestore o uuid indices) image → AcceptsRestore f w name o uuid indices image
-accepts_restore (OpeningRestore o uuid indices im acc) = acc
-
-accepts_it : (f : Formats) (size : ℕ) (w : World) (who : ℕ) (step : Step) (o uuid : ℕ) (indices : List IndexRef) (image : Option Image) → Allows f size w who step (AcceptedRestore o uuid indices) image → AcceptsIt f w step o uuid indices image
-accepts_it f size w who step o uuid indices image (allowed.AskingRestore name place rep im h same) = record { name = name; place = place; step_is = refl; accepts = accepts_restore h }
-accepts_it f size w who step o uuid indices image (allowed.AskingClone source name names moment taken rep im h same) = elim h [ ]
-accepts_it f size w who step o uuid indices image (allowed.AskingDelete names rep im h same) = elim h [ ]
-accepts_it f size w who step o uuid indices image (allowed.AskingCleanup rep im h same) = elim h [ ]
-accepts_it f size w who step o uuid indices image (allowed.Verifying read rep im h) = elim h [ ]
-accepts_it f size w who step o uuid indices image (allowed.Pruning j prune rep im h) = elim h [ ]
-accepts_it f size w who step o uuid indices image (allowed.Reading j read rep im h same) = elim h [ ]
-
-unrefused : {o uuid : ℕ} {indices : List IndexRef} (refusal : Refusal) → AcceptedRestore o uuid indices ≡ Refused refusal → ⊥
-unrefused refusal e = cc
-
-module _ (f : Formats) (size : ℕ) (w : World) (m : Moment) (o uuid : ℕ) (indices : List IndexRef) (a : Allowed f size w m) (e : m.entry.reply ≡ AcceptedRestore o uuid indices) where
-  abbrev it : AcceptsIt f w m.entry.step o uuid indices m.image
-  it = accepts_it f size w m.entry.who m.entry.step o uuid indices m.image (alive_allows f size w m (AcceptedRestore o uuid indices) unrefused a e)
+module _ (begins : AsksBegin) (f : Formats) (size : ℕ) (w : World) (m : Moment) (o uuid : ℕ) (indices : List IndexRef) (a : Allowed f size w m) (e : m.entry.reply ≡ AcceptedRestore o uuid indices) where
+  abbrev it : RestoreBegan f w m.entry.who m.entry.step o uuid indices m.image
+  it = begins f size w m o uuid indices a e
 
   opened_is : (name place : Bytes) → m.entry.step ≡ AskStep (Restore name place) → answered f w m.entry.who m.entry.step m.entry.reply m.image ≡ restore_opened w uuid place indices
   opened_is name place is = ap (λ x. answered f w m.entry.who m.entry.step x m.image) e ∙ ap (λ x. answered f w m.entry.who x (AcceptedRestore o uuid indices) m.image) is
@@ -383,14 +324,14 @@ world_parts : (f : Formats) (xs ys : List Moment) (w : World) → world_from f w
 world_parts f [] ys w = refl
 world_parts f (x ∷ xs) ys w = world_parts f xs ys (after f w x)
 
-pub readers_are : (f : Formats) (size : ℕ) (w : World) (before rest : List Moment) (m : Moment) (name place : Bytes) (o uuid : ℕ) (indices : List IndexRef) (k : ℕ) (q : Reader) → Tracked w → ReadTracked w → IsLegal f size w (before ++ m ∷ rest)
+pub readers_are : AsksBegin → (f : Formats) (size : ℕ) (w : World) (before rest : List Moment) (m : Moment) (name place : Bytes) (o uuid : ℕ) (indices : List IndexRef) (k : ℕ) (q : Reader) → Tracked w → ReadTracked w → IsLegal f size w (before ++ m ∷ rest)
     → m.entry.step ≡ AskStep (Restore name place) → m.entry.reply ≡ AcceptedRestore o uuid indices → IsReading (world_from f w (before ++ m ∷ rest)) k q → q.op ≡ o → IsReaderOf q uuid place indices
-readers_are f size w before rest m name place o uuid indices k q t l legal is e reading op =
+readers_are begins f size w before rest m name place o uuid indices k q t l legal is e reading op =
     let v : World = world_from f w before in
     let parts = legal_parts f size before (m ∷ rest) w legal in
     let tv : Tracked v = tracked_history f size before w t parts.0 in
     let lv : ReadTracked v = read_history_tracked f size before w t l parts.0 in
-    let begun : ReadsAs (after f v m) o uuid place indices = reads_begun f size v m o uuid indices parts.1.0 e name place is in
+    let begun : ReadsAs (after f v m) o uuid place indices = reads_begun begins f size v m o uuid indices parts.1.0 e name place is in
     let last : ReadsAs (world_from f v (m ∷ rest)) o uuid place indices = reads_legal o uuid place indices f size rest (after f v m) (tracked_step f size v m tv parts.1.0) parts.1.1 begun in
     reader_is o uuid place indices (world_from f v (m ∷ rest)) (read_history_tracked f size (m ∷ rest) v tv lv parts.1) last k q (subst (λ x. IsReading x k q) (world_parts f before (m ∷ rest) w) reading) op
 
@@ -477,21 +418,10 @@ module _ (o index number : ℕ) where
 
 -- ---- a shard is restored
 
-reader_restores : {f : Formats} {w : World} {k files bytes : ℕ} {image : Option Image} → ReadAllows f w k (RestoredShard files bytes) HasEnded image → (q : Reader) × IsReading w k q
-reader_restores (RestoringShard k files bytes im q out by) = (q, out)
-
-restores_by : (f : Formats) (size : ℕ) (w : World) (k files bytes : ℕ) (image : Option Image) → Allows f size w k (ReadStep (RestoredShard files bytes)) HasEnded image → (q : Reader) × IsReading w k q
-restores_by f size w k files bytes image (allowed.Reading j read rep im h same) = reader_restores h
-restores_by f size w k files bytes image (allowed.Verifying read rep im h) = elim h [ ]
-
-not_ended : (refusal : Refusal) → HasEnded ≡ Refused refusal → ⊥
-not_ended refusal e = cc
-
 -- its ticket is out
-restores_out : (f : Formats) (size : ℕ) (w : World) (m : Moment) (k files bytes : ℕ) (q : Reader) → Allowed f size w m → RestoresIn m k files bytes → fin.get w.readers k ≡ Some q → IsReading w k q
-restores_out f size w m k files bytes q a is there =
-    let allows : Allows f size w m.entry.who m.entry.step HasEnded m.image = alive_allows f size w m HasEnded not_ended a (ap (λ (x : Entry). x.reply) is) in
-    let (z, reading) = restores_by f size w k files bytes m.image (subst (λ (x : Entry). Allows f size w x.who x.step HasEnded m.image) is allows) in
+reader_out : (f : Formats) (size : ℕ) (w : World) (m : Moment) (k files bytes : ℕ) (q : Reader) → Allowed f size w m → RestoresIn m k files bytes → fin.get w.readers k ≡ Some q → IsReading w k q
+reader_out f size w m k files bytes q a is there =
+    let (z, reading) = restores_out f size w m k files bytes a is in
     record { there = there; out = ap (λ (x : Reader). x.out) (some_same q z (sym there ∙ reading.there)) ∙ reading.out }
 
 -- the world after it
@@ -515,7 +445,7 @@ read_ended k q restores t distinct state over s m id num =
 
 past_begun : (f : Formats) (size : ℕ) (w : World) (m : Moment) (k files bytes : ℕ) (q : Reader) → ReadTracked w → Allowed f size w m → RestoresIn m k files bytes → fin.get w.readers k ≡ Some q → IsPast (after f w m) q.op q.index q.number
 past_begun f size w m k files bytes q l a is q_there =
-    let reading : IsReading w k q = restores_out f size w m k files bytes q a is q_there in
+    let reading : IsReading w k q = reader_out f size w m k files bytes q a is q_there in
     let t : ReaderTracked w.restores k q = l.tracked.readers k q q_there reading.out in
     let state : ReadState = Restored files bytes in
     let now : answered f w m.entry.who m.entry.step m.entry.reply m.image ≡ shard_ended w k q t.r state =
@@ -541,7 +471,7 @@ once_restored f size w before between a b j k files bytes more total p q t l leg
     let lv : ReadTracked v = read_history_tracked f size before w t l parts.0 in
     let begun : IsPast (after f v a) p.op p.index p.number = past_begun f size v a j files bytes p lv parts.1.0 a_is p_there in
     let past : IsPast last p.op p.index p.number = subst (λ x. IsPast x p.op p.index p.number) (sym (world_parts f before (a ∷ between) w)) (past_legal p.op p.index p.number f size between (after f v a) (tracked_step f size v a tv parts.1.0) parts.1.1 begun) in
-    none_reads p.op p.index p.number last (read_history_tracked f size log w t l ends.0) past k q (restores_out f size last b k more total q ends.1.0 b_is q_there) op id num
+    none_reads p.op p.index p.number last (read_history_tracked f size log w t l ends.0) past k q (reader_out f size last b k more total q ends.1.0 b_is q_there) op id num
 
 -- ---- the numbers of ops never fall
 
@@ -571,13 +501,19 @@ module _ (f : Formats) (size : ℕ) (w : World) (t : Tracked w) where
   room_now : w.next_id ≤ first_id (suc w.term)
   room_now = let b : w.next_id < first_id (suc w.term) = t.in_term.below in omega (arith, b)
 
+  restore_asked_leaves : (who : ℕ) (name place : Bytes) (reply : Reply) (image : Option Image) → Allows f size w who (AskStep (Restore name place)) reply image → (answered f w who (AskStep (Restore name place)) reply image).readers ≡ w.readers
+  restore_asked_leaves who name place reply image (allowed.AskingRestore n p rep im h same) = restore_leaves f w n p rep im h
+  restore_asked_leaves who name place reply image (allowed.Cleaning command d x im recorded there clean same) = absurd (true≢false (sym recorded))
+
   asked_leaves : (who : ℕ) (command : Asked) (reply : Reply) (image : Option Image) → Allows f size w who (AskStep command) reply image → (answered f w who (AskStep command) reply image).readers ≡ w.readers
-  asked_leaves who (Restore name place) reply image (allowed.AskingRestore n p rep im h same) = restore_leaves f w n p rep im h
-  asked_leaves who (Restore name place) reply image (allowed.Cleaning command d x im recorded there clean same) = absurd (true≢false (sym recorded))
-  asked_leaves who (Snapshot name indices moment) reply image a = (goes_answered f w room_now who (AskStep (Snapshot name indices moment)) reply image tt).readers
-  asked_leaves who (Clone source name indices moment taken) reply image a = (goes_answered f w room_now who (AskStep (Clone source name indices moment taken)) reply image tt).readers
-  asked_leaves who (DeleteSnapshots names) reply image a = (goes_answered f w room_now who (AskStep (DeleteSnapshots names)) reply image tt).readers
-  asked_leaves who Cleanup reply image a = (goes_answered f w room_now who (AskStep Cleanup) reply image tt).readers
+  asked_leaves who command reply image a = by (is_recorded command) refl
+    where
+      by : (b : Bool) → is_recorded command ≡ b → (answered f w who (AskStep command) reply image).readers ≡ w.readers
+      by true e = (goes_answered f w room_now who (AskStep command) reply image (subst T (sym e) tt)).readers
+      by false e =
+          let (name, place, is) = unrecorded command e in
+          subst (λ (c : Asked). (answered f w who (AskStep c) reply image).readers ≡ w.readers) (sym is)
+          (restore_asked_leaves who name place reply image (subst (λ (c : Asked). Allows f size w who (AskStep c) reply image) is a))
 
 pub ask_leaves : (f : Formats) (size : ℕ) (w : World) (m : Moment) (command : Asked) → Tracked w → Allowed f size w m → m.entry.step ≡ AskStep command → (after f w m).readers ≡ w.readers
 ask_leaves f size w m command t a e = elim a.answered [

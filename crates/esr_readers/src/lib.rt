@@ -1,4 +1,4 @@
-//! What the tickets of restores are, over any container: laws over the definitions alone, whose bodies are empty.
+//! What the tickets of restores are, over any container: laws over the definitions alone.
 #![tactic(auto)]
 
 ghost use Rattle.std.specs.Prelude.{◌≡◌, Some, ℕ, ◌<◌, ◌≤◌, List, [], ◌∷◌, ◌++◌};
@@ -18,7 +18,9 @@ ghost use Rattle.esr_readers.specs.Readers.{RestoresIn, IsThereAs, IsGiven, IsRe
 pub fn readers_stay_as_given()
     ensures given { (f : Formats) (part_size : ℕ) (w : World) (m : Moment) (k o index number uuid : ℕ) → Allowed f part_size w m → m.entry.reply ≡ Gave k o (GivenRestore index number uuid) → IsGiven (after f w m) k o index number uuid }
     ensures stay { (f : Formats) (part_size : ℕ) (w : World) (log : List Moment) (k : ℕ) (q : Reader) → Tracked w → ReadTracked w → IsLegal f part_size w log → fin.get w.readers k ≡ Some q → IsThereAs (world_from f w log) k q }
-{}
+{
+    esr_core::answers_tell_their_steps();
+}
 
 /// While a restore is open its tickets read the shards of the indices that its answer told, of the snapshot that it told, for
 /// the place that was asked. Indices of one name are one, and so are those of one id; the number of the op is the next one, and those never fall.
@@ -33,7 +35,9 @@ pub fn readers_are_of_their_ask()
     ensures numbered { (f : Formats) (part_size : ℕ) (w : World) (m : Moment) (o uuid : ℕ) (indices : List IndexRef) → Allowed f part_size w m → m.entry.reply ≡ AcceptedRestore o uuid indices
         → (o ≡ w.next_op) × (o < (after f w m).next_op) }
     ensures rises { (f : Formats) (part_size : ℕ) (w : World) (log : List Moment) → Tracked w → IsLegal f part_size w log → w.next_op ≤ (world_from f w log).next_op }
-{}
+{
+    esr_core::answers_tell_their_steps();
+}
 
 /// No shard of a restore is restored twice, over any container.
 pub fn no_shard_is_restored_twice()

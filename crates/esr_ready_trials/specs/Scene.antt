@@ -5,8 +5,7 @@ use Rattle.std.specs.FinMap.{FinMap}
 use Rattle.std.specs.FinMap as fin
 use Rattle.esr_model.specs.Values.{Bytes, IndexRef, RootData}
 use Rattle.esr_core.specs.World.{World, Op, ShardWork, Out, Deletion, Deleting, Ticket, opened, no_record}
-use Rattle.esr_core.specs.Steps.{shard_ticket}
-use Rattle.esr_core.specs.Turns.{plain_ticket}
+use Rattle.esr_core.specs.Steps.{shard_ticket, plain_ticket}
 use Rattle.esr_ready_trials.specs.Rows.{one, two}
 
 abbrev pub s1 : Bytes

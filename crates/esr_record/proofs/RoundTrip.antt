@@ -12,8 +12,8 @@ use Rattle.esr_json.specs.Access.{member_at, text_at, number_at, items_at}
 use Rattle.esr_json.specs.Shallow.{IsShallow}
 use Rattle.esr_json.proofs.Lists.{items_listed_of}
 use Rattle.esr_json.proofs.Shallow.{IsShallow-array_map, IsShallow-more, IsShallow-integer}
-use Rattle.esr_meta.specs.Indices.{id_at, snap_name_at, indices_at, id_data, ref_data}
-use Rattle.esr_meta.proofs.RoundTrip.{refs_from-map, IsShallow-indices_data}
+use Rattle.esr_names.specs.Indices.{id_at, snap_name_at, indices_at, id_data, ref_data}
+use Rattle.esr_names.proofs.RefTexts.{refs_from-map, IsShallow-indices_data}
 use Rattle.esr_record.specs.declared.op.Making.{Making}
 use Rattle.esr_record.specs.declared.op.OpWork.{OpWork}
 use Rattle.esr_record.specs.declared.op.OpWork.TheVariants.{Create, Clone, Delete, Cleanup}

@@ -3,7 +3,7 @@ use Rattle.std.specs.Prelude.{◌≡◌, ◌<◌, ◌≤◌, ◌^◌, ◌==◌, 
 use Rattle.std.specs.List.{list_any}
 use Rattle.esr_names.specs.NameRule.{snap_name_fault}
 use Rattle.esr_names.specs.declared.ids.Id.{Id}
-use Rattle.esr_meta.specs.Indices.{AreRefs}
+use Rattle.esr_names.specs.Indices.{AreRefs}
 use Rattle.esr_record.specs.declared.op.Making.{Making}
 use Rattle.esr_record.specs.declared.op.OpWork.{OpWork}
 use Rattle.esr_record.specs.declared.op.OpWork.TheVariants.{Create, Clone, Delete, Cleanup}

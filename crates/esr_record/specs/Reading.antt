@@ -12,7 +12,7 @@ use Rattle.esr_json.specs.declared.refusal.Reason.{Reason}
 use Rattle.esr_json.specs.declared.refusal.Reason.TheVariants.{OutOfRange, BadName, BadId, Duplicate}
 use Rattle.esr_json.specs.Steps.{◌>>=◌}
 use Rattle.esr_json.specs.Access.{parsed, text_at, number_at, items_at, text_item}
-use Rattle.esr_meta.specs.Indices.{id_at, snap_name_at, indices_at}
+use Rattle.esr_names.specs.Indices.{id_at, snap_name_at, indices_at}
 use Rattle.esr_record.specs.declared.reading.Kind.{Kind}
 use Rattle.esr_record.specs.declared.reading.Kind.TheVariants as kinds
 use Rattle.esr_record.specs.declared.op.OpWork.TheVariants as works

@@ -5,7 +5,7 @@ use Rattle.serde_json.specs.Find.{of_integer}
 use Rattle.serde_json.specs.View.{items_of}
 use Rattle.serde_json.specs.Written.{compact_text}
 use Rattle.esr_names.specs.declared.ids.Id.{Id}
-use Rattle.esr_meta.specs.Indices.{id_data, indices_data}
+use Rattle.esr_names.specs.Indices.{id_data, indices_data}
 use Rattle.esr_record.specs.declared.op.Making.{Making}
 use Rattle.esr_record.specs.declared.op.OpWork.{OpWork}
 use Rattle.esr_record.specs.declared.op.OpWork.TheVariants.{Create, Clone, Delete, Cleanup}

@@ -1,8 +1,7 @@
 //! The ops of a record.
 ghost use Rattle.std.specs.Prelude.{◌≡◌, IfOk};
 
-use esr_meta::indices_copy;
-use esr_names::{Id, Ids, IndexRefs, SnapName};
+use esr_names::{Id, Ids, IndexRefs, SnapName, indices_copy};
 use std::alloc::{AllocError, Global};
 
 /// The snapshot that an op makes: its indices in the command's order, its moment, name and uuid.

@@ -9,8 +9,7 @@ ghost use Rattle.esr_record.specs.Reading.{kind_of, op_number_of, uuid_item, uui
 
 use crate::{ClusterRecord, Making, OpWork, RecordOp, RecordOps};
 use esr_json::{Key, ReadRefusal, Reason, items, number, parse, text, text_item};
-use esr_meta::{id_at, indices_at, snap_name_at};
-use esr_names::{Id, Ids, id_read};
+use esr_names::{Id, Ids, id_at, id_read, indices_at, snap_name_at};
 use serde_json::Value;
 use std::alloc::Global;
 

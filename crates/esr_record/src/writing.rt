@@ -2,15 +2,14 @@
 ghost use Rattle.std.specs.Prelude.{◌≡◌, map, IfOk, Ok};
 ghost use Rattle.serde_json.specs.Data.{array};
 ghost use Rattle.serde_json.specs.View.{view, items_of};
-ghost use Rattle.esr_meta.specs.Indices.{id_data};
+ghost use Rattle.esr_names.specs.Indices.{id_data};
 ghost use Rattle.esr_record.specs.Record.{IsRecord};
 ghost use Rattle.esr_record.specs.Reading.{record_from};
 ghost use Rattle.esr_record.specs.Text.{create_data, clone_data, op_data, record_data, record_text};
 
 use crate::{ClusterRecord, Making, OpWork, RecordOp};
 use esr_json::write;
-use esr_meta::{id_value, indices_value};
-use esr_names::{Id, Ids};
+use esr_names::{Id, Ids, id_value, indices_value};
 use esr_seq::Bytes;
 use serde_json::{Value, json};
 use std::alloc::{AllocError, Global};

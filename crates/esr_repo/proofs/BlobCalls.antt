@@ -40,7 +40,7 @@ use Rattle.esr_repo.specs.Next.{Added, IsLive, GoesOn}
 use Rattle.esr_repo.specs.May.{CanTell, IsBegin, IsCommit, IsFetch, Same, IsNamed, MayBegin, IsThere, IsAdded, MayCommit, IsPut, MayReplace, IsFound, MayFetch}
 use Rattle.esr_repo.specs.Laws.{Laws}
 use Rattle.esr_repo.specs.Grown.{legal_step}
-use Rattle.esr_repo.proofs.InfosStay.{IsPlain as LeavesInfos}
+use Rattle.esr_repo.specs.InfosAfter.{LeavesInfos}
 use Rattle.esr_repo.proofs.Frames.{rests_answered}
 use Rattle.esr_repo.proofs.Logs.{Goes, goes_passed, image_now, log_goes, log_stays}
 use Rattle.esr_repo.proofs.Repos.{cluster_is, names_are, plan_aside, infos_over, kept_now, steady_now, can_tell, text_same, added_repo, repo_stays}

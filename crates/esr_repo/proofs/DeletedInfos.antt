@@ -30,9 +30,9 @@ use Rattle.esr_desk.specs.Delete.Conditions.{CanSettleDelete}
 use Rattle.esr_repo.specs.Repo.{PlannedBy, OwnIndices, FoundBy, HasInfos}
 use Rattle.esr_repo.specs.May.{swapped_world}
 use Rattle.esr_repo.specs.Grown.{out_is}
+use Rattle.esr_repo.specs.DeleteWorld.{settle, delete_world, delete_is}
 use Rattle.esr_repo.proofs.InfosStay.{KeepsWork, made_stays, told_stays}
 use Rattle.esr_repo.proofs.Repos.{infos_aside}
-use Rattle.esr_repo.proofs.DeleteTickets.{settle, delete_world, delete_is}
 
 -- ---- members
 

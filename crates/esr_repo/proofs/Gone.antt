@@ -33,7 +33,8 @@ use Rattle.esr_repo.specs.Repo.{PlannedBy, OwnIndices, TookAway, IsPast, Gone, L
 use Rattle.esr_repo.specs.Tickets.{AreOfOps}
 use Rattle.esr_repo.proofs.Coming.{Came, WasGiven, Stayed, HasPlanned, HasSettled, DeletesCome, come_same, uuids_same}
 use Rattle.esr_repo.proofs.Frames.{Frame, frame_settled, frame_pruned, frame_answered}
-use Rattle.esr_repo.proofs.InfosStay.{IsPlain, WorksStay, HasSettled as HasFinalized, made_stays, finalized, new_made, settled_root, root_step, works_step}
+use Rattle.esr_repo.specs.InfosAfter.{LeavesInfos}
+use Rattle.esr_repo.proofs.InfosStay.{WorksStay, HasSettled as HasFinalized, made_stays, finalized, new_made, settled_root, root_step, works_step}
 use Rattle.esr_repo.proofs.Blocked.{block_stays}
 
 -- ---- the plans
@@ -251,7 +252,7 @@ module _ (f : Formats) (size : ℕ) (w : World) (tracked : Tracked w) (own : Own
 -- ---- what deletes and cleanups found
 
 -- over a step that settles nothing they found what they had found
-pub plain_come : (f : Formats) (w : World) (k : ℕ) (step : Step) (reply : Reply) (image : Option Image) → IsPlain step reply → DeletesCome None w.tickets (answered f w k step reply image).tickets
+pub plain_come : (f : Formats) (w : World) (k : ℕ) (step : Step) (reply : Reply) (image : Option Image) → LeavesInfos step reply → DeletesCome None w.tickets (answered f w k step reply image).tickets
 plain_come f w k SettleStep (Refused DepotFault) image plain = absurd plain
 plain_come f w k SettleStep (Refused refusal) image plain = come_same None w.tickets
 plain_come f w k SettleStep reply image plain = absurd plain
@@ -273,7 +274,7 @@ pub found_stays : (f : Formats) (w v : World) (uuid : ℕ) (indices : List Index
 found_stays f w v uuid indices works come (inl made) = inl (made_stays f w v uuid indices works made)
 found_stays f w v uuid indices works come (inr found) = inr (found_by w.tickets v.tickets uuid come found)
 
-pub found_step : (f : Formats) (w : World) (m : Moment) (uuid : ℕ) (indices : List IndexRef) → Tracked w → IsPlain m.entry.step m.entry.reply → MadeOrFound f w uuid indices → MadeOrFound f (after f w m) uuid indices
+pub found_step : (f : Formats) (w : World) (m : Moment) (uuid : ℕ) (indices : List IndexRef) → Tracked w → LeavesInfos m.entry.step m.entry.reply → MadeOrFound f w uuid indices → MadeOrFound f (after f w m) uuid indices
 found_step f w m uuid indices tracked plain = found_stays f w (after f w m) uuid indices (works_step f w m tracked plain) (plain_come f w m.entry.who m.entry.step m.entry.reply m.image plain)
 
 -- over the settle of a finalization there is one more

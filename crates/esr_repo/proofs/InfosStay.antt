@@ -3,14 +3,14 @@
 -- What is kept:
 --   WorksStay w v         each ticket of w but one of a delete or cleanup is in v under its number, with the same work
 --   InfosThere f w v      each blob of w that is the info of a snapshot is in v with the same bytes
---   IsPlain step reply    the step settles nothing. It computes to Unit at each step but a settle, whatever the reply, and at a settle with each refusal but DepotFault.
+--   LeavesInfos step reply  the step settles nothing. It computes to Unit at each step but a settle, whatever the reply, and at a settle with each refusal but DepotFault.
 --   SparesInfos f w infos what a delete or cleanup that has settled dooms is none of these infos' blobs, but of a snapshot that a finalization made
 --   AreListed root infos  each info is of a snapshot that the root lists. AreInfosOf doesn't say so, and a settle needs it: an info of no index under the uuid of an open op would pass before the settle, and not after it.
 -- Over any two worlds:
 --   infos_stay : v.root ≡ w.root → WorksStay w v → (NoDeleting v → NoDeleting w) → InfosKept f w v infos → AreInfosOf f w tells infos → AreInfosOf f v tells infos
 -- Over a step:
---   infos_step : Tracked w → AreTests w.caller → SparesInfos f w infos → Allowed f size w m → IsPlain m.entry.step m.entry.reply → AreInfosOf f w tells infos → AreInfosOf f (after f w m) tells infos
---   listed_step : Tracked w → IsPlain m.entry.step m.entry.reply → AreListed w.root infos → AreListed (after f w m).root infos
+--   infos_step : Tracked w → AreTests w.caller → SparesInfos f w infos → Allowed f size w m → LeavesInfos m.entry.step m.entry.reply → AreInfosOf f w tells infos → AreInfosOf f (after f w m) tells infos
+--   listed_step : Tracked w → LeavesInfos m.entry.step m.entry.reply → AreListed w.root infos → AreListed (after f w m).root infos
 --   root_step, works_step, none_step, blobs_step : what these take of the step
 -- Over the settle of the ticket t, whose work is Finalize info results made:
 --   infos_settle_step : Tracked w → Allowed f size w m → m.entry.step ≡ SettleStep → m.entry.reply ≡ WasSettled → fin.get w.tickets m.entry.who ≡ Some t → t.work ≡ Finalize info results made
@@ -37,8 +37,8 @@ use Rattle.esr_model.specs.Finalize.{Finalizes, finalized_root, done_at}
 use Rattle.esr_model.specs.Delete.{PrunedShard}
 use Rattle.esr_model.specs.Image.{Blobs, Image, At, Generation, index_at, at_shard_of}
 use Rattle.esr_core.specs.World.{World, Op, Deletion, ShardWork, Work, Finalize, Deleting, Drop, Swap, swap_of, AllDone, info_of, metadata, Ticket, ReadState, Restored, NotRestored, RestoreShard, Restoring, Reader, record_of}
-use Rattle.esr_core.specs.Steps.{Removes, IsOut, noting, listing, with_ticket, shard_ticket, final_ticket}
-use Rattle.esr_core.specs.Turns.{plain_ticket, cleaning_ticket}
+use Rattle.esr_core.specs.Steps.{Removes, IsOut, noting, listing, with_ticket, shard_ticket, final_ticket, plain_ticket}
+use Rattle.esr_core.specs.Turns.{cleaning_ticket}
 use Rattle.esr_core.specs.Pruning.{delete_swap, planned_work, planned, dooms}
 use Rattle.esr_core.specs.Restores.{AreApart, restore_shard}
 use Rattle.esr_core.specs.Deletes.{asked_delete}
@@ -59,9 +59,10 @@ use Rattle.esr_names.specs.declared.index_ref.IndexRef.{IndexRef as CodeRef}
 use Rattle.esr_meta.specs.Info.{Info, IsInfo}
 use Rattle.esr_formats.specs.Refs.{ref_of_code}
 use Rattle.esr_formats.specs.Infos.{info_of_code}
-use Rattle.esr_results.proofs.Refs.{one_id, ids_distinct, other_later}
+use Rattle.esr_newroot.proofs.Refs.{one_id, ids_distinct, other_later}
 use Rattle.esr_progress.specs.Infos.{HasIndices, AreInfosOf}
 use Rattle.esr_repo.specs.Repo.{AreTests}
+use Rattle.esr_repo.specs.InfosAfter.{LeavesInfos}
 use Rattle.esr_repo.proofs.Frames.{rests_prune}
 
 -- ---- over any two worlds
@@ -319,16 +320,6 @@ keeps_read f w (suc k) read reply image = keeps_read_step f w (suc k) read reply
 
 -- ---- all steps
 
--- the step settles nothing
-abbrev pub IsPlain : Step → Reply → Type 0
-IsPlain SettleStep (Refused DepotFault) = ⊥
-IsPlain SettleStep (Refused refusal) = Unit {0}
-IsPlain SettleStep reply = ⊥
-IsPlain (PruneStep SettlePruned) (Refused DepotFault) = ⊥
-IsPlain (PruneStep SettlePruned) (Refused refusal) = Unit {0}
-IsPlain (PruneStep SettlePruned) reply = ⊥
-IsPlain step reply = Unit {0}
-
 abbrev IsNoSettle : Step → Type 0
 IsNoSettle SettleStep = ⊥
 IsNoSettle (PruneStep SettlePruned) = ⊥
@@ -419,7 +410,7 @@ keeps_fault f w below k (PruneStep SettlePruned) image no_settle = absurd no_set
 keeps_fault f w below k (PruneStep (RemoveDoomed names)) image no_settle = record { root = refl; works = works_same w.tickets; none = λ h. h }
 keeps_fault f w below k step image no_settle = keeps_same w
 
-keeps_answered : (f : Formats) (w : World) → AreBelow w → (k : ℕ) (step : Step) (reply : Reply) (image : Option Image) → IsPlain step reply → Keeps w (answered f w k step reply image)
+keeps_answered : (f : Formats) (w : World) → AreBelow w → (k : ℕ) (step : Step) (reply : Reply) (image : Option Image) → LeavesInfos step reply → Keeps w (answered f w k step reply image)
 keeps_answered f w below k SettleStep (Refused DepotFault) image is_plain = absurd is_plain
 keeps_answered f w below k SettleStep (Refused refusal) image is_plain = keeps_same w
 keeps_answered f w below k SettleStep reply image is_plain = absurd is_plain
@@ -430,13 +421,13 @@ keeps_answered f w below k step (Refused DepotFault) image is_plain = keeps_faul
 keeps_answered f w below k step (Refused refusal) image is_plain = keeps_same w
 keeps_answered f w below k step reply image is_plain = keeps_done_step f w below k step reply image tt
 
-pub root_step : (f : Formats) (w : World) (m : Moment) → Tracked w → IsPlain m.entry.step m.entry.reply → (after f w m).root ≡ w.root
+pub root_step : (f : Formats) (w : World) (m : Moment) → Tracked w → LeavesInfos m.entry.step m.entry.reply → (after f w m).root ≡ w.root
 root_step f w m t is_plain = (keeps_answered f w (λ k u e. (t.tickets k u e).0) m.entry.who m.entry.step m.entry.reply m.image is_plain).root
 
-pub works_step : (f : Formats) (w : World) (m : Moment) → Tracked w → IsPlain m.entry.step m.entry.reply → WorksStay w (after f w m)
+pub works_step : (f : Formats) (w : World) (m : Moment) → Tracked w → LeavesInfos m.entry.step m.entry.reply → WorksStay w (after f w m)
 works_step f w m t is_plain = (keeps_answered f w (λ k u e. (t.tickets k u e).0) m.entry.who m.entry.step m.entry.reply m.image is_plain).works
 
-pub none_step : (f : Formats) (w : World) (m : Moment) → Tracked w → IsPlain m.entry.step m.entry.reply → NoDeleting (after f w m) → NoDeleting w
+pub none_step : (f : Formats) (w : World) (m : Moment) → Tracked w → LeavesInfos m.entry.step m.entry.reply → NoDeleting (after f w m) → NoDeleting w
 none_step f w m t is_plain = (keeps_answered f w (λ k u e. (t.tickets k u e).0) m.entry.who m.entry.step m.entry.reply m.image is_plain).none
 
 -- ---- what keeps the infos
@@ -452,7 +443,7 @@ LeavesAll (PruneStep SettlePruned) reply = ⊥
 LeavesAll (PruneStep (RemoveDoomed names)) reply = ⊥
 LeavesAll step reply = Unit {0}
 
-leaves_all : (step : Step) (reply : Reply) → IsPlain step reply → LeavesAll step reply ⊎ ((names : List BlobName) × (step ≡ PruneStep (RemoveDoomed names)))
+leaves_all : (step : Step) (reply : Reply) → LeavesInfos step reply → LeavesAll step reply ⊎ ((names : List BlobName) × (step ≡ PruneStep (RemoveDoomed names)))
 leaves_all SettleStep (Refused DepotFault) plain = absurd plain
 leaves_all SettleStep (Refused refusal) plain = inl tt
 leaves_all SettleStep reply plain = absurd plain
@@ -613,7 +604,7 @@ removal_kept f w infos spares who names (Some image) h i m = elim (spares who h.
 
 -- ---- the infos over a step that is no settle
 
-kept_step : (f : Formats) (size : ℕ) (w : World) (m : Moment) (infos : List Info) → AreTests w.caller → SparesInfos f w infos → Allowed f size w m → IsPlain m.entry.step m.entry.reply → InfosKept f w (after f w m) infos
+kept_step : (f : Formats) (size : ℕ) (w : World) (m : Moment) (infos : List Info) → AreTests w.caller → SparesInfos f w infos → Allowed f size w m → LeavesInfos m.entry.step m.entry.reply → InfosKept f w (after f w m) infos
 kept_step f size w m infos tests spares a is_plain = elim (leaves_all m.entry.step m.entry.reply is_plain) [
   | inl plain ↦ λ i has. inr (blobs_step f size w m tests a plain i.uuid.number)
   | inr removal ↦ elim a.answered [
@@ -622,7 +613,7 @@ kept_step f size w m infos tests spares a is_plain = elim (leaves_all m.entry.st
   ]
 ]
 
-pub infos_step : (f : Formats) (size : ℕ) (w : World) (m : Moment) (tells : Bool) (infos : List Info) → Tracked w → AreTests w.caller → SparesInfos f w infos → Allowed f size w m → IsPlain m.entry.step m.entry.reply
+pub infos_step : (f : Formats) (size : ℕ) (w : World) (m : Moment) (tells : Bool) (infos : List Info) → Tracked w → AreTests w.caller → SparesInfos f w infos → Allowed f size w m → LeavesInfos m.entry.step m.entry.reply
     → AreInfosOf f w tells infos → AreInfosOf f (after f w m) tells infos
 infos_step f size w m tells infos t tests spares a is_plain h =
     infos_stay f w (after f w m) tells infos (root_step f w m t is_plain) (works_step f w m t is_plain) (none_step f w m t is_plain) (kept_step f size w m infos tests spares a is_plain) h
@@ -640,7 +631,7 @@ generation_kept root new info results fins index shard g at = let now = larger_o
 generation_made : (root new : RootData) (info : SnapInfo) (results : List ShardResult) → Finalizes root info results new → (index shard g : ℕ) → done_at results index shard ≡ Some g → (h : ℕ) × Generation new index shard h
 generation_made root new info results fins index shard g at = let now = larger_new (at_shard_of (index_at root.indices index) shard) (done_at results index shard) g at in (now.0, fins.generations index shard ∙ now.1)
 
-pub listed_step : (f : Formats) (w : World) (m : Moment) (infos : List Info) → Tracked w → IsPlain m.entry.step m.entry.reply → AreListed w.root infos → AreListed (after f w m).root infos
+pub listed_step : (f : Formats) (w : World) (m : Moment) (infos : List Info) → Tracked w → LeavesInfos m.entry.step m.entry.reply → AreListed w.root infos → AreListed (after f w m).root infos
 listed_step f w m infos t is_plain listed = subst (λ (r : RootData). AreListed r infos) (sym (root_step f w m t is_plain)) listed
 
 -- the indices of another snapshot stay

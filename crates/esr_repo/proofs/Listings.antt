@@ -1,5 +1,5 @@
 -- Entries of a step that lists a page of the container's blobs.
-use Rattle.std.proofs.Common.{◌≡◌, ℕ, suc, ◌≤◌, true, List, [], ◌∷◌, length, map, Option, Some, None, Result, Ok, Err, IfOk, OnErr, refl, sym, ap, ◌∙◌, subst, inl, inr}
+use Rattle.std.proofs.Common.{◌≡◌, ℕ, suc, ◌≤◌, List, [], ◌∷◌, length, map, Option, Some, None, Ok, Err, refl, sym, ap, ◌∙◌, subst, inl, inr}
 use Rattle.std.specs.Prelude.{nat_lt}
 use Rattle.esr_model.specs.Values.{Bytes, Has}
 use Rattle.esr_model.specs.Image.{Blobs}
@@ -16,15 +16,11 @@ use Rattle.esr_depot.specs.Calls.{SameImage, Called}
 use Rattle.esr_depot.specs.Listing.{Size, size_of, page_from}
 use Rattle.esr_depot.specs.Listing as depot
 use Rattle.esr_depot.specs.Pages.{page_is_of}
-use Rattle.esr_desk.specs.declared.refusal.StepRefusal.{StepRefusal}
-use Rattle.esr_desk.specs.Delete.Conditions.{CanList}
 use Rattle.esr_desk.specs.Listing.{page_of}
-use Rattle.esr_desk.specs.Start.{Start, world_of, ticket_of}
+use Rattle.esr_desk.specs.Start.{Start, world_of}
 use Rattle.esr_repo.specs.Repo.{Kept}
-use Rattle.esr_repo.specs.Next.{GoesOn, Did}
-use Rattle.esr_repo.specs.Grown.{out_is, added_ticket, changed_ticket}
+use Rattle.esr_repo.specs.Next.{GoesOn}
 use Rattle.esr_repo.proofs.Logs.{image_now}
-use Rattle.esr_repo.proofs.Stepping.{kept_by}
 use Rattle.esr_repo.proofs.BlobCalls.{Before, Pushed, Made, idles_same, idles_change, text_same_image, told_of, failed_is, same_cut, blobs_are, call_is, call_made}
 
 -- ---- a page, as the definitions see it
@@ -81,23 +77,6 @@ is_page_of blobs from page h = record {
     )
   ];
 }
-
--- ---- the step
-
-pub lists_page : (s : Start) (old log : List Moment) (k : ℕ) (from : Option Bytes) → log ≡ old → CanList (ticket_of s old k) from → ListsPage (world_of s log) k from
-lists_page s old log k from e before =
-    let can : CanList (ticket_of s log k) from = subst (λ (l : List Moment). CanList (ticket_of s l k) from) (sym e) before in
-    record { t = ticket_of s log k; out = out_is s log k can.out; uuids = can.uuids; plan = can.plan; work = can.work; clean = can.clean; unsettled = can.unsettled; unended = can.unended; from_is = can.after_is }
-
--- what it makes of the ticket
-pub listed_ticket : (s : Start) (old new : List Moment) (k : ℕ) (from : Option Bytes) (r : Result (List Listed) StepRefusal) → (ticket_of s old k).out ≡ true → Did s old new k (ListStep from) (λ page. WasListed (page_of page)) r
-    → IfOk r (λ page. ticket_of s new k ≡ listing (ticket_of s old k) (page_of page))
-listed_ticket s old new k from (Ok page) out did = added_ticket s old new k (ListStep from) (WasListed (page_of page)) did k ∙ changed_ticket s old k (λ t. listing t (page_of page)) out
-listed_ticket s old new k from (Err e) out did = tt
-
-pub unlisted_ticket : (s : Start) (old new : List Moment) (k : ℕ) (from : Option Bytes) (r : Result (List Listed) StepRefusal) → Did s old new k (ListStep from) (λ page. WasListed (page_of page)) r → OnErr r (ticket_of s new k ≡ ticket_of s old k)
-unlisted_ticket s old new k from (Ok page) did = tt
-unlisted_ticket s old new k from (Err e) did = kept_by s old new k (ListStep from) e (λ image. refl) did
 
 -- ---- the call
 

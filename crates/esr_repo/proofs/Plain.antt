@@ -21,14 +21,14 @@ use Rattle.esr_desk.specs.Start.{Start, formats_of, world_of, or_no_ticket, tick
 use Rattle.esr_repo.specs.Log.{asks_container, calls, log_of}
 use Rattle.esr_repo.specs.Repo.{Kept, OwnIndices, Gone, AreTests, HasInfos, IsSteady, IsRepo}
 use Rattle.esr_repo.specs.Blocks.{block_of}
-use Rattle.esr_desk.specs.Own.{caller_of}
+use Rattle.esr_desk.specs.Own.{or_no_reader, reader_of, caller_of}
 use Rattle.esr_repo.specs.Tickets.{AreOfOps}
 use Rattle.esr_repo.specs.Client.{ReadsOwn}
 use Rattle.esr_repo.specs.Next.{Added, IsLive, GoesOn}
 use Rattle.esr_repo.specs.May.{MayNote, MayRefuse}
+use Rattle.esr_repo.specs.InfosAfter.{LeavesInfos}
 use Rattle.esr_repo.specs.Laws.{Laws}
-use Rattle.esr_repo.specs.Grown.{added_ticket}
-use Rattle.esr_repo.proofs.InfosStay.{IsPlain as LeavesInfos}
+use Rattle.esr_repo.specs.Grown.{added_ticket, added_reader}
 use Rattle.esr_repo.proofs.Frames.{IsPlain, NoSwap, ByRule, plain_is, rests_answered}
 use Rattle.esr_repo.proofs.Blocked.{unaborted, one_aborter, Tells, OfSwap, OfDelete, block_none}
 use Rattle.esr_repo.proofs.Logs.{goes_same, image_now}
@@ -241,6 +241,10 @@ refused_answer s w who step refusal image plain = by refusal plain
 pub refused_tickets : (s : Start) (old new : List Moment) (who : ℕ) (step : Step) (refusal : Refusal) → calls step (Refused refusal) ≡ false → Added s old new who step (Refused refusal) → (j : ℕ) → ticket_of s new j ≡ ticket_of s old j
 refused_tickets s old new who step refusal plain a j =
     added_ticket s old new who step (Refused refusal) a j ∙ ap (λ (w : World). or_no_ticket (fin.get w.tickets j)) (refused_answer s (world_of s old) who step refusal a.image plain)
+
+pub refused_readers : (s : Start) (old new : List Moment) (who : ℕ) (step : Step) (refusal : Refusal) → calls step (Refused refusal) ≡ false → Added s old new who step (Refused refusal) → (j : ℕ) → reader_of s new j ≡ reader_of s old j
+refused_readers s old new who step refusal plain a j =
+    added_reader s old new who step (Refused refusal) a j ∙ ap (λ (w : World). or_no_reader (fin.get w.readers j)) (refused_answer s (world_of s old) who step refusal a.image plain)
 
 -- it is a step without a call of the container that leaves what is kept
 pub may_refuse : (s : Start) (log : List Moment) (who : ℕ) (step : Step) (refusal : Refusal) (next : ℕ) → next ≡ (world_of s log).next_id → MayRefuse s log who step refusal → MayNote s log who step (Refused refusal) None next

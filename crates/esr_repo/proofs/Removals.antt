@@ -27,7 +27,7 @@ use Rattle.esr_repo.specs.Log.{image_of, asks_container}
 use Rattle.esr_repo.specs.Repo.{Kept}
 use Rattle.esr_repo.specs.May.{IsLess, AreGone, IsRemoval, MayRemove}
 use Rattle.esr_repo.proofs.Logs.{image_now}
-use Rattle.esr_repo.proofs.InfosStay.{IsPlain as LeavesInfos}
+use Rattle.esr_repo.specs.InfosAfter.{LeavesInfos}
 use Rattle.esr_repo.proofs.BlobCalls.{Before, Pushed, Made, Idles, TextStays, told_of, names_text, named_of, idles_same, blobs_are, tell_of, allowed_is, call_is, call_made}
 use Rattle.esr_repo.specs.Next.{GoesOn}
 

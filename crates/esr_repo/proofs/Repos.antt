@@ -32,7 +32,8 @@ use Rattle.esr_repo.specs.Next.{Added, IsLive}
 use Rattle.esr_desk.specs.Own.{caller_of}
 use Rattle.esr_repo.specs.May.{CanTell}
 use Rattle.esr_repo.specs.Laws.{Laws}
-use Rattle.esr_repo.proofs.InfosStay.{IsPlain as LeavesInfos, WorksStay, infos_stay, infos_step, root_step}
+use Rattle.esr_repo.specs.InfosAfter.{LeavesInfos}
+use Rattle.esr_repo.proofs.InfosStay.{WorksStay, infos_stay, infos_step, root_step}
 use Rattle.esr_repo.proofs.Coming.{DeletesCome, come_same}
 use Rattle.esr_repo.proofs.Frames.{frame_after, settler}
 use Rattle.esr_repo.proofs.Gone.{own_step, gone_step, found_stays, found_step, info_spared}

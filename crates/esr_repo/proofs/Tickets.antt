@@ -12,8 +12,8 @@ use Rattle.esr_core.specs.World.{World, Op, Deletion, ShardWork, Restoring, Rest
 use Rattle.esr_core.specs.Entry.{Entry, Given, GivenShard, GivenFinalize, GivenDrop, GivenRestore, GivenClone, GivenDelete, GivenCleanup, Step, TakeStep, StaleTerm, DepotFault, Reply, Gave, Refused, Moment}
 use Rattle.esr_core.specs.After.{shard_of, taken_shard, taken_restore_shard, taken_restore, taken_by, answered, after}
 use Rattle.esr_core.specs.Restores.{restore_shard}
-use Rattle.esr_core.specs.Steps.{IsOut, shard_ticket, final_ticket}
-use Rattle.esr_core.specs.Turns.{plain_ticket, cleaning_ticket}
+use Rattle.esr_core.specs.Steps.{IsOut, shard_ticket, final_ticket, plain_ticket}
+use Rattle.esr_core.specs.Turns.{cleaning_ticket}
 use Rattle.esr_core.specs.Allowed.{Gives, Allowed, Blocks}
 use Rattle.esr_core.specs.Past.{begins_anew, entries_by}
 use Rattle.esr_core.specs.Tracked.{Tracked}

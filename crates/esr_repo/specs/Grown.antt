@@ -15,7 +15,7 @@ use Rattle.esr_core.specs.After.{with_given, change, answered, after}
 use Rattle.esr_core.specs.Allowed.{Allowed}
 use Rattle.esr_core.specs.History.{world_from, IsLegal}
 use Rattle.esr_desk.specs.Start.{Start, formats_of, world_of, Legal, no_ticket, or_no_ticket, ticket_of}
-use Rattle.esr_desk.specs.Own.{no_reader, or_no_reader, reader_of}
+use Rattle.esr_desk.specs.Own.{no_reader, or_no_reader, reader_of, caller_of, as_client, own_of}
 use Rattle.esr_repo.specs.Next.{Added}
 
 pub world_from-append : (f : Formats) (w : World) (xs ys : List Moment) → world_from f w (xs ++ ys) ≡ world_from f (world_from f w xs) ys
@@ -94,3 +94,9 @@ reading_is s log k out = go (fin.get (world_of s log).readers k) refl out
 -- what was put is there
 pub reader_there : (readers : FinMap nat_cmp Reader) (k : ℕ) (q : Reader) → fin.get (fin.insert readers k q) k ≡ Some q
 reader_there readers k q = fin.get-insert nat_cmp_total readers k q k ∙ ap (λ (b : Bool). cond b (Some q) (fin.get readers k)) ((eq_by_cmp_equiv nat_cmp_total).refl k)
+
+-- ---- all that someone is and has done
+
+pub own_same : (s : Start) (old new : List Moment) (k : ℕ) → ticket_of s new k ≡ ticket_of s old k → reader_of s new k ≡ reader_of s old k → caller_of s new ≡ caller_of s old
+    → own_of s new k ≡ own_of s old k
+own_same s old new k ticket reader caller = λ j. record { ticket = ticket j; reader = reader j; caller = as_client k (caller j) }

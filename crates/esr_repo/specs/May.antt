@@ -19,8 +19,6 @@ use Rattle.esr_formats.specs.Clusters.{cluster_of}
 use Rattle.esr_formats.specs.Infos.{info_of_code, info_kind}
 use Rattle.esr_ops.specs.Plan.{Plan, IsPlanOf}
 use Rattle.esr_desk.specs.Start.{Start, formats_of, world_of, ticket_of}
-use Rattle.esr_desk.specs.Conditions.{CanDrop}
-use Rattle.esr_desk.specs.Delete.Conditions.{CanEndCleanup}
 use Rattle.esr_repo.specs.Log.{calls}
 use Rattle.esr_repo.specs.Repo.{HasInfos}
 
@@ -75,6 +73,11 @@ abbrev pub infos_after : Option (List Info) → Option Info → List Info → Li
 infos_after (Some left) info old = left
 infos_after None info old = old ++ option_to_list info
 
+-- the infos that served the world serve that after the swap too, with what is given
+abbrev pub InfosServe : Start → List Moment → ℕ → Step → Option (List Info) → Option Info → Type 0
+InfosServe s log who step left info = (old : List Info) → HasInfos s (world_of s log) old
+    → HasInfos s (record (swapped_world s log who step) { blobs = (world_of s log).blobs }) (infos_after left info old)
+
 -- A step that swaps the record. It may fail in the container where it may be answered. Where no root, no infos or no plan is
 -- given, those that are kept serve the new world too.
 pub record MaySwap (s : Start) (log : List Moment) (who : ℕ) (step : Step) (reply : Reply) (cluster : Record) (root : Option Root) (left : Option (List Info)) (info : Option Info) (plan : Option Plan) (next : ℕ) : Type 0 where
@@ -84,13 +87,9 @@ pub record MaySwap (s : Start) (log : List Moment) (who : ℕ) (step : Step) (re
   pub cluster_is : cluster_of cluster ≡ record_of (swapped_world s log who step)
   pub root_is : (old : Root) → root_of old ≡ (world_of s log).root → root_of (unwrap_or root old) ≡ (swapped_world s log who step).root
   -- they are those of the snapshots that the new root lists
-  pub infos_are : (old : List Info) → HasInfos s (world_of s log) old → HasInfos s (record (swapped_world s log who step) { blobs = (world_of s log).blobs }) (infos_after left info old)
+  pub infos_are : InfosServe s log who step left info
   pub plan_is : (old : Plan) → IsPlanOf (world_of s log) old → IsPlanOf (swapped_world s log who step) (unwrap_or plan old)
   pub next_is : next ≡ (swapped_world s log who step).next_id
-
--- an op leaves by its drop, or by a cleanup that is over
-abbrev pub CanLeave : Start → List Moment → ℕ → Type 0
-CanLeave s log k = CanDrop (ticket_of s log k) ⊎ CanEndCleanup s log k
 
 -- the name is one of the layout
 abbrev pub IsNamed : Start → BlobName → Type 0

@@ -2,8 +2,9 @@
 use Rattle.std.specs.Prelude.{◌≡◌, ℕ, false, List, [], ◌∷◌, ◌++◌, Option, Result, Ok, Err}
 use Rattle.esr_model.specs.Image.{Image}
 use Rattle.esr_core.specs.Entry.{Step, Reply, Refused, Moment}
+use Rattle.esr_core.specs.After.{caller_after}
 use Rattle.esr_core.specs.Allowed.{IsAborted}
-use Rattle.esr_desk.specs.Start.{Start, world_of, Legal}
+use Rattle.esr_desk.specs.Start.{Start, formats_of, world_of, Legal}
 use Rattle.esr_desk.specs.Own.{caller_of}
 use Rattle.esr_desk.specs.Once.{IsFresh}
 use Rattle.esr_desk.specs.Refusals.{refusal_of}
@@ -16,6 +17,11 @@ pub record Added (s : Start) (old new : List Moment) (who : ℕ) (step : Step) (
   pub image : Option Image
   pub is : new ≡ old ++ record { entry = record { who = who; step = step; reply = reply }; image = image } ∷ []
   pub legal : Legal s new
+
+-- what who 0 has done after an added entry is told by the entry and its image
+abbrev pub CallersTold : Type 0
+CallersTold = (s : Start) (old new : List Moment) (who : ℕ) (step : Step) (reply : Reply) (a : Added s old new who step reply)
+    → caller_of s new ≡ caller_after (formats_of s) (caller_of s old) who step reply a.image
 
 -- the refusal was added, or nothing where memory was wanting; a repository counts no turns
 abbrev pub AddedOr : Start → List Moment → List Moment → ℕ → Step → StepRefusal → Type 0

@@ -54,7 +54,7 @@ pub(crate) fn faulted(who: u64, step: Step) -> Entry
 
 impl<D: Depot, K: Told> Repo<D, K> {
     /// A new stage, by this step.
-    pub(crate) fn call_begin(
+    pub fn call_begin(
         &mut self,
         alloc: Global,
         who: u64,
@@ -102,7 +102,7 @@ impl<D: Depot, K: Told> Repo<D, K> {
 
     /// A blob is committed by this step. One that is there counts where it is of a finalization's metadata, and is refused
     /// else.
-    pub(crate) fn call_commit(
+    pub fn call_commit(
         &mut self,
         alloc: Global,
         who: u64,
@@ -154,7 +154,7 @@ impl<D: Depot, K: Told> Repo<D, K> {
     }
 
     /// `index.latest` is replaced.
-    pub(crate) fn call_replace(
+    pub fn call_replace(
         &mut self,
         alloc: Global,
         who: u64,
@@ -187,7 +187,7 @@ impl<D: Depot, K: Told> Repo<D, K> {
     }
 
     /// A blob is fetched by this step.
-    pub(crate) fn call_fetch(
+    pub fn call_fetch(
         &mut self,
         alloc: Global,
         who: u64,

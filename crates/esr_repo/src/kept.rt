@@ -21,6 +21,7 @@ ghost use Rattle.esr_desk.specs.Start.{world_of, ticket_of};
 ghost use Rattle.esr_repo.specs.Repo.{OwnIndices, Gone, AreTests, HasInfos};
 ghost use Rattle.esr_repo.specs.Client.{TellsClient};
 ghost use Rattle.esr_repo.specs.Tickets.{AreStale, AreOfOps};
+ghost use Rattle.esr_repo.specs.InfosAfter.{InfosAfter};
 ghost use Rattle.esr_repo.specs.Next.{IsLive};
 
 use crate::{Repo, Told};
@@ -34,7 +35,7 @@ use esr_root::RootData;
 
 impl<D: Depot, K: Told> Repo<D, K> {
     /// The rules that the world keeps.
-    pub(crate) fn rules(&self)
+    pub fn rules(&self)
         ensures tracked { Tracked (world_of K.start self.now) }
         ensures ranked { Ranked (world_of K.start self.now) }
         ensures pruning { OwnIndices (world_of K.start self.now) }
@@ -45,6 +46,7 @@ impl<D: Depot, K: Told> Repo<D, K> {
         ensures stale { AreStale (world_of K.start self.now) }
         ensures of_ops { AreOfOps (world_of K.start self.now) }
         ensures few_ops { length self.now < 2 ^ 41 → (world_of K.start self.now).next_op < 2 ^ 62 }
+        ensures infos { InfosAfter K.start self.now }
         ensures few_tickets { length self.now < 2 ^ 41 → (world_of K.start self.now).next_ticket < 2 ^ 62 }
     {
         let _next = self.next;
@@ -79,7 +81,7 @@ impl<D: Depot, K: Told> Repo<D, K> {
     }
 
     /// The list of ops.
-    pub(crate) fn plan(&self) -> &Progress
+    pub fn plan(&self) -> &Progress
         requires live { IsLive K.start self.now }
         ensures { IsPlanOf (world_of K.start self.now) result.now }
     {
@@ -87,7 +89,7 @@ impl<D: Depot, K: Told> Repo<D, K> {
     }
 
     /// The safe root.
-    pub(crate) fn safe_root(&self) -> &RootData
+    pub fn safe_root(&self) -> &RootData
         requires live { IsLive K.start self.now }
         ensures { root_of result.now ≡ (world_of K.start self.now).root }
     {
@@ -95,7 +97,7 @@ impl<D: Depot, K: Told> Repo<D, K> {
     }
 
     /// The infos of the listed snapshots.
-    pub(crate) fn infos(&self) -> &[SnapInfo]
+    pub fn infos(&self) -> &[SnapInfo]
         requires live { IsLive K.start self.now }
         ensures { HasInfos K.start (world_of K.start self.now) result.now }
     {
@@ -103,7 +105,7 @@ impl<D: Depot, K: Told> Repo<D, K> {
     }
 
     /// The cluster record.
-    pub(crate) fn record(&self) -> &ClusterRecord
+    pub fn record(&self) -> &ClusterRecord
         requires live { IsLive K.start self.now }
         ensures record { cluster_of result.now ≡ record_of (world_of K.start self.now) }
         ensures numbers { AreNumbers result.now.pending result.now.safe result.now.term }
@@ -113,7 +115,7 @@ impl<D: Depot, K: Told> Repo<D, K> {
     }
 
     /// The generation of the safe root, -1 where there is none.
-    pub(crate) fn safe(&self) -> i64
+    pub fn safe(&self) -> i64
         requires live { IsLive K.start self.now }
         ensures count { count_of result ≡ (world_of K.start self.now).safe }
         ensures least { negsuc 0 ≤ℤ result }
@@ -122,7 +124,7 @@ impl<D: Depot, K: Told> Repo<D, K> {
     }
 
     /// The term.
-    pub(crate) fn term(&self) -> u64
+    pub fn term(&self) -> u64
         requires live { IsLive K.start self.now }
         ensures term { result ≡ (world_of K.start self.now).term }
         ensures most { result < 2 ^ 63 }
@@ -131,7 +133,7 @@ impl<D: Depot, K: Told> Repo<D, K> {
     }
 
     /// What is kept of a ticket that is out.
-    pub(crate) fn seat(&self, ticket: u64) -> Seat
+    pub fn seat(&self, ticket: u64) -> Seat
         requires live { IsLive K.start self.now }
         requires out { (ticket_of K.start self.now ticket).out ≡ true }
         ensures { seat_of_code result ≡ seat_of (ticket_of K.start self.now ticket) }
@@ -143,7 +145,7 @@ impl<D: Depot, K: Told> Repo<D, K> {
     }
 
     /// The next id.
-    pub(crate) fn next_id(&self) -> Id
+    pub fn next_id(&self) -> Id
         requires live { IsLive K.start self.now }
         ensures number { result.number ≡ (world_of K.start self.now).next_id }
         ensures below { result.number < first_id (suc (world_of K.start self.now).term) }
@@ -152,7 +154,7 @@ impl<D: Depot, K: Told> Repo<D, K> {
     }
 
     /// The number of the next op.
-    pub(crate) fn next_op(&self) -> u64
+    pub fn next_op(&self) -> u64
         requires live { IsLive K.start self.now }
         ensures { result ≡ (world_of K.start self.now).next_op }
     {
@@ -160,7 +162,7 @@ impl<D: Depot, K: Told> Repo<D, K> {
     }
 
     /// The next id after so many are drawn, or `None` where the term has too few.
-    pub(crate) fn id_after(&self, count: u64) -> Option<Id>
+    pub fn id_after(&self, count: u64) -> Option<Id>
         requires live { IsLive K.start self.now }
         ensures next { MatchOption result
             (first_id (suc (world_of K.start self.now).term) ≤ (world_of K.start self.now).next_id + count)

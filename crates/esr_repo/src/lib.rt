@@ -1,28 +1,19 @@
 //! A container beside the history of its steps.
 #![tactic(auto)]
 
-mod accepting;
-mod asking;
 mod begun;
 mod calls;
-mod checking;
-mod cloning;
-mod deleting;
-mod election;
-mod ending;
-mod hands;
 mod kept;
+mod law;
 mod listing;
 mod removing;
-mod renewing;
 mod repo;
-mod restoring;
 mod steps;
 mod swap;
-mod taking;
-mod testing;
 mod told;
-mod writing;
+mod units;
 
+pub use law::entries_tell_the_caller;
 pub use repo::Repo;
+pub use swap::Renewed;
 pub use told::Told;

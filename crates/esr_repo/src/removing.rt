@@ -33,7 +33,7 @@ fn texts_of(alloc: Global, names: &[BlobName]) -> Result<Names, AllocError>
 
 impl<D: Depot, K: Told> Repo<D, K> {
     /// Blobs are taken away by this step.
-    pub(crate) fn call_remove(
+    pub fn call_remove(
         &mut self,
         alloc: Global,
         who: u64,

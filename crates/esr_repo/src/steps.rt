@@ -46,7 +46,7 @@ fn block(deposed: Option<u64>, list: &Progress, who: u64, step: &Step) -> Option
 impl<D: Depot, K: Told> Repo<D, K> {
     /// Whether a step may go on. It is refused where a record swap failed before, and where a delete has aborted the op of the
     /// ticket, unless it tells that the unit failed.
-    pub(crate) fn check(&mut self, who: u64, step: Step) -> Result<(), StepRefusal>
+    pub fn check(&mut self, who: u64, step: Step) -> Result<(), StepRefusal>
         requires fresh { IsFresh K.start self.old who (step_of step) }
         requires own { ReadsOwn (caller_of K.start self.old) who (step_of step) }
         ensures step { Checked K.start self.old self.new who (step_of step) result }
@@ -71,7 +71,7 @@ impl<D: Depot, K: Told> Repo<D, K> {
     }
 
     /// A step without a call of the container. Where no list of ops is given, the one that is kept stays.
-    pub(crate) fn note(
+    pub fn note(
         &mut self,
         who: u64,
         step: Step,
@@ -99,7 +99,7 @@ impl<D: Depot, K: Told> Repo<D, K> {
     }
 
     /// A refusal by rule, which changes nothing, or want of memory, where the history doesn't tell it.
-    pub(crate) fn refuse(&mut self, who: u64, step: Step, refusal: EntryRefusal) -> StepRefusal
+    pub fn refuse(&mut self, who: u64, step: Step, refusal: EntryRefusal) -> StepRefusal
         requires live { IsLive K.start self.old }
         requires goes { GoesOn K.start self.old who (step_of step) }
         requires may { MayRefuse K.start self.old who (step_of step) (refusal_of refusal) }

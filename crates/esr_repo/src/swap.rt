@@ -28,7 +28,7 @@ use std::alloc::Global;
 /// infos of the snapshots that are left, where some were taken away, or the info of the one that the new root lists besides,
 /// where there is one.
 #[derive(Drop)]
-pub(crate) struct Renewed {
+pub struct Renewed {
     pub cluster: ClusterRecord,
     pub root: Option<RootData>,
     pub left: Option<SnapInfos>,
@@ -112,7 +112,7 @@ fn put_record<D: Depot>(
 impl<D: Depot, K: Told> Repo<D, K> {
     /// A step that swaps the record. Where the container fails in the swap, every later step is refused, and the new record may
     /// stand nevertheless.
-    pub(crate) fn swap(
+    pub fn swap(
         &mut self,
         alloc: Global,
         who: u64,

@@ -1,9 +1,8 @@
 -- How the unit of a restore's shard ends where it isn't restored.
 use Rattle.std.proofs.Common.{◌≡◌, ⊎_elim, ℕ, Bool, true, false, List, refl, sym, ap, ◌∙◌, subst, true≢false}
-use Rattle.esr_core.specs.World.{World}
-use Rattle.esr_core.specs.Allowed.{Blocks, ByFailedSwap, ByDelete}
+use Rattle.esr_core.specs.Allowed.{Blocks}
 use Rattle.esr_core.specs.Refusing.{MayRefuse, ReadFault}
-use Rattle.esr_core.specs.Entry.{OfTarget, ReadBlob, RestoredShard, Step, ReadStep, Refusal, DeposedAt, AbortedBy, Refused, Moment}
+use Rattle.esr_core.specs.Entry.{OfTarget, ReadBlob, RestoredShard, Step, ReadStep, Refusal, Refused, Moment}
 use Rattle.esr_desk.specs.declared.entry.Why.{Why}
 use Rattle.esr_desk.specs.declared.hand.Hand.TheVariants as hands
 use Rattle.esr_desk.specs.declared.refusal.StepRefusal.{StepRefusal}
@@ -33,7 +32,7 @@ use Rattle.esr_unit.specs.Ending.{ending_by}
 use Rattle.esr_unit.specs.Shown.{EndingShown}
 use Rattle.esr_unit.specs.Fetch.{IsRefusedBy, FetchErr}
 use Rattle.esr_unit.specs.Fail.{GivenUp}
-use Rattle.esr_unit.specs.Refusals.{RefusesSo, last_refused, reader_refused}
+use Rattle.esr_unit.specs.Refusals.{RefusesSo, IsBlock, block_is, last_refused, reader_refused}
 use Rattle.esr_model.specs.Names.{BlobName}
 use Rattle.esr_restore.specs.Refused.{IsUnitRefused}
 use Rattle.esr_restore.specs.Trouble.{FaultyTarget, IsOfStart, IsTrouble}
@@ -113,16 +112,7 @@ given_refused e s old new who why b (units.Failed told) h =
 given_refused e s old new who why b (units.Stopped refusal) h = (worked_same (reader_of s old who) (reader_of s new who) (ap (λ (o : Own). o.reader) h.same), h.halts)
 given_refused e s old new who why b units.Stale h = absurd h
 
--- the end of a ticket whose files are restored is refused since a record swap had failed
-abbrev pub IsBlock : Refusal → Type 0
-IsBlock (DeposedAt place) = Unit {0}
-IsBlock (AbortedBy op) = Unit {0}
-IsBlock refusal = ⊥
-
-block_is : (w : World) (who : ℕ) (step : Step) (refusal : Refusal) → Blocks w who step refusal → IsBlock refusal
-block_is w who step refusal (ByFailedSwap place deposed) = tt
-block_is w who step refusal (ByDelete op deposed aborted) = tt
-
+-- no rule of its own refuses the end of a ticket whose files are restored
 no_refusal : (step : Step) (refusal : Refusal) → MayRefuse step refusal → (files bytes : ℕ) → step ≡ ReadStep (RestoredShard files bytes) → ⊥
 no_refusal step refusal (ReadFault name) files bytes is = cc
 no_refusal step refusal may files bytes is = cc

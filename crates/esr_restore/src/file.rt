@@ -12,6 +12,7 @@ ghost use Rattle.esr_desk.specs.Evidence.{evidence};
 ghost use Rattle.esr_restore.specs.Trouble.{IsTrouble, IsOfStart, Judged};
 ghost use Rattle.esr_restore.specs.Went.{Went};
 
+use crate::job::Job;
 use crate::part::read_parts;
 use esr_depot::CallError;
 use esr_desk::{Desk, StepRefusal, Why};
@@ -69,48 +70,36 @@ fn judge(at: ShardId, uuid: Id, entry: &FileEntry, found: Print, is_exact: bool)
 pub fn restore_file<Q: Desk>(
     alloc: Global,
     desk: &mut Q,
-    ticket: u64,
-    at: ShardId,
-    uuid: Id,
+    job: Job,
     entry: &FileEntry,
     target: &mut Q::Target,
     buf: &mut [u8],
 ) -> Result<(), Trouble<Q::Stage, Q::Fetch>>
-    requires mine { HasTaken (Q.calls desk.old) ticket }
-    requires at { IsAt (reader_of Q.start (Q.seen desk.old) ticket) at.index.number at.number uuid.number }
-    requires few { at.number < 1024 }
+    requires mine { HasTaken (Q.calls desk.old) job.ticket }
+    requires at { IsAt (reader_of Q.start (Q.seen desk.old) job.ticket) job.at.index.number job.at.number job.uuid.number }
+    requires few { job.at.number < 1024 }
     requires entry { IsEntry entry.now }
-    requires listed { IsListed Q.start (reader_of Q.start (Q.seen desk.old) ticket) entry.now }
+    requires listed { IsListed Q.start (reader_of Q.start (Q.seen desk.old) job.ticket) entry.now }
     requires none_begun { (Q.Target.told target.old).begun ≡ None }
     requires free { IfSome (Q.Target.told target.old).files (λ fs. Contains (map (λ f. f.0) fs) entry.now.physical → ⊥) }
     requires buffer { 0 < length buf.old }
-    requires new { AreUnread Q.start (Q.seen desk.old) ticket (IsPartOf at entry.now) }
+    requires new { AreUnread Q.start (Q.seen desk.old) job.ticket (IsPartOf job.at entry.now) }
     ensures buffer { length buf.new ≡ length buf.old }
-    ensures restored { OnOk result (RestoredFile Q.start (reader_of Q.start (Q.seen desk.new) ticket) at entry.now (Q.Target.told target.old).files (Q.Target.told target.new).files) }
+    ensures restored { OnOk result (RestoredFile Q.start (reader_of Q.start (Q.seen desk.new) job.ticket) job.at entry.now (Q.Target.told target.old).files (Q.Target.told target.new).files) }
     ensures kept { OnErr result ((Q.Target.told target.new).files ≡ (Q.Target.told target.old).files) }
     ensures begun { OnOk result ((Q.Target.told target.new).begun ≡ None) }
     ensures steady { OnOk result (Q.Target.faults target.new ≡ Q.Target.faults target.old) }
     ensures made_for { (Q.Target.told target.new).made_for ≡ (Q.Target.told target.old).made_for }
     ensures is_sure { (Q.Target.told target.new).is_sure ≡ (Q.Target.told target.old).is_sure }
-    ensures reads { OnOk result (ReadsOnly Q.start (Q.seen desk.old) (Q.seen desk.new) ticket (IsPartOf at entry.now)) }
-    ensures trouble { IfErr result (IsTrouble (evidence Q.Stage.faults Q.Fetch.faults Q.Shard.faults Q.Target.faults Q.Shard.told Q.Target.told) (Q.Target.faults target.new) (Q.Target.told target.new).is_sure Q.start (Q.seen desk.new) ticket) }
-    ensures went { Went Q.start (Q.seen desk.old) (Q.seen desk.new) ticket }
+    ensures reads { OnOk result (ReadsOnly Q.start (Q.seen desk.old) (Q.seen desk.new) job.ticket (IsPartOf job.at entry.now)) }
+    ensures trouble { IfErr result (IsTrouble (evidence Q.Stage.faults Q.Fetch.faults Q.Shard.faults Q.Target.faults Q.Shard.told Q.Target.told) (Q.Target.faults target.new) (Q.Target.told target.new).is_sure Q.start (Q.seen desk.new) job.ticket) }
+    ensures went { Went Q.start (Q.seen desk.old) (Q.seen desk.new) job.ticket }
     ensures calls { Q.calls desk.new ≡ Q.calls desk.old }
 {
     begin_file::<Q>(alloc, target, entry)?;
     let mut hasher = Hasher::start();
-    let is_exact = read_parts(
-        alloc,
-        desk,
-        ticket,
-        at,
-        uuid,
-        entry,
-        target,
-        &mut hasher,
-        buf,
-    )?;
-    if let Some(why) = judge(at, uuid, entry, hasher.end(), is_exact) {
+    let is_exact = read_parts(alloc, desk, job, entry, target, &mut hasher, buf)?;
+    if let Some(why) = judge(job.at, job.uuid, entry, hasher.end(), is_exact) {
         return Err(Trouble::Found { why });
     }
     match target.end() {

@@ -3,6 +3,7 @@
 
 mod file;
 mod files;
+mod job;
 mod part;
 mod snap;
 mod unit;

@@ -17,10 +17,11 @@ ghost use Rattle.esr_desk.specs.Evidence.{evidence};
 ghost use Rattle.esr_restore.specs.Trouble.{IsTrouble};
 ghost use Rattle.esr_restore.specs.Went.{Went};
 
+use crate::job::Job;
 use crate::snap::fetch;
 use esr_desk::Desk;
 use esr_hash::Hasher;
-use esr_names::{BlobName, Id, ShardId};
+use esr_names::BlobName;
 use esr_parts::{BackError, Extent, part_plan, read_back};
 use esr_shardidx::{FileEntry, part_count, part_name};
 use esr_source::Target;
@@ -72,39 +73,37 @@ fn read_part<Q: Desk>(
 pub fn read_parts<Q: Desk>(
     alloc: Global,
     desk: &mut Q,
-    ticket: u64,
-    at: ShardId,
-    uuid: Id,
+    job: Job,
     entry: &FileEntry,
     target: &mut Q::Target,
     hasher: &mut Hasher,
     buf: &mut [u8],
 ) -> Result<bool, Trouble<Q::Stage, Q::Fetch>>
-    requires mine { HasTaken (Q.calls desk.old) ticket }
-    requires at { IsAt (reader_of Q.start (Q.seen desk.old) ticket) at.index.number at.number uuid.number }
-    requires few { at.number < 1024 }
+    requires mine { HasTaken (Q.calls desk.old) job.ticket }
+    requires at { IsAt (reader_of Q.start (Q.seen desk.old) job.ticket) job.at.index.number job.at.number job.uuid.number }
+    requires few { job.at.number < 1024 }
     requires entry { IsEntry entry.now }
-    requires listed { IsListed Q.start (reader_of Q.start (Q.seen desk.old) ticket) entry.now }
+    requires listed { IsListed Q.start (reader_of Q.start (Q.seen desk.old) job.ticket) entry.now }
     requires room { IsSomeAnd (Q.Target.told target.old).begun (λ b. b.room ≡ entry.now.print.len) }
     requires fresh { HasFed hasher.old [] }
     requires buffer { 0 < length buf.old }
-    requires new { AreUnread Q.start (Q.seen desk.old) ticket (IsPartOf at entry.now) }
+    requires new { AreUnread Q.start (Q.seen desk.old) job.ticket (IsPartOf job.at entry.now) }
     ensures buffer { length buf.new ≡ length buf.old }
-    ensures read { IfOk result (ReadParts Q.start (reader_of Q.start (Q.seen desk.new) ticket) hasher.new (Q.Target.told target.old).begun (Q.Target.told target.new).begun at entry.now) }
+    ensures read { IfOk result (ReadParts Q.start (reader_of Q.start (Q.seen desk.new) job.ticket) hasher.new (Q.Target.told target.old).begun (Q.Target.told target.new).begun job.at entry.now) }
     ensures files { (Q.Target.told target.new).files ≡ (Q.Target.told target.old).files }
     ensures steady { OnOk result (Q.Target.faults target.new ≡ Q.Target.faults target.old) }
     ensures made_for { (Q.Target.told target.new).made_for ≡ (Q.Target.told target.old).made_for }
     ensures is_sure { (Q.Target.told target.new).is_sure ≡ (Q.Target.told target.old).is_sure }
-    ensures reads { IfOk result (λ e. ReadsOnly Q.start (Q.seen desk.old) (Q.seen desk.new) ticket (IsPartOf at entry.now)) }
-    ensures trouble { IfErr result (IsTrouble (evidence Q.Stage.faults Q.Fetch.faults Q.Shard.faults Q.Target.faults Q.Shard.told Q.Target.told) (Q.Target.faults target.new) (Q.Target.told target.new).is_sure Q.start (Q.seen desk.new) ticket) }
-    ensures went { Went Q.start (Q.seen desk.old) (Q.seen desk.new) ticket }
+    ensures reads { IfOk result (λ e. ReadsOnly Q.start (Q.seen desk.old) (Q.seen desk.new) job.ticket (IsPartOf job.at entry.now)) }
+    ensures trouble { IfErr result (IsTrouble (evidence Q.Stage.faults Q.Fetch.faults Q.Shard.faults Q.Target.faults Q.Shard.told Q.Target.told) (Q.Target.faults target.new) (Q.Target.told target.new).is_sure Q.start (Q.seen desk.new) job.ticket) }
+    ensures went { Went Q.start (Q.seen desk.old) (Q.seen desk.new) job.ticket }
     ensures calls { Q.calls desk.new ≡ Q.calls desk.old }
 {
     let mut is_exact = true;
     for number in 0..part_count(entry.print.len, entry.part_size) {
         let (_, size) = part_plan(entry.print.len, entry.part_size, number);
-        let name = part_name(at, entry, number);
-        let is_whole = read_part(alloc, desk, ticket, name, size, target, hasher, buf)?;
+        let name = part_name(job.at, entry, number);
+        let is_whole = read_part(alloc, desk, job.ticket, name, size, target, hasher, buf)?;
         is_exact = is_exact && is_whole;
     }
     Ok(is_exact)

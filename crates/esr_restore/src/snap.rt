@@ -18,9 +18,10 @@ ghost use Rattle.esr_desk.specs.Evidence.{HadFetch, evidence};
 ghost use Rattle.esr_restore.specs.Trouble.{IsTrouble};
 ghost use Rattle.esr_restore.specs.Went.{Went};
 
-use esr_desk::{Desk, Hand, Why};
+use crate::job::Job;
+use esr_desk::{Desk, Hand, Who, Why};
 use esr_formats::read_shard_snap;
-use esr_names::{BlobName, Id, ShardId};
+use esr_names::BlobName;
 use esr_seq::Bytes;
 use esr_shardidx::ShardSnap;
 use esr_unit::{Trouble, fetch_whole, unread};
@@ -45,7 +46,11 @@ pub fn fetch<Q: Desk>(
     ensures calls { Q.calls desk.new ≡ Q.calls desk.old }
 {
     esr_core::refusals_are_of_their_steps();
-    match desk.fetch(alloc, Hand::Restore, ticket, name)? {
+    let who = Who {
+        hand: Hand::Restore,
+        number: ticket,
+    };
+    match desk.fetch(alloc, who, name)? {
         Some(fetch) => Ok(fetch),
         None => Err(Trouble::Found {
             why: Why::Absent { name },
@@ -57,24 +62,22 @@ pub fn fetch<Q: Desk>(
 fn fetch_bytes<Q: Desk>(
     alloc: Global,
     desk: &mut Q,
-    ticket: u64,
-    at: ShardId,
-    uuid: Id,
+    job: Job,
 ) -> Result<Bytes, Trouble<Q::Stage, Q::Fetch>>
-    requires mine { HasTaken (Q.calls desk.old) ticket }
-    requires at { IsAt (reader_of Q.start (Q.seen desk.old) ticket) at.index.number at.number uuid.number }
-    requires few { at.number < 1024 }
-    requires new { IsFresh Q.start (Q.seen desk.old) ticket (ReadStep (ReadBlob (SnapName at.index.number at.number uuid.number))) }
-    ensures fetched { IfOk result (λ b. reader_of Q.start (Q.seen desk.new) ticket ≡ with_read (SnapName at.index.number at.number uuid.number) (told_bytes Q.start b) (reader_of Q.start (Q.seen desk.old) ticket)) }
-    ensures found { IfOk result (λ b. HadFetch Restore (Q.seen desk.new) ticket (SnapName at.index.number at.number uuid.number) WasFetched) }
-    ensures reads { IfOk result (λ b. ReadsOnly Q.start (Q.seen desk.old) (Q.seen desk.new) ticket (λ n. n ≡ SnapName at.index.number at.number uuid.number)) }
-    ensures trouble { IfErr result (λ e. (n : ℕ) (sure : Bool) → IsTrouble (evidence Q.Stage.faults Q.Fetch.faults Q.Shard.faults Q.Target.faults Q.Shard.told Q.Target.told) n sure Q.start (Q.seen desk.new) ticket e) }
-    ensures went { Went Q.start (Q.seen desk.old) (Q.seen desk.new) ticket }
+    requires mine { HasTaken (Q.calls desk.old) job.ticket }
+    requires at { IsAt (reader_of Q.start (Q.seen desk.old) job.ticket) job.at.index.number job.at.number job.uuid.number }
+    requires few { job.at.number < 1024 }
+    requires new { IsFresh Q.start (Q.seen desk.old) job.ticket (ReadStep (ReadBlob (SnapName job.at.index.number job.at.number job.uuid.number))) }
+    ensures fetched { IfOk result (λ b. reader_of Q.start (Q.seen desk.new) job.ticket ≡ with_read (SnapName job.at.index.number job.at.number job.uuid.number) (told_bytes Q.start b) (reader_of Q.start (Q.seen desk.old) job.ticket)) }
+    ensures found { IfOk result (λ b. HadFetch Restore (Q.seen desk.new) job.ticket (SnapName job.at.index.number job.at.number job.uuid.number) WasFetched) }
+    ensures reads { IfOk result (λ b. ReadsOnly Q.start (Q.seen desk.old) (Q.seen desk.new) job.ticket (λ n. n ≡ SnapName job.at.index.number job.at.number job.uuid.number)) }
+    ensures trouble { IfErr result (λ e. (n : ℕ) (sure : Bool) → IsTrouble (evidence Q.Stage.faults Q.Fetch.faults Q.Shard.faults Q.Target.faults Q.Shard.told Q.Target.told) n sure Q.start (Q.seen desk.new) job.ticket e) }
+    ensures went { Went Q.start (Q.seen desk.old) (Q.seen desk.new) job.ticket }
     ensures calls { Q.calls desk.new ≡ Q.calls desk.old }
 {
     esr_core::refusals_are_of_their_steps();
-    let name = BlobName::ShardSnap(at, uuid);
-    match fetch_whole(alloc, desk, Hand::Restore, ticket, name)? {
+    let name = BlobName::ShardSnap(job.at, job.uuid);
+    match fetch_whole(alloc, desk, Hand::Restore, job.ticket, name)? {
         Some(bytes) => Ok(bytes),
         None => {
             let why = Why::Absent { name };
@@ -87,23 +90,21 @@ fn fetch_bytes<Q: Desk>(
 pub fn fetch_snap<Q: Desk>(
     alloc: Global,
     desk: &mut Q,
-    ticket: u64,
-    at: ShardId,
-    uuid: Id,
+    job: Job,
 ) -> Result<ShardSnap, Trouble<Q::Stage, Q::Fetch>>
-    requires mine { HasTaken (Q.calls desk.old) ticket }
-    requires at { IsAt (reader_of Q.start (Q.seen desk.old) ticket) at.index.number at.number uuid.number }
-    requires few { at.number < 1024 }
-    requires new { IsFresh Q.start (Q.seen desk.old) ticket (ReadStep (ReadBlob (SnapName at.index.number at.number uuid.number))) }
-    ensures snap { IfOk result (λ v. HasSnap Q.start (reader_of Q.start (Q.seen desk.new) ticket) v) }
-    ensures reads { IfOk result (λ v. ReadsOnly Q.start (Q.seen desk.old) (Q.seen desk.new) ticket (λ n. n ≡ SnapName at.index.number at.number uuid.number)) }
-    ensures trouble { IfErr result (λ e. (n : ℕ) (sure : Bool) → IsTrouble (evidence Q.Stage.faults Q.Fetch.faults Q.Shard.faults Q.Target.faults Q.Shard.told Q.Target.told) n sure Q.start (Q.seen desk.new) ticket e) }
-    ensures went { Went Q.start (Q.seen desk.old) (Q.seen desk.new) ticket }
+    requires mine { HasTaken (Q.calls desk.old) job.ticket }
+    requires at { IsAt (reader_of Q.start (Q.seen desk.old) job.ticket) job.at.index.number job.at.number job.uuid.number }
+    requires few { job.at.number < 1024 }
+    requires new { IsFresh Q.start (Q.seen desk.old) job.ticket (ReadStep (ReadBlob (SnapName job.at.index.number job.at.number job.uuid.number))) }
+    ensures snap { IfOk result (λ v. HasSnap Q.start (reader_of Q.start (Q.seen desk.new) job.ticket) v) }
+    ensures reads { IfOk result (λ v. ReadsOnly Q.start (Q.seen desk.old) (Q.seen desk.new) job.ticket (λ n. n ≡ SnapName job.at.index.number job.at.number job.uuid.number)) }
+    ensures trouble { IfErr result (λ e. (n : ℕ) (sure : Bool) → IsTrouble (evidence Q.Stage.faults Q.Fetch.faults Q.Shard.faults Q.Target.faults Q.Shard.told Q.Target.told) n sure Q.start (Q.seen desk.new) job.ticket e) }
+    ensures went { Went Q.start (Q.seen desk.old) (Q.seen desk.new) job.ticket }
     ensures calls { Q.calls desk.new ≡ Q.calls desk.old }
 {
-    let bytes = fetch_bytes(alloc, desk, ticket, at, uuid)?;
+    let bytes = fetch_bytes(alloc, desk, job)?;
     match read_shard_snap(alloc, bytes.as_slice()) {
         Ok(snap) => Ok(snap),
-        Err(refusal) => Err(unread(BlobName::ShardSnap(at, uuid), refusal)),
+        Err(refusal) => Err(unread(BlobName::ShardSnap(job.at, job.uuid), refusal)),
     }
 }

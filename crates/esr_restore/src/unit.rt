@@ -20,12 +20,13 @@ ghost use Rattle.esr_restore.specs.Refused.{IsUnitRefused};
 ghost use Rattle.esr_restore.specs.Left.{IsLeft};
 
 use crate::files::{restore_files, sum_of};
+use crate::job::Job;
 use crate::snap::fetch_snap;
 use crate::unrestored::Unrestored;
 use esr_desk::{
-    By, Desk, FailedObject, Hand, RestoredTarget, StepRefusal, Unended, Unit, UnitRefusal, Why,
+    By, Desk, FailedObject, Hand, RestoreEnd, RestoredTarget, StepRefusal, Unended, Unit,
+    UnitRefusal, Why,
 };
-use esr_names::{Id, ShardId};
 use esr_ops::Work;
 use esr_shardidx::ShardSnap;
 use esr_source::{Target, Targets};
@@ -37,31 +38,29 @@ use std::alloc::Global;
 fn restore<Q: Desk>(
     alloc: Global,
     desk: &mut Q,
-    ticket: u64,
-    at: ShardId,
-    uuid: Id,
+    job: Job,
     target: &mut Q::Target,
 ) -> Result<ShardSnap, Trouble<Q::Stage, Q::Fetch>>
-    requires mine { HasTaken (Q.calls desk.old) ticket }
-    requires at { IsAt (reader_of Q.start (Q.seen desk.old) ticket) at.index.number at.number uuid.number }
-    requires few { at.number < 1024 }
+    requires mine { HasTaken (Q.calls desk.old) job.ticket }
+    requires at { IsAt (reader_of Q.start (Q.seen desk.old) job.ticket) job.at.index.number job.at.number job.uuid.number }
+    requires few { job.at.number < 1024 }
     requires none_begun { (Q.Target.told target.old).begun ≡ None }
     requires empty { IfSome (Q.Target.told target.old).files (λ fs. fs ≡ []) }
-    requires new { made_of Q.start (Q.seen desk.old) ticket ≡ [] }
-    ensures snap { IfOk result (λ v. HasSnap Q.start (reader_of Q.start (Q.seen desk.new) ticket) v) }
-    ensures restored { IfOk result (λ v. RestoredAll Q.start (reader_of Q.start (Q.seen desk.new) ticket) at v.files (Q.Target.told target.old).files (Q.Target.told target.new).files) }
-    ensures first { OnErr result (HasFirst Q.start (reader_of Q.start (Q.seen desk.new) ticket) (Q.Target.told target.new).files) }
+    requires new { made_of Q.start (Q.seen desk.old) job.ticket ≡ [] }
+    ensures snap { IfOk result (λ v. HasSnap Q.start (reader_of Q.start (Q.seen desk.new) job.ticket) v) }
+    ensures restored { IfOk result (λ v. RestoredAll Q.start (reader_of Q.start (Q.seen desk.new) job.ticket) job.at v.files (Q.Target.told target.old).files (Q.Target.told target.new).files) }
+    ensures first { OnErr result (HasFirst Q.start (reader_of Q.start (Q.seen desk.new) job.ticket) (Q.Target.told target.new).files) }
     ensures begun { OnOk result ((Q.Target.told target.new).begun ≡ None) }
     ensures steady { OnOk result (Q.Target.faults target.new ≡ Q.Target.faults target.old) }
     ensures made_for { (Q.Target.told target.new).made_for ≡ (Q.Target.told target.old).made_for }
     ensures is_sure { (Q.Target.told target.new).is_sure ≡ (Q.Target.told target.old).is_sure }
-    ensures trouble { IfErr result (IsTrouble (evidence Q.Stage.faults Q.Fetch.faults Q.Shard.faults Q.Target.faults Q.Shard.told Q.Target.told) (Q.Target.faults target.new) (Q.Target.told target.new).is_sure Q.start (Q.seen desk.new) ticket) }
-    ensures went { Went Q.start (Q.seen desk.old) (Q.seen desk.new) ticket }
+    ensures trouble { IfErr result (IsTrouble (evidence Q.Stage.faults Q.Fetch.faults Q.Shard.faults Q.Target.faults Q.Shard.told Q.Target.told) (Q.Target.faults target.new) (Q.Target.told target.new).is_sure Q.start (Q.seen desk.new) job.ticket) }
+    ensures went { Went Q.start (Q.seen desk.old) (Q.seen desk.new) job.ticket }
     ensures calls { Q.calls desk.new ≡ Q.calls desk.old }
 {
     let mut buf = [0; 65536];
-    let snap = fetch_snap(alloc, desk, ticket, at, uuid)?;
-    restore_files(alloc, desk, ticket, at, uuid, &snap, target, &mut buf)?;
+    let snap = fetch_snap(alloc, desk, job)?;
+    restore_files(alloc, desk, job, &snap, target, &mut buf)?;
     Ok(snap)
 }
 
@@ -85,8 +84,13 @@ fn finish<Q: Desk>(
     ensures calls { Q.calls desk.new ≡ Q.calls desk.old }
 {
     let entries = snap.files();
-    let files = entries.len() as u64;
-    desk.end_restore(alloc, ticket, files, sum_of(entries), target)
+    let done = RestoreEnd {
+        ticket,
+        files: entries.len() as u64,
+        bytes: sum_of(entries),
+        target,
+    };
+    desk.end_restore(alloc, done)
 }
 
 /// Ends the ticket for a trouble, unless that leaves it out. The target, which has the files that were ended before, is given
@@ -202,7 +206,8 @@ pub fn run_unit<Q: Desk, T: Targets<Target = Q::Target>>(
         Ok(target) => target,
         Err(_) => return Err(stopped(StepRefusal::Memory)),
     };
-    match restore(alloc, desk, ticket, at, uuid, &mut target) {
+    let job = Job { ticket, at, uuid };
+    match restore(alloc, desk, job, &mut target) {
         Ok(snap) => {
             let shard = at.number;
             let restored = RestoredTarget {

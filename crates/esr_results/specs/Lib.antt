@@ -1,4 +1,2 @@
 pub mod Results
-pub mod NewRoot
-pub mod Named
 pub mod Pruned

@@ -1,8 +1,8 @@
 -- A shard whose generation goes with a delete, as the definitions see it.
-use Rattle.std.specs.Prelude.{◌≡◌, ◌<◌, length, List}
+use Rattle.std.specs.Prelude.{◌≡◌, ◌<◌, length, List, false}
 use Rattle.esr_model.specs.Values.{Has, RootIndex, RootData}
 use Rattle.esr_model.specs.Delete.{PrunedShard}
-use Rattle.esr_results.specs.declared.pruned_root.PrunedShard.{PrunedShard as CodePruned}
+use Rattle.esr_results.specs.declared.pruned.PrunedShard.{PrunedShard as CodePruned}
 
 abbrev pub pruned_of : CodePruned → PrunedShard
 pruned_of p = record { index = p.shard.index.number; number = p.shard.number; base = p.base.number; kept = p.kept }
@@ -14,3 +14,7 @@ pub record IsPlaced (root : RootData) (p : PrunedShard) : Type 0 where
 
 abbrev pub ArePlaced : RootData → List PrunedShard → Type 0
 ArePlaced root shards = (p : PrunedShard) → Has shards p → IsPlaced root p
+
+-- what stands in a list past its end
+abbrev pub no_shard : CodePruned
+no_shard = record { shard = record { index = record { number = 0 }; number = 0 }; base = record { number = 0 }; kept = false }

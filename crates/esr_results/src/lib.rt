@@ -1,10 +1,8 @@
-//! What the units of shards report, and the roots that a finalization and a delete make.
+//! What units report of shards: the result of one, and those whose generations go with a delete.
 #![tactic(auto)]
 
-mod new_root;
-mod pruned_root;
+mod pruned;
 mod result;
 
-pub use new_root::finalized;
-pub use pruned_root::{PrunedShard, PrunedShards, deleted};
+pub use pruned::{PrunedShard, PrunedShards};
 pub use result::{ShardResult, ShardResults};

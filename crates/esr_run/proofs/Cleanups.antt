@@ -23,17 +23,8 @@ pub cleanups_leave_reach : (laws : Laws) (files : Telling) (size : ℕ) (quiet :
     → LegalRun (start_at files size quiet before mid k o) mid.clock after history → IsPast (start_at files size quiet before mid k o) mid.clock mid.since after history
     → CleanupsLeaveReach (formats_by files) (world_at before mid k o) (log_of after mid.clock history) before
 cleanups_leave_reach laws files size quiet before mid after k history o run past shelf h front back last ticket split ended =
+    let f : Formats = formats_by files in
+    let w : World = world_at before mid k o in
+    let r : Ran f size (image_of h.image) shelf w (log_of after mid.clock history) = ran files size quiet before mid after k history o run past shelf h in
     let left = laws.cleaned f size (image_of h.image) shelf w front back last ticket r.kept r.opened o.order.tracked (subst (IsLegal f size w) split r.legal) (subst AreTold split r.told) ended in
     (left.0, λ untested unchanged. subst (λ (l : List Moment). IsCleaned f (world_from f w l)) (sym split) (cleaned_by files (world_from f w (front ++ last ∷ back)) (left.1 untested unchanged)))
-  where
-    f : Formats
-    f = formats_by files
-
-    w : World
-    w = world_at before mid k o
-
-    log : List Moment
-    log = log_of after mid.clock history
-
-    r : Ran f size (image_of h.image) shelf w log
-    r = ran files size quiet before mid after k history o run past shelf h

@@ -83,25 +83,17 @@ refused_tidy files count before after old_faults new_faults (refusals.TermsSpent
 
 -- ---- commands were carried out
 
+-- over a history that began in the opened world of a tidy image
+ran_tidy : (laws : Laws) (f : Formats) (size : ℕ) (image : Image) (shelf : List Shelved) (w : World) (log : List Moment) → Ran f size image shelf w log → TidyImage f image → (i : Image) → Leaves f size w log i → TidyImage f i
+ran_tidy laws f size image shelf w log r tidy i leaves = laws.tidy.left f size shelf w log i (laws.lawful f image shelf w r.kept r.opened) (laws.tidy.opened f image w tidy r.opened) r.back r.legal r.told leaves
+
 -- what a crash may leave over the history
 left_tidy : (laws : Laws) (files : Telling) (size : ℕ) (quiet : Bool) (before mid after : Look) (k : Kept) (history : List Entry) (o : IsOpening before mid k)
     → LegalRun (start_at files size quiet before mid k o) mid.clock after history → IsPast (start_at files size quiet before mid k o) mid.clock mid.since after history
     → (shelf : List Shelved) → Holds (formats_by files) before shelf → IsTidyAt (formats_by files) before
     → (i : Image) → Leaves (formats_by files) size (world_at before mid k o) (log_of after mid.clock history) i → TidyImage (formats_by files) i
 left_tidy laws files size quiet before mid after k history o run past shelf h tidy i leaves =
-    laws.tidy.left f size shelf w log i (laws.lawful f (image_of h.image) shelf w r.kept r.opened) (laws.tidy.opened f (image_of h.image) w (tidy h.image h.told) r.opened) r.back r.legal r.told leaves
-  where
-    f : Formats
-    f = formats_by files
-
-    w : World
-    w = world_at before mid k o
-
-    log : List Moment
-    log = log_of after mid.clock history
-
-    r : Ran f size (image_of h.image) shelf w log
-    r = ran files size quiet before mid after k history o run past shelf h
+    ran_tidy laws (formats_by files) size (image_of h.image) shelf (world_at before mid k o) (log_of after mid.clock history) (ran files size quiet before mid after k history o run past shelf h) (tidy h.image h.told) i leaves
 
 pub every_image_tidy : (laws : Laws) (files : Telling) (size : ℕ) (quiet : Bool) (before mid after : Look) (k : Kept) (history : List Entry) (o : IsOpening before mid k)
     → LegalRun (start_at files size quiet before mid k o) mid.clock after history → IsPast (start_at files size quiet before mid k o) mid.clock mid.since after history
@@ -125,16 +117,7 @@ pub each_dooms_exactly : (laws : Laws) (files : Telling) (size : ℕ) (quiet : B
     → LegalRun (start_at files size quiet before mid k o) mid.clock after history → IsPast (start_at files size quiet before mid k o) mid.clock mid.since after history
     → EachDoomsExactly (formats_by files) (world_at before mid k o) (log_of after mid.clock history) before
 each_dooms_exactly laws files size quiet before mid after k history o run past shelf h tidy front back m split step counted =
+    let f : Formats = formats_by files in
+    let w : World = world_at before mid k o in
+    let r : Ran f size (image_of h.image) shelf w (log_of after mid.clock history) = ran files size quiet before mid after k history o run past shelf h in
     laws.tidy.dooms f size (image_of h.image) shelf w front back m r.kept (tidy h.image h.told) r.opened (subst (IsLegal f size w) split r.legal) (subst AreTold split r.told) step counted
-  where
-    f : Formats
-    f = formats_by files
-
-    w : World
-    w = world_at before mid k o
-
-    log : List Moment
-    log = log_of after mid.clock history
-
-    r : Ran f size (image_of h.image) shelf w log
-    r = ran files size quiet before mid after k history o run past shelf h

@@ -51,8 +51,8 @@ module _ (laws : Refusals) (s : Start) (alive : s.world.deposed ≡ false) (log 
   fell_by m there step refusal step_is says DropFell front back is = record { moment = m; there = there; swap = ap swaps_record step_is; failed = says }
   fell_by m there step refusal step_is says DeleteFell front back is = record { moment = m; there = there; swap = ap swaps_record step_is; failed = says }
 
-  pub fallen_by : WasStopped log → SwapFailed log
-  fallen_by was = let p = split_at log was.moment was.there in fell_by was.moment was.there was.moment.entry.step was.refusal refl was.refused was.stops p.0 p.1 p.2
+  pub fallen_by : (refusal : Refusal) → WasStopped log refusal → SwapFailed log
+  fallen_by refusal was = let p = split_at log was.moment was.there in fell_by was.moment was.there was.moment.entry.step refusal refl was.same was.stops p.0 p.1 p.2
 
 -- on the history of a repository, from its beginning on
 pub done_fallen : {X E : Type 0} (laws : Refusals) (s : Start) (moment : ℕ) (lines : List ScriptLine) (old new same : List Moment) (r : Result X E) → OnOk r (AreDone s moment lines [] same ⊎ WasLeft s moment 0 lines [] same) → MadeFirst s (steps_of moment lines) old new → same ≡ new → old ≡ [] → s.world.deposed ≡ false
@@ -62,6 +62,6 @@ done_fallen {X} {E} laws s moment lines old new same (Ok x) done made is begun a
     let here : MadeFirst s (steps_of moment lines) [] same = subst (λ (l : List Moment). MadeFirst s (steps_of moment lines) l same) begun (subst (λ (l : List Moment). MadeFirst s (steps_of moment lines) old l) (sym is) made) in
     elim done [
       | inl all ↦ inl all
-      | inr (inl left) ↦ inr (inl (left.0, fallen_by laws s alive same (here.grew.legal tt) left.1))
+      | inr (inl left) ↦ inr (inl (left.0, fallen_by laws s alive same (here.grew.legal tt) left.1.0 left.1.1))
       | inr (inr turns) ↦ inr (inr turns)
     ]

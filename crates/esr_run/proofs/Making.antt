@@ -22,7 +22,7 @@ use Rattle.esr_desk.specs.Own.{or_no_reader, reader_of}
 use Rattle.esr_quiet.specs.Asked.{GrewAsking}
 use Rattle.esr_quiet.specs.Asking.{asking_none, asking_on, asks_of, asking_refused}
 use Rattle.esr_quiet.specs.Numbers.{HasNoTickets}
-use Rattle.esr_drive.specs.Stopped.{WasStopped, StoppedIn}
+use Rattle.esr_drive.specs.Stopped.{StoppedIn}
 use Rattle.esr_complete.specs.Lines.{steps_of_item, steps_of, failovers_in, failovers_of}
 use Rattle.esr_complete.specs.Answers.{NoReaderOut, IsIdle}
 use Rattle.esr_run.specs.Script.{is_carried, first_bad}
@@ -31,7 +31,7 @@ use Rattle.esr_drive.specs.Elections.{WaitsOnly, elections, HasElected}
 use Rattle.esr_check.specs.Began.{HasEndedCheck}
 use Rattle.esr_run.specs.Checked.{is_check, asks_check}
 use Rattle.esr_run.specs.Waits.{owed_after, owed_then, LineElected, LineElects}
-use Rattle.esr_run.specs.Made.{MadeFirst, HasStopped, HasNoReaders, AreIn, LineMade, LineRests, WaitEnds, NoneReady, AreElected, WaitEnded, WaitsEnded, Owes, AreMade, AreDone, NoneOpen, WasLeft, AreAsked, LineSpends, WasLookRefused, CheckEnded, ChecksEnded, AsksLine, LinePart, AreInParts, AskedApart, AddsOnly, IsWaiting, InOrStopped, WaitsOrStopped, AskedUnlessStopped}
+use Rattle.esr_run.specs.Made.{MadeFirst, SomeStopped, HasStopped, HasNoReaders, AreIn, LineMade, LineRests, WaitEnds, NoneReady, AreElected, WaitEnded, WaitsEnded, Owes, AreMade, AreDone, NoneOpen, WasLeft, AreAsked, LineSpends, WasLookRefused, CheckEnded, ChecksEnded, AsksLine, LinePart, AreInParts, AskedApart, AddsOnly, IsWaiting, InOrStopped, WaitsOrStopped, AskedUnlessStopped}
 use Rattle.esr_verify.specs.Began as verifying
 use Rattle.esr_check.specs.Began as checking
 use Rattle.esr_run.proofs.Apart.{apart_none, apart_on, TakesAfter, is_waiting, waits_apart, line_apart, cut_apart}
@@ -161,7 +161,7 @@ pub rests_waiting : (s : Start) (old new : List Moment) (result : Result Unit St
 rests_waiting s old new (Ok x) earlier rest readers stopped none = record { tickets = rest none.tickets none.readers; readers = readers none.tickets none.readers }
 rests_waiting s old new (Err steps.Memory) earlier rest readers stopped none = tt
 rests_waiting s old new (Err steps.TurnsSpent) earlier rest readers stopped none = all_entries s new earlier stopped
-rests_waiting s old new (Err (steps.Refused refusal)) earlier rest readers stopped none = inr (inl stopped)
+rests_waiting s old new (Err (steps.Refused refusal)) earlier rest readers stopped none = inr (inl (refusal_of refusal, stopped))
 
 pub spends_waiting : (s : Start) (new : List Moment) (result : Result Unit StepRefusal) → s.earlier_turns ≡ 0 → IfErr result (StoppedIn s new) → LineSpends new result
 spends_waiting s new (Ok x) earlier stopped = tt
@@ -179,7 +179,7 @@ pub wait_ends : (s : Start) (new : List Moment) (result : Result Unit StepRefusa
 wait_ends s new (Ok x) ready stopped = ready
 wait_ends s new (Err steps.Memory) ready stopped = tt
 wait_ends s new (Err steps.TurnsSpent) ready stopped = tt
-wait_ends s new (Err (steps.Refused refusal)) ready stopped = inl stopped
+wait_ends s new (Err (steps.Refused refusal)) ready stopped = inl (refusal_of refusal, stopped)
 
 -- ---- line after line
 
@@ -190,14 +190,18 @@ has_front (n ∷ front) back m (inr h) = inr (has_front front back m h)
 
 -- what was stopped stays so
 pub stopped_stays : (s : Start) (asked : List Step) (old new : List Moment) → GrewAsking s asked old new → HasStopped old → HasStopped new
-stopped_stays s asked old new g (inl was) = inl (record {
-  moment = was.moment;
-  there = subst (λ (l : List Moment). Has l was.moment) (sym g.is) (has_front old g.more was.moment was.there);
-  refusal = was.refusal;
-  refused = was.refused;
-  step = was.step;
-  stops = was.stops;
-})
+stopped_stays s asked old new g (inl some) =
+    let was = some.1 in
+    inl (
+      some.0,
+      record {
+        moment = was.moment;
+        there = subst (λ (l : List Moment). Has l was.moment) (sym g.is) (has_front old g.more was.moment was.there);
+        same = was.same;
+        step = was.step;
+        stops = was.stops;
+      },
+    )
 stopped_stays s asked old new g (inr all) =
     let whole : length new ≡ length old + length g.more = ap length g.is ∙ length-append old g.more in
     let most : 2 ^ 33 ≤ length old = all in
@@ -609,7 +613,7 @@ done_then s moment owed lines old mid new made g works counts done closes none =
     made_well all a (inr (inl was)) = inr (inl (asked all (record { grew = a.grew; elected = a.elected; checks = a.checks; closed = a.closed }), was))
     made_well all a (inr (inr turns)) = inr (inr turns)
 
-    left_on : elections new ≡ elections mid + owed → AreAsked s moment owed lines old mid × WasStopped mid → HasStopped new → WasLeft s moment 0 lines old new
+    left_on : elections new ≡ elections mid + owed → AreAsked s moment owed lines old mid × SomeStopped mid → HasStopped new → WasLeft s moment 0 lines old new
     left_on all left (inl was) = inl (asked all left.0, was)
     left_on all left (inr turns) = inr turns
 

@@ -553,16 +553,31 @@ deposed_caller : (s : Start) (old new : List Moment) (refusal : EntryRefusal) �
 deposed_caller s old new (refusals.Deposed entry) h = h.1
 deposed_caller s old new refusal h = absurd h
 
+-- what a verification that began leaves whole
+begun_whole : (s : Start) → NoneZero s → (workers : ℕ) (checks : Bool) (old new : List Moment) → HasBegun old new → AreVerified s workers new → (Legal s old → Legal s new) → MayVerify s workers checks old → AreWhole s workers checks new
+begun_whole s none_zero workers checks old new asks verified legal may = record {
+  verified = verified;
+  checked = begun_checked s old new asks may.whole.checked;
+  begun = begun_all checks old new asks may.whole.begun;
+  closed = closed_all s old new asks may.idle may.whole.closed;
+  unchecked = λ no. begun_fails Never s none_zero old new asks (legal may.legal) (may.whole.unchecked no);
+  first = begun_fails (NamesFirst s) s none_zero old new asks (legal may.legal) may.whole.first;
+}
+
+-- and one that may have made no step
+maybe_whole : (s : Start) → NoneZero s → (workers : ℕ) (checks : Bool) (old new : List Moment) → BeganOne old new → AreVerified s workers new → (Legal s old → Legal s new) → MayVerify s workers checks old → AreWhole s workers checks new
+maybe_whole s none_zero workers checks old new asks verified legal may = record {
+  verified = verified;
+  checked = maybe_checked s old new asks may.whole.checked;
+  begun = begun_maybe checks old new asks may.whole.begun;
+  closed = closed_maybe s old new asks may.idle may.whole.closed;
+  unchecked = λ no. maybe_fails Never s none_zero old new asks (legal may.legal) (may.whole.unchecked no);
+  first = maybe_fails (NamesFirst s) s none_zero old new asks (legal may.legal) may.whole.first;
+}
+
 pub verify_well : (s : Start) → NoneZero s → (workers : ℕ) (checks : Bool) (old new : List Moment) → HasBegun old new → HasVerified s old new workers → (Legal s old → Legal s new) → MayVerify s workers checks old → MayVerify s workers checks new
 verify_well s none_zero workers checks old new asks ok legal may = record {
-  whole = record {
-    verified = ok_verified s workers old new ok may.whole.verified;
-    checked = begun_checked s old new asks may.whole.checked;
-    begun = begun_all checks old new asks may.whole.begun;
-    closed = closed_all s old new asks may.idle may.whole.closed;
-    unchecked = λ no. begun_fails Never s none_zero old new asks (legal may.legal) (may.whole.unchecked no);
-    first = begun_fails (NamesFirst s) s none_zero old new asks (legal may.legal) may.whole.first;
-  };
+  whole = begun_whole s none_zero workers checks old new asks (ok_verified s workers old new ok may.whole.verified) legal may;
   idle = subst IsIdle (sym ok.closed) none_idle;
   legal = legal may.legal;
 }
@@ -570,45 +585,15 @@ verify_well s none_zero workers checks old new asks ok legal may = record {
 pub verify_refused : {S F H T : Type 0} (evidence : Evidence S F H T) (s : Start) → NoneZero s → (workers : ℕ) (checks : Bool) (old new : List Moment) (e : UnitRefusal) → AsksOne {X = Unit} old new (Err e) → IsVerifyRefused evidence s old new e → NoneVerified old new
     → (Legal s old → Legal s new) → MayVerify s workers checks old → VerifiesOn s workers checks new (line_result (Err e))
 verify_refused evidence s none_zero workers checks old new (units.Failed why) asks err none legal may = record {
-  whole = record {
-    verified = err_verified s workers old new none may.whole.verified;
-    checked = begun_checked s old new asks may.whole.checked;
-    begun = begun_all checks old new asks may.whole.begun;
-    closed = closed_all s old new asks may.idle may.whole.closed;
-    unchecked = λ no. begun_fails Never s none_zero old new asks (legal may.legal) (may.whole.unchecked no);
-    first = begun_fails (NamesFirst s) s none_zero old new asks (legal may.legal) may.whole.first;
-  };
+  whole = begun_whole s none_zero workers checks old new asks (err_verified s workers old new none may.whole.verified) legal may;
   idle = subst IsIdle (sym err.0) none_idle;
   legal = legal may.legal;
 }
 verify_refused evidence s none_zero workers checks old new (units.Stopped (steps.Refused refusal)) asks err none legal may = record {
-  whole = record {
-    verified = err_verified s workers old new none may.whole.verified;
-    checked = begun_checked s old new asks may.whole.checked;
-    begun = begun_all checks old new asks may.whole.begun;
-    closed = closed_all s old new asks may.idle may.whole.closed;
-    unchecked = λ no. begun_fails Never s none_zero old new asks (legal may.legal) (may.whole.unchecked no);
-    first = begun_fails (NamesFirst s) s none_zero old new asks (legal may.legal) may.whole.first;
-  };
+  whole = begun_whole s none_zero workers checks old new asks (err_verified s workers old new none may.whole.verified) legal may;
   idle = subst IsIdle (sym (deposed_caller s old new refusal err)) may.idle;
   legal = legal may.legal;
 }
-verify_refused evidence s none_zero workers checks old new (units.Stopped steps.Memory) asks err none legal may =
-    record {
-      verified = err_verified s workers old new none may.whole.verified;
-      checked = maybe_checked s old new asks may.whole.checked;
-      begun = begun_maybe checks old new asks may.whole.begun;
-      closed = closed_maybe s old new asks may.idle may.whole.closed;
-      unchecked = λ no. maybe_fails Never s none_zero old new asks (legal may.legal) (may.whole.unchecked no);
-      first = maybe_fails (NamesFirst s) s none_zero old new asks (legal may.legal) may.whole.first;
-    }
-verify_refused evidence s none_zero workers checks old new (units.Stopped steps.TurnsSpent) asks err none legal may =
-    record {
-      verified = err_verified s workers old new none may.whole.verified;
-      checked = maybe_checked s old new asks may.whole.checked;
-      begun = begun_maybe checks old new asks may.whole.begun;
-      closed = closed_maybe s old new asks may.idle may.whole.closed;
-      unchecked = λ no. maybe_fails Never s none_zero old new asks (legal may.legal) (may.whole.unchecked no);
-      first = maybe_fails (NamesFirst s) s none_zero old new asks (legal may.legal) may.whole.first;
-    }
+verify_refused evidence s none_zero workers checks old new (units.Stopped steps.Memory) asks err none legal may = maybe_whole s none_zero workers checks old new asks (err_verified s workers old new none may.whole.verified) legal may
+verify_refused evidence s none_zero workers checks old new (units.Stopped steps.TurnsSpent) asks err none legal may = maybe_whole s none_zero workers checks old new asks (err_verified s workers old new none may.whole.verified) legal may
 verify_refused evidence s none_zero workers checks old new units.Stale asks err none legal may = absurd asks

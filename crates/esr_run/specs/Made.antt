@@ -1,7 +1,7 @@
 -- How far lines were carried out.
 use Rattle.std.specs.Prelude.{◌≡◌, ◌⊎◌, ℕ, ◌+◌, ◌^◌, ◌≤◌, List, [], ◌∷◌, ◌++◌, length, Result, Ok, Err}
 use Rattle.std.specs.FinMap as fin
-use Rattle.esr_core.specs.Entry.{Asked, DrawTest, Step, AskStep, TakeStep, LookStep, ReadStep, DeposedAt, Refused, Moment}
+use Rattle.esr_core.specs.Entry.{Asked, DrawTest, Step, AskStep, TakeStep, LookStep, ReadStep, Refusal, DeposedAt, Refused, Moment}
 use Rattle.esr_core.specs.Ready.{AnyReady}
 use Rattle.esr_core.specs.Refusing.{SwapFailed}
 use Rattle.esr_script.specs.declared.item.Item.{Item}
@@ -31,9 +31,13 @@ pub record MadeFirst (s : Start) (wanted : List Step) (old new : List Moment) : 
   pub grew : GrewAsking s first old new
   pub is : first ++ rest ≡ wanted
 
+-- some refusal stopped the work
+abbrev pub SomeStopped : List Moment → Type 0
+SomeStopped log = (refusal : Refusal) × WasStopped log refusal
+
 -- the work was stopped, or 2 ^ 33 entries were made
 abbrev pub HasStopped : List Moment → Type 0
-HasStopped log = WasStopped log ⊎ (2 ^ 33 ≤ length log)
+HasStopped log = SomeStopped log ⊎ (2 ^ 33 ≤ length log)
 
 -- no ticket of a restore was given when the history began
 abbrev pub HasNoReaders : Start → Type 0
@@ -249,7 +253,7 @@ pub record AreAsked (s : Start) (moment owed : ℕ) (lines : List ScriptLine) (o
 
 -- the work was stopped, after which the further lines were asked all the same; or 2 ^ 33 entries were made
 abbrev pub WasLeft : Start → ℕ → ℕ → List ScriptLine → List Moment → List Moment → Type 0
-WasLeft s moment owed lines old new = (AreAsked s moment owed lines old new × WasStopped new) ⊎ (2 ^ 33 ≤ length new)
+WasLeft s moment owed lines old new = (AreAsked s moment owed lines old new × SomeStopped new) ⊎ (2 ^ 33 ≤ length new)
 
 -- A record swap failed, and all lines were asked and all elections made; or 2 ^ 33 entries were made. For nothing else the work is left undone.
 abbrev pub HasFallen : Start → ℕ → List ScriptLine → List Moment → List Moment → Type 0

@@ -1,57 +1,58 @@
 //! The lines of a script are carried out, in order.
 ghost use Rattle.std.specs.Prelude.{◌≡◌, ◌⊎◌, ◌+◌, ◌<◌, ◌≤◌, ℕ, Bool, ◌^◌, ◌∷◌, [], true, false, None, IfOk, OnOk, length};
 ghost use Rattle.esr_script.specs.declared.item.Item.TheVariants.{Wait, Check, Verify};
-ghost use Rattle.esr_core.specs.Entry.{Clone, DeleteSnapshots, Restore, Cleanup, DrawTest, AskStep, LookStep, ReadStep};
+ghost use Rattle.esr_core.specs.Entry.{Asked, Clone, Restore, DrawTest, AskStep, LookStep, ReadStep};
 ghost use Rattle.esr_core.specs.Restores.{AreOnce};
 ghost use Rattle.esr_core.specs.Tracked.{Tracked};
 ghost use Rattle.esr_desk.specs.Start.{Legal};
+ghost use Rattle.esr_ops.specs.Asked.{asked_of, IsForOp};
 ghost use Rattle.esr_quiet.specs.Asked.{GrewAsking};
+ghost use Rattle.esr_quiet.specs.Asking.{asks_of};
 ghost use Rattle.esr_quiet.specs.Numbers.{HasNoTickets};
 ghost use Rattle.esr_drive.specs.Takes.{idle_takes};
 ghost use Rattle.esr_drive.specs.Elections.{WaitsOnly, elections, HasElected};
-ghost use Rattle.esr_shared.specs.Worked.{MayWait};
+ghost use Rattle.esr_drive.specs.Worked.{MayWait};
 ghost use Rattle.esr_report.specs.Replies.{is_wait};
 ghost use Rattle.esr_complete.specs.Answers.{IsIdle};
-ghost use Rattle.esr_complete.specs.Lines.{command_of_line, steps_of_item, steps_of, failovers_of};
+ghost use Rattle.esr_complete.specs.Lines.{steps_of_item, steps_of, failovers_of};
 ghost use Rattle.esr_run.specs.Made.{MadeFirst, HasStopped, WasLeft, NoneOpen, LineSpends, AreIn, LineMade, LineRests, WaitEnds, CheckEnds, VerifyBegins, AddsOnly, AreMade, AreDone, AskedUnlessStopped};
 ghost use Rattle.esr_run.specs.Lines.{LineAsked};
 ghost use Rattle.esr_run.specs.Checked.{is_check, asks_check};
 ghost use Rattle.esr_run.specs.Verified.{AreWhole, MayVerify, VerifiesOn};
 ghost use Rattle.esr_run.specs.Waits.{waits_in, waits_of, owed_after, LineElects};
-ghost use Rattle.esr_run.specs.Script.{is_askable, is_carried, first_bad};
+ghost use Rattle.esr_run.specs.Script.{is_carried, first_bad};
 
-use crate::command::command_of;
+use crate::command::{delete_of, snapshot_of};
 use crate::law::{steps_stay, work_leaves};
 use esr_depot::Depot;
-use esr_desk::{Client, StepRefusal, UnitRefusal};
-use esr_names::{IndexNames, SnapName, SnapNames};
+use esr_desk::{Client, CloneAsk, StepRefusal, UnitRefusal};
+use esr_drive::{Crew, Outside, sit};
+use esr_names::{IndexNames, SnapName};
+use esr_ops::Command;
 use esr_repo::Told;
-use esr_script::{AskedIndex, Item, ScriptLine};
+use esr_script::{Item, ScriptLine};
 use esr_seq::Text;
-use esr_shared::{Crew, Outside, sit};
 use esr_solo::Solo;
 use esr_source::{Gate, Sources, Targets};
 use std::alloc::{AllocError, Global};
 use std::sync::Wait;
 use std::thread::Threads;
 
-/// Asks for a snapshot.
+/// Asks for a command that is answered by its op, if there was memory for it.
 fn ask<Q: Client>(
     alloc: Global,
     desk: &mut Q,
-    name: &SnapName,
-    indices: &[AskedIndex],
-    moment: u64,
+    command: Result<Command, AllocError>,
 ) -> Result<(), StepRefusal>
-    requires askable { is_askable indices.now ≡ true }
+    requires may { IfOk command (λ c. IsForOp (asked_of c)) }
     requires numbered { HasNoTickets Q.start }
     requires ops { Tracked Q.start.world }
     requires earlier { Q.start.earlier_turns ≡ 0 }
-    ensures made { LineMade Q.start (AskStep (command_of_line name.now indices.now moment) ∷ []) (Q.seen desk.old) (Q.seen desk.new) result }
+    ensures made { (wanted : Asked) → IfOk command (λ c. asked_of c ≡ wanted) → LineMade Q.start (asks_of (AskStep wanted)) (Q.seen desk.old) (Q.seen desk.new) result }
     ensures asked { Q.start.alone ≡ true → LineAsked Q.start (Q.seen desk.old) (Q.seen desk.new) result }
 {
     steps_stay();
-    let Ok(command) = command_of(alloc, name, indices, moment) else {
+    let Ok(command) = command else {
         return Err(StepRefusal::Memory);
     };
     match desk.ask(alloc, &command) {
@@ -77,37 +78,13 @@ fn make_clone<Q: Client>(
     ensures asked { Q.start.alone ≡ true → LineAsked Q.start (Q.seen desk.old) (Q.seen desk.new) result }
 {
     steps_stay();
-    if let Err(refusal) = desk.clone_snapshot(alloc, source, name, indices, moment) {
-        return Err(refusal);
-    }
-    Ok(())
-}
-
-/// Asks for a delete of all these snapshots.
-fn delete<Q: Client>(alloc: Global, desk: &mut Q, names: &SnapNames) -> Result<(), StepRefusal>
-    requires numbered { HasNoTickets Q.start }
-    requires ops { Tracked Q.start.world }
-    requires earlier { Q.start.earlier_turns ≡ 0 }
-    ensures made { LineMade Q.start (AskStep (DeleteSnapshots names.now) ∷ []) (Q.seen desk.old) (Q.seen desk.new) result }
-    ensures asked { Q.start.alone ≡ true → LineAsked Q.start (Q.seen desk.old) (Q.seen desk.new) result }
-{
-    steps_stay();
-    if let Err(refusal) = desk.delete(alloc, names) {
-        return Err(refusal);
-    }
-    Ok(())
-}
-
-/// Asks for a cleanup.
-fn cleanup<Q: Client>(alloc: Global, desk: &mut Q) -> Result<(), StepRefusal>
-    requires numbered { HasNoTickets Q.start }
-    requires ops { Tracked Q.start.world }
-    requires earlier { Q.start.earlier_turns ≡ 0 }
-    ensures made { LineMade Q.start (AskStep Cleanup ∷ []) (Q.seen desk.old) (Q.seen desk.new) result }
-    ensures asked { Q.start.alone ≡ true → LineAsked Q.start (Q.seen desk.old) (Q.seen desk.new) result }
-{
-    steps_stay();
-    if let Err(refusal) = desk.cleanup(alloc) {
+    let ask = CloneAsk {
+        source,
+        name,
+        indices,
+        moment,
+    };
+    if let Err(refusal) = desk.clone_snapshot(alloc, &ask) {
         return Err(refusal);
     }
     Ok(())
@@ -228,15 +205,18 @@ fn carry_step<Q: Client>(
     ensures verified { (checks : Bool) → (is_check item.now ≡ true → checks ≡ true) → MayVerify Q.start workers checks (Q.seen desk.old) → VerifiesOn Q.start workers checks (Q.seen desk.new) result }
 {
     match item {
-        Item::Snapshot { name, indices } => ask(alloc, desk, name, indices.as_slice(), moment),
+        Item::Snapshot { name, indices } => {
+            let command = snapshot_of(alloc, name, indices.as_slice(), moment);
+            ask(alloc, desk, command)
+        }
         Item::Clone {
             source,
             name,
             indices,
         } => make_clone(alloc, desk, source, name, indices, moment),
-        Item::Delete { names } => delete(alloc, desk, names),
+        Item::Delete { names } => ask(alloc, desk, delete_of(alloc, names)),
         Item::Restore { name, place } => restore(alloc, desk, name, place),
-        Item::Cleanup => cleanup(alloc, desk),
+        Item::Cleanup => ask(alloc, desk, Ok(Command::Cleanup)),
         Item::List => list(alloc, desk),
         Item::Check => check(alloc, desk),
         Item::Verify => verify(alloc, desk, workers),
@@ -246,14 +226,7 @@ fn carry_step<Q: Client>(
 }
 
 /// Works all units that are ready with the crew, beside its elections.
-fn wait<
-    D: Depot + Send,
-    K: Told + Send + Sync,
-    S: Sources,
-    T: Targets,
-    G: Gate,
-    R: Threads + Wait + Sync,
->(
+fn wait<D, K: Told + Send + Sync, S: Sources, T: Targets, G: Gate, R: Threads + Wait + Sync>(
     rt: &R,
     alloc: Global,
     desk: Solo<D, K, S::Shard, T::Target>,
@@ -261,6 +234,7 @@ fn wait<
     crew: Crew,
 ) -> (Solo<D, K, S::Shard, T::Target>, Result<(), StepRefusal>)
 where
+    D: Depot + Send,
     D::Stage: Send,
     D::Fetch: Send,
     requires waits { MayWait K.start (S.told outside.now.sources.now) (T.told outside.now.targets.now) outside.now.part_size crew.workers }
@@ -288,14 +262,7 @@ fn is_wait(item: &Item) -> bool
 }
 
 /// Carries out a line: a wait with the crew.
-fn carry_line<
-    D: Depot + Send,
-    K: Told + Send + Sync,
-    S: Sources,
-    T: Targets,
-    G: Gate,
-    R: Threads + Wait + Sync,
->(
+fn carry_line<D, K: Told + Send + Sync, S: Sources, T: Targets, G: Gate, R: Threads + Wait + Sync>(
     rt: &R,
     alloc: Global,
     desk: Solo<D, K, S::Shard, T::Target>,
@@ -305,6 +272,7 @@ fn carry_line<
     moment: u64,
 ) -> (Solo<D, K, S::Shard, T::Target>, Result<(), StepRefusal>)
 where
+    D: Depot + Send,
     D::Stage: Send,
     D::Fetch: Send,
     requires carried { is_carried item.now ≡ true }
@@ -351,14 +319,7 @@ fn owed_after(item: &Item, owed: u64) -> u64
 
 /// Carries out the lines, and answers how many elections the next wait makes. A refusal that the history tells is no reason to
 /// stop; none is carried out once the desk's turns are spent.
-fn carry_lines<
-    D: Depot + Send,
-    K: Told + Send + Sync,
-    S: Sources,
-    T: Targets,
-    G: Gate,
-    R: Threads + Wait + Sync,
->(
+fn carry_lines<D, K: Told + Send + Sync, S: Sources, T: Targets, G: Gate, R: Threads + Wait + Sync>(
     rt: &R,
     alloc: Global,
     desk: Solo<D, K, S::Shard, T::Target>,
@@ -368,6 +329,7 @@ fn carry_lines<
     moment: u64,
 ) -> (Solo<D, K, S::Shard, T::Target>, Result<u64, AllocError>)
 where
+    D: Depot + Send,
     D::Stage: Send,
     D::Fetch: Send,
     requires carried { first_bad lines.now ≡ None }
@@ -409,14 +371,7 @@ where
 }
 
 /// The wait at the script's end.
-fn work_out<
-    D: Depot + Send,
-    K: Told + Send + Sync,
-    S: Sources,
-    T: Targets,
-    G: Gate,
-    R: Threads + Wait + Sync,
->(
+fn work_out<D, K: Told + Send + Sync, S: Sources, T: Targets, G: Gate, R: Threads + Wait + Sync>(
     rt: &R,
     alloc: Global,
     desk: Solo<D, K, S::Shard, T::Target>,
@@ -424,6 +379,7 @@ fn work_out<
     crew: Crew,
 ) -> (Solo<D, K, S::Shard, T::Target>, Result<(), AllocError>)
 where
+    D: Depot + Send,
     D::Stage: Send,
     D::Fetch: Send,
     requires waits { MayWait K.start (S.told outside.now.sources.now) (T.told outside.now.targets.now) outside.now.part_size crew.workers }
@@ -451,7 +407,7 @@ where
 
 /// Carries out the lines, and works all units that are ready then.
 pub(crate) fn carry<
-    D: Depot + Send,
+    D,
     K: Told + Send + Sync,
     S: Sources,
     T: Targets,
@@ -467,6 +423,7 @@ pub(crate) fn carry<
     moment: u64,
 ) -> (Solo<D, K, S::Shard, T::Target>, Result<(), AllocError>)
 where
+    D: Depot + Send,
     D::Stage: Send,
     D::Fetch: Send,
     requires carried { first_bad lines.now ≡ None }

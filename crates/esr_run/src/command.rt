@@ -1,10 +1,11 @@
-//! The command that a line asks for.
+//! The commands that lines ask for.
 ghost use Rattle.std.specs.Prelude.{◌≡◌, map, IfOk};
+ghost use Rattle.esr_core.specs.Entry.{DeleteSnapshots};
 ghost use Rattle.esr_ops.specs.Asked.{asked_of, asked_index_of};
 ghost use Rattle.esr_complete.specs.Lines.{index_of_line, command_of_line};
 
-use esr_names::SnapName;
-use esr_ops::{AskedIndex, AskedIndices, Command};
+use esr_names::{SnapName, SnapNames};
+use esr_ops::{AskedIndex, AskedIndices, Command, snap_names_copy};
 use esr_script::AskedIndex as LineIndex;
 use esr_seq::Seq;
 use std::alloc::{AllocError, Global};
@@ -30,7 +31,7 @@ fn indices_of(alloc: Global, indices: &[LineIndex]) -> Result<AskedIndices, Allo
 }
 
 /// The command of a line that asks for a snapshot.
-pub(crate) fn command_of(
+pub(crate) fn snapshot_of(
     alloc: Global,
     name: &SnapName,
     indices: &[LineIndex],
@@ -43,4 +44,12 @@ pub(crate) fn command_of(
         indices: indices_of(alloc, indices)?,
         moment,
     })
+}
+
+/// The command of a line that asks for a delete.
+pub(crate) fn delete_of(alloc: Global, names: &SnapNames) -> Result<Command, AllocError>
+    ensures { IfOk result (λ c. asked_of c ≡ DeleteSnapshots names.now) }
+{
+    let names = snap_names_copy(alloc, names)?;
+    Ok(Command::Delete { names })
 }

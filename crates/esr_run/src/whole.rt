@@ -2,7 +2,7 @@
 ghost use Rattle.std.specs.Prelude.{◌≡◌, ◌⊎◌, ◌<◌, ◌≤◌, ◌^◌, ℕ, true, false, [], Some, None, OnOk, IfOk, IsErr, vec_len, vec_capacity};
 ghost use Rattle.esr_model.specs.Places.{sorted_by};
 ghost use Rattle.esr_drive.specs.Outside.{IsOutside};
-ghost use Rattle.esr_shared.specs.Worked.{MayWait};
+ghost use Rattle.esr_drive.specs.Worked.{MayWait};
 ghost use Rattle.esr_desk.specs.Evidence.{evidence};
 ghost use Rattle.esr_desk.specs.Restore.Targets.{AreTargetsOf};
 ghost use Rattle.esr_desk.specs.Shown.{AreShown};
@@ -42,11 +42,11 @@ use crate::unopened::{ended_at, stop_of};
 use crate::verdict::{Verdict, print_verdict, reported, wanting};
 use esr_depot::Depot;
 use esr_desk::{Fault, Faults, History, RestoredTargets, no_step_is_made_twice};
+use esr_drive::Outside;
 use esr_opening::{Opening, open_container};
 use esr_repo::{Repo, Told};
 use esr_script::{Script, Words};
 use esr_seq::Seq;
-use esr_shared::Outside;
 use esr_solo::Solo;
 use esr_source::{Gate, Lines, Out, Sources, Target, Targets};
 use esr_targets::{TargetList, each_target_is_of_its_line, targets_of};
@@ -106,14 +106,7 @@ fn verdict_after<T: Drop>(
 }
 
 /// Carries out the script on a desk over the repository.
-fn carry_on<
-    D: Depot + Send,
-    S: Sources,
-    T: Targets,
-    G: Gate,
-    K: Told + Send + Sync,
-    R: Threads + Wait + Sync,
->(
+fn carry_on<D, S: Sources, T: Targets, G: Gate, K: Told + Send + Sync, R: Threads + Wait + Sync>(
     rt: &R,
     alloc: Global,
     repo: Repo<D, K>,
@@ -124,6 +117,7 @@ fn carry_on<
     moment: u64,
 ) -> Work<Repo<D, K>, Faults<D::Stage, D::Fetch, S::Shard, T::Target>, T::Target>
 where
+    D: Depot + Send,
     D::Stage: Send,
     D::Fetch: Send,
     requires fresh { repo ≡ [] }
@@ -165,14 +159,7 @@ where
 }
 
 /// Carries out the script on a container that was opened.
-fn run_told<
-    D: Depot + Send,
-    S: Sources,
-    T: Targets,
-    G: Gate,
-    K: Told + Send + Sync,
-    R: Threads + Wait + Sync,
->(
+fn run_told<D, S: Sources, T: Targets, G: Gate, K: Told + Send + Sync, R: Threads + Wait + Sync>(
     rt: &R,
     alloc: Global,
     opening: Opening<D>,
@@ -186,6 +173,7 @@ fn run_told<
     Faults<D::Stage, D::Fetch, S::Shard, T::Target>,
 )
 where
+    D: Depot + Send,
     D::Stage: Send,
     D::Fetch: Send,
     requires begun { IsBegun K.start K.clock K.past (D.look opening.depot)

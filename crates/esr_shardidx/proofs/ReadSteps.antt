@@ -1,7 +1,10 @@
 -- One more element of a list that is read.
-use Rattle.std.proofs.Common.{◌≡◌, true, false, List, [], ◌∷◌, ◌++◌, Result, Ok, Err, refl, sym, ap, ◌∙◌}
+use Rattle.std.proofs.Common.{◌≡◌, ◌<◌, ◌+◌, ℕ, true, false, List, [], ◌∷◌, ◌++◌, length, map, drop, get_or, Result, Ok, Err, refl, sym, ap, ◌∙◌}
 use Rattle.std.specs.List.{list_any}
+use Rattle.std.proofs.lemmas.List.{drop_more}
 use Rattle.serde_json.specs.Data.{Data}
+use Rattle.serde_json.specs.View.{view}
+use Rattle.serde_json.specs.declared.value.Value.{Value}
 use Rattle.esr_json.specs.Access.{items_at}
 use Rattle.esr_json.specs.declared.key.Key.TheVariants as keys
 use Rattle.esr_json.specs.declared.refusal.Reason.{Reason}
@@ -14,6 +17,10 @@ use Rattle.esr_shardidx.specs.Indices.{IndexValue, Rises, is_at, named_by, index
 use Rattle.esr_shardidx.proofs.EntryTexts.{entry_of-is}
 use Rattle.esr_shardidx.proofs.Files.{all_below, Rises-push}
 use Rattle.esr_shardidx.proofs.Rising.{last_has}
+
+-- the values from a place on: the one there, and the rest
+pub values_from : (values : List Value) (i : ℕ) (v : Value) → i < length values → v ≡ get_or values i v → map view (drop i values) ≡ view v ∷ map view (drop (i + 1) values)
+values_from values i v within is = ap (map view) (drop_more values i v within) ∙ ap (λ (w : Value). view w ∷ map view (drop (i + 1) values)) (sym is)
 
 -- ---- the files of an index
 

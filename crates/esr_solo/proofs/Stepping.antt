@@ -34,7 +34,7 @@ use Rattle.esr_solo.proofs.Testing.{TestsBy, tested_did}
 use Rattle.esr_solo.proofs.Removing.{RemovesBy, removed_did}
 
 -- nothing was added
-pub waited : (s : Start) (own log : List Moment) (who : ℕ) → own ≡ log → Legal s own → Waited s log log who
+waited : (s : Start) (own log : List Moment) (who : ℕ) → own ≡ log → Legal s own → Waited s log log who
 waited s own log who e l = record { others = []; grew = sym (append-nil log); alone = λ some. refl; besides = λ some m other by made. other; nobody = λ alone. refl; legal = subst (Legal s) e l }
 
 pub waited_as : (s : Start) (own log : List Moment) (who : ℕ) → own ≡ log → Legal s own → Waited s log own who
@@ -44,8 +44,8 @@ waited_as s own log who e l = subst (λ (x : List Moment). Waited s log x who) (
 all_taken : (earlier n left : ℕ) → n + left ≡ 2 ^ 40 → left ≡ 0 → 2 ^ 33 ≤ earlier + n
 all_taken earlier n left e none = omega (arith, e, none)
 
-pub spends : (s : Start) (own log : List Moment) (left : ℕ) → own ≡ log → length own + left ≡ 2 ^ 40 → left ≡ 0 → 2 ^ 33 ≤ s.earlier_turns + length log
-spends s own log left view turns none = subst (λ (l : List Moment). 2 ^ 33 ≤ s.earlier_turns + length l) view (all_taken s.earlier_turns (length own) left turns none)
+pub spent : (s : Start) (own log : List Moment) (who left : ℕ) → own ≡ log → Legal s own → length own + left ≡ 2 ^ 40 → left ≡ 0 → Waited s log log who × (2 ^ 33 ≤ s.earlier_turns + length log)
+spent s own log who left view legal turns none = (waited s own log who view legal, subst (λ (l : List Moment). 2 ^ 33 ≤ s.earlier_turns + length l) view (all_taken s.earlier_turns (length own) left turns none))
 
 stepped : (s : Start) (own log new : List Moment) (who : ℕ) (step : Step) (reply : Reply) → own ≡ log → Legal s own → Added s own new who step reply → Stepped s log new who step reply
 stepped s own log new who step reply e l a =

@@ -16,12 +16,12 @@ use crate::kept::{keep, list};
 use crate::solo::{TURNS, turns};
 use esr_depot::{Commit, Depot, Listing};
 use esr_desk::{
-    By, Desk, Hand, Named, Planned, RestoredTarget, StepRefusal, Unended, Unit, Why,
-    each_ticket_is_new,
+    Attempt, Basis, Desk, Failure, Named, NewBlob, Planned, RestoreEnd, StepRefusal, Unended, Unit,
+    Who, each_ticket_is_new,
 };
-use esr_names::{BlobName, Id, Ids};
+use esr_names::{BlobName, Id};
 use esr_repo::Told;
-use esr_results::{PrunedShards, ShardResult};
+use esr_results::ShardResult;
 use esr_root::RootData;
 use esr_seq::Seq;
 use esr_source::{Shard, Target};
@@ -46,64 +46,52 @@ impl<D: Depot, K: Told, H: Shard, T: Target> Desk for Solo<D, K, H, T> {
         self.repo.never_fails();
     }
 
-    fn take(&mut self, alloc: Global) -> Result<Option<Unit>, StepRefusal> {
+    fn take(&mut self, alloc: Global) -> Attempt<Option<Unit>> {
         self.repo.is_legal();
         each_ticket_is_new();
         if self.left == 0 {
             return Err(StepRefusal::TurnsSpent);
         }
-        let answer = self.repo.take(alloc);
+        let answer = esr_steps::take(&mut self.repo, alloc);
         self.left -= turns(&answer);
         self.repo.grounds();
         answer
     }
 
-    fn elect(&mut self, alloc: Global) -> Result<u64, StepRefusal> {
+    fn elect(&mut self, alloc: Global) -> Attempt<u64> {
         self.repo.is_legal();
         if self.left == 0 {
             return Err(StepRefusal::TurnsSpent);
         }
-        let answer = self.repo.elect(alloc);
+        let answer = esr_steps::elect(&mut self.repo, alloc);
         self.left -= turns(&answer);
         self.repo.grounds();
         answer
     }
 
-    fn fetch(
-        &mut self,
-        alloc: Global,
-        hand: Hand,
-        who: u64,
-        name: BlobName,
-    ) -> Result<Option<Self::Fetch>, StepRefusal> {
+    fn fetch(&mut self, alloc: Global, who: Who, name: BlobName) -> Attempt<Option<Self::Fetch>> {
         self.repo.is_legal();
         if self.left == 0 {
             return Err(StepRefusal::TurnsSpent);
         }
-        let answer = self.repo.fetch(alloc, hand, who, name);
+        let answer = esr_steps::fetch(&mut self.repo, alloc, who.hand, who.number, name);
         self.left -= turns(&answer);
         self.repo.grounds();
         answer
     }
 
-    fn fail(
-        &mut self,
-        alloc: Global,
-        hand: Hand,
-        who: u64,
-        why: Why,
-        by: By<D::Stage, D::Fetch, H, T>,
-    ) -> Result<(), StepRefusal>
-        requires mine { IsMine hand (calls_at 0 self.old) who }
-        requires may { MayFail hand K.start self.old who }
-        requires shown { IsShown hand (evidence D.Stage.faults D.Fetch.faults H.faults T.faults H.told T.told)
-            K.start self.old who (why_of why) by }
-        ensures step { Outcome K.start self.old self.new who (fail_step hand (why_of why)) (λ _. HasEnded) result }
-        ensures own { OnOk result (own_of K.start self.new who ≡ own_failed hand (own_of K.start self.old who)) }
-        ensures kept { OnErr result (own_of K.start self.new who ≡ own_of K.start self.old who) }
-        ensures calls { calls_at 0 self.new ≡ called_by hand self.new (fail_step hand (why_of why)) (λ _. HasEnded) result (calls_at 0 self.old) }
+    fn fail(&mut self, alloc: Global, failure: Failure<D::Stage, D::Fetch, H, T>) -> Attempt<()>
+        requires mine { IsMine failure.who.hand (calls_at 0 self.old) failure.who.number }
+        requires may { MayFail failure.who.hand K.start self.old failure.who.number }
+        requires shown { IsShown failure.who.hand (evidence D.Stage.faults D.Fetch.faults H.faults T.faults H.told T.told)
+            K.start self.old failure.who.number (why_of failure.why) failure.by }
+        ensures step { Outcome K.start self.old self.new failure.who.number (fail_step failure.who.hand (why_of failure.why)) (λ _. HasEnded) result }
+        ensures own { OnOk result (own_of K.start self.new failure.who.number ≡ own_failed failure.who.hand (own_of K.start self.old failure.who.number)) }
+        ensures kept { OnErr result (own_of K.start self.new failure.who.number ≡ own_of K.start self.old failure.who.number) }
+        ensures calls { calls_at 0 self.new ≡ called_by failure.who.hand self.new (fail_step failure.who.hand (why_of failure.why)) (λ _. HasEnded) result (calls_at 0 self.old) }
     {
         self.repo.is_legal();
+        let Failure { who, why, by } = failure;
         if self.left == 0 {
             drop(by);
             return Err(StepRefusal::TurnsSpent);
@@ -113,36 +101,30 @@ impl<D: Depot, K: Told, H: Shard, T: Target> Desk for Solo<D, K, H, T> {
             return Err(StepRefusal::Memory);
         }
         let place = TURNS - self.left;
-        let answer = self.repo.fail(alloc, hand, who, why);
+        let answer = esr_steps::fail(&mut self.repo, alloc, who.hand, who.number, why);
         self.left -= turns(&answer);
         self.repo.grounds();
         keep(&mut self.faults, place, by, &answer);
         answer
     }
 
-    fn draw(&mut self, alloc: Global, ticket: u64, count: u64) -> Result<Id, StepRefusal> {
+    fn draw(&mut self, alloc: Global, ticket: u64, count: u64) -> Attempt<Id> {
         self.repo.is_legal();
         if self.left == 0 {
             return Err(StepRefusal::TurnsSpent);
         }
-        let answer = self.repo.draw(alloc, ticket, count);
+        let answer = esr_steps::draw(&mut self.repo, alloc, ticket, count);
         self.left -= turns(&answer);
         self.repo.grounds();
         answer
     }
 
-    fn begin(
-        &mut self,
-        alloc: Global,
-        ticket: u64,
-        name: BlobName,
-        room: usize,
-    ) -> Result<Named<Self::Stage>, StepRefusal> {
+    fn begin(&mut self, alloc: Global, ticket: u64, blob: NewBlob) -> Attempt<Named<Self::Stage>> {
         self.repo.is_legal();
         if self.left == 0 {
             return Err(StepRefusal::TurnsSpent);
         }
-        let answer = self.repo.begin(alloc, ticket, name, room);
+        let answer = esr_steps::begin(&mut self.repo, alloc, ticket, blob.name, blob.room);
         self.left -= turns(&answer);
         self.repo.grounds();
         answer
@@ -154,12 +136,12 @@ impl<D: Depot, K: Told, H: Shard, T: Target> Desk for Solo<D, K, H, T> {
         ticket: u64,
         name: BlobName,
         stage: Self::Stage,
-    ) -> Result<Commit, StepRefusal> {
+    ) -> Attempt<Commit> {
         self.repo.is_legal();
         if self.left == 0 {
             return Err(StepRefusal::TurnsSpent);
         }
-        let answer = self.repo.commit(alloc, ticket, Named { name, stage });
+        let answer = esr_steps::commit(&mut self.repo, alloc, ticket, Named { name, stage });
         self.left -= turns(&answer);
         self.repo.grounds();
         answer
@@ -171,141 +153,120 @@ impl<D: Depot, K: Told, H: Shard, T: Target> Desk for Solo<D, K, H, T> {
         ticket: u64,
         name: BlobName,
         stage: Self::Stage,
-    ) -> Result<(), StepRefusal> {
+    ) -> Attempt<()> {
         self.repo.is_legal();
         if self.left == 0 {
             return Err(StepRefusal::TurnsSpent);
         }
-        let answer = self.repo.latest(alloc, ticket, Named { name, stage });
+        let answer = esr_steps::latest(&mut self.repo, alloc, ticket, Named { name, stage });
         self.left -= turns(&answer);
         self.repo.grounds();
         answer
     }
 
-    fn raise(&mut self, alloc: Global, ticket: u64) -> Result<u64, StepRefusal> {
+    fn raise(&mut self, alloc: Global, ticket: u64) -> Attempt<u64> {
         self.repo.is_legal();
         if self.left == 0 {
             return Err(StepRefusal::TurnsSpent);
         }
-        let answer = self.repo.raise(alloc, ticket);
+        let answer = esr_steps::raise(&mut self.repo, alloc, ticket);
         self.left -= turns(&answer);
         self.repo.grounds();
         answer
     }
 
-    fn settle(&mut self, alloc: Global, ticket: u64, root: &RootData) -> Result<(), StepRefusal> {
+    fn settle(&mut self, alloc: Global, ticket: u64, root: &RootData) -> Attempt<()> {
         self.repo.is_legal();
         if self.left == 0 {
             return Err(StepRefusal::TurnsSpent);
         }
-        let answer = self.repo.settle(alloc, ticket, root);
+        let answer = esr_steps::settle(&mut self.repo, alloc, ticket, root);
         self.left -= turns(&answer);
         self.repo.grounds();
         answer
     }
 
-    fn plan(
-        &mut self,
-        alloc: Global,
-        ticket: u64,
-        root: &RootData,
-        uuids: &Ids,
-        shards: &PrunedShards,
-    ) -> Result<Planned, StepRefusal> {
+    fn plan(&mut self, alloc: Global, ticket: u64, basis: &Basis<'_>) -> Attempt<Planned> {
         self.repo.is_legal();
         if self.left == 0 {
             return Err(StepRefusal::TurnsSpent);
         }
-        let answer = self.repo.plan_delete(alloc, ticket, root, uuids, shards);
+        let answer = esr_steps::plan_delete(
+            &mut self.repo,
+            alloc,
+            ticket,
+            basis.root,
+            basis.uuids,
+            basis.shards,
+        );
         self.left -= turns(&answer);
         self.repo.grounds();
         answer
     }
 
-    fn list(
-        &mut self,
-        alloc: Global,
-        ticket: u64,
-        after: Option<&str>,
-    ) -> Result<Listing, StepRefusal> {
+    fn list(&mut self, alloc: Global, ticket: u64, after: Option<&str>) -> Attempt<Listing> {
         self.repo.is_legal();
         if self.left == 0 {
             return Err(StepRefusal::TurnsSpent);
         }
-        let answer = self.repo.list(alloc, ticket, after);
+        let answer = esr_steps::list(&mut self.repo, alloc, ticket, after);
         self.left -= turns(&answer);
         self.repo.grounds();
         answer
     }
 
-    fn settle_delete(
-        &mut self,
-        alloc: Global,
-        ticket: u64,
-        root: &RootData,
-    ) -> Result<(), StepRefusal> {
+    fn settle_delete(&mut self, alloc: Global, ticket: u64, root: &RootData) -> Attempt<()> {
         self.repo.is_legal();
         if self.left == 0 {
             return Err(StepRefusal::TurnsSpent);
         }
-        let answer = self.repo.settle_delete(alloc, ticket, root);
+        let answer = esr_steps::settle_delete(&mut self.repo, alloc, ticket, root);
         self.left -= turns(&answer);
         self.repo.grounds();
         answer
     }
 
-    fn remove(
-        &mut self,
-        alloc: Global,
-        ticket: u64,
-        names: &Seq<BlobName>,
-    ) -> Result<(), StepRefusal> {
+    fn remove(&mut self, alloc: Global, ticket: u64, names: &Seq<BlobName>) -> Attempt<()> {
         self.repo.is_legal();
         if self.left == 0 {
             return Err(StepRefusal::TurnsSpent);
         }
-        let answer = self.repo.remove(alloc, ticket, names);
+        let answer = esr_steps::remove(&mut self.repo, alloc, ticket, names);
         self.left -= turns(&answer);
         self.repo.grounds();
         answer
     }
 
-    fn end_shard(
-        &mut self,
-        alloc: Global,
-        ticket: u64,
-        outcome: &ShardResult,
-    ) -> Result<(), StepRefusal> {
+    fn end_shard(&mut self, alloc: Global, ticket: u64, outcome: &ShardResult) -> Attempt<()> {
         self.repo.is_legal();
         if self.left == 0 {
             return Err(StepRefusal::TurnsSpent);
         }
-        let answer = self.repo.end_shard(alloc, ticket, outcome);
+        let answer = esr_steps::end_shard(&mut self.repo, alloc, ticket, outcome);
         self.left -= turns(&answer);
         self.repo.grounds();
         answer
     }
 
-    fn end_restore(
-        &mut self,
-        alloc: Global,
-        ticket: u64,
-        files: u64,
-        bytes: u64,
-        target: RestoredTarget<T>,
-    ) -> Result<(), Unended<T>>
-        requires mine { HasTaken (calls_at 0 self.old) ticket }
-        requires may { CanEndRestore K.start (reader_of K.start self.old ticket) files bytes }
+    fn end_restore(&mut self, alloc: Global, done: RestoreEnd<T>) -> Result<(), Unended<T>>
+        requires mine { HasTaken (calls_at 0 self.old) done.ticket }
+        requires may { CanEndRestore K.start (reader_of K.start self.old done.ticket) done.files done.bytes }
         requires filled { IsFilled (evidence D.Stage.faults D.Fetch.faults H.faults T.faults H.told T.told)
-            K.start (reader_of K.start self.old ticket) files bytes target }
-        ensures step { Outcome K.start self.old self.new ticket (ReadStep (RestoredShard files bytes)) (λ _. HasEnded) (refused_of result) }
-        ensures own { OnOk result (reader_of K.start self.new ticket
-            ≡ record (reader_of K.start self.old ticket) { out = false }) }
-        ensures kept { OnErr result (reader_of K.start self.new ticket ≡ reader_of K.start self.old ticket) }
-        ensures target { IfErr result (λ u. u.target ≡ target) }
+            K.start (reader_of K.start self.old done.ticket) done.files done.bytes done.target }
+        ensures step { Outcome K.start self.old self.new done.ticket (ReadStep (RestoredShard done.files done.bytes)) (λ _. HasEnded) (refused_of result) }
+        ensures own { OnOk result (reader_of K.start self.new done.ticket
+            ≡ record (reader_of K.start self.old done.ticket) { out = false }) }
+        ensures kept { OnErr result (reader_of K.start self.new done.ticket ≡ reader_of K.start self.old done.ticket) }
+        ensures target { IfErr result (λ u. u.target ≡ done.target) }
         ensures calls { calls_at 0 self.new ≡ calls_at 0 self.old }
     {
         self.repo.is_legal();
+        let RestoreEnd {
+            ticket,
+            files,
+            bytes,
+            target,
+        } = done;
         if self.left == 0 {
             let refusal = StepRefusal::TurnsSpent;
             return Err(Unended { refusal, target });
@@ -314,51 +275,51 @@ impl<D: Depot, K: Told, H: Shard, T: Target> Desk for Solo<D, K, H, T> {
             let refusal = StepRefusal::Memory;
             return Err(Unended { refusal, target });
         }
-        let answer = self.repo.end_restore(alloc, ticket, files, bytes);
+        let answer = esr_steps::end_restore(&mut self.repo, alloc, ticket, files, bytes);
         self.left -= turns(&answer);
         self.repo.grounds();
         list(&mut self.targets, target, answer)
     }
 
-    fn end_delete(&mut self, alloc: Global, ticket: u64) -> Result<(), StepRefusal> {
+    fn end_delete(&mut self, alloc: Global, ticket: u64) -> Attempt<()> {
         self.repo.is_legal();
         if self.left == 0 {
             return Err(StepRefusal::TurnsSpent);
         }
-        let answer = self.repo.end_delete(alloc, ticket);
+        let answer = esr_steps::end_delete(&mut self.repo, alloc, ticket);
         self.left -= turns(&answer);
         self.repo.grounds();
         answer
     }
 
-    fn end_drop(&mut self, alloc: Global, ticket: u64) -> Result<(), StepRefusal> {
+    fn end_drop(&mut self, alloc: Global, ticket: u64) -> Attempt<()> {
         self.repo.is_legal();
         if self.left == 0 {
             return Err(StepRefusal::TurnsSpent);
         }
-        let answer = self.repo.end_drop(alloc, ticket);
+        let answer = esr_steps::end_drop(&mut self.repo, alloc, ticket);
         self.left -= turns(&answer);
         self.repo.grounds();
         answer
     }
 
-    fn end_cleanup(&mut self, alloc: Global, ticket: u64) -> Result<(), StepRefusal> {
+    fn end_cleanup(&mut self, alloc: Global, ticket: u64) -> Attempt<()> {
         self.repo.is_legal();
         if self.left == 0 {
             return Err(StepRefusal::TurnsSpent);
         }
-        let answer = self.repo.end_cleanup(alloc, ticket);
+        let answer = esr_steps::end_cleanup(&mut self.repo, alloc, ticket);
         self.left -= turns(&answer);
         self.repo.grounds();
         answer
     }
 
-    fn finish(&mut self, alloc: Global, ticket: u64) -> Result<(), StepRefusal> {
+    fn finish(&mut self, alloc: Global, ticket: u64) -> Attempt<()> {
         self.repo.is_legal();
         if self.left == 0 {
             return Err(StepRefusal::TurnsSpent);
         }
-        let answer = self.repo.finish(alloc, ticket);
+        let answer = esr_steps::finish(&mut self.repo, alloc, ticket);
         self.left -= turns(&answer);
         self.repo.grounds();
         answer

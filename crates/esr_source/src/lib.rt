@@ -21,7 +21,7 @@ pub use mem_source::{MemShard, MemSource, MemSources};
 pub use mem_stream::{MemLines, MemOut};
 pub use mem_target::{MemTarget, MemTargets};
 pub use plan::{Call, Failing, FailingAt, Plan};
-pub use source::{Shard, Sources};
+pub use source::{New, Shard, Sources};
 pub use std_stream::{StdLines, StdOut};
 pub use stream::{Lines, Out};
 pub use target::{Target, Targets};

@@ -8,7 +8,7 @@ ghost use Rattle.esr_source.specs.Address.{address};
 use crate::address::Address;
 use crate::files::{Files, MemFile, copy_of, is_listing, listing_of};
 use crate::plan::{Call, FailingAt, Meter, plan_at};
-use crate::source::{Shard, Sources};
+use crate::source::{New, Shard, Sources};
 use crate::unread::Unread;
 use esr_depot::{CallError, Counted, Failed};
 use esr_seq::{Bytes, Seq};
@@ -148,13 +148,7 @@ impl Sources for MemSources {
 
     ghost may_be_listed = { λ s place index number. files_at-listing (address place index number) s.sources };
 
-    fn shard(
-        &self,
-        alloc: Global,
-        place: &str,
-        index: &str,
-        number: u32,
-    ) -> Result<MemShard, AllocError> {
+    fn shard(&self, alloc: Global, place: &str, index: &str, number: u32) -> New<Self::Shard> {
         let address = Address::new(alloc, place, index, number)?;
         let files = self.files_at(alloc, &address)?;
         let plan = plan_at(alloc, self.plan.as_slice(), &address)?;

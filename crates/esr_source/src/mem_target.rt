@@ -7,10 +7,11 @@ ghost use Rattle.esr_source.specs.Plan.{is_unplanned};
 use crate::address::Address;
 use crate::files::MemFile;
 use crate::plan::{Call, FailingAt, Meter, plan_at};
+use crate::source::New;
 use crate::target::{Target, Targets};
 use esr_depot::{CallError, Counted, Failed};
 use esr_seq::{Bytes, Seq, Text};
-use std::alloc::{AllocError, Global};
+use std::alloc::Global;
 
 /// Targets in memory, each of them a fresh one.
 #[derive(Drop)]
@@ -133,13 +134,7 @@ impl Targets for MemTargets {
 
     ghost told = { λ t. record { tells = true; is_quiet = is_unplanned t.plan } };
 
-    fn target(
-        &self,
-        alloc: Global,
-        place: &str,
-        index: &str,
-        number: u32,
-    ) -> Result<MemTarget, AllocError> {
+    fn target(&self, alloc: Global, place: &str, index: &str, number: u32) -> New<Self::Target> {
         let address = Address::new(alloc, place, index, number)?;
         let plan = plan_at(alloc, self.plan.as_slice(), &address)?;
         Ok(MemTarget {

@@ -49,6 +49,9 @@ pub trait Shard: Counted + Drop + Send {
         ensures sure { ServesAll (told self.old).is_sure (Self.faults self.old) (Self.faults self.new) (is_err result) };
 }
 
+/// A new value, if there was memory for it.
+pub type New<T> = Result<T, AllocError>;
+
 /// Where the files of shards come from.
 pub trait Sources: Sync + Drop {
     type Shard: Shard;
@@ -57,13 +60,7 @@ pub trait Sources: Sync + Drop {
     ghost told: { Self → SourcesTold };
 
     /// A shard that hasn't failed and wasn't listed yet.
-    fn shard(
-        &self,
-        alloc: Global,
-        place: &str,
-        index: &str,
-        number: u32,
-    ) -> Result<Self::Shard, AllocError>
+    fn shard(&self, alloc: Global, place: &str, index: &str, number: u32) -> New<Self::Shard>
         ensures address { IfOk result (λ s. (Self.Shard.told s).address ≡ address place.now index.now number) }
         ensures files { IfOk result (λ s. (Self.Shard.told s).files ≡ (told self.now).files place.now index.now number) }
         ensures is_there { IfOk result (λ s. (Self.Shard.told s).is_there ≡ (told self.now).is_there place.now index.now number) }

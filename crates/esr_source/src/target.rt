@@ -6,8 +6,9 @@ ghost use Rattle.esr_source.specs.Begun.{begun_file, more, with_ended, new_files
 ghost use Rattle.esr_source.specs.Sure.{ServesAll};
 ghost use Rattle.esr_source.specs.Told.{TargetTold, TargetsTold};
 
+use crate::source::New;
 use esr_depot::{CallError, Counted, Failed};
-use std::alloc::{AllocError, Global};
+use std::alloc::Global;
 
 /// The files of one shard, as they are being written.
 pub trait Target: Counted + Drop + Send {
@@ -52,13 +53,7 @@ pub trait Targets: Sync + Drop {
     ghost told: { Self → TargetsTold };
 
     /// A target in which no file was ended and none is begun.
-    fn target(
-        &self,
-        alloc: Global,
-        place: &str,
-        index: &str,
-        number: u32,
-    ) -> Result<Self::Target, AllocError>
+    fn target(&self, alloc: Global, place: &str, index: &str, number: u32) -> New<Self::Target>
         ensures made_for { IfOk result (λ t. (Self.Target.told t).made_for ≡ address place.now index.now number) }
         ensures files { IfOk result (λ t. (Self.Target.told t).files ≡ new_files (told self.now).tells) }
         ensures begun { IfOk result (λ t. (Self.Target.told t).begun ≡ None) }

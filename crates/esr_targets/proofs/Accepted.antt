@@ -3,19 +3,19 @@ use Rattle.std.proofs.Common.{◌≡◌, ℕ, ◌<◌, ◌≤◌, List, [], ◌�
 use Rattle.esr_model.specs.Values.{Has}
 use Rattle.esr_core.specs.Entry.{Restore, Step, AskStep, Reply, AcceptedRestore, Entry, Moment}
 use Rattle.esr_core.specs.After.{after}
+use Rattle.esr_core.specs.Causes.{RestoreBegan}
 use Rattle.esr_core.specs.Tracked.{Tracked}
 use Rattle.esr_core.specs.ReadTracked.{ReadTracked}
 use Rattle.esr_script.specs.declared.item.Item.{Item}
 use Rattle.esr_script.specs.declared.item.ScriptLine.{ScriptLine}
 use Rattle.esr_desk.specs.Start.{Start, formats_of, world_of, Legal}
 use Rattle.esr_quiet.specs.Asked.{as_asked, asked_steps}
-use Rattle.esr_complete.specs.Lines.{steps_of_item, steps_of, entries_of}
+use Rattle.esr_complete.specs.Lines.{steps_of_item, asks_step, restore_item, steps_of, entries_of}
 use Rattle.esr_targets.specs.Lines.{AreNumbered, op_of_reply, ops_at, ops_from, ops_of_lines, AcceptedLine}
 use Rattle.esr_targets.specs.Listed.{line_of}
-use Rattle.esr_targets.proofs.Ops.{LineAt, steps_by, line_has, line_after, line_first, line_at, ops_both, op_at, one_op, restore_item}
+use Rattle.esr_targets.proofs.Ops.{LineAt, steps_by, line_has, line_after, line_first, line_at, ops_both, op_at, one_op}
 use Rattle.esr_targets.proofs.Asked.{AskedAt, asked_of, asked_same, asked_at, asked_split, entry_at}
 use Rattle.esr_targets.proofs.Laws.{ReaderLaws}
-use Rattle.esr_targets.proofs.Steps.{AsksRestore, accepted_asked}
 use Rattle.esr_targets.proofs.Histories.{allowed_at, rises_after, ask_number}
 
 -- the op was accepted at a line of this number
@@ -34,8 +34,8 @@ module _ (laws : ReaderLaws) (s : Start) (t : Tracked s.world) (l : ReadTracked 
     reply_is : x.m.entry.reply ≡ AcceptedRestore op r.uuid r.indices
     reply_is = ap (λ (y : Entry). y.reply) x.entry_is ∙ r.reply
 
-    asks : AsksRestore x.m.entry.step
-    asks = accepted_asked (formats_of s) s.part_size (world_of s x.before) x.m op r.uuid r.indices (allowed_at laws s t l log legal x.before x.after x.m x.log_is) reply_is
+    asks : RestoreBegan (formats_of s) (world_of s x.before) x.m.entry.who x.m.entry.step op r.uuid r.indices x.m.image
+    asks = laws.began (formats_of s) s.part_size (world_of s x.before) x.m op r.uuid r.indices (allowed_at laws s t l log legal x.before x.after x.m x.log_is) reply_is
 
     item_asks : steps_of_item moment r.line.item ≡ AskStep (Restore asks.name asks.place) ∷ []
     item_asks = r.step ∙ ap (λ (y : Entry). as_asked y.step ∷ []) (sym x.entry_is) ∙ ap (λ (y : Step). as_asked y ∷ []) asks.step_is
@@ -96,7 +96,7 @@ module _ (laws : ReaderLaws) (s : Start) (t : Tracked s.world) (l : ReadTracked 
     -- from its line on the first op is this one
     from_line : (es : List Entry) → line_of (ops_from (a.line ∷ a.at.later) (a.at.answer.entry ∷ es)) a.op ≡ Some a.line.number
     from_line es =
-        ap (λ (x : Item). line_of (ops_at a.line (a.at.answer.entry ∷ es) (ops_from a.at.later) x) a.op) a.item_is
+        ap (λ (x : Item). line_of (ops_at a.line (a.at.answer.entry ∷ es) (ops_from a.at.later) (asks_step x)) a.op) a.item_is
         ∙ ap (λ (x : Reply). line_of (op_of_reply a.line.number x ++ ops_from a.at.later es) a.op) a.accepted
         ∙ line_first a.op a.line.number (ops_from a.at.later es)
 

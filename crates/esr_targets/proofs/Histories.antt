@@ -4,7 +4,7 @@ use Rattle.std.specs.FinMap as fin
 use Rattle.esr_model.specs.Values.{Formats}
 use Rattle.esr_core.specs.World.{World, Reader}
 use Rattle.esr_core.specs.Restores.{IsReading}
-use Rattle.esr_core.specs.Entry.{Moment}
+use Rattle.esr_core.specs.Entry.{GivenRestore, Moment}
 use Rattle.esr_core.specs.After.{after}
 use Rattle.esr_core.specs.Allowed.{Allowed}
 use Rattle.esr_core.specs.History.{world_from, IsLegal}
@@ -20,7 +20,6 @@ use Rattle.esr_script.specs.declared.item.ScriptLine.{ScriptLine}
 use Rattle.esr_targets.proofs.Splits.{IsBefore, compared}
 use Rattle.esr_targets.proofs.Ended.{EndedAt}
 use Rattle.esr_targets.proofs.Laws.{ReaderLaws}
-use Rattle.esr_targets.proofs.Steps.{given_next}
 
 pub world_both : (f : Formats) (front back : List Moment) (w : World) → world_from f w (front ++ back) ≡ world_from f (world_from f w front) back
 world_both f [] back w = refl
@@ -124,7 +123,7 @@ module _ (laws : ReaderLaws) (s : Start) (t : Tracked s.world) (l : ReadTracked 
     unknown : (z : Reader) → fin.get (world_of s e.before).readers e.k ≡ Some z → ⊥
     unknown z there =
         let below : e.k < (world_of s e.before).next_ticket = ((reads_at e.before (e.gave ∷ e.after) e.gave_at).tracked.tickets e.k z there).1 in
-        let next : e.k ≡ (world_of s e.before).next_ticket = given_next (formats_of s) s.part_size (world_of s e.before) e.gave e.k shard.op shard.index shard.number shard.uuid (allowed_at e.before e.after e.gave e.gave_at) e.gives in
+        let next : e.k ≡ (world_of s e.before).next_ticket = (laws.takes (formats_of s) s.part_size (world_of s e.before) e.gave e.k shard.op (GivenRestore shard.index shard.number shard.uuid) (allowed_at e.before e.after e.gave e.gave_at) e.gives).number in
         omega (arith, below, next)
 
     given_first : IsBefore e.before e.gave e.front

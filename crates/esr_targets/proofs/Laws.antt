@@ -6,9 +6,10 @@ use Rattle.esr_model.specs.Image.{Blobs, Image}
 use Rattle.esr_model.specs.Kept.{Kept}
 use Rattle.esr_model.specs.Shelf.{Shelved, shelf_after}
 use Rattle.esr_core.specs.World.{World, Reader, opened, Opened}
-use Rattle.esr_core.specs.Entry.{Restore, AskStep, GivenRestore, Gave, AcceptedRestore, Moment}
+use Rattle.esr_core.specs.Entry.{Restore, AskStep, Given, GivenRestore, Gave, AcceptedRestore, Moment}
 use Rattle.esr_core.specs.After.{after}
 use Rattle.esr_core.specs.Allowed.{RestoredBy, Allowed}
+use Rattle.esr_core.specs.Causes.{TakeGave, RestoreBegan}
 use Rattle.esr_core.specs.History.{world_from, IsLegal, AreTold, committed}
 use Rattle.esr_core.specs.Ids.{Law}
 use Rattle.esr_core.specs.Tracked.{Tracked}
@@ -20,6 +21,8 @@ use Rattle.esr_readers.specs.Readers.{RestoresIn, IsThereAs, IsGiven, IsReaderOf
 
 -- of the tickets of restores, over any container
 pub record ReaderLaws : Type 0 where
+  pub takes : (f : Formats) (part_size : ℕ) (w : World) (m : Moment) (k o : ℕ) (unit : Given) → Allowed f part_size w m → m.entry.reply ≡ Gave k o unit → TakeGave f w m.entry.who m.entry.step k o unit
+  pub began : (f : Formats) (part_size : ℕ) (w : World) (m : Moment) (o uuid : ℕ) (indices : List IndexRef) → Allowed f part_size w m → m.entry.reply ≡ AcceptedRestore o uuid indices → RestoreBegan f w m.entry.who m.entry.step o uuid indices m.image
   pub tracked : (f : Formats) (part_size : ℕ) (w : World) (log : List Moment) → Tracked w → IsLegal f part_size w log → Tracked (world_from f w log)
   pub read_tracked : (f : Formats) (part_size : ℕ) (w : World) (log : List Moment) → Tracked w → ReadTracked w → IsLegal f part_size w log → ReadTracked (world_from f w log)
   pub given : (f : Formats) (part_size : ℕ) (w : World) (m : Moment) (k o index number uuid : ℕ) → Allowed f part_size w m → m.entry.reply ≡ Gave k o (GivenRestore index number uuid) → IsGiven (after f w m) k o index number uuid

@@ -4,7 +4,6 @@ pub mod Ops
 pub mod Asked
 pub mod Ended
 pub mod Laws
-pub mod Steps
 pub mod Histories
 pub mod Accepted
 pub mod Shelf

@@ -1,14 +1,12 @@
 -- The ops of lines, by the entries that were asked.
-use Rattle.std.proofs.Common.{◌≡◌, ◌⊎◌, ℕ, ◌<◌, Bool, if◌then◌else◌, List, [], ◌∷◌, ◌++◌, Some, None, map, append_assoc, refl, sym, ap, ◌∙◌, inl, inr, arith}
+use Rattle.std.proofs.Common.{◌≡◌, ◌⊎◌, ℕ, ◌<◌, Bool, true, false, if◌then◌else◌, List, [], ◌∷◌, ◌++◌, Some, map, append_assoc, refl, sym, ap, ◌∙◌, inl, inr, arith}
 use Rattle.std.proofs.lemmas.Bool.Decides.{eqb_tells}
-use Rattle.esr_model.specs.Values.{Bytes, Has, IndexRef}
-use Rattle.esr_core.specs.Entry.{Clone, DeleteSnapshots, Restore, Cleanup, Step, DrawTest, AskStep, LookStep, ReadStep, Reply, AcceptedRestore, Entry}
+use Rattle.esr_model.specs.Values.{Has, IndexRef}
+use Rattle.esr_core.specs.Entry.{Step, Reply, AcceptedRestore, Entry}
 use Rattle.esr_core.proofs.Reading.{none_some, some_same, Has-either}
-use Rattle.esr_script.specs.declared.item.Item.{Item}
-use Rattle.esr_script.specs.declared.item.Item.TheVariants as items
 use Rattle.esr_script.specs.declared.item.ScriptLine.{ScriptLine}
 use Rattle.esr_quiet.specs.Asked.{as_asked}
-use Rattle.esr_complete.specs.Lines.{command_of_line, steps_of_item, steps_of}
+use Rattle.esr_complete.specs.Lines.{steps_of_item, asks_step, one_step, no_step, steps_of}
 use Rattle.esr_targets.specs.Lines.{AreNumbered, op_of_reply, ops_by, ops_at, ops_from}
 use Rattle.esr_targets.specs.Listed.{line_of}
 use Rattle.esr_targets.proofs.Splits.{heads, nothing_first}
@@ -142,21 +140,14 @@ module _ (moment : ℕ) (line : ScriptLine) (lines : List ScriptLine) (op number
             }
       ]
 
-  by_item : (es : List Entry) (rest : List Step) (item : Item) → line.item ≡ item → steps_by es ++ rest ≡ steps_of_item moment item ++ steps_of moment lines → line_of (ops_at line es (ops_from lines) item) op ≡ Some number
+  by_item : (es : List Entry) (rest : List Step) (asks : Bool) → asks_step line.item ≡ asks → steps_by es ++ rest ≡ steps_of_item moment line.item ++ steps_of moment lines → line_of (ops_at line es (ops_from lines) asks) op ≡ Some number
       → ((fs : List Entry) → steps_by fs ++ rest ≡ steps_of moment lines → line_of (ops_from lines fs) op ≡ Some number → LineAt moment lines fs op number) → LineAt moment (line ∷ lines) es op number
-  by_item es rest (items.Snapshot name indices) is same found on = ask (AskStep (command_of_line name indices moment)) es rest (ap (steps_of_item moment) is) same found on
-  by_item es rest (items.Clone source name indices) is same found on = ask (AskStep (Clone source name indices moment None)) es rest (ap (steps_of_item moment) is) same found on
-  by_item es rest (items.Delete names) is same found on = ask (AskStep (DeleteSnapshots names)) es rest (ap (steps_of_item moment) is) same found on
-  by_item es rest (items.Restore name place) is same found on = ask (AskStep (Restore name place)) es rest (ap (steps_of_item moment) is) same found on
-  by_item es rest items.Cleanup is same found on = ask (AskStep Cleanup) es rest (ap (steps_of_item moment) is) same found on
-  by_item es rest items.List is same found on = ask LookStep es rest (ap (steps_of_item moment) is) same found on
-  by_item es rest items.Check is same found on = ask LookStep es rest (ap (steps_of_item moment) is) same found on
-  by_item es rest items.Verify is same found on = ask (ReadStep DrawTest) es rest (ap (steps_of_item moment) is) same found on
-  by_item es rest item is same found on = skip es (ap (steps_of_item moment) is) (on es same found)
+  by_item es rest true asks same found on = let (step, is) = one_step moment line.item asks in ask step es rest is (same ∙ ap (λ (l : List Step). l ++ steps_of moment lines) is) found on
+  by_item es rest false asks same found on = let none = no_step moment line.item asks in skip es none (on es (same ∙ ap (λ (l : List Step). l ++ steps_of moment lines) none) found)
 
 pub line_at : (moment : ℕ) (lines : List ScriptLine) (es : List Entry) (rest : List Step) (op number : ℕ) → steps_by es ++ rest ≡ steps_of moment lines → line_of (ops_from lines es) op ≡ Some number → LineAt moment lines es op number
 line_at moment [] es rest op number same found = absurd (none_some number found)
-line_at moment (line ∷ lines) es rest op number same found = by_item moment line lines op number es rest line.item refl same found (λ fs s f. line_at moment lines fs rest op number s f)
+line_at moment (line ∷ lines) es rest op number same found = by_item moment line lines op number es rest (asks_step line.item) refl same found (λ fs s f. line_at moment lines fs rest op number s f)
 
 -- ---- the ops of two stretches
 
@@ -167,16 +158,10 @@ module _ (moment : ℕ) (line : ScriptLine) (earlier lines : List ScriptLine) (f
       ap (λ (l : List (ℕ × ℕ)). op_of_reply line.number e.reply ++ l) (on es (heads (as_asked e.step) st (steps_by es) (steps_of moment earlier) same).1)
       ∙ sym (append_assoc (op_of_reply line.number e.reply) (ops_from earlier es) (ops_from lines fs))
 
-  both_by : (es : List Entry) (item : Item) → steps_by es ≡ steps_of_item moment item ++ steps_of moment earlier → ops_at line (es ++ fs) (ops_from (earlier ++ lines)) item ≡ ops_at line es (ops_from earlier) item ++ ops_from lines fs
-  both_by es (items.Snapshot name indices) same = both_asked (AskStep (command_of_line name indices moment)) es same
-  both_by es (items.Clone source name indices) same = both_asked (AskStep (Clone source name indices moment None)) es same
-  both_by es (items.Delete names) same = both_asked (AskStep (DeleteSnapshots names)) es same
-  both_by es (items.Restore name place) same = both_asked (AskStep (Restore name place)) es same
-  both_by es items.Cleanup same = both_asked (AskStep Cleanup) es same
-  both_by es items.List same = both_asked LookStep es same
-  both_by es items.Check same = both_asked LookStep es same
-  both_by es items.Verify same = both_asked (ReadStep DrawTest) es same
-  both_by es item same = on es same
+  both_by : (es : List Entry) (asks : Bool) → asks_step line.item ≡ asks → steps_by es ≡ steps_of_item moment line.item ++ steps_of moment earlier
+      → ops_at line (es ++ fs) (ops_from (earlier ++ lines)) asks ≡ ops_at line es (ops_from earlier) asks ++ ops_from lines fs
+  both_by es true asks same = let (step, is) = one_step moment line.item asks in both_asked step es (same ∙ ap (λ (l : List Step). l ++ steps_of moment earlier) is)
+  both_by es false asks same = on es (same ∙ ap (λ (l : List Step). l ++ steps_of moment earlier) (no_step moment line.item asks))
 
 none_asked : (es fs : List Entry) (lines : List ScriptLine) → steps_by es ≡ [] → ops_from lines (es ++ fs) ≡ ops_from lines fs
 none_asked [] fs lines same = refl
@@ -184,7 +169,7 @@ none_asked (e ∷ es) fs lines same = absurd (nothing_first (as_asked e.step) (s
 
 pub ops_both : (moment : ℕ) (earlier lines : List ScriptLine) (es fs : List Entry) → steps_by es ≡ steps_of moment earlier → ops_from (earlier ++ lines) (es ++ fs) ≡ ops_from earlier es ++ ops_from lines fs
 ops_both moment [] lines es fs same = none_asked es fs lines same
-ops_both moment (line ∷ earlier) lines es fs same = both_by moment line earlier lines fs (λ gs s. ops_both moment earlier lines gs fs s) es line.item same
+ops_both moment (line ∷ earlier) lines es fs same = both_by moment line earlier lines fs (λ gs s. ops_both moment earlier lines gs fs s) es (asks_step line.item) refl same
 
 -- ---- each op was accepted at a line
 
@@ -226,20 +211,13 @@ module _ (line : ScriptLine) (lines : List ScriptLine) (p : ℕ × ℕ) where
   op_skip : (es : List Entry) → OpAt lines es p → OpAt (line ∷ lines) es p
   op_skip es r = record { e = r.e; there = r.there; uuid = r.uuid; indices = r.indices; reply = r.reply; line = r.line; line_there = inr r.line_there; number_is = r.number_is }
 
-  op_by_item : (es : List Entry) (item : Item) → Has (ops_at line es (ops_from lines) item) p → ((fs : List Entry) → Has (ops_from lines fs) p → OpAt lines fs p) → OpAt (line ∷ lines) es p
-  op_by_item es (items.Snapshot name indices) h on = op_asked es h on
-  op_by_item es (items.Clone source name indices) h on = op_asked es h on
-  op_by_item es (items.Delete names) h on = op_asked es h on
-  op_by_item es (items.Restore name place) h on = op_asked es h on
-  op_by_item es items.Cleanup h on = op_asked es h on
-  op_by_item es items.List h on = op_asked es h on
-  op_by_item es items.Check h on = op_asked es h on
-  op_by_item es items.Verify h on = op_asked es h on
-  op_by_item es item h on = op_skip es (on es h)
+  op_by_item : (es : List Entry) (asks : Bool) → Has (ops_at line es (ops_from lines) asks) p → ((fs : List Entry) → Has (ops_from lines fs) p → OpAt lines fs p) → OpAt (line ∷ lines) es p
+  op_by_item es true h on = op_asked es h on
+  op_by_item es false h on = op_skip es (on es h)
 
 pub op_at : (lines : List ScriptLine) (es : List Entry) (p : ℕ × ℕ) → Has (ops_from lines es) p → OpAt lines es p
 op_at [] es p h = absurd h
-op_at (line ∷ lines) es p h = op_by_item line lines p es line.item h (λ fs m. op_at lines fs p m)
+op_at (line ∷ lines) es p h = op_by_item line lines p es (asks_step line.item) h (λ fs m. op_at lines fs p m)
 
 -- ---- a line has one op at most
 
@@ -272,36 +250,10 @@ module _ (line : ScriptLine) (lines : List ScriptLine) (first : (later : ScriptL
     ]
   ]
 
-  one_by_item : (es : List Entry) (item : Item) → Has (ops_at line es (ops_from lines) item) (o, n) → Has (ops_at line es (ops_from lines) item) (p, n) → ((fs : List Entry) → Has (ops_from lines fs) (o, n) → Has (ops_from lines fs) (p, n) → o ≡ p) → o ≡ p
-  one_by_item es (items.Snapshot name indices) a b on = one_asked es a b on
-  one_by_item es (items.Clone source name indices) a b on = one_asked es a b on
-  one_by_item es (items.Delete names) a b on = one_asked es a b on
-  one_by_item es (items.Restore name place) a b on = one_asked es a b on
-  one_by_item es items.Cleanup a b on = one_asked es a b on
-  one_by_item es items.List a b on = one_asked es a b on
-  one_by_item es items.Check a b on = one_asked es a b on
-  one_by_item es items.Verify a b on = one_asked es a b on
-  one_by_item es item a b on = on es a b
+  one_by_item : (es : List Entry) (asks : Bool) → Has (ops_at line es (ops_from lines) asks) (o, n) → Has (ops_at line es (ops_from lines) asks) (p, n) → ((fs : List Entry) → Has (ops_from lines fs) (o, n) → Has (ops_from lines fs) (p, n) → o ≡ p) → o ≡ p
+  one_by_item es true a b on = one_asked es a b on
+  one_by_item es false a b on = on es a b
 
 pub one_op : (lines : List ScriptLine) (es : List Entry) (o p n : ℕ) → AreNumbered lines → Has (ops_from lines es) (o, n) → Has (ops_from lines es) (p, n) → o ≡ p
 one_op [] es o p n numbered a b = absurd a
-one_op (line ∷ lines) es o p n numbered a b = one_by_item line lines numbered.0 o p n es line.item a b (λ fs x y. one_op lines fs o p n numbered.1 x y)
-
--- ---- a line that asks for a restore
-
-other_command : (name place : Bytes) (st : Step) → ((n l : Bytes) → st ≡ AskStep (Restore n l) → ⊥) → st ∷ [] ≡ AskStep (Restore name place) ∷ [] → ⊥
-other_command name place st not e = not name place (heads st (AskStep (Restore name place)) [] [] e).0
-
-pub restore_item : (moment : ℕ) (item : Item) (name place : Bytes) → steps_of_item moment item ≡ AskStep (Restore name place) ∷ [] → item ≡ items.Restore name place
-restore_item moment (items.Snapshot n indices) name place e = absurd (other_command name place (AskStep (command_of_line n indices moment)) (λ a b x. cc) e)
-restore_item moment (items.Clone source called indices) name place e = absurd (other_command name place (AskStep (Clone source called indices moment None)) (λ a b x. cc) e)
-restore_item moment (items.Delete names) name place e = absurd (other_command name place (AskStep (DeleteSnapshots names)) (λ a b x. cc) e)
-restore_item moment (items.Restore n l) name place e = same (heads (AskStep (Restore n l)) (AskStep (Restore name place)) [] [] e).0
-  where
-    same : AskStep (Restore n l) ≡ AskStep (Restore name place) → items.Restore n l ≡ items.Restore name place
-    same x = cc
-restore_item moment items.Cleanup name place e = absurd (other_command name place (AskStep Cleanup) (λ a b x. cc) e)
-restore_item moment items.List name place e = absurd (other_command name place LookStep (λ a b x. cc) e)
-restore_item moment items.Check name place e = absurd (other_command name place LookStep (λ a b x. cc) e)
-restore_item moment items.Verify name place e = absurd (other_command name place (ReadStep DrawTest) (λ a b x. cc) e)
-restore_item moment item name place e = absurd (nothing_first (AskStep (Restore name place)) [] e)
+one_op (line ∷ lines) es o p n numbered a b = one_by_item line lines numbered.0 o p n es (asks_step line.item) a b (λ fs x y. one_op lines fs o p n numbered.1 x y)

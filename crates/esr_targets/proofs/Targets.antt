@@ -11,6 +11,7 @@ use Rattle.esr_core.specs.Tracked.{Tracked}
 use Rattle.esr_core.specs.ReadTracked.{ReadTracked}
 use Rattle.esr_core.proofs.Ordered.{Has-sorted, sorted-Has, in_places}
 use Rattle.esr_readers.specs.Readers.{RestoresIn, IsReaderOf}
+use Rattle.esr_readers.specs.RestoredShards.{restores_out}
 use Rattle.esr_script.specs.declared.item.ScriptLine.{ScriptLine}
 use Rattle.esr_desk.specs.Start.{Start, formats_of, world_of, Legal}
 use Rattle.esr_desk.specs.Own.{or_no_reader, reader_of}
@@ -28,7 +29,6 @@ use Rattle.esr_targets.proofs.Splits.{right_has, left_has, order_pairs}
 use Rattle.esr_targets.proofs.Places.{restored_at, place_restores, IsLater, in_order}
 use Rattle.esr_targets.proofs.Ended.{EndedAt, ended_at}
 use Rattle.esr_targets.proofs.Laws.{ReaderLaws, ShelfLaws}
-use Rattle.esr_targets.proofs.Steps.{restores_out}
 use Rattle.esr_targets.proofs.Histories.{IsReaderFor, legal_front, allowed_at, tracked_at, allowed_ask, reader_is, reader_for}
 use Rattle.esr_targets.proofs.Accepted.{IsLineOf, one_line, accepted_line, line_number}
 use Rattle.esr_targets.proofs.Shelf.{shelved_as, on_shelf_as}

@@ -1,12 +1,11 @@
 -- Which line of a script asked for the restore of an op.
-use Rattle.std.specs.Prelude.{◌≡◌, ◌<◌, ℕ, true, if◌then◌else◌, List, [], ◌∷◌, ◌++◌}
+use Rattle.std.specs.Prelude.{◌≡◌, ◌<◌, ℕ, Bool, true, if◌then◌else◌, List, [], ◌∷◌, ◌++◌}
 use Rattle.esr_model.specs.Values.{Bytes, Has, IndexRef}
 use Rattle.esr_core.specs.Entry.{Restore, AskStep, Reply, AcceptedRestore, Entry, Moment}
-use Rattle.esr_script.specs.declared.item.Item.{Item}
 use Rattle.esr_script.specs.declared.item.Item.TheVariants as items
 use Rattle.esr_script.specs.declared.item.ScriptLine.{ScriptLine}
 use Rattle.esr_quiet.specs.Asked.{is_asked, asked_steps}
-use Rattle.esr_complete.specs.Lines.{steps_of}
+use Rattle.esr_complete.specs.Lines.{asks_step, steps_of}
 
 -- the numbers of lines rise
 abbrev pub AreNumbered : List ScriptLine → Type 0
@@ -31,20 +30,12 @@ ops_by number [] more = []
 ops_by number (e ∷ es) more = op_of_reply number e.reply ++ more es
 
 -- a line that asks for none leaves them to those after it
-abbrev pub ops_at : ScriptLine → List Entry → (List Entry → List (ℕ × ℕ)) → Item → List (ℕ × ℕ)
-ops_at line es more (items.Snapshot name indices) = ops_by line.number es more
-ops_at line es more (items.Clone source name indices) = ops_by line.number es more
-ops_at line es more (items.Delete names) = ops_by line.number es more
-ops_at line es more (items.Restore name place) = ops_by line.number es more
-ops_at line es more items.Cleanup = ops_by line.number es more
-ops_at line es more items.List = ops_by line.number es more
-ops_at line es more items.Check = ops_by line.number es more
-ops_at line es more items.Verify = ops_by line.number es more
-ops_at line es more item = more es
+abbrev pub ops_at : ScriptLine → List Entry → (List Entry → List (ℕ × ℕ)) → Bool → List (ℕ × ℕ)
+ops_at line es more asks = if asks then ops_by line.number es more else more es
 
 abbrev pub ops_from : List ScriptLine → List Entry → List (ℕ × ℕ)
 ops_from [] es = []
-ops_from (line ∷ lines) es = ops_at line es (ops_from lines) line.item
+ops_from (line ∷ lines) es = ops_at line es (ops_from lines) (asks_step line.item)
 
 -- the ops of the restores that the lines asked for, each with the number of its line
 unfoldable pub ops_of_lines : List ScriptLine → List Entry → List (ℕ × ℕ)

@@ -25,6 +25,7 @@ pub fn each_target_is_of_its_line<S, F, H, T>()
     esr_readers::readers_stay_as_given();
     esr_readers::readers_are_of_their_ask();
     esr_readers::no_shard_is_restored_twice();
+    esr_core::answers_tell_their_steps();
     esr_core::restores_give_the_shelf_of_their_ask();
     esr_core::asked_snapshots_are_on_the_shelf();
     esr_core::opening_is_lawful();

@@ -1,11 +1,11 @@
 //! The list of targets, by the lines that asked for them.
-ghost use Rattle.std.specs.Prelude.{◌≡◌, ◌≤◌, ◌++◌, ◌∷◌, ℕ, List, [], if◌then◌else◌, length, take, drop, IfOk, OnOk};
+ghost use Rattle.std.specs.Prelude.{◌≡◌, ◌≤◌, ◌++◌, ◌∷◌, [], length, take, drop, IfOk, OnOk};
 ghost use Rattle.std.specs.Option.{MatchOption, option_to_list};
-ghost use Rattle.esr_core.specs.Entry.{Entry as Told};
 ghost use Rattle.esr_model.specs.Places.{by_order, put_by, sorted_by};
 ghost use Rattle.esr_desk.specs.Entries.{step_of};
 ghost use Rattle.esr_quiet.specs.Asked.{is_line_ask, is_asked};
-ghost use Rattle.esr_targets.specs.Lines.{asked_entries, op_of_reply, ops_by, ops_at, ops_of_lines};
+ghost use Rattle.esr_complete.specs.Lines.{asks_step};
+ghost use Rattle.esr_targets.specs.Lines.{asked_entries, op_of_reply, ops_of_lines};
 ghost use Rattle.esr_targets.specs.Listed.{target_first, line_of, listed_at, listed};
 
 use crate::target::{Restored, TargetList};
@@ -65,28 +65,10 @@ fn next_asked(entries: &[Entry]) -> Option<(&Entry, &[Entry])>
 }
 
 /// The line asks for a step.
-fn asks(line: &ScriptLine) -> bool
-    ensures { (es : List Told) (more : List Told → List (ℕ × ℕ)) → ops_at line.now es more line.now.item ≡ (if result then ops_by line.now.number es more else more es) }
+fn asks_step(item: &Item) -> bool
+    ensures { result ≡ asks_step item.now }
 {
-    match &line.item {
-        Item::Snapshot {
-            name: _,
-            indices: _,
-        } => true,
-        Item::Clone {
-            source: _,
-            name: _,
-            indices: _,
-        } => true,
-        Item::Delete { names: _ } => true,
-        Item::Restore { name: _, place: _ } => true,
-        Item::Cleanup => true,
-        Item::Failover => false,
-        Item::Wait => false,
-        Item::List => true,
-        Item::Check => true,
-        Item::Verify => true,
-    }
+    !matches!(item, Item::Failover | Item::Wait)
 }
 
 /// Appends the op of the entry under the line, if it accepted a restore.
@@ -112,7 +94,7 @@ fn ops_of_lines(
     let mut ops = Vec::new(alloc);
     let mut rest = history;
     for line in lines {
-        if !asks(line) {
+        if !asks_step(&line.item) {
             continue;
         }
         let Some((entry, more)) = next_asked(rest) else {

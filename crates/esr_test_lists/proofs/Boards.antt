@@ -154,10 +154,7 @@ module _ {p : Plan} {root : RootData} {term next given : ℕ} {begun : Bool} (b 
           named = λ e. subst (λ ops. Named root ops (next + answer.drawn)) (sym h.1.plan.ops)
               (subst (λ (drawn : ℕ). Named root (fin.insert w.ops w.next_op (asked_op w name asks_for moment)) (next + drawn)) (sym h.1.drawn) there);
         }
-    accepted answer (commands.Clone _ _ _ _) askable unbegun h = absurd askable
-    accepted answer (commands.Delete _) askable unbegun h = absurd askable
-    accepted answer (commands.Restore _ _) askable unbegun h = absurd askable
-    accepted answer commands.Cleanup askable unbegun h = absurd askable
+    accepted answer command askable unbegun h = absurd askable
 
     pub cloned : (later : ℕ) (name : Bytes) (moment : ℕ) (copy : CloneOf) → later < first_id (suc term) → ((w : World) → IsPlanOf w p → w.next_id ≡ next → IsPlanOf (clone_opened w name moment copy) new) → IsBoard new root term later given true
     cloned later name moment copy below h =

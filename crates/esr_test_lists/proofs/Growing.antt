@@ -7,7 +7,7 @@ use Rattle.std.proofs.lemmas.Bool.Decides.{eqb_tells}
 use Rattle.esr_names.specs.NameRule.{name_fault, snap_name_fault}
 use Rattle.esr_names.specs.declared.ids.Id.{Id}
 use Rattle.esr_names.specs.declared.index_ref.IndexRef.{IndexRef as Ref}
-use Rattle.esr_meta.specs.Indices.{AreRefs}
+use Rattle.esr_names.specs.Indices.{AreRefs}
 use Rattle.esr_meta.specs.Info.{Info, IsInfo}
 use Rattle.esr_root.specs.Root.{Root}
 use Rattle.esr_root.specs.declared.snaps.RootSnap.{RootSnap as CodeSnap}
@@ -17,7 +17,7 @@ use Rattle.esr_formats.specs.Roots.{root_of, root_snap_of, root_index_of}
 use Rattle.esr_core.specs.Tracked.{IsOneIndex}
 use Rattle.esr_model.specs.Values.{Bytes, Has, IndexRef, RootSnap, RootIndex}
 use Rattle.esr_results.specs.declared.result.ShardResult.{ShardResult}
-use Rattle.esr_results.specs.NewRoot.{MayFinalize}
+use Rattle.esr_newroot.specs.NewRoot.{MayFinalize}
 use Rattle.esr_results.specs.Results.{result_of}
 use Rattle.esr_test_lists.specs.Free.{takes_one, is_other}
 

@@ -8,7 +8,7 @@ use Rattle.esr_desk.specs.Evidence.{NeverFailed}
 use Rattle.esr_drive.specs.Outside.{IsOutside}
 use Rattle.esr_handle.specs.Owned.{AreBelow}
 use Rattle.esr_handle.specs.Turned.{shared, Seen}
-use Rattle.esr_shared.specs.Worked.{IsNewPass}
+use Rattle.esr_drive.specs.Worked.{IsNewPass}
 
 -- as a worker sees the start
 pub seen_outside : (s : Start) (sources : SourcesTold) (targets : TargetsTold) (part_size : ℕ) → IsOutside s sources targets part_size → IsOutside (shared s) sources targets part_size

@@ -13,9 +13,11 @@ ghost use Rattle.esr_desk.specs.Shown.{IsShown};
 
 use crate::told::{tell, tell_commit, tell_number, tell_refused};
 use esr_depot::{Commit, Listing};
-use esr_desk::{By, Desk, Hand, Named, Planned, RestoredTarget, StepRefusal, Unended, Unit, Why};
-use esr_names::{BlobName, Id, Ids};
-use esr_results::{PrunedShards, ShardResult};
+use esr_desk::{
+    Attempt, Basis, Desk, Failure, Named, NewBlob, Planned, RestoreEnd, Unended, Unit, Who,
+};
+use esr_names::{BlobName, Id};
+use esr_results::ShardResult;
 use esr_root::RootData;
 use esr_seq::Seq;
 use std::alloc::Global;
@@ -73,7 +75,7 @@ impl<Q: Desk, E: Desk> Desk for Between<Q, E> {
         self.own.never_fails();
     }
 
-    fn take(&mut self, alloc: Global) -> Result<Option<Unit>, StepRefusal> {
+    fn take(&mut self, alloc: Global) -> Attempt<Option<Unit>> {
         if is_due(&mut self.due, Due::Take) {
             let term = self.elector.elect(alloc);
             let _ = tell_number(&mut self.told, "elect", &term);
@@ -83,54 +85,39 @@ impl<Q: Desk, E: Desk> Desk for Between<Q, E> {
         answer
     }
 
-    fn elect(&mut self, alloc: Global) -> Result<u64, StepRefusal> {
+    fn elect(&mut self, alloc: Global) -> Attempt<u64> {
         self.own.elect(alloc)
     }
 
-    fn fetch(
-        &mut self,
-        alloc: Global,
-        hand: Hand,
-        who: u64,
-        name: BlobName,
-    ) -> Result<Option<Self::Fetch>, StepRefusal> {
-        self.own.fetch(alloc, hand, who, name)
+    fn fetch(&mut self, alloc: Global, who: Who, name: BlobName) -> Attempt<Option<Self::Fetch>> {
+        self.own.fetch(alloc, who, name)
     }
 
     fn fail(
         &mut self,
         alloc: Global,
-        hand: Hand,
-        who: u64,
-        why: Why,
-        by: By<Q::Stage, Q::Fetch, Q::Shard, Q::Target>,
-    ) -> Result<(), StepRefusal>
-        requires mine { IsMine hand (Q.calls self.old.own) who }
-        requires may { MayFail hand Q.start (Q.seen self.old.own) who }
-        requires shown { IsShown hand (evidence Q.Stage.faults Q.Fetch.faults Q.Shard.faults Q.Target.faults Q.Shard.told Q.Target.told)
-            Q.start (Q.seen self.old.own) who (why_of why) by }
-        ensures step { Outcome Q.start (Q.seen self.old.own) (Q.seen self.new.own) who (fail_step hand (why_of why)) (λ _. HasEnded) result }
-        ensures own { OnOk result (own_of Q.start (Q.seen self.new.own) who ≡ own_failed hand (own_of Q.start (Q.seen self.old.own) who)) }
-        ensures kept { OnErr result (own_of Q.start (Q.seen self.new.own) who ≡ own_of Q.start (Q.seen self.old.own) who) }
-        ensures calls { Q.calls self.new.own ≡ called_by hand (Q.seen self.new.own) (fail_step hand (why_of why)) (λ _. HasEnded) result (Q.calls self.old.own) }
+        failure: Failure<Q::Stage, Q::Fetch, Q::Shard, Q::Target>,
+    ) -> Attempt<()>
+        requires mine { IsMine failure.who.hand (Q.calls self.old.own) failure.who.number }
+        requires may { MayFail failure.who.hand Q.start (Q.seen self.old.own) failure.who.number }
+        requires shown { IsShown failure.who.hand (evidence Q.Stage.faults Q.Fetch.faults Q.Shard.faults Q.Target.faults Q.Shard.told Q.Target.told)
+            Q.start (Q.seen self.old.own) failure.who.number (why_of failure.why) failure.by }
+        ensures step { Outcome Q.start (Q.seen self.old.own) (Q.seen self.new.own) failure.who.number (fail_step failure.who.hand (why_of failure.why)) (λ _. HasEnded) result }
+        ensures own { OnOk result (own_of Q.start (Q.seen self.new.own) failure.who.number ≡ own_failed failure.who.hand (own_of Q.start (Q.seen self.old.own) failure.who.number)) }
+        ensures kept { OnErr result (own_of Q.start (Q.seen self.new.own) failure.who.number ≡ own_of Q.start (Q.seen self.old.own) failure.who.number) }
+        ensures calls { Q.calls self.new.own ≡ called_by failure.who.hand (Q.seen self.new.own) (fail_step failure.who.hand (why_of failure.why)) (λ _. HasEnded) result (Q.calls self.old.own) }
     {
-        let answer = self.own.fail(alloc, hand, who, why, by);
+        let answer = self.own.fail(alloc, failure);
         let _ = tell(&mut self.told, "fail", &answer);
         answer
     }
 
-    fn draw(&mut self, alloc: Global, ticket: u64, count: u64) -> Result<Id, StepRefusal> {
+    fn draw(&mut self, alloc: Global, ticket: u64, count: u64) -> Attempt<Id> {
         self.own.draw(alloc, ticket, count)
     }
 
-    fn begin(
-        &mut self,
-        alloc: Global,
-        ticket: u64,
-        name: BlobName,
-        room: usize,
-    ) -> Result<Named<Self::Stage>, StepRefusal> {
-        self.own.begin(alloc, ticket, name, room)
+    fn begin(&mut self, alloc: Global, ticket: u64, blob: NewBlob) -> Attempt<Named<Self::Stage>> {
+        self.own.begin(alloc, ticket, blob)
     }
 
     fn commit(
@@ -139,7 +126,7 @@ impl<Q: Desk, E: Desk> Desk for Between<Q, E> {
         ticket: u64,
         name: BlobName,
         stage: Self::Stage,
-    ) -> Result<Commit, StepRefusal> {
+    ) -> Attempt<Commit> {
         let answer = self.own.commit(alloc, ticket, name, stage);
         let _ = tell_commit(&mut self.told, &answer);
         answer
@@ -151,13 +138,13 @@ impl<Q: Desk, E: Desk> Desk for Between<Q, E> {
         ticket: u64,
         name: BlobName,
         stage: Self::Stage,
-    ) -> Result<(), StepRefusal> {
+    ) -> Attempt<()> {
         let answer = self.own.latest(alloc, ticket, name, stage);
         let _ = tell(&mut self.told, "latest", &answer);
         answer
     }
 
-    fn raise(&mut self, alloc: Global, ticket: u64) -> Result<u64, StepRefusal> {
+    fn raise(&mut self, alloc: Global, ticket: u64) -> Attempt<u64> {
         let answer = self.own.raise(alloc, ticket);
         let _ = tell_number(&mut self.told, "raise", &answer);
         if is_due(&mut self.due, Due::Raise) {
@@ -167,21 +154,14 @@ impl<Q: Desk, E: Desk> Desk for Between<Q, E> {
         answer
     }
 
-    fn settle(&mut self, alloc: Global, ticket: u64, root: &RootData) -> Result<(), StepRefusal> {
+    fn settle(&mut self, alloc: Global, ticket: u64, root: &RootData) -> Attempt<()> {
         let answer = self.own.settle(alloc, ticket, root);
         let _ = tell(&mut self.told, "settle", &answer);
         answer
     }
 
-    fn plan(
-        &mut self,
-        alloc: Global,
-        ticket: u64,
-        root: &RootData,
-        uuids: &Ids,
-        shards: &PrunedShards,
-    ) -> Result<Planned, StepRefusal> {
-        let answer = self.own.plan(alloc, ticket, root, uuids, shards);
+    fn plan(&mut self, alloc: Global, ticket: u64, basis: &Basis<'_>) -> Attempt<Planned> {
+        let answer = self.own.plan(alloc, ticket, basis);
         let _ = tell(&mut self.told, "plan", &answer);
         if is_due(&mut self.due, Due::Plan) {
             let term = self.elector.elect(alloc);
@@ -190,83 +170,60 @@ impl<Q: Desk, E: Desk> Desk for Between<Q, E> {
         answer
     }
 
-    fn list(
-        &mut self,
-        alloc: Global,
-        ticket: u64,
-        after: Option<&str>,
-    ) -> Result<Listing, StepRefusal> {
+    fn list(&mut self, alloc: Global, ticket: u64, after: Option<&str>) -> Attempt<Listing> {
         let answer = self.own.list(alloc, ticket, after);
         let _ = tell(&mut self.told, "list", &answer);
         answer
     }
 
-    fn settle_delete(
-        &mut self,
-        alloc: Global,
-        ticket: u64,
-        root: &RootData,
-    ) -> Result<(), StepRefusal> {
+    fn settle_delete(&mut self, alloc: Global, ticket: u64, root: &RootData) -> Attempt<()> {
         let answer = self.own.settle_delete(alloc, ticket, root);
         let _ = tell(&mut self.told, "settle", &answer);
         answer
     }
 
-    fn remove(
-        &mut self,
-        alloc: Global,
-        ticket: u64,
-        names: &Seq<BlobName>,
-    ) -> Result<(), StepRefusal> {
+    fn remove(&mut self, alloc: Global, ticket: u64, names: &Seq<BlobName>) -> Attempt<()> {
         let answer = self.own.remove(alloc, ticket, names);
         let _ = tell(&mut self.told, "remove", &answer);
         answer
     }
 
-    fn end_shard(
-        &mut self,
-        alloc: Global,
-        ticket: u64,
-        outcome: &ShardResult,
-    ) -> Result<(), StepRefusal> {
+    fn end_shard(&mut self, alloc: Global, ticket: u64, outcome: &ShardResult) -> Attempt<()> {
         self.own.end_shard(alloc, ticket, outcome)
     }
 
     fn end_restore(
         &mut self,
         alloc: Global,
-        ticket: u64,
-        files: u64,
-        bytes: u64,
-        target: RestoredTarget<Q::Target>,
+        done: RestoreEnd<Q::Target>,
     ) -> Result<(), Unended<Q::Target>>
-        requires mine { HasTaken (Q.calls self.old.own) ticket }
-        requires may { CanEndRestore Q.start (reader_of Q.start (Q.seen self.old.own) ticket) files bytes }
+        requires mine { HasTaken (Q.calls self.old.own) done.ticket }
+        requires may { CanEndRestore Q.start (reader_of Q.start (Q.seen self.old.own) done.ticket) done.files done.bytes }
         requires filled { IsFilled (evidence Q.Stage.faults Q.Fetch.faults Q.Shard.faults Q.Target.faults Q.Shard.told Q.Target.told)
-            Q.start (reader_of Q.start (Q.seen self.old.own) ticket) files bytes target }
-        ensures step { Outcome Q.start (Q.seen self.old.own) (Q.seen self.new.own) ticket (ReadStep (RestoredShard files bytes)) (λ _. HasEnded) (refused_of result) }
-        ensures own { OnOk result (reader_of Q.start (Q.seen self.new.own) ticket
-            ≡ record (reader_of Q.start (Q.seen self.old.own) ticket) { out = false }) }
-        ensures kept { OnErr result (reader_of Q.start (Q.seen self.new.own) ticket ≡ reader_of Q.start (Q.seen self.old.own) ticket) }
-        ensures target { IfErr result (λ u. u.target ≡ target) }
+            Q.start (reader_of Q.start (Q.seen self.old.own) done.ticket) done.files done.bytes done.target }
+        ensures step { Outcome Q.start (Q.seen self.old.own) (Q.seen self.new.own) done.ticket (ReadStep (RestoredShard done.files done.bytes)) (λ _. HasEnded) (refused_of result) }
+        ensures own { OnOk result (reader_of Q.start (Q.seen self.new.own) done.ticket
+            ≡ record (reader_of Q.start (Q.seen self.old.own) done.ticket) { out = false }) }
+        ensures kept { OnErr result (reader_of Q.start (Q.seen self.new.own) done.ticket ≡ reader_of Q.start (Q.seen self.old.own) done.ticket) }
+        ensures target { IfErr result (λ u. u.target ≡ done.target) }
         ensures calls { Q.calls self.new.own ≡ Q.calls self.old.own }
     {
-        self.own.end_restore(alloc, ticket, files, bytes, target)
+        self.own.end_restore(alloc, done)
     }
 
-    fn end_delete(&mut self, alloc: Global, ticket: u64) -> Result<(), StepRefusal> {
+    fn end_delete(&mut self, alloc: Global, ticket: u64) -> Attempt<()> {
         let answer = self.own.end_delete(alloc, ticket);
         let _ = tell(&mut self.told, "end", &answer);
         answer
     }
 
-    fn end_cleanup(&mut self, alloc: Global, ticket: u64) -> Result<(), StepRefusal> {
+    fn end_cleanup(&mut self, alloc: Global, ticket: u64) -> Attempt<()> {
         let answer = self.own.end_cleanup(alloc, ticket);
         let _ = tell(&mut self.told, "end", &answer);
         answer
     }
 
-    fn end_drop(&mut self, alloc: Global, ticket: u64) -> Result<(), StepRefusal> {
+    fn end_drop(&mut self, alloc: Global, ticket: u64) -> Attempt<()> {
         if is_due(&mut self.due, Due::Drop) {
             let term = self.elector.elect(alloc);
             let _ = tell_number(&mut self.told, "elect", &term);
@@ -276,7 +233,7 @@ impl<Q: Desk, E: Desk> Desk for Between<Q, E> {
         answer
     }
 
-    fn finish(&mut self, alloc: Global, ticket: u64) -> Result<(), StepRefusal> {
+    fn finish(&mut self, alloc: Global, ticket: u64) -> Attempt<()> {
         let answer = self.own.finish(alloc, ticket);
         let _ = tell(&mut self.told, "finish", &answer);
         answer

@@ -1,12 +1,11 @@
 //! Two desks at one lock: one works all units, and the other begins the next term in between.
 ghost use Rattle.std.specs.Prelude.{◌≡◌, ◌≤◌, ◌+◌, ◌^◌, true};
-ghost use Rattle.esr_shared.specs.Worked.{IsWorkable, IsNewPass};
+ghost use Rattle.esr_drive.specs.Worked.{IsWorkable, IsNewPass};
 
 use crate::between::{Between, Due};
 use esr_desk::{Desk, Sole};
-use esr_drive::work;
+use esr_drive::{Outside, work};
 use esr_handle::{Handle, Share, Since, Sitting};
-use esr_shared::Outside;
 use esr_source::{Gate, Sources, Targets};
 use esr_turns::{Pass, TurnLock};
 use std::alloc::Global;
@@ -27,15 +26,7 @@ fn share_of(due: Due) -> u64
 }
 
 /// Works all units by the desk of one pass, beside which that of the other begins the next term. What was told of the steps.
-fn work_both<
-    Q: Sole,
-    S: Sources<Shard = Q::Shard>,
-    T: Targets<Target = Q::Target>,
-    G: Gate,
-    B: Since,
-    W: Share,
-    R: Wait + Sync,
->(
+fn work_both<Q: Sole, S, T, G: Gate, B: Since, W: Share, R: Wait + Sync>(
     rt: &R,
     alloc: Global,
     lock: &TurnLock<Sitting<Q, B>>,
@@ -44,6 +35,9 @@ fn work_both<
     outside: &Outside<'_, S, T, G>,
     due: Due,
 ) -> (Pass<Sitting<Q, B>>, Pass<Sitting<Q, B>>, String)
+where
+    S: Sources<Shard = Q::Shard>,
+    T: Targets<Target = Q::Target>,
     requires picked { (lock.now ≡ W.lock) × (one.left ≡ W.total) × (other.left ≡ W.total) }
     requires earlier { Q.start.earlier_turns ≡ 2 ^ 33 }
     requires one { IsNewPass Q.start B.before lock.now 0 one }
@@ -82,14 +76,7 @@ fn work_both<
 }
 
 /// Works all units at the lock, and closes it.
-fn sit_at<
-    Q: Sole,
-    S: Sources<Shard = Q::Shard>,
-    T: Targets<Target = Q::Target>,
-    G: Gate,
-    B: Since,
-    R: Wait + Sync,
->(
+fn sit_at<Q: Sole, S, T, G: Gate, B: Since, R: Wait + Sync>(
     rt: &R,
     alloc: Global,
     lock: TurnLock<Sitting<Q, B>>,
@@ -97,6 +84,9 @@ fn sit_at<
     outside: &Outside<'_, S, T, G>,
     due: Due,
 ) -> (Q, String)
+where
+    S: Sources<Shard = Q::Shard>,
+    T: Targets<Target = Q::Target>,
     requires new { IsNewPass Q.start B.before lock (2 ^ 40) pass }
     requires all { pass.left ≡ 2 ^ 40 }
     requires earlier { Q.start.earlier_turns ≡ 2 ^ 33 }

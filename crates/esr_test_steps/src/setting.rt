@@ -1,10 +1,10 @@
 //! Sources, commands, and what is looked for in a container in memory.
 ghost use Rattle.std.specs.Prelude.{◌≡◌, IfOk};
-ghost use Rattle.esr_ops.specs.Asked.{asked_of, IsAskable};
+ghost use Rattle.esr_ops.specs.Asked.{asked_of, IsForOp};
 
 use crate::errors::Trouble;
 use esr_depot::{Depot, Fetch};
-use esr_desk::Client;
+use esr_desk::{Client, CloneAsk};
 use esr_names::{IndexName, IndexNames, SnapName, SnapNames};
 use esr_ops::{AskedIndex, Command};
 use esr_scenes::source_of;
@@ -38,7 +38,7 @@ fn index_of(alloc: Global, words: &str) -> Result<AskedIndex, Trouble>
 /// A snapshot of one index.
 fn snapshot_of(alloc: Global, name: &str, index: AskedIndex) -> Result<Command, Trouble>
     requires { index.shards ≡ 1 }
-    ensures { IfOk result (λ c. IsAskable (asked_of c)) }
+    ensures { IfOk result (λ c. IsForOp (asked_of c)) }
 {
     let mut indices = Seq::new(alloc);
     indices.push(index)?;
@@ -58,7 +58,7 @@ fn snapshot_of_two(
 ) -> Result<Command, Trouble>
     requires first { first.shards ≡ 1 }
     requires second { second.shards ≡ 1 }
-    ensures { IfOk result (λ c. IsAskable (asked_of c)) }
+    ensures { IfOk result (λ c. IsForOp (asked_of c)) }
 {
     if first.name == second.name {
         return Err(Trouble("two indices have one name"));
@@ -115,7 +115,13 @@ pub(crate) fn ask_clone<Q: Client>(
     let source = SnapName::new(alloc, source)?;
     let name = SnapName::new(alloc, name)?;
     let all = IndexNames::new(alloc);
-    desk.clone_snapshot(alloc, &source, &name, &all, 0)?;
+    let ask = CloneAsk {
+        source: &source,
+        name: &name,
+        indices: &all,
+        moment: 0,
+    };
+    desk.clone_snapshot(alloc, &ask)?;
     Ok(())
 }
 
@@ -127,7 +133,7 @@ pub(crate) fn ask_delete<Q: Client>(
 ) -> Result<(), Trouble> {
     let mut names = SnapNames::new(alloc);
     names.push(SnapName::new(alloc, name)?)?;
-    desk.delete(alloc, &names)?;
+    desk.ask(alloc, &Command::Delete { names })?;
     Ok(())
 }
 

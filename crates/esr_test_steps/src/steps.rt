@@ -5,7 +5,7 @@ ghost use Rattle.esr_depot.specs.Look.{now};
 ghost use Rattle.esr_desk.specs.Sources.{AreSources};
 ghost use Rattle.esr_drive.specs.Outside.{IsOutside};
 ghost use Rattle.esr_repo.specs.Begun.{IsBegun};
-ghost use Rattle.esr_shared.specs.Worked.{IsWorkable};
+ghost use Rattle.esr_drive.specs.Worked.{IsWorkable};
 
 use crate::between::Due;
 use crate::both::sit;
@@ -16,11 +16,11 @@ use crate::units::{
 };
 use esr_depot::Depot;
 use esr_desk::Client;
-use esr_drive::work;
+use esr_drive::{Outside, work};
 use esr_opening::{Opening, open_container};
+use esr_ops::Command;
 use esr_repo::{Repo, Told};
 use esr_seq::Text;
-use esr_shared::Outside;
 use esr_solo::Solo;
 use esr_source::{MemTarget, NoGate, Sources, Targets};
 use std::alloc::Global;
@@ -98,7 +98,7 @@ fn step<D: Depot, K: Told, S: Sources, T: Targets<Target = MemTarget>>(
         "around" => work_around(alloc, desk, sources, words),
         "faulty" => work_faulty(alloc, desk, sources, words),
         "late" => work_late::<D, K, S>(alloc, desk, words),
-        "cleanup" => Ok(desk.cleanup(alloc).map(|_| ())?),
+        "cleanup" => Ok(desk.ask(alloc, &Command::Cleanup).map(|_| ())?),
         "all" => Ok(work(alloc, desk, sources, targets, &NoGate, PART_SIZE)?),
         _ => Err(Trouble("a step that there is")),
     }

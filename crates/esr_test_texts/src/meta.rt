@@ -3,9 +3,9 @@ use crate::names::{say_id, say_index};
 use crate::words::{Said, say, say_unknown, say_written};
 use esr_meta::{
     GlobalMeta, IndexMeta, SnapInfo, global_read, global_text, index_meta_read, index_meta_text,
-    indices_copy, info_read, info_text,
+    info_read, info_text,
 };
-use esr_names::IndexRefs;
+use esr_names::{IndexRefs, indices_copy};
 use std::alloc::Global;
 
 fn say_info_again(alloc: Global, line: &mut String, bytes: &[u8]) -> Said {

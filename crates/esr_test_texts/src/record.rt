@@ -110,8 +110,8 @@ fn change_plain(line: &mut String, question: &str, words: &str, record: &mut Clu
     }
 }
 
-/// Changes a record, and says the answer and the text of the record then.
-fn say_change(
+/// Says what is asked of a record, by the words before its text; of a change the answer, and the text of the record then.
+fn say_of_record(
     alloc: Global,
     line: &mut String,
     question: &str,
@@ -120,27 +120,19 @@ fn say_change(
 ) -> Said {
     let (first, _) = cut(words);
     match question {
+        "numbers" => {
+            say_numbers(line, record);
+            return Ok(());
+        }
+        "op" => {
+            say_op(line, record, number(words));
+            return Ok(());
+        }
         "push" => push(line, record, number(first))?,
         _ => change_plain(line, question, words, record),
     }
     say(line, ": ");
     say_written(line, record_text(alloc, record))
-}
-
-/// Says what is asked of a record, by the words before its text.
-fn say_of_record(
-    alloc: Global,
-    line: &mut String,
-    question: &str,
-    words: &str,
-    record: &mut ClusterRecord,
-) -> Said {
-    match question {
-        "numbers" => say_numbers(line, record),
-        "op" => say_op(line, record, number(words)),
-        _ => return say_change(alloc, line, question, words, record),
-    }
-    Ok(())
 }
 
 /// Says the text of the copy of a record of a text.

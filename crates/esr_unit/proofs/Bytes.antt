@@ -1,14 +1,11 @@
 -- What is told of bytes that were read and written.
-use Rattle.std.proofs.Common.{◌≡◌, ◌≢◌, ◌<◌, inl, inr, ℕ, Bool, true, false, [], Option, Some, None, IfSome, Result, Ok, Err, OnOk, refl, ap, ◌∙◌, subst, arith}
-use Rattle.std.proofs.lemmas.Bool.{cases_Bool}
+use Rattle.std.proofs.Common.{◌≡◌, ◌≢◌, Bool, true, false, Option, Some, None, IfSome, Result, Err, refl, ap, ◌∙◌, subst}
 use Rattle.std.specs.Prelude.{if◌then◌else◌}
-use Rattle.std.specs.Io.KnownBytes.{append_known}
-use Rattle.std.specs.Result.{IsErr, is_err}
 use Rattle.esr_model.specs.Names.{BlobName, Latest}
 use Rattle.esr_model.specs.Values.{Bytes}
 use Rattle.esr_core.specs.World.{Ticket}
 use Rattle.esr_core.specs.After.{is_latest, fetching, caller_told}
-use Rattle.esr_depot.specs.Calls.{HasCause, has_failed}
+use Rattle.esr_depot.specs.Calls.{has_failed}
 use Rattle.esr_depot.specs.Told.{Tells}
 use Rattle.esr_depot.specs.declared.error.CallError.{CallError}
 use Rattle.esr_depot.specs.declared.error.CallError.TheVariants.{Failed}
@@ -22,33 +19,6 @@ use Rattle.esr_desk.specs.Own.{Own}
 use Rattle.esr_desk.specs.Hands.{own_fetched}
 use Rattle.esr_desk.specs.Readers.{with_read}
 use Rattle.esr_desk.specs.Taken.{begun_by, tried}
-use Rattle.esr_desk.specs.Evidence.{Faulty}
-
--- ---- an object that failed
-
-true_false : (b : Bool) → b ≡ true → b ≡ false → ⊥
-true_false b one other = cc
-
-has_risen : (before now : ℕ) (failed : Bool) → HasCause before now failed → failed ≡ true → 0 < now
-has_risen before now failed cause is = let rose = cause.rose is in omega arith
-
--- it is none of a quiet container, where it is sure not to fail
-pub is_faulty : (s : Start) (before now : ℕ) (failed : Bool) → HasCause before now failed → (s.quiet ≡ true → failed ≡ false) → failed ≡ true → Faulty s now
-is_faulty s before now failed cause never is = (
-  has_risen before now failed cause is,
-  elim (cases_Bool s.quiet) [
-    | inl quiet ↦ absurd (true_false failed is (never quiet))
-    | inr other ↦ other
-  ],
-)
-
-pub never_err : {T E : Type 0} (result : Result T E) → (IsErr result → ⊥) → is_err result ≡ false
-never_err (Ok x) never = refl
-never_err (Err e) never = absurd (never refl)
-
-pub on_ok : {T E : Type 0} (result : Result T E) (P : Type 0) → is_err result ≡ false → OnOk result P → P
-on_ok (Ok x) P ok h = h
-on_ok (Err e) P ok h = absurd cc
 
 pub did_fail : {T : Type 0} (result : Result T CallError) (e : CallError) → result ≡ Err e → e ≡ Failed → has_failed result ≡ true
 did_fail {T} result e is failed = ap (λ (r : Result T CallError). has_failed r) is ∙ ap (λ (x : CallError). has_failed {T = T} (Err x)) failed
@@ -86,14 +56,6 @@ absent_own hands.Check s left name own = refl
 absent_own hands.Verify s left name own = refl
 
 -- ---- a stage
-
--- the bytes of one that began empty
-pub told_append : (s : Start) (bytes : Bytes) → append_known (told_bytes s []) bytes ≡ told_bytes s bytes
-told_append s bytes = by_tells s.tells bytes
-  where
-    by_tells : (tells : Bool) (bytes : Bytes) → append_known (if tells then Some [] else None) bytes ≡ (if tells then Some bytes else None)
-    by_tells true bytes = refl
-    by_tells false bytes = refl
 
 not_latest : (name : BlobName) (t : Ticket) → name ≢ Latest → (if is_latest name then tried t else t) ≡ t
 not_latest Latest t other = absurd (other refl)

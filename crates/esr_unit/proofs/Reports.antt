@@ -4,9 +4,9 @@ use Rattle.esr_names.specs.declared.blob.BlobName.{BlobName as CodeName}
 use Rattle.esr_formats.specs.Names.{name_of}
 use Rattle.esr_model.specs.Names.{BlobName}
 use Rattle.esr_core.specs.World.{World}
-use Rattle.esr_core.specs.Allowed.{Blocks, ByFailedSwap, ByDelete}
+use Rattle.esr_core.specs.Allowed.{Blocks, ByDelete}
 use Rattle.esr_core.specs.Refusing.{MayRefuse, RefusedSo}
-use Rattle.esr_core.specs.Entry.{Why, Step, BeginStep, CommitStep, FailedStep, Refusal, Refused, DeposedAt, AbortedBy, Moment}
+use Rattle.esr_core.specs.Entry.{Why, Step, BeginStep, CommitStep, FailedStep, Refusal, Refused, AbortedBy, Moment}
 use Rattle.esr_desk.specs.declared.hand.Hand.{Hand}
 use Rattle.esr_desk.specs.declared.hand.Hand.TheVariants as hands
 use Rattle.esr_desk.specs.declared.refusal.EntryRefusal.{EntryRefusal}
@@ -21,7 +21,7 @@ use Rattle.esr_desk.specs.Halts.{Halts}
 use Rattle.esr_desk.specs.Hands.{fail_step, MayFail}
 use Rattle.esr_unit.specs.Fetch.{IsRefusedBy}
 use Rattle.esr_unit.specs.Put.{WasRefused}
-use Rattle.esr_unit.specs.Refusals.{RefusesSo, last_refused}
+use Rattle.esr_unit.specs.Refusals.{RefusesSo, IsBlock, block_is, last_refused}
 
 -- ---- a blob that wasn't put
 
@@ -39,16 +39,6 @@ commit_refused s old new who name at same e h =
     (inr (subst (λ (n : CodeName). WasRefused s new who (CommitStep (name_of n)) (told_refusal e)) same (refused_at s old new who (CommitStep (name_of at)) (told_refusal e) h.0)), h.1)
 
 -- ---- a report that was refused
-
--- before a step is looked at
-abbrev pub IsBlock : Refusal → Type 0
-IsBlock (DeposedAt place) = Unit {0}
-IsBlock (AbortedBy op) = Unit {0}
-IsBlock refusal = ⊥
-
-block_is : (w : World) (who : ℕ) (step : Step) (refusal : Refusal) → Blocks w who step refusal → IsBlock refusal
-block_is w who step refusal (ByFailedSwap place deposed) = tt
-block_is w who step refusal (ByDelete op deposed aborted) = tt
 
 none_failed : (hand : Hand) (why : Why) (refusal : Refusal) → MayRefuse (fail_step hand why) refusal → ⊥
 none_failed hands.Unit why refusal may = elim may [ ]

@@ -66,6 +66,16 @@ IsSwap DroppedStep = Unit {0}
 IsSwap (PruneStep prune) = IsSwapPrune prune
 IsSwap step = ⊥
 
+-- before a step is looked at: since a record swap had failed, or as a delete aborted the op
+abbrev pub IsBlock : Refusal → Type 0
+IsBlock (DeposedAt place) = Unit {0}
+IsBlock (AbortedBy op) = Unit {0}
+IsBlock refusal = ⊥
+
+pub block_is : (w : World) (who : ℕ) (step : Step) (refusal : Refusal) → Blocks w who step refusal → IsBlock refusal
+block_is w who step refusal (ByFailedSwap place deposed) = tt
+block_is w who step refusal (ByDelete op deposed aborted) = tt
+
 -- since a record swap had failed, as its op was aborted, as the container failed, as the name is taken, as numbers are spent, or as its term is over
 abbrev pub MayRefuseWork : Step → Refusal → Type 0
 MayRefuseWork step (DeposedAt place) = Unit {0}

@@ -15,7 +15,7 @@ ghost use Rattle.esr_unit.specs.Put.{PutErr};
 
 use crate::trouble::Trouble;
 use esr_depot::{Commit, Stage};
-use esr_desk::{Desk, Named};
+use esr_desk::{Desk, Named, NewBlob};
 use esr_names::BlobName;
 use std::alloc::Global;
 
@@ -41,7 +41,8 @@ pub fn put<Q: Desk>(
     ensures grew { GrewBy Q.start ticket (Q.seen desk.old) (Q.seen desk.new) }
     ensures calls { Q.calls desk.new ≡ Q.calls desk.old }
 {
-    let mut named = desk.begin(alloc, ticket, name, bytes.len())?;
+    let room = bytes.len();
+    let mut named = desk.begin(alloc, ticket, NewBlob { name, room })?;
     if named.stage.write(bytes).is_err() {
         return Err(Trouble::Stage { stage: named.stage });
     }

@@ -9,7 +9,7 @@ ghost use Rattle.esr_unit.specs.Shown.{EndingShown, MayEnd};
 ghost use Rattle.esr_unit.specs.Fail.{GivenUp, IsReported};
 
 use crate::ending::Ending;
-use esr_desk::{Desk, Hand, UnitRefusal};
+use esr_desk::{Desk, Failure, Hand, UnitRefusal, Who};
 use esr_source::{Shard, Target};
 use std::alloc::Global;
 
@@ -38,10 +38,13 @@ pub fn give_up<Q: Desk>(
 {
     esr_core::refusals_are_of_their_steps();
     match ending {
-        Ending::Failed { why, by } => match desk.fail(alloc, hand, who, why, by) {
-            Ok(()) => UnitRefusal::Failed(why),
-            Err(refusal) => UnitRefusal::Stopped(refusal),
-        },
+        Ending::Failed { why, by } => {
+            let who = Who { hand, number: who };
+            match desk.fail(alloc, Failure { who, why, by }) {
+                Ok(()) => UnitRefusal::Failed(why),
+                Err(refusal) => UnitRefusal::Stopped(refusal),
+            }
+        }
         Ending::Own => unreachable!(),
         Ending::Stale => unreachable!(),
         Ending::Stopped(refusal) => UnitRefusal::Stopped(refusal),

@@ -13,7 +13,7 @@ ghost use Rattle.esr_unit.specs.Fetch.{FetchErr, IsAsked, IsFetched, LeavesCalls
 
 use crate::trouble::Trouble;
 use esr_depot::{CallError, Fetch, read_whole};
-use esr_desk::{Desk, Hand, StepRefusal};
+use esr_desk::{Desk, Hand, StepRefusal, Who};
 use esr_names::BlobName;
 use esr_seq::Bytes;
 use std::alloc::Global;
@@ -41,7 +41,7 @@ pub fn fetch_whole<Q: Desk>(
     ensures calls { IsMine hand (Q.calls desk.new) who }
     ensures others { LeavesCalls hand (Q.calls desk.old) (Q.calls desk.new) }
 {
-    let mut fetch = match desk.fetch(alloc, hand, who, name)? {
+    let mut fetch = match desk.fetch(alloc, Who { hand, number: who }, name)? {
         Some(fetch) => fetch,
         None => return Ok(None),
     };

@@ -1,5 +1,5 @@
 -- The parts of a file, one after another.
-use Rattle.std.proofs.Common.{◌≡◌, ◌⊎◌, inl, inr, ℕ, zero, suc, ◌+◌, ◌-◌, ◌*◌, ◌/◌, ◌%◌, ◌<◌, ◌≤◌, ◌^◌, min, nat_le, Bool, true, false, List, [], ◌∷◌, ◌++◌, length, take, drop, Option, Some, None, option_map, slice_get, IfSome, refl, sym, ap, ◌∙◌, subst, arith, add-one, append_assoc, length-append, if◌then◌else◌}
+use Rattle.std.proofs.Common.{◌≡◌, ◌≢◌, ◌⊎◌, inl, inr, ℕ, zero, suc, ◌+◌, ◌-◌, ◌*◌, ◌/◌, ◌%◌, ◌<◌, ◌≤◌, ◌^◌, min, nat_le, Bool, true, false, List, [], ◌∷◌, ◌++◌, length, take, drop, Option, Some, None, option_map, slice_get, IfSome, refl, sym, ap, ◌∙◌, subst, arith, add-one, append_assoc, length-append, if◌then◌else◌}
 use Rattle.std.proofs.lemmas.Bool.{cases_Bool, leb-true, leb-false}
 use Rattle.std.proofs.lemmas.List.{length-drop, take_all, take-append-le, drop-append-le}
 use Rattle.std.proofs.Math.Nat.{le-mul_of_pos_right}
@@ -9,12 +9,12 @@ use Rattle.esr_names.specs.declared.blob.ShardId.{ShardId}
 use Rattle.esr_names.specs.declared.blob.BlobName.{BlobName as CodeName}
 use Rattle.esr_names.specs.declared.blob.BlobName.TheVariants as code
 use Rattle.esr_names.specs.Layout.{IsName}
-use Rattle.esr_model.specs.Names.{BlobName, File, Part}
+use Rattle.esr_model.specs.Names.{BlobName, Latest, File, Part}
 use Rattle.esr_model.specs.Values.{Bytes, Has, Formats, files_told, or_no_files}
 use Rattle.esr_model.specs.Parts.{part_count, parts_from}
 use Rattle.esr_model.specs.Uploads.{pieces, pairs, file_blobs}
 use Rattle.esr_core.specs.World.{Ticket, Work, Shard, Deleting, Swap, swap_of}
-use Rattle.esr_core.specs.Steps.{Drew}
+use Rattle.esr_core.specs.Steps.{Drew, ShardCommits}
 use Rattle.esr_core.specs.Ready.{IsShard}
 use Rattle.esr_core.specs.After.{committing}
 use Rattle.esr_core.specs.Texts.{IsMetaOf}
@@ -30,6 +30,7 @@ use Rattle.esr_formats.specs.Formats.{formats}
 use Rattle.esr_formats.specs.Shards.{entry_of}
 use Rattle.esr_desk.specs.Start.{Start, formats_of, told_bytes}
 use Rattle.esr_desk.specs.Sources.{TellSame}
+use Rattle.esr_desk.specs.Conditions.{CanCommit}
 use Rattle.esr_desk.specs.Taken.{after_writes}
 use Rattle.esr_upload.specs.Stored.{MayStore, IsAt, IsToldBy, HasPrint, IsFileBelow, AreBelow}
 use Rattle.esr_upload.specs.Pieces.{CanStore, AreNumbered, blob_name, cut, PutParts}
@@ -49,14 +50,14 @@ no_part_meta i k x p u (inr (inl is)) = cc
 no_part_meta i k x p u (inr (inr is)) = let e = is.1 in cc
 
 -- the unit of a shard swaps nothing
-pub no_swap : (s : Start) (t : Ticket) (i k : ℕ) → t.work ≡ Shard i k → ◌≡◌ {A = Option Swap} (swap_of (formats_of s) t.work t.root) None
+no_swap : (s : Start) (t : Ticket) (i k : ℕ) → t.work ≡ Shard i k → ◌≡◌ {A = Option Swap} (swap_of (formats_of s) t.work t.root) None
 no_swap s t i k is = subst (λ (w : Work). ◌≡◌ {A = Option Swap} (swap_of (formats_of s) w t.root) None) (sym is) refl
 
 -- nor is it of a delete or cleanup
-pub no_deletion : (t : Ticket) (i k : ℕ) (uuids : List ℕ) (plan : Option Swap) → t.work ≡ Shard i k → t.work ≡ Deleting uuids plan → ⊥
+no_deletion : (t : Ticket) (i k : ℕ) (uuids : List ℕ) (plan : Option Swap) → t.work ≡ Shard i k → t.work ≡ Deleting uuids plan → ⊥
 no_deletion t i k uuids plan is deletes = let same : Shard i k ≡ Deleting uuids plan = sym is ∙ deletes in cc
 
-pub of_shard : (t : Ticket) (i k : ℕ) → t.work ≡ Shard i k → IsShard t.work
+of_shard : (t : Ticket) (i k : ℕ) → t.work ≡ Shard i k → IsShard t.work
 of_shard t i k is = subst IsShard (sym is) tt
 
 -- the name of the next part of a file isn't noted
@@ -73,6 +74,19 @@ own_number s t at name work has i k is =
     let same : at.number ≡ k = cc in
     subst (λ (n : ℕ). IsNumbered (formats_of s) s.part_size t n (name_of name) t.source) same has
 
+-- a blob of the shard's ticket may be committed
+pub own_can : (s : Start) (t : Ticket) (index number : ℕ) (name : BlobName) (bytes : Bytes) → IsAt t index number → name ≢ Latest → ShardCommits t name → ((i k : ℕ) → t.work ≡ Shard i k → IsNumbered (formats_of s) s.part_size t k name t.source)
+    → (Has t.noted name → ⊥) → CanCommit s t name bytes
+own_can s t index number name bytes is other own numbered unnoted = record {
+  out = is.out;
+  unsettled = is.unsettled;
+  may = inr (no_swap s t index number is.work, own, of_shard t index number is.work);
+  stored = other;
+  once = λ meta noted. unnoted noted;
+  numbered = numbered;
+  late = λ uuids plan deletes clean. absurd (no_deletion t index number uuids plan is.work deletes);
+}
+
 whole_can : (s : Start) (t : Ticket) (at : ShardId) (e : CodeEntry) → IsAt t at.index.number at.number → Drew t e.name.number → at.number < 1024 → HasNumber s t at (code.Whole at e.name) → IsFresh t (code.Whole at e.name) → CanStore s t (code.Whole at e.name)
 unfolding IsName
 whole_can s t at e is drew few part fresh = record {
@@ -81,15 +95,7 @@ whole_can s t at e is drew few part fresh = record {
   work = is.work;
   layout = few;
   own = λ meta. no_file_meta at.index.number at.number e.name.number meta.0 meta.1;
-  may = λ bytes. record {
-    out = is.out;
-    unsettled = is.unsettled;
-    may = inr (no_swap s t at.index.number at.number is.work, (is.work, drew), of_shard t at.index.number at.number is.work);
-    stored = λ same. cc;
-    once = λ other noted. fresh noted;
-    numbered = own_number s t at (code.Whole at e.name) is.work part;
-    late = λ uuids plan deletes clean. absurd (no_deletion t at.index.number at.number uuids plan is.work deletes);
-  };
+  may = λ bytes. own_can s t at.index.number at.number (name_of (code.Whole at e.name)) bytes is (λ same. cc) (is.work, drew) (own_number s t at (code.Whole at e.name) is.work part) fresh;
 }
 
 part_can : (s : Start) (t : Ticket) (at : ShardId) (e : CodeEntry) (k : ℕ) → IsAt t at.index.number at.number → Drew t e.name.number → at.number < 1024 → k < 2 ^ 61 → HasNumber s t at (code.Part at e.name k) → IsFresh t (code.Part at e.name k) → CanStore s t (code.Part at e.name k)
@@ -100,15 +106,7 @@ part_can s t at e k is drew few low part fresh = record {
   work = is.work;
   layout = (few, low);
   own = λ meta. no_part_meta at.index.number at.number e.name.number k meta.0 meta.1;
-  may = λ bytes. record {
-    out = is.out;
-    unsettled = is.unsettled;
-    may = inr (no_swap s t at.index.number at.number is.work, (is.work, drew), of_shard t at.index.number at.number is.work);
-    stored = λ same. cc;
-    once = λ other noted. fresh noted;
-    numbered = own_number s t at (code.Part at e.name k) is.work part;
-    late = λ uuids plan deletes clean. absurd (no_deletion t at.index.number at.number uuids plan is.work deletes);
-  };
+  may = λ bytes. own_can s t at.index.number at.number (name_of (code.Part at e.name k)) bytes is (λ same. cc) (is.work, drew) (own_number s t at (code.Part at e.name k) is.work part) fresh;
 }
 
 can_store : (s : Start) (t : Ticket) (at : ShardId) (e : CodeEntry) (k : ℕ) → IsAt t at.index.number at.number → Drew t e.name.number → at.number < 1024 → k < 2 ^ 61 → HasNumber s t at (part_name at e k) → IsFresh t (part_name at e k) → CanStore s t (part_name at e k)

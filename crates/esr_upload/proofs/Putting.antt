@@ -1,7 +1,5 @@
 -- A blob that is written and committed.
-use Rattle.std.proofs.Common.{◌≡◌, ◌<◌, inl, inr, ℕ, Bool, true, false, List, ◌∷◌, Option, Some, None, arith, refl, sym, subst}
-use Rattle.std.proofs.lemmas.Bool.{cases_Bool}
-use Rattle.esr_depot.specs.Calls.{HasCause}
+use Rattle.std.proofs.Common.{◌≡◌, ℕ, List, ◌∷◌, Option, Some, None, refl, sym, subst}
 use Rattle.esr_depot.specs.declared.depot.Commit.{Commit}
 use Rattle.esr_depot.specs.declared.depot.Commit.TheVariants as commits
 use Rattle.esr_model.specs.Names.{BlobName, ShardSnap, ShardIndex}
@@ -12,26 +10,8 @@ use Rattle.esr_core.specs.Entry.{Moment}
 use Rattle.esr_core.specs.Allowed.{IsMetadata, IsNumbered}
 use Rattle.esr_desk.specs.Start.{Start, ticket_of, told_bytes}
 use Rattle.esr_desk.specs.Taken.{committed_by}
-use Rattle.esr_desk.specs.Evidence.{Faulty}
 use Rattle.esr_desk.specs.Grew.{GrewBy}
 use Rattle.esr_upload.specs.Worked.{Worked, Went}
-
--- an object that failed has a count of faults above 0
-pub has_risen : (before now : ℕ) (failed : Bool) → HasCause before now failed → failed ≡ true → 0 < now
-has_risen before now failed cause is = let rose = cause.rose is in omega arith
-
-true_false : (b : Bool) → b ≡ true → b ≡ false → ⊥
-true_false b one other = cc
-
--- and it is not one of a quiet container, where that is sure not to fail
-pub is_faulty : (s : Start) (before now : ℕ) (failed : Bool) → HasCause before now failed → (s.quiet ≡ true → failed ≡ false) → failed ≡ true → Faulty s now
-is_faulty s before now failed cause never is = (
-  has_risen before now failed cause is,
-  elim (cases_Bool s.quiet) [
-    | inl quiet ↦ absurd (true_false failed is (never quiet))
-    | inr other ↦ other
-  ],
-)
 
 -- a blob of no finalization's metadata that is committed is added
 pub committed_one : (s : Start) (name : BlobName) (bytes : Bytes) (c : Commit) (old new : Ticket) → (IsMetadata name → ⊥) → (c ≡ commits.Exists → IsMetadata name) → new ≡ committed_by name (told_bytes s bytes) c old

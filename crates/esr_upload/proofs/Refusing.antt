@@ -7,9 +7,8 @@ use Rattle.esr_model.specs.Names.{BlobName}
 use Rattle.esr_model.specs.Values.{Bytes, ShardResult}
 use Rattle.esr_core.specs.World.{World, Ticket, Work, Shard}
 use Rattle.esr_core.specs.Ready.{IsShard}
-use Rattle.esr_core.specs.Allowed.{Blocks, ByFailedSwap, ByDelete}
 use Rattle.esr_core.specs.Refusing.{MayRefuse, RefusedSo}
-use Rattle.esr_core.specs.Entry.{Step, BeginStep, CommitStep, DoneStep, Refusal, Refused, DeposedAt, AbortedBy, Moment}
+use Rattle.esr_core.specs.Entry.{Step, BeginStep, CommitStep, DoneStep, Refusal, Refused, AbortedBy, Moment}
 use Rattle.esr_source.specs.declared.address.Address.{Address}
 use Rattle.esr_source.specs.Address.{address}
 use Rattle.esr_source.specs.Told.{SourcesTold}
@@ -40,7 +39,7 @@ use Rattle.esr_unit.specs.Shown.{EndingShown, MayEnd}
 use Rattle.esr_unit.specs.Fetch.{IsRefusedBy, FetchErr}
 use Rattle.esr_unit.specs.Put.{WasRefused, PutErr}
 use Rattle.esr_unit.specs.Fail.{GivenUp}
-use Rattle.esr_unit.specs.Refusals.{RefusesSo, IsWork, IsSwap, last_refused, unit_refused, stepped_had}
+use Rattle.esr_unit.specs.Refusals.{RefusesSo, IsBlock, block_is, IsWork, IsSwap, last_refused, unit_refused, stepped_had}
 use Rattle.esr_upload.specs.Ended.{ended_by}
 use Rattle.esr_upload.specs.Pieces.{IsOfStart}
 use Rattle.esr_upload.specs.Published.{ReadShown}
@@ -91,16 +90,6 @@ fetch_shown e n files s old new who index number work step (troubles.Fetch fetch
 fetch_shown e n files s old new who index number work step trouble law is no_swap h = absurd h
 
 -- ---- the end of a shard was refused
-
--- since a record swap had failed, or as a delete aborted its op
-abbrev IsBlock : Refusal → Type 0
-IsBlock (DeposedAt place) = Unit {0}
-IsBlock (AbortedBy op) = Unit {0}
-IsBlock refusal = ⊥
-
-block_is : (w : World) (who : ℕ) (step : Step) (refusal : Refusal) → Blocks w who step refusal → IsBlock refusal
-block_is w who step refusal (ByFailedSwap place deposed) = tt
-block_is w who step refusal (ByDelete op deposed aborted) = tt
 
 none_done : (r : ShardResult) (refusal : Refusal) → MayRefuse (DoneStep r) refusal → ⊥
 none_done r refusal may = elim may [ ]

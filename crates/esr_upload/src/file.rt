@@ -14,7 +14,7 @@ ghost use Rattle.esr_upload.specs.Trouble.{Shown};
 ghost use Rattle.esr_upload.specs.Worked.{Went};
 
 use esr_depot::CallError;
-use esr_desk::{Desk, Named, StepRefusal, Why};
+use esr_desk::{Desk, Named, NewBlob, StepRefusal, Why};
 use esr_hash::Hasher;
 use esr_names::{BlobName, ShardId};
 use esr_parts::{CopyError, copy_part, part_plan};
@@ -72,7 +72,8 @@ fn put_part<Q: Desk, S: Shard, G: Gate>(
     ensures calls { Q.calls desk.new ≡ Q.calls desk.old }
 {
     esr_core::refusals_are_of_their_steps();
-    let mut named = desk.begin(alloc, ticket, name, size as usize)?;
+    let room = size as usize;
+    let mut named = desk.begin(alloc, ticket, NewBlob { name, room })?;
     match copy_part(shard, &mut named.stage, hasher, size, gate, ticket, buf) {
         Ok(true) => {}
         Ok(false) => return Ok(false),

@@ -1,10 +1,9 @@
 -- What a verification adds to a history.
-use Rattle.std.specs.Prelude.{◌≡◌, ◌≢◌, List, [], ◌∷◌, ◌++◌, Result, Ok, Err}
+use Rattle.std.specs.Prelude.{◌≡◌, ◌≢◌, List, [], ◌∷◌, ◌++◌, Result}
 use Rattle.esr_model.specs.Values.{Has}
 use Rattle.esr_core.specs.Entry.{Read, ReadBlob, RestoredShard, CheckedAll, DrawTest, BeginTest, CommitTest, RemoveTests, VerifiedAll, ReadFails, ReadStep, HasEnded, Moment}
+use Rattle.esr_desk.specs.Asks.{Asks}
 use Rattle.esr_desk.specs.declared.unit.UnitRefusal.{UnitRefusal}
-use Rattle.esr_desk.specs.declared.unit.UnitRefusal.TheVariants as units
-use Rattle.esr_desk.specs.declared.refusal.StepRefusal.TheVariants as steps
 
 -- a further step of a verification, after its draw
 abbrev pub IsFurther : Read → Type 0
@@ -39,12 +38,7 @@ pub data BeganOne (old new : List Moment) : Type 0 where
 
 -- By its answer: it drew, unless memory was wanting or turns were spent; then it may have made no step.
 abbrev pub AsksOne : {X : Type 0} → List Moment → List Moment → Result X UnitRefusal → Type 0
-AsksOne old new (Ok x) = HasBegun old new
-AsksOne old new (Err (units.Failed why)) = HasBegun old new
-AsksOne old new (Err (units.Stopped (steps.Refused refusal))) = HasBegun old new
-AsksOne old new (Err (units.Stopped steps.Memory)) = BeganOne old new
-AsksOne old new (Err (units.Stopped steps.TurnsSpent)) = BeganOne old new
-AsksOne old new (Err units.Stale) = ⊥
+AsksOne old new result = Asks (HasBegun old new) (BeganOne old new) result
 
 -- no verification ended well in what was added
 pub record NoneVerified (old new : List Moment) : Type 0 where

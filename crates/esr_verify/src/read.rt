@@ -1,5 +1,5 @@
 //! Test blobs are read back.
-ghost use Rattle.std.specs.Prelude.{◌≡◌, ◌<◌, ◌^◌, [], length, map, true, IfErr, IfOk, OnOk};
+ghost use Rattle.std.specs.Prelude.{◌≡◌, ◌<◌, ◌^◌, [], length, map, true, IfErr, OnOk};
 ghost use Rattle.esr_model.specs.Values.{Has};
 ghost use Rattle.esr_hash.specs.Prints.{print_of};
 ghost use Rattle.esr_names.specs.IdText.{id_text};
@@ -21,37 +21,9 @@ use esr_desk::{Client, Hand, Why};
 use esr_hash::{Hasher, Print};
 use esr_json::Reason;
 use esr_names::{BlobName, Id, id_text};
-use esr_seq::{Bytes, Seq};
+use esr_seq::Seq;
 use esr_unit::{Trouble, fetch_whole};
 use std::alloc::Global;
-
-/// The bytes of the test blob of that name, all of them.
-fn fetch_bytes<Q: Client>(
-    alloc: Global,
-    desk: &mut Q,
-    id: Id,
-    name: BlobName,
-) -> Result<Bytes, Trouble<Q::Stage, Q::Fetch>>
-    requires alone { Q.start.alone ≡ true }
-    requires layout { IsName name }
-    requires committed { Has (caller_of Q.start (Q.seen desk.old)).committed (name_of name) }
-    requires unremoved { (caller_of Q.start (Q.seen desk.old)).removed ≡ [] }
-    requires once { Has (caller_of Q.start (Q.seen desk.old)).fetched (name_of name) → ⊥ }
-    requires new { IsFresh Q.start (Q.seen desk.old) 0 (ReadStep (ReadBlob (name_of name))) }
-    requires drew { Drew Q.start (Q.seen desk.old) id.number }
-    ensures fetched { IfOk result (Fetched Q.start (Q.seen desk.old) (Q.seen desk.new) (name_of name)) }
-    ensures trouble { IfErr result (Shown Hand.Verify (evidence Q.Stage.faults Q.Fetch.faults Q.Shard.faults Q.Target.faults Q.Shard.told Q.Target.told) ⊥ Q.start (Q.seen desk.new) 0) }
-    ensures kept { Kept Q.start (Q.seen desk.old) (Q.seen desk.new) id.number }
-{
-    laws();
-    match fetch_whole(alloc, desk, Hand::Verify, 0, name)? {
-        Some(bytes) => Ok(bytes),
-        None => {
-            let why = Why::Absent { name };
-            Err(Trouble::Found { why })
-        }
-    }
-}
 
 /// The print of fewer than 2^61 bytes.
 fn print_bytes(bytes: &[u8]) -> Print
@@ -110,8 +82,14 @@ fn read_test<Q: Client>(
     ensures trouble { IfErr result (Shown Hand.Verify (evidence Q.Stage.faults Q.Fetch.faults Q.Shard.faults Q.Target.faults Q.Shard.told Q.Target.told) ⊥ Q.start (Q.seen desk.new) 0) }
     ensures kept { Kept Q.start (Q.seen desk.old) (Q.seen desk.new) id.number }
 {
-    let bytes = fetch_bytes(alloc, desk, id, name)?;
-    judge(id, name, bytes.as_slice())
+    laws();
+    match fetch_whole(alloc, desk, Hand::Verify, 0, name)? {
+        Some(bytes) => judge(id, name, bytes.as_slice()),
+        None => {
+            let why = Why::Absent { name };
+            Err(Trouble::Found { why })
+        }
+    }
 }
 
 /// Reads the test blobs of these names, one after another; each holds the text of the id.

@@ -18,7 +18,7 @@ ghost use Rattle.esr_unit.specs.Shown.{Shown};
 
 use crate::law::laws;
 use esr_depot::Stage;
-use esr_desk::{Client, Named};
+use esr_desk::{Client, Named, NewBlob};
 use esr_names::{BlobName, Id, id_text};
 use esr_seq::Seq;
 use esr_unit::Trouble;
@@ -44,7 +44,8 @@ fn write_test<Q: Client>(
 {
     laws();
     let text = id_text(id);
-    let mut named = desk.begin_test(alloc, name, text.len())?;
+    let room = text.len();
+    let mut named = desk.begin_test(alloc, NewBlob { name, room })?;
     if named.stage.write(&text).is_err() {
         return Err(Trouble::Stage { stage: named.stage });
     }

@@ -2,12 +2,4 @@ use Rattle.esr_bounds.proofs.Once.{heard_kept}
 use Rattle.esr_bounds.proofs.each_ticket_does_all_once.Goals as goal
 
 pub returns : goal.returns
-returns c = λ f size w log k h some.
-    (heard_kept f size (record {
-      tracks = c.each_step_is_tracked.ensures f size;
-      reads = c.each_step_tracks_restores.ensures f size;
-      frame = c.each_step_leaves_the_others.ensures.frame f;
-      maker = c.each_step_has_its_maker.ensures f size;
-      others = c.entries_are_of_their_makers.ensures.others;
-      own = c.entries_are_of_their_makers.ensures.own;
-    }) w log h).once k some
+returns c = λ f size w log k h some. (heard_kept f size (c.steps_are_lawful.ensures f size) w log h).once k some

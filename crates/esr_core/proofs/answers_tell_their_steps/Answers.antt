@@ -1,5 +1,5 @@
-use Rattle.esr_core.proofs.Causes.{take_gave, settle_did}
+use Rattle.esr_core.proofs.Causes.{take_gave, settle_did, restore_began}
 use Rattle.esr_core.proofs.answers_tell_their_steps.Goals as goal
 
 pub returns : goal.returns
-returns c = record { gave = take_gave; settled = settle_did }
+returns c = record { gave = take_gave; settled = settle_did; began = restore_began }

@@ -15,21 +15,19 @@ pub returns-then-not-names_file : goal.returns-then-not-names_file
 returns-then-not-names_file c =
     let named = Names (map entry_of c.args.entries.now) in
     let ids = c.args.ids.now in
-    let files = c.args.files.now in
     let k = c.loop-k.k in
     let none : Id = record { number = 0 } in
     let id = get_or ids k none in
     fails (λ pairs. not_so c.names_file.result c.names_file.ensures c.if-not-names_file.true
-    (pairs_both named number_of entry_of ids files k id c.index-files-k.result c.loop-k-test.true (item_is ids k none c.loop-k-test.true) c.index-files-k.is pairs))
+    (pairs_both named number_of entry_of ids c.args.files.now k id c.index-files-k.result c.loop-k-test.true (item_is ids k none c.loop-k-test.true) c.index-files-k.is pairs))
 
 pub loop-k-preserved : goal.loop-k-preserved
 loop-k-preserved c =
     let named = Names (map entry_of c.args.entries.now) in
     let ids = c.args.ids.now in
-    let files = c.args.files.now in
     let k = c.loop-k.k in
     let none : Id = record { number = 0 } in
     let id = get_or ids k none in
     let within = subst (λ (n : ℕ). k < n) c.if-ids-files.false c.loop-k-test.true in
-    pairs_next named number_of entry_of ids files k id c.index-files-k.result c.loop-k-test.true within (item_is ids k none c.loop-k-test.true) c.index-files-k.is c.loop-k.invariant
+    pairs_next named number_of entry_of ids c.args.files.now k id c.index-files-k.result c.loop-k-test.true within (item_is ids k none c.loop-k-test.true) c.index-files-k.is c.loop-k.invariant
     (so c.names_file.result c.names_file.ensures c.if-not-names_file.false)

@@ -6,8 +6,9 @@ use Rattle.esr_formats.specs.Roots.{root_snap_of}
 use Rattle.esr_desk.specs.declared.unit.Look.{Look}
 use Rattle.esr_desk.specs.Refusals.{told_refusal}
 use Rattle.esr_desk.specs.Evidence.{evidence}
-use Rattle.esr_desk.specs.Grew.{grew_by_on, outcome_grew_by}
+use Rattle.esr_desk.specs.Grew.{GrewBy, grew_by_on, outcome_grew_by}
 use Rattle.esr_check.specs.declared.checking.Checked.{Checked}
+use Rattle.esr_check.specs.First.{AreFirst}
 use Rattle.esr_check.specs.Names.{IsAny}
 use Rattle.esr_check.proofs.Living.{look_safe, look_same_safe}
 use Rattle.esr_check.proofs.Counting.{look_so_far, look_unfetched}
@@ -15,6 +16,7 @@ use Rattle.esr_check.proofs.Beginning.{since_look, of_check_on, went_of_check, o
 use Rattle.esr_check.proofs.Firsts.{first_went, first_outcome, first_report}
 use Rattle.esr_check.proofs.Failing.{trouble_shown, may_end, never_stale, ending_shown}
 use Rattle.esr_check.proofs.Closing.{look_as, look_count, went_open, can_end, trouble_ends, end_stops, look_stops, has_checked}
+use Rattle.esr_check.proofs.checking.check.Goals.{After-end_check}
 use Rattle.esr_check.proofs.checking.check.Goals as goal
 
 -- ---- the look was refused
@@ -102,13 +104,12 @@ returns-in-Err-read_all-clause-refused g c =
 pub returns-in-Err-read_all-clause-asked : goal.returns-in-Err-read_all-clause-asked
 returns-in-Err-read_all-clause-asked g c =
     let s = g.Q.Desk.start in
-    let old = g.Q.Desk.seen c.args.desk.now in
     let first = g.Q.Desk.seen c.look.new.self in
     let mid = g.Q.Desk.seen c.read_all.new.desk in
     let new = g.Q.Desk.seen c.give_up.new.desk in
     let e = evidence g.Q.Stage.Counted.faults g.Q.Fetch.Counted.faults g.Q.Shard.Counted.faults g.Q.Target.Counted.faults g.Q.Shard.Shard.told g.Q.Target.Target.told in
-    asks_given Checked e s old mid new c.ending_of.result c.give_up.result c.give_up.ensures.end
-    (begun_on s old first new (Looked (map root_snap_of c.in-Ok.look.listing) (count_of c.in-Ok.look.safe)) c.requires.alone c.in-Ok.ensures.step (of_check_on s first mid new (went_of_check s first mid IsAny c.read_all.ensures.went) (report_of_check s mid new c.ending_of.result c.give_up.result c.requires.alone c.give_up.ensures.report)))
+    asks_given Checked e s (g.Q.Desk.seen c.args.desk.now) mid new c.ending_of.result c.give_up.result c.give_up.ensures.end
+    (begun_on s (g.Q.Desk.seen c.args.desk.now) first new (Looked (map root_snap_of c.in-Ok.look.listing) (count_of c.in-Ok.look.safe)) c.requires.alone c.in-Ok.ensures.step (of_check_on s first mid new (went_of_check s first mid IsAny c.read_all.ensures.went) (report_of_check s mid new c.ending_of.result c.give_up.result c.requires.alone c.give_up.ensures.report)))
 
 pub returns-in-Err-read_all-clause-unchecked : goal.returns-in-Err-read_all-clause-unchecked
 returns-in-Err-read_all-clause-unchecked g c =
@@ -163,8 +164,9 @@ returns-in-Ok-end_check-clause-asked g c =
     begun_on s (g.Q.Desk.seen c.args.desk.now) first new (Looked (map root_snap_of c.in-Ok.look.listing) (count_of c.in-Ok.look.safe)) c.requires.alone c.in-Ok.ensures.step
     (of_check_on s first mid new (went_of_check s first mid IsAny c.read_all.ensures.went) (outcome_of_check s mid new (CheckedAll c.listed_count-snapshots.result c.in-Ok-read_all.blobs) (λ x. HasEnded) c.end_check.result c.requires.alone tt c.end_check.ensures.step))
 
-pub returns-in-Ok-end_check-clause-grew : goal.returns-in-Ok-end_check-clause-grew
-returns-in-Ok-end_check-clause-grew g c =
+-- by the end of the check, also where that was refused
+end_grew : (g : _) (c : After-end_check g) → GrewBy g.Q.Desk.start 0 (g.Q.Desk.seen c.args.desk.now) (g.Q.Desk.seen c.end_check.new.self)
+end_grew g c =
     let s = g.Q.Desk.start in
     let old = g.Q.Desk.seen c.args.desk.now in
     let first = g.Q.Desk.seen c.look.new.self in
@@ -173,6 +175,9 @@ returns-in-Ok-end_check-clause-grew g c =
     grew_by_on s 0 old first new (outcome_grew_by s old first 0 LookStep (λ (l : Look). Looked (map root_snap_of l.listing) (count_of l.safe)) c.look.result c.look.ensures.step)
     (of_check_grew s first new
     (of_check_on s first mid new (went_of_check s first mid IsAny c.read_all.ensures.went) (outcome_of_check s mid new (CheckedAll c.listed_count-snapshots.result c.in-Ok-read_all.blobs) (λ x. HasEnded) c.end_check.result c.requires.alone tt c.end_check.ensures.step)))
+
+pub returns-in-Ok-end_check-clause-grew : goal.returns-in-Ok-end_check-clause-grew
+returns-in-Ok-end_check-clause-grew g c = end_grew g (goal.at.returns-in-Ok-end_check-clause-grew g c).After-end_check
 
 pub returns-clause-refused : goal.returns-clause-refused
 returns-clause-refused g c =
@@ -203,15 +208,7 @@ returns-clause-unchecked g c =
     (refusing_unchecked s mid new (ReadStep (CheckedAll c.listed_count-snapshots.result c.in-Ok-read_all.blobs)) (told_refusal c.in-Err-end_check.refusal) c.requires.alone c.in-Err-end_check.ensures.step.0))
 
 pub returns-clause-grew : goal.returns-clause-grew
-returns-clause-grew g c =
-    let s = g.Q.Desk.start in
-    let old = g.Q.Desk.seen c.args.desk.now in
-    let first = g.Q.Desk.seen c.look.new.self in
-    let mid = g.Q.Desk.seen c.read_all.new.desk in
-    let new = g.Q.Desk.seen c.end_check.new.self in
-    grew_by_on s 0 old first new (outcome_grew_by s old first 0 LookStep (λ (l : Look). Looked (map root_snap_of l.listing) (count_of l.safe)) c.look.result c.look.ensures.step)
-    (of_check_grew s first new
-    (of_check_on s first mid new (went_of_check s first mid IsAny c.read_all.ensures.went) (outcome_of_check s mid new (CheckedAll c.listed_count-snapshots.result c.in-Ok-read_all.blobs) (λ x. HasEnded) c.end_check.result c.requires.alone tt c.end_check.ensures.step)))
+returns-clause-grew g c = end_grew g (goal.at.returns-clause-grew g c).After-end_check
 
 -- ---- a failed check names the first blob that is damaged
 
@@ -229,8 +226,8 @@ returns-in-Err-read_all-clause-first g c was =
     (first_went s first mid IsAny c.read_all.ensures.went
     (first_outcome s old first LookStep (λ (l : Look). Looked (map root_snap_of l.listing) (count_of l.safe)) c.look.result c.requires.alone (λ why e. cc) c.look.ensures.step was))
 
-pub returns-in-Ok-end_check-clause-first : goal.returns-in-Ok-end_check-clause-first
-returns-in-Ok-end_check-clause-first g c was =
+end_first : (g : _) (c : After-end_check g) → AreFirst g.Q.Desk.start (g.Q.Desk.seen c.args.desk.now) → AreFirst g.Q.Desk.start (g.Q.Desk.seen c.end_check.new.self)
+end_first g c was =
     let s = g.Q.Desk.start in
     let old = g.Q.Desk.seen c.args.desk.now in
     let first = g.Q.Desk.seen c.look.new.self in
@@ -239,12 +236,8 @@ returns-in-Ok-end_check-clause-first g c was =
     (first_went s first mid IsAny c.read_all.ensures.went
     (first_outcome s old first LookStep (λ (l : Look). Looked (map root_snap_of l.listing) (count_of l.safe)) c.look.result c.requires.alone (λ why e. cc) c.look.ensures.step was))
 
+pub returns-in-Ok-end_check-clause-first : goal.returns-in-Ok-end_check-clause-first
+returns-in-Ok-end_check-clause-first g c was = end_first g (goal.at.returns-in-Ok-end_check-clause-first g c).After-end_check was
+
 pub returns-clause-first : goal.returns-clause-first
-returns-clause-first g c was =
-    let s = g.Q.Desk.start in
-    let old = g.Q.Desk.seen c.args.desk.now in
-    let first = g.Q.Desk.seen c.look.new.self in
-    let mid = g.Q.Desk.seen c.read_all.new.desk in
-    first_outcome s mid (g.Q.Desk.seen c.end_check.new.self) (ReadStep (CheckedAll c.listed_count-snapshots.result c.in-Ok-read_all.blobs)) (λ x. HasEnded) c.end_check.result c.requires.alone (λ why e. cc) c.end_check.ensures.step
-    (first_went s first mid IsAny c.read_all.ensures.went
-    (first_outcome s old first LookStep (λ (l : Look). Looked (map root_snap_of l.listing) (count_of l.safe)) c.look.result c.requires.alone (λ why e. cc) c.look.ensures.step was))
+returns-clause-first g c was = end_first g (goal.at.returns-clause-first g c).After-end_check was

@@ -6,6 +6,7 @@ use Rattle.esr_formats.specs.Roots.{root_of}
 use Rattle.esr_desk.specs.Own.{caller_of}
 use Rattle.esr_check.specs.Names.{Just, IsAny, IsOfAnySnap, IsOfAnyShard}
 use Rattle.esr_check.specs.Pieces.{HasInfos, HasIndices}
+use Rattle.esr_check.specs.Went.{Went}
 use Rattle.esr_check.proofs.Going.{went_as, went_both, went_on, infos_more, still_new, root_on}
 use Rattle.esr_check.proofs.Counting.{all_new}
 use Rattle.esr_check.proofs.Ending.{checked_by}
@@ -13,6 +14,7 @@ use Rattle.esr_check.proofs.Naming.{snaps_no_root, shards_no_root, shards_no_sna
 use Rattle.esr_check.proofs.Rooted.{are_listed}
 use Rattle.esr_check.specs.First.{FirstOfSnaps, FirstOfIndices, FirstOf, AtRoot, AtSnap, AtShard}
 use Rattle.esr_check.proofs.Telling.{passes}
+use Rattle.esr_check.proofs.checking.read_root.Goals.{After-check_indices}
 use Rattle.esr_check.proofs.checking.read_root.Goals as goal
 
 pub returns-in_err-root-clause-went : goal.returns-in_err-root-clause-went
@@ -49,8 +51,9 @@ check_indices-requires-clause-new g c κs within =
     still_new s mid (g.Q.Desk.seen c.check_snaps.new.desk) IsOfAnySnap IsOfAnyShard (λ name own other. shards_no_snaps name own other)
     (still_new s old mid (Just (Root c.args.number)) IsOfAnyShard (λ name own other. shards_no_root c.args.number name own other) (all_new (caller_of s old) IsOfAnyShard c.requires.first) c.fetch_root.ensures.went) c.check_snaps.ensures.went
 
-pub returns-in_err-check_indices-clause-went : goal.returns-in_err-check_indices-clause-went
-returns-in_err-check_indices-clause-went g c =
+-- by the indices, well or not
+indices_went : (g : _) (c : After-check_indices g) → Went g.Q.Desk.start (g.Q.Desk.seen c.args.desk.now) (g.Q.Desk.seen c.check_indices.new.desk) IsAny
+indices_went g c =
     let s = g.Q.Desk.start in
     let old = g.Q.Desk.seen c.args.desk.now in
     let mid = g.Q.Desk.seen c.fetch_root.new.desk in
@@ -59,15 +62,11 @@ returns-in_err-check_indices-clause-went g c =
     went_on s old next new IsAny (went_both s old mid next (Just (Root c.args.number)) IsOfAnySnap IsAny (λ name own. tt) (λ name own. tt) c.fetch_root.ensures.went c.check_snaps.ensures.went)
     (went_as s next new IsOfAnyShard IsAny (λ name own. tt) c.check_indices.ensures.went)
 
+pub returns-in_err-check_indices-clause-went : goal.returns-in_err-check_indices-clause-went
+returns-in_err-check_indices-clause-went g c = indices_went g (goal.at.returns-in_err-check_indices-clause-went g c).After-check_indices
+
 pub returns-clause-went : goal.returns-clause-went
-returns-clause-went g c =
-    let s = g.Q.Desk.start in
-    let old = g.Q.Desk.seen c.args.desk.now in
-    let mid = g.Q.Desk.seen c.fetch_root.new.desk in
-    let next = g.Q.Desk.seen c.check_snaps.new.desk in
-    let new = g.Q.Desk.seen c.check_indices.new.desk in
-    went_on s old next new IsAny (went_both s old mid next (Just (Root c.args.number)) IsOfAnySnap IsAny (λ name own. tt) (λ name own. tt) c.fetch_root.ensures.went c.check_snaps.ensures.went)
-    (went_as s next new IsOfAnyShard IsAny (λ name own. tt) c.check_indices.ensures.went)
+returns-clause-went g c = indices_went g (goal.at.returns-clause-went g c).After-check_indices
 
 pub returns-clause-read : goal.returns-clause-read
 returns-clause-read g c =
@@ -102,12 +101,11 @@ returns-in_err-infos-clause-first g c =
 pub returns-in_err-check_indices-clause-first : goal.returns-in_err-check_indices-clause-first
 returns-in_err-check_indices-clause-first g c =
     let s = g.Q.Desk.start in
-    let mid = g.Q.Desk.seen c.fetch_root.new.desk in
     let next = g.Q.Desk.seen c.check_snaps.new.desk in
     let new = g.Q.Desk.seen c.check_indices.new.desk in
     let root = root_of c.in_ok-root.root in
     let infos = map info_of_code c.in_ok-infos.infos in
     passes (FirstOfIndices s (caller_of s new) root (map info_of_code c.as_slice.result.now)) (FirstOf s new) c.from_residual-in_err-check_indices.result c.in_err-check_indices.field-0.0 c.from_residual-in_err-check_indices.ensures.1
-    (λ name first. AtShard root infos (c.args.number, root_on s next new IsOfAnyShard c.args.number root c.check_indices.ensures.went (root_on s mid next IsOfAnySnap c.args.number root c.check_snaps.ensures.went c.in_ok-root.ensures.root))
+    (λ name first. AtShard root infos (c.args.number, root_on s next new IsOfAnyShard c.args.number root c.check_indices.ensures.went (root_on s (g.Q.Desk.seen c.fetch_root.new.desk) next IsOfAnySnap c.args.number root c.check_snaps.ensures.went c.in_ok-root.ensures.root))
     (infos_more s (caller_of s next) (caller_of s new) c.check_indices.ensures.went.grown root root.snapshots infos c.in_ok-infos.ensures.infos)
     (subst (λ (l : List Info). FirstOfIndices s (caller_of s new) root (map info_of_code l) name) c.as_slice.ensures first)) c.in_err-check_indices.ensures.first

@@ -1,9 +1,12 @@
 use Rattle.std.proofs.Common.{◌≡◌, ◌+◌, ◌<◌, ◌^◌, true, refl, arith}
 use Rattle.std.specs.Prelude.{IsTrue}
 use Rattle.esr_model.specs.Values.{Bytes}
+use Rattle.esr_core.specs.After.{caller_told}
+use Rattle.esr_core.specs.Entry.{ReadStep, ReadBlob, WasFetched}
 use Rattle.esr_formats.specs.Names.{name_of}
 use Rattle.esr_desk.specs.Conditions.{Holds}
-use Rattle.esr_desk.specs.Outcome.{fetch_reply}
+use Rattle.esr_desk.specs.Start.{told_bytes}
+use Rattle.esr_desk.specs.Outcome.{Stepped, fetch_reply}
 use Rattle.esr_desk.specs.Own.{caller_of}
 use Rattle.esr_check.specs.Trouble.{Shown}
 use Rattle.esr_unit.specs.declared.trouble.Trouble.TheVariants.{Step}
@@ -12,6 +15,7 @@ use Rattle.esr_check.proofs.Counting.{fetch_came, step_told, caller_own, told_ow
 use Rattle.esr_check.proofs.Refusing.{passed, fetch_refused, absent}
 use Rattle.esr_check.specs.First.{TellsOne}
 use Rattle.esr_check.specs.Names.{Just}
+use Rattle.esr_check.proofs.fetch.fetch.Goals.{In-Some}
 use Rattle.esr_check.proofs.fetch.fetch.Goals as goal
 
 pub fetch-requires-clause-mine : goal.fetch-requires-clause-mine
@@ -38,46 +42,41 @@ returns-in_err-fetch-clause-went g c =
 
 -- ---- it is there
 
-pub overflow_add-count : goal.overflow_add-count
-overflow_add-count g c =
+held_at : (g : _) (c : In-Some g) → (bytes : Bytes) × Holds g.Q.Desk.start (g.Q.Fetch.Fetch.left c.in-Some.fetch) bytes
+held_at g c = fetch_came c.in_ok-fetch.field-0 c.in-Some.fetch (λ f. (bytes : Bytes) × Holds g.Q.Desk.start (g.Q.Fetch.Fetch.left f) bytes) c.in-Some.is c.in_ok-fetch.ensures.told
+
+step_at : (g : _) (c : In-Some g) → Stepped g.Q.Desk.start (g.Q.Desk.seen c.args.desk.now) (g.Q.Desk.seen c.fetch.new.self) 0 (ReadStep (ReadBlob (name_of c.args.name))) WasFetched
+step_at g c = step_told g.Q.Desk.start (g.Q.Desk.seen c.args.desk.now) (g.Q.Desk.seen c.fetch.new.self) (name_of c.args.name) c.in_ok-fetch.field-0 c.in-Some.fetch c.in-Some.is c.in_ok-fetch.ensures.step
+
+own_at : (g : _) (c : In-Some g)
+    → caller_of g.Q.Desk.start (g.Q.Desk.seen c.fetch.new.self) ≡ caller_told (caller_of g.Q.Desk.start (g.Q.Desk.seen c.args.desk.now)) (name_of c.args.name) (told_bytes g.Q.Desk.start (held_at g c).0)
+own_at g c =
     let s = g.Q.Desk.start in
     let old = g.Q.Desk.seen c.args.desk.now in
     let new = g.Q.Desk.seen c.fetch.new.self in
     let left = g.Q.Fetch.Fetch.left in
     let name = name_of c.args.name in
     let o = c.in_ok-fetch.field-0 in
-    let held = fetch_came o c.in-Some.fetch (λ f. (bytes : Bytes) × Holds s (left f) bytes) c.in-Some.is c.in_ok-fetch.ensures.told in
-    let step = step_told s old new name o c.in-Some.fetch c.in-Some.is c.in_ok-fetch.ensures.step in
-    let own = told_own left o c.in-Some.fetch s name held.0 (caller_of s old) (caller_of s new) c.in-Some.is held.1 (caller_own left s old new name o c.in_ok-fetch.ensures.own) in
-    let fits : c.args.count.now + 1 < 2 ^ 64 = count_fits s old new c.args.count.now name held.0 c.requires.alone step own c.requires.may c.requires.so_far (c.in_ok-fetch.ensures.few c.requires.alone) in
+    told_own left o c.in-Some.fetch s name (held_at g c).0 (caller_of s old) (caller_of s new) c.in-Some.is (held_at g c).1 (caller_own left s old new name o c.in_ok-fetch.ensures.own)
+
+fits_at : (g : _) (c : In-Some g) → c.args.count.now + 1 < 2 ^ 64
+fits_at g c = count_fits g.Q.Desk.start (g.Q.Desk.seen c.args.desk.now) (g.Q.Desk.seen c.fetch.new.self) c.args.count.now (name_of c.args.name) (held_at g c).0 c.requires.alone (step_at g c) (own_at g c) c.requires.may c.requires.so_far (c.in_ok-fetch.ensures.few c.requires.alone)
+
+pub overflow_add-count : goal.overflow_add-count
+overflow_add-count g c =
+    let fits : c.args.count.now + 1 < 2 ^ 64 = fits_at g (goal.at.overflow_add-count g c).In-Some in
     omega (arith, fits)
 
 pub returns-in-Some-clause-came : goal.returns-in-Some-clause-came
 returns-in-Some-clause-came g c =
-    let s = g.Q.Desk.start in
-    let old = g.Q.Desk.seen c.args.desk.now in
-    let new = g.Q.Desk.seen c.fetch.new.self in
-    let left = g.Q.Fetch.Fetch.left in
-    let name = name_of c.args.name in
-    let o = c.in_ok-fetch.field-0 in
-    let held = fetch_came o c.in-Some.fetch (λ f. (bytes : Bytes) × Holds s (left f) bytes) c.in-Some.is c.in_ok-fetch.ensures.told in
-    let sure = fetch_came o c.in-Some.fetch (λ f. s.quiet ≡ true → IsTrue (g.Q.Fetch.Fetch.is_sure f)) c.in-Some.is c.in_ok-fetch.ensures.sure in
-    let step = step_told s old new name o c.in-Some.fetch c.in-Some.is c.in_ok-fetch.ensures.step in
-    let own = told_own left o c.in-Some.fetch s name held.0 (caller_of s old) (caller_of s new) c.in-Some.is held.1 (caller_own left s old new name o c.in_ok-fetch.ensures.own) in
-    has_come s old new c.args.count.now name held.0 c.requires.alone step own c.requires.may c.requires.so_far (left c.in-Some.fetch) (g.Q.Fetch.Fetch.is_sure c.in-Some.fetch) held.1 sure
+    let some = (goal.at.returns-in-Some-clause-came g c).In-Some in
+    let sure = fetch_came c.in_ok-fetch.field-0 c.in-Some.fetch (λ f. g.Q.Desk.start.quiet ≡ true → IsTrue (g.Q.Fetch.Fetch.is_sure f)) c.in-Some.is c.in_ok-fetch.ensures.sure in
+    has_come g.Q.Desk.start (g.Q.Desk.seen c.args.desk.now) (g.Q.Desk.seen c.fetch.new.self) c.args.count.now (name_of c.args.name) (held_at g some).0 c.requires.alone (step_at g some) (own_at g some) c.requires.may c.requires.so_far (g.Q.Fetch.Fetch.left c.in-Some.fetch) (g.Q.Fetch.Fetch.is_sure c.in-Some.fetch) (held_at g some).1 sure
 
 pub returns-in-Some-clause-so_far : goal.returns-in-Some-clause-so_far
 returns-in-Some-clause-so_far g c =
-    let s = g.Q.Desk.start in
-    let old = g.Q.Desk.seen c.args.desk.now in
-    let new = g.Q.Desk.seen c.fetch.new.self in
-    let left = g.Q.Fetch.Fetch.left in
-    let name = name_of c.args.name in
-    let o = c.in_ok-fetch.field-0 in
-    let held = fetch_came o c.in-Some.fetch (λ f. (bytes : Bytes) × Holds s (left f) bytes) c.in-Some.is c.in_ok-fetch.ensures.told in
-    let step = step_told s old new name o c.in-Some.fetch c.in-Some.is c.in_ok-fetch.ensures.step in
-    let own = told_own left o c.in-Some.fetch s name held.0 (caller_of s old) (caller_of s new) c.in-Some.is held.1 (caller_own left s old new name o c.in_ok-fetch.ensures.own) in
-    next_so_far s old new c.args.count.now name held.0 c.requires.alone step own c.requires.may c.requires.so_far
+    let some = (goal.at.returns-in-Some-clause-so_far g c).In-Some in
+    next_so_far g.Q.Desk.start (g.Q.Desk.seen c.args.desk.now) (g.Q.Desk.seen c.fetch.new.self) c.args.count.now (name_of c.args.name) (held_at g some).0 c.requires.alone (step_at g some) (own_at g some) c.requires.may c.requires.so_far
 
 pub returns-in-Some-clause-went : goal.returns-in-Some-clause-went
 returns-in-Some-clause-went g c =

@@ -2,6 +2,7 @@ use Rattle.std.proofs.Common.{◌∙◌, List, map, take, refl, sym, subst}
 use Rattle.esr_shardidx.specs.declared.entry.FileEntry.{FileEntry as CodeEntry}
 use Rattle.esr_shardidx.specs.Entries.{IsEntry}
 use Rattle.esr_model.specs.Values.{Has, FileEntry}
+use Rattle.esr_formats.specs.Infos.{info_of_code}
 use Rattle.esr_formats.specs.Roots.{root_of}
 use Rattle.esr_formats.specs.Shards.{entry_of, shard_index_of}
 use Rattle.esr_desk.specs.Own.{caller_of}
@@ -10,7 +11,7 @@ use Rattle.esr_reach.proofs.Apart.{shard_apart}
 use Rattle.esr_agreement.proofs.Loops.{has_at, every_more, every_all}
 use Rattle.esr_check.specs.Names.{IsPieceOf}
 use Rattle.esr_check.specs.Pieces.{HasFile, HasFiles}
-use Rattle.esr_check.proofs.Going.{went_none, some_new, held_more, files_more, safe_on}
+use Rattle.esr_check.proofs.Going.{went_none, some_new, held_more, files_more, shard_on}
 use Rattle.esr_check.proofs.Listing.{Any, at_same, all_at, next_new, any_next, any_all, any_then}
 use Rattle.esr_check.proofs.Naming.{FileOf, file_key, file_in}
 use Rattle.esr_check.specs.First.{IsNext, FirstOfFile, FirstOfFiles}
@@ -22,17 +23,18 @@ loop-entry-init g c = record {
   buffer = refl;
   files = λ e has. absurd has;
   so_far = c.requires.so_far;
-  went = went_none g.Q.Desk.start (g.Q.Desk.seen c.args.desk.now) (Any (FileOf c.args.at.index.number c.args.at.number) (map entry_of (take 0 c.files-entry-items.result.now)));
+  went = went_none g.Q.Desk.start (g.Q.Desk.seen c.args.desk.now) (Any (FileOf c.args.shard.at.index.number c.args.shard.at.number) (map entry_of (take 0 c.files-entry-items.result.now)));
 }
 
-pub check_file-requires-clause-root : goal.check_file-requires-clause-root
-check_file-requires-clause-root g c κs within =
-    safe_on g.Q.Desk.start (g.Q.Desk.seen c.args.desk.now) (g.Q.Desk.seen c.loop-entry.desk) (Any (FileOf c.args.at.index.number c.args.at.number) (map entry_of (take c.loop-entry.entry-index c.files-entry-items.result.now))) (root_of c.args.root.now) c.loop-entry.invariant.went c.requires.root
+pub check_file-requires-clause-shard : goal.check_file-requires-clause-shard
+check_file-requires-clause-shard g c κs within =
+    shard_on g.Q.Desk.start (g.Q.Desk.seen c.args.desk.now) (g.Q.Desk.seen c.loop-entry.desk) (Any (FileOf c.args.shard.at.index.number c.args.shard.at.number) (map entry_of (take c.loop-entry.entry-index c.files-entry-items.result.now)))
+    (root_of c.args.shard.root.now) (map info_of_code c.args.shard.infos.now) c.args.shard.at.index.number c.args.shard.at.number c.args.shard.generation.number c.loop-entry.invariant.went c.requires.shard
 
 pub check_file-requires-clause-held : goal.check_file-requires-clause-held
 check_file-requires-clause-held g c κs within =
     let s = g.Q.Desk.start in
-    held_more s (caller_of s (g.Q.Desk.seen c.args.desk.now)) (caller_of s (g.Q.Desk.seen c.loop-entry.desk)) c.loop-entry.invariant.went.grown c.args.at.index.number c.args.at.number c.args.generation.number (shard_index_of c.args.held.now) c.requires.held
+    held_more s (caller_of s (g.Q.Desk.seen c.args.desk.now)) (caller_of s (g.Q.Desk.seen c.loop-entry.desk)) c.loop-entry.invariant.went.grown c.args.shard.at.index.number c.args.shard.at.number c.args.shard.generation.number (shard_index_of c.args.held.now) c.requires.held
 
 pub check_file-requires-clause-entry : goal.check_file-requires-clause-entry
 check_file-requires-clause-entry g c κs within =
@@ -49,8 +51,8 @@ check_file-requires-clause-new g c κs within =
     let s = g.Q.Desk.start in
     let old = g.Q.Desk.seen c.args.desk.now in
     let own = c.entry-item.result in
-    let index = c.args.at.index.number in
-    let shard = c.args.at.number in
+    let index = c.args.shard.at.index.number in
+    let shard = c.args.shard.at.number in
     let xs = c.files-entry-items.result.now in
     let once = subst (λ (es : List CodeEntry). AreOnce (map (λ (e : FileEntry). e.name) (map entry_of es))) (sym c.files-entry-items.ensures.files) (shard_apart c.args.held.now c.files-entry-items.ensures.whole).files in
     next_new s old (g.Q.Desk.seen c.loop-entry.desk) (λ (e : FileEntry). e.name) (FileOf index shard) entry_of xs c.loop-entry.entry-index own (λ a b name one two. file_key index shard a b name one two) once c.loop-entry-test.true c.entry-item.is
@@ -58,8 +60,8 @@ check_file-requires-clause-new g c κs within =
 
 pub returns-in_err-check_file-clause-went : goal.returns-in_err-check_file-clause-went
 returns-in_err-check_file-clause-went g c =
-    let index = c.args.at.index.number in
-    let shard = c.args.at.number in
+    let index = c.args.shard.at.index.number in
+    let shard = c.args.shard.at.number in
     any_then g.Q.Desk.start (g.Q.Desk.seen c.args.desk.now) (g.Q.Desk.seen c.loop-entry.desk) (g.Q.Desk.seen c.check_file.new.desk) (FileOf index shard) (IsPieceOf index shard) (map entry_of (take c.loop-entry.entry-index c.files-entry-items.result.now)) (entry_of c.entry-item.result)
     (λ e name own. file_in index shard e name own) c.loop-entry.invariant.went c.check_file.ensures.went
 
@@ -68,8 +70,8 @@ loop-entry-preserved g c =
     let s = g.Q.Desk.start in
     let mid = g.Q.Desk.seen c.loop-entry.desk in
     let new = g.Q.Desk.seen c.check_file.new.desk in
-    let index = c.args.at.index.number in
-    let shard = c.args.at.number in
+    let index = c.args.shard.at.index.number in
+    let shard = c.args.shard.at.number in
     let xs = c.files-entry-items.result.now in
     let i = c.loop-entry.entry-index in
     let own = c.entry-item.result in
@@ -86,15 +88,15 @@ pub returns-clause-files : goal.returns-clause-files
 returns-clause-files g c =
     let s = g.Q.Desk.start in
     let now = caller_of s (g.Q.Desk.seen c.loop-entry.desk) in
-    let index = c.args.at.index.number in
-    let shard = c.args.at.number in
+    let index = c.args.shard.at.index.number in
+    let shard = c.args.shard.at.number in
     subst (λ (es : List CodeEntry). HasFiles s now index shard (map entry_of es)) c.files-entry-items.ensures.files
     (every_all (HasFile s now index shard) entry_of c.files-entry-items.result.now c.loop-entry.entry-index c.loop-entry-test.false c.loop-entry.invariant.files)
 
 pub returns-clause-went : goal.returns-clause-went
 returns-clause-went g c =
-    let index = c.args.at.index.number in
-    let shard = c.args.at.number in
+    let index = c.args.shard.at.index.number in
+    let shard = c.args.shard.at.number in
     any_all g.Q.Desk.start (g.Q.Desk.seen c.args.desk.now) (g.Q.Desk.seen c.loop-entry.desk) (FileOf index shard) (IsPieceOf index shard) (map entry_of (take c.loop-entry.entry-index c.files-entry-items.result.now)) (λ e name own. file_in index shard e name own) c.loop-entry.invariant.went
 
 pub returns-in_err-check_file-clause-first : goal.returns-in_err-check_file-clause-first
@@ -102,8 +104,8 @@ returns-in_err-check_file-clause-first g c =
     let s = g.Q.Desk.start in
     let mid = caller_of s (g.Q.Desk.seen c.loop-entry.desk) in
     let new = caller_of s (g.Q.Desk.seen c.check_file.new.desk) in
-    let index = c.args.at.index.number in
-    let shard = c.args.at.number in
+    let index = c.args.shard.at.index.number in
+    let shard = c.args.shard.at.number in
     let xs = c.files-entry-items.result.now in
     let i = c.loop-entry.entry-index in
     let own = entry_of c.entry-item.result in

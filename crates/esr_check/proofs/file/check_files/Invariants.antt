@@ -13,7 +13,7 @@ invariant-loop-entry g l =
     let now = g.Q.Desk.seen l.desk in
     record {
       buffer : length l.buf ≡ length l.fn.buf;
-      files : HasFiles s (caller_of s now) l.at.index.number l.at.number (map entry_of (take l.entry-index l.entry-items));
+      files : HasFiles s (caller_of s now) l.shard.at.index.number l.shard.at.number (map entry_of (take l.entry-index l.entry-items));
       so_far : IsSoFar s now l.count;
-      went : Went s (g.Q.Desk.seen l.fn.desk) now (Any (FileOf l.at.index.number l.at.number) (map entry_of (take l.entry-index l.entry-items)));
+      went : Went s (g.Q.Desk.seen l.fn.desk) now (Any (FileOf l.shard.at.index.number l.shard.at.number) (map entry_of (take l.entry-index l.entry-items)));
     }

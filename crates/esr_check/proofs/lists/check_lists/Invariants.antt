@@ -14,7 +14,7 @@ invariant-loop-list g l =
     let s = g.Q.Desk.start in
     let now = g.Q.Desk.seen l.desk in
     record {
-      lists : HasLists s (caller_of s now) (root_of l.root) (map info_of_code l.infos) l.at.index.number l.at.number (shard_index_of l.held) (map snap_list_of (take l.list-index l.list-items));
+      lists : HasLists s (caller_of s now) (root_of l.shard.root.now) (map info_of_code l.shard.infos.now) l.shard.at.index.number l.shard.at.number (shard_index_of l.held) (map snap_list_of (take l.list-index l.list-items));
       so_far : IsSoFar s now l.count;
-      went : Went s (g.Q.Desk.seen l.fn.desk) now (Any (ListOf l.at.index.number l.at.number) (map snap_list_of (take l.list-index l.list-items)));
+      went : Went s (g.Q.Desk.seen l.fn.desk) now (Any (ListOf l.shard.at.index.number l.shard.at.number) (map snap_list_of (take l.list-index l.list-items)));
     }

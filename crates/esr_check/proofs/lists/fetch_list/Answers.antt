@@ -1,30 +1,25 @@
 use Rattle.esr_names.specs.declared.blob.BlobName.TheVariants as codes
 use Rattle.esr_model.specs.Names.{ShardSnap}
-use Rattle.esr_formats.specs.Roots.{root_of}
-use Rattle.esr_formats.specs.Shards.{shard_index_of, shard_snap_of, snap_list_of}
+use Rattle.esr_formats.specs.Shards.{shard_snap_of}
 use Rattle.esr_desk.specs.Own.{caller_of}
 use Rattle.esr_check.proofs.Reading.{snap_name, as_shard_snap, snap_unread}
-use Rattle.esr_check.proofs.Reaching.{can_list}
 use Rattle.esr_check.proofs.Telling.{unread_tells}
 use Rattle.esr_check.proofs.lists.fetch_list.Goals as goal
 
 pub fetch_whole-requires-clause-layout : goal.fetch_whole-requires-clause-layout
-fetch_whole-requires-clause-layout g c κs within = snap_name c.args.at c.args.list.now.uuid c.requires.few
+fetch_whole-requires-clause-layout g c κs within = snap_name c.args.at c.args.uuid c.requires.few
 
 pub fetch_whole-requires-clause-may : goal.fetch_whole-requires-clause-may
-fetch_whole-requires-clause-may g c κs within =
-    let s = g.Q.Desk.start in
-    let old = g.Q.Desk.seen c.args.desk.now in
-    can_list s old c.args.count.now (root_of c.args.root.now) c.args.at.index.number c.args.at.number c.args.generation.number c.requires.so_far c.requires.root c.requires.generation (shard_index_of c.args.held.now) (snap_list_of c.args.list.now) c.requires.held c.requires.list c.requires.listed c.requires.new
+fetch_whole-requires-clause-may g c κs within = c.requires.may
 
 pub returns-in-Ok-clause-read : goal.returns-in-Ok-clause-read
 returns-in-Ok-clause-read g c =
     let s = g.Q.Desk.start in
-    as_shard_snap s (caller_of s (g.Q.Desk.seen c.fetch_whole.new.desk)) (ShardSnap c.args.at.index.number c.args.at.number c.args.list.now.uuid.number) c.in_ok-bytes.bytes c.as_slice.result.now c.as_slice.ensures c.in_ok-bytes.ensures.fetched (shard_snap_of c.in-Ok.snap) c.in-Ok.ensures.read
+    as_shard_snap s (caller_of s (g.Q.Desk.seen c.fetch_whole.new.desk)) (ShardSnap c.args.at.index.number c.args.at.number c.args.uuid.number) c.in_ok-bytes.bytes c.as_slice.result.now c.as_slice.ensures c.in_ok-bytes.ensures.fetched (shard_snap_of c.in-Ok.snap) c.in-Ok.ensures.read
 
 pub returns-clause-trouble : goal.returns-clause-trouble
 returns-clause-trouble g c =
-    snap_unread g.Q.Fetch.Counted.faults g.Q.Desk.start (g.Q.Desk.seen c.fetch_whole.new.desk) c.in_ok-bytes.bytes c.as_slice.result.now c.in-Err.refusal c.unread.result c.as_slice.ensures c.args.at c.args.list.now.uuid c.unread.ensures c.in_ok-bytes.ensures.fetched c.in-Err.ensures.reason
+    snap_unread g.Q.Fetch.Counted.faults g.Q.Desk.start (g.Q.Desk.seen c.fetch_whole.new.desk) c.in_ok-bytes.bytes c.as_slice.result.now c.in-Err.refusal c.unread.result c.as_slice.ensures c.args.at c.args.uuid c.unread.ensures c.in_ok-bytes.ensures.fetched c.in-Err.ensures.reason
 
 pub returns-clause-first : goal.returns-clause-first
-returns-clause-first g c = unread_tells (codes.ShardSnap c.args.at c.args.list.now.uuid) c.in-Err.refusal c.unread.result c.unread.ensures
+returns-clause-first g c = unread_tells (codes.ShardSnap c.args.at c.args.uuid) c.in-Err.refusal c.unread.result c.unread.ensures

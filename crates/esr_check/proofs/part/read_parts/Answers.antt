@@ -27,8 +27,8 @@ pub loop-number-init : goal.loop-number-init
 loop-number-init g c = record {
   buffer = refl;
   so_far = c.requires.so_far;
-  went = went_none g.Q.Desk.start (g.Q.Desk.seen c.args.desk.now) (Below (PartOf c.args.at c.args.entry.now) 0);
-  parts = so_far_none g.Q.Desk.start (caller_of g.Q.Desk.start (g.Q.Desk.seen c.args.desk.now)) c.args.hasher.now c.args.at c.args.entry.now c.requires.fresh;
+  went = went_none g.Q.Desk.start (g.Q.Desk.seen c.args.desk.now) (Below (PartOf c.args.shard.at c.args.entry.now) 0);
+  parts = so_far_none g.Q.Desk.start (caller_of g.Q.Desk.start (g.Q.Desk.seen c.args.desk.now)) c.args.hasher.now c.args.shard.at c.args.entry.now c.requires.fresh;
 }
 
 pub read_part-requires-clause-layout : goal.read_part-requires-clause-layout
@@ -38,18 +38,18 @@ read_part-requires-clause-layout g c κs within =
     let test : number < c.part_count-number-end.result = c.loop-number-test.true in
     let most : part_count e.print.len e.part_size ≤ e.print.len + 1 = few_parts e.print.len e.part_size c.requires.entry.least in
     let low : number < 2 ^ 61 = omega (arith, test, c.part_count-number-end.ensures.count, most, c.requires.entry.short) in
-    subst IsName (sym c.part_name-name.ensures) (part_layout c.args.at e number c.requires.few low)
+    subst IsName (sym c.part_name-name.ensures) (part_layout c.args.shard.at e number c.requires.shard.few low)
 
 pub read_part-requires-clause-may : goal.read_part-requires-clause-may
 read_part-requires-clause-may g c κs within =
     let s = g.Q.Desk.start in
     let e = c.args.entry.now in
-    let at = c.args.at in
+    let at = c.args.shard.at in
     let number = c.loop-number.number in
     let old = g.Q.Desk.seen c.args.desk.now in
     let now = g.Q.Desk.seen c.loop-number.desk in
     let went = c.loop-number.invariant.went in
-    let root = root_of c.args.root.now in
+    let root = root_of c.args.shard.root.now in
     let held = shard_index_of c.args.held.now in
     let test : number < c.part_count-number-end.result = c.loop-number-test.true in
     let less : number < part_count e.print.len e.part_size = omega (arith, test, c.part_count-number-end.ensures.count) in
@@ -57,8 +57,8 @@ read_part-requires-clause-may g c κs within =
     below_new s old now (PartOf at e) number (λ k name lower one two. part_apart at e k number name less lower one two)
     (some_new (caller_of s old) (IsOfFile at.index.number at.number e.name.number) (PartOf at e number) (λ name own. part_in at e number name own) c.requires.new) went in
     subst (λ (n : CodeName). CanCheck s now (name_of n)) (sym c.part_name-name.ensures)
-    (can_part s now c.loop-number.count root at c.args.generation.number held e number c.loop-number.invariant.so_far (safe_on s old now (Below (PartOf at e) number) root went c.requires.root) c.requires.generation
-    (held_more s (caller_of s old) (caller_of s now) went.grown at.index.number at.number c.args.generation.number held c.requires.held) c.requires.listed c.requires.entry.least less new)
+    (can_part s now c.loop-number.count root at c.args.shard.generation.number held e number c.loop-number.invariant.so_far (safe_on s old now (Below (PartOf at e) number) root went c.requires.shard.safe) c.requires.shard.there
+    (held_more s (caller_of s old) (caller_of s now) went.grown at.index.number at.number c.args.shard.generation.number held c.requires.held) c.requires.listed c.requires.entry.least less new)
 
 pub read_part-requires-clause-bound : goal.read_part-requires-clause-bound
 read_part-requires-clause-bound g c κs within =
@@ -72,7 +72,7 @@ pub returns-in_err-is_whole-clause-went : goal.returns-in_err-is_whole-clause-we
 returns-in_err-is_whole-clause-went g c =
     let s = g.Q.Desk.start in
     let e = c.args.entry.now in
-    let at = c.args.at in
+    let at = c.args.shard.at in
     let mid = g.Q.Desk.seen c.loop-number.desk in
     let new = g.Q.Desk.seen c.read_part.new.desk in
     below_then s (g.Q.Desk.seen c.args.desk.now) mid new (PartOf at e) (IsOfFile at.index.number at.number e.name.number) c.loop-number.number (λ k name own. part_in at e k name own) c.loop-number.invariant.went
@@ -83,7 +83,7 @@ loop-number-preserved g c =
     let inv = c.loop-number.invariant in
     let s = g.Q.Desk.start in
     let e = c.args.entry.now in
-    let at = c.args.at in
+    let at = c.args.shard.at in
     let number = c.loop-number.number in
     let mid = g.Q.Desk.seen c.loop-number.desk in
     let new = g.Q.Desk.seen c.read_part.new.desk in
@@ -108,19 +108,19 @@ returns-clause-read g c =
     let s = g.Q.Desk.start in
     let e = c.args.entry.now in
     let last : c.loop-number.number ≡ c.part_count-number-end.result = omega (arith, c.loop-number.auto.number-end, c.loop-number-test.false) in
-    so_far_all s (caller_of s (g.Q.Desk.seen c.loop-number.desk)) c.loop-number.hasher c.args.at e c.loop-number.number c.loop-number.is_exact c.requires.entry.least (last ∙ c.part_count-number-end.ensures.count) c.loop-number.invariant.parts
+    so_far_all s (caller_of s (g.Q.Desk.seen c.loop-number.desk)) c.loop-number.hasher c.args.shard.at e c.loop-number.number c.loop-number.is_exact c.requires.entry.least (last ∙ c.part_count-number-end.ensures.count) c.loop-number.invariant.parts
 
 pub returns-clause-went : goal.returns-clause-went
 returns-clause-went g c =
     let e = c.args.entry.now in
-    let at = c.args.at in
+    let at = c.args.shard.at in
     below_all g.Q.Desk.start (g.Q.Desk.seen c.args.desk.now) (g.Q.Desk.seen c.loop-number.desk) (PartOf at e) (IsOfFile at.index.number at.number e.name.number) c.loop-number.number (λ k name own. part_in at e k name own) c.loop-number.invariant.went
 
 pub returns-in_err-is_whole-clause-first : goal.returns-in_err-is_whole-clause-first
 returns-in_err-is_whole-clause-first g c =
     let s = g.Q.Desk.start in
     let e = c.args.entry.now in
-    let at = c.args.at in
+    let at = c.args.shard.at in
     let k = c.loop-number.number in
     let new = caller_of s (g.Q.Desk.seen c.read_part.new.desk) in
     let went = c.read_part.ensures.went in

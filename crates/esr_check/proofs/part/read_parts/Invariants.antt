@@ -13,6 +13,6 @@ invariant-loop-number g l =
     record {
       buffer : length l.buf ≡ length l.fn.buf;
       so_far : IsSoFar s now l.count;
-      went : Went s (g.Q.Desk.seen l.fn.desk) now (Below (PartOf l.at l.entry) l.number);
-      parts : SoFar s (caller_of s now) l.hasher l.at l.entry l.number l.is_exact;
+      went : Went s (g.Q.Desk.seen l.fn.desk) now (Below (PartOf l.shard.at l.entry) l.number);
+      parts : SoFar s (caller_of s now) l.hasher l.shard.at l.entry l.number l.is_exact;
     }

@@ -12,8 +12,13 @@ use Rattle.esr_check.specs.First.{FirstOfShard, FirstOfPlace}
 use Rattle.esr_check.proofs.Telling.{if_tells}
 use Rattle.esr_check.proofs.shard.check_place.Goals as goal
 
-pub check_shard-requires-clause-generation : goal.check_shard-requires-clause-generation
-check_shard-requires-clause-generation g c κs within = c.requires.generation c.in-Some.generation.number (ap (λ (o : Option Id). option_map number_of o) c.in-Some.is)
+pub check_shard-requires-clause-shard : goal.check_shard-requires-clause-shard
+check_shard-requires-clause-shard g c κs within = record {
+  safe = c.requires.root;
+  listed = c.requires.infos;
+  few = c.requires.few;
+  there = c.requires.generation c.in-Some.generation.number (ap (λ (o : Option Id). option_map number_of o) c.in-Some.is);
+}
 
 pub returns-in-Some-clause-place : goal.returns-in-Some-clause-place
 returns-in-Some-clause-place g c =
@@ -38,11 +43,9 @@ returns-in-None-clause-went g c = went_none g.Q.Desk.start (g.Q.Desk.seen c.args
 pub returns-in-Some-clause-first : goal.returns-in-Some-clause-first
 returns-in-Some-clause-first g c =
     let s = g.Q.Desk.start in
-    let now = caller_of s (g.Q.Desk.seen c.check_shard.new.desk) in
     let root = root_of c.args.root.now in
     let infos = map info_of_code c.args.infos.now in
     let index = c.args.at.index.number in
     let shard = c.args.at.number in
-    let id = c.in-Some.generation in
-    if_tells (FirstOfShard s now root infos index shard id.number) (FirstOfPlace s now root infos index shard (option_map number_of c.args.generation))
-    (λ name first. record { generation = id.number; is = ap (λ (o : Option Id). option_map number_of o) c.in-Some.is; first = first }) c.check_shard.result c.check_shard.ensures.first
+    if_tells (FirstOfShard s (caller_of s (g.Q.Desk.seen c.check_shard.new.desk)) root infos index shard c.in-Some.generation.number) (FirstOfPlace s (caller_of s (g.Q.Desk.seen c.check_shard.new.desk)) root infos index shard (option_map number_of c.args.generation))
+    (λ name first. record { generation = c.in-Some.generation.number; is = ap (λ (o : Option Id). option_map number_of o) c.in-Some.is; first = first }) c.check_shard.result c.check_shard.ensures.first

@@ -1,10 +1,8 @@
 use Rattle.esr_names.specs.declared.blob.BlobName.TheVariants as codes
 use Rattle.esr_model.specs.Names.{ShardIndex}
-use Rattle.esr_formats.specs.Roots.{root_of}
 use Rattle.esr_formats.specs.Shards.{shard_index_of}
 use Rattle.esr_desk.specs.Own.{caller_of}
 use Rattle.esr_check.proofs.Reading.{held_name, as_shard_index, held_unread}
-use Rattle.esr_check.proofs.Reaching.{can_held}
 use Rattle.esr_check.proofs.Telling.{unread_tells}
 use Rattle.esr_check.proofs.shard.fetch_held.Goals as goal
 
@@ -12,10 +10,7 @@ pub fetch_whole-requires-clause-layout : goal.fetch_whole-requires-clause-layout
 fetch_whole-requires-clause-layout g c κs within = held_name c.args.at c.args.generation c.requires.few
 
 pub fetch_whole-requires-clause-may : goal.fetch_whole-requires-clause-may
-fetch_whole-requires-clause-may g c κs within =
-    let s = g.Q.Desk.start in
-    let old = g.Q.Desk.seen c.args.desk.now in
-    can_held s old c.args.count.now (root_of c.args.root.now) c.args.at.index.number c.args.at.number c.args.generation.number c.requires.so_far c.requires.root c.requires.generation c.requires.new
+fetch_whole-requires-clause-may g c κs within = c.requires.may
 
 pub returns-in-Ok-clause-read : goal.returns-in-Ok-clause-read
 returns-in-Ok-clause-read g c =

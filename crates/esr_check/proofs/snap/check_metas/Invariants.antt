@@ -12,7 +12,7 @@ invariant-loop-index g l =
     let s = g.Q.Desk.start in
     let now = g.Q.Desk.seen l.desk in
     record {
-      metas : HasMetas s (caller_of s now) l.snap.uuid.number (map ref_of_code (take l.index-index l.index-items));
+      metas : HasMetas s (caller_of s now) l.snap.listed.now.uuid.number (map ref_of_code (take l.index-index l.index-items));
       so_far : IsSoFar s now l.count;
-      went : Went s (g.Q.Desk.seen l.fn.desk) now (Any (MetaOf l.snap.uuid.number) (map ref_of_code (take l.index-index l.index-items)));
+      went : Went s (g.Q.Desk.seen l.fn.desk) now (Any (MetaOf l.snap.listed.now.uuid.number) (map ref_of_code (take l.index-index l.index-items)));
     }

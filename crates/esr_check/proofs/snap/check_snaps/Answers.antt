@@ -27,15 +27,14 @@ loop-snap-init g c = record {
   went = went_none g.Q.Desk.start (g.Q.Desk.seen c.args.desk.now) (Any SnapOf (map root_snap_of (take 0 c.as_slice-snap-items.result.now)));
 }
 
-pub check_snap-requires-clause-root : goal.check_snap-requires-clause-root
-check_snap-requires-clause-root g c κs within =
-    root_on g.Q.Desk.start (g.Q.Desk.seen c.args.desk.now) (g.Q.Desk.seen c.loop-snap.desk) (Any SnapOf (map root_snap_of (take c.loop-snap.snap-index c.as_slice-snap-items.result.now))) c.args.number (root_of c.args.root.now) c.loop-snap.invariant.went c.requires.root
-
-pub check_snap-requires-clause-listed : goal.check_snap-requires-clause-listed
-check_snap-requires-clause-listed g c κs within =
+pub check_snap-requires-clause-snap : goal.check_snap-requires-clause-snap
+check_snap-requires-clause-snap g c κs within =
     let own = root_snap_of c.snap-item.result in
     let items = c.as_slice-snap-items.ensures.items ∙ ap (λ (r : CodeRoot). r.snapshots) c.root.view_is in
-    subst (λ (ss : List CodeSnap). Has (map root_snap_of ss) own) items (has_at root_snap_of c.as_slice-snap-items.result.now c.loop-snap.snap-index c.snap-item.result c.loop-snap-test.true c.snap-item.is)
+    record {
+      safe = root_on g.Q.Desk.start (g.Q.Desk.seen c.args.desk.now) (g.Q.Desk.seen c.loop-snap.desk) (Any SnapOf (map root_snap_of (take c.loop-snap.snap-index c.as_slice-snap-items.result.now))) c.args.number (root_of c.args.root.now) c.loop-snap.invariant.went c.requires.root;
+      listed = subst (λ (ss : List CodeSnap). Has (map root_snap_of ss) own) items (has_at root_snap_of c.as_slice-snap-items.result.now c.loop-snap.snap-index c.snap-item.result c.loop-snap-test.true c.snap-item.is);
+    }
 
 pub check_snap-requires-clause-new : goal.check_snap-requires-clause-new
 check_snap-requires-clause-new g c κs within =

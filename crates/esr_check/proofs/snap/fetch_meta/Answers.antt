@@ -1,32 +1,25 @@
 use Rattle.esr_names.specs.declared.blob.BlobName.TheVariants as codes
 use Rattle.esr_model.specs.Names.{IndexMeta}
-use Rattle.esr_formats.specs.Infos.{info_of_code}
 use Rattle.esr_formats.specs.IndexMetas.{index_meta_of}
-use Rattle.esr_formats.specs.Refs.{ref_of_code}
-use Rattle.esr_formats.specs.Roots.{root_of, root_snap_of}
 use Rattle.esr_desk.specs.Own.{caller_of}
 use Rattle.esr_check.proofs.Reading.{meta_name, as_index_meta, meta_unread}
-use Rattle.esr_check.proofs.Reaching.{can_index_meta}
 use Rattle.esr_check.proofs.Telling.{unread_tells}
 use Rattle.esr_check.proofs.snap.fetch_meta.Goals as goal
 
 pub fetch_whole-requires-clause-layout : goal.fetch_whole-requires-clause-layout
-fetch_whole-requires-clause-layout g c κs within = meta_name c.args.index.now.id c.args.snap.now.uuid
+fetch_whole-requires-clause-layout g c κs within = meta_name c.args.index c.args.uuid
 
 pub fetch_whole-requires-clause-may : goal.fetch_whole-requires-clause-may
-fetch_whole-requires-clause-may g c κs within =
-    let s = g.Q.Desk.start in
-    let old = g.Q.Desk.seen c.args.desk.now in
-    can_index_meta s old c.args.count.now c.args.number (root_of c.args.root.now) (root_snap_of c.args.snap.now) c.requires.so_far c.requires.root (info_of_code c.args.info.now) (ref_of_code c.args.index.now) c.requires.agrees c.requires.there c.requires.new
+fetch_whole-requires-clause-may g c κs within = c.requires.may
 
 pub returns-in-Ok-clause-read : goal.returns-in-Ok-clause-read
 returns-in-Ok-clause-read g c =
     let s = g.Q.Desk.start in
-    as_index_meta s (caller_of s (g.Q.Desk.seen c.fetch_whole.new.desk)) (IndexMeta c.args.index.now.id.number c.args.snap.now.uuid.number) c.in_ok-bytes.bytes c.as_slice.result.now c.as_slice.ensures c.in_ok-bytes.ensures.fetched (index_meta_of c.in-Ok.meta) c.in-Ok.ensures.read
+    as_index_meta s (caller_of s (g.Q.Desk.seen c.fetch_whole.new.desk)) (IndexMeta c.args.index.number c.args.uuid.number) c.in_ok-bytes.bytes c.as_slice.result.now c.as_slice.ensures c.in_ok-bytes.ensures.fetched (index_meta_of c.in-Ok.meta) c.in-Ok.ensures.read
 
 pub returns-clause-trouble : goal.returns-clause-trouble
 returns-clause-trouble g c =
-    meta_unread g.Q.Fetch.Counted.faults g.Q.Desk.start (g.Q.Desk.seen c.fetch_whole.new.desk) c.in_ok-bytes.bytes c.as_slice.result.now c.in-Err.refusal c.unread.result c.as_slice.ensures c.args.index.now.id c.args.snap.now.uuid c.unread.ensures c.in_ok-bytes.ensures.fetched c.in-Err.ensures.reason
+    meta_unread g.Q.Fetch.Counted.faults g.Q.Desk.start (g.Q.Desk.seen c.fetch_whole.new.desk) c.in_ok-bytes.bytes c.as_slice.result.now c.in-Err.refusal c.unread.result c.as_slice.ensures c.args.index c.args.uuid c.unread.ensures c.in_ok-bytes.ensures.fetched c.in-Err.ensures.reason
 
 pub returns-clause-first : goal.returns-clause-first
-returns-clause-first g c = unread_tells (codes.IndexMeta c.args.index.now.id c.args.snap.now.uuid) c.in-Err.refusal c.unread.result c.unread.ensures
+returns-clause-first g c = unread_tells (codes.IndexMeta c.args.index c.args.uuid) c.in-Err.refusal c.unread.result c.unread.ensures

@@ -1,21 +1,18 @@
-use Rattle.std.proofs.Common.{[], Option, Some, ap, ◌∙◌, subst}
+use Rattle.std.proofs.Common.{[], Some, ap}
 use Rattle.esr_model.specs.Names.{ShardSnap}
-use Rattle.esr_model.specs.Values.{Bytes}
-use Rattle.esr_core.specs.Entry.{FetchStep, WasFetched, Reply}
-use Rattle.esr_desk.specs.declared.hand.Hand.TheVariants as hands
+use Rattle.esr_core.specs.Entry.{FetchStep}
 use Rattle.esr_desk.specs.Evidence.{evidence}
 use Rattle.esr_desk.specs.Start.{ticket_of, told_bytes}
-use Rattle.esr_desk.specs.Own.{Own, own_of}
-use Rattle.esr_desk.specs.Hands.{own_fetched}
-use Rattle.esr_desk.specs.Outcome.{Stepped, fetch_reply}
+use Rattle.esr_desk.specs.Own.{Own}
 use Rattle.esr_desk.specs.Made.{none_fresh}
 use Rattle.esr_desk.specs.Told.{none_tells, fetch_tells}
-use Rattle.esr_unit.specs.Refusals.{stepped_had}
 use Rattle.esr_upload.specs.Trouble.{Shown}
+use Rattle.esr_upload.specs.Worked.{Went}
 use Rattle.esr_upload.proofs.Reading.{fetch_went, left_went, went_work}
 use Rattle.esr_upload.proofs.Refusing.{passed, fetch_shown}
-use Rattle.esr_clone.proofs.Reading.{snap_name, to_fetch, index_new, absent_shown}
+use Rattle.esr_clone.proofs.Reading.{snap_name, to_fetch, index_new, came_fetched, came_found, absent_shown}
 use Rattle.esr_clone.proofs.snap.fetch_bytes.Goals as goal
+use Rattle.esr_clone.proofs.snap.fetch_bytes.Goals.{In_err-bytes}
 
 pub fetch_whole-requires-clause-layout : goal.fetch_whole-requires-clause-layout
 fetch_whole-requires-clause-layout g c κs within = snap_name c.args.at c.args.source c.requires.few
@@ -31,24 +28,26 @@ fetch_whole-requires-clause-new g c κs within = none_fresh g.Q.Desk.start (g.Q.
 
 -- ---- it wasn't fetched
 
-pub returns-in_err-bytes-clause-went : goal.returns-in_err-bytes-clause-went
-returns-in_err-bytes-clause-went g c =
+-- how far it went then
+left_at : (g : _) (c : In_err-bytes g) → Went g.Q.Desk.start (g.Q.Desk.seen c.args.desk.now) (g.Q.Desk.seen c.fetch_whole.new.desk) c.args.ticket
+left_at g c =
     left_went g.Q.Desk.start (g.Q.Desk.seen c.args.desk.now) (g.Q.Desk.seen c.fetch_whole.new.desk) c.args.ticket (ShardSnap c.args.at.index.number c.args.at.number c.args.source.number) c.fetch_whole.ensures.grew c.in_err-bytes.ensures.left
+
+pub returns-in_err-bytes-clause-went : goal.returns-in_err-bytes-clause-went
+returns-in_err-bytes-clause-went g c = left_at g (goal.at.returns-in_err-bytes-clause-went g c).In_err-bytes
 
 pub returns-in_err-bytes-clause-trouble : goal.returns-in_err-bytes-clause-trouble
 returns-in_err-bytes-clause-trouble g c =
     let s = g.Q.Desk.start in
-    let old = g.Q.Desk.seen c.args.desk.now in
     let new = g.Q.Desk.seen c.fetch_whole.new.desk in
     let who = c.args.ticket in
     let e = evidence g.Q.Stage.Counted.faults g.Q.Fetch.Counted.faults g.Q.Shard.Counted.faults g.Q.Target.Counted.faults g.Q.Shard.Shard.told g.Q.Target.Target.told in
     let i = c.args.at.index.number in
     let k = c.args.at.number in
-    let name = ShardSnap c.args.at.index.number c.args.at.number c.args.source.number in
     let trouble = c.in_err-bytes.field-0.0 in
-    let went = left_went s old new who name c.fetch_whole.ensures.grew c.in_err-bytes.ensures.left in
+    let went = left_at g (goal.at.returns-in_err-bytes-clause-trouble g c).In_err-bytes in
     passed c.from_residual.result (Shown e 0 (Some []) s new who) trouble c.from_residual.ensures.1
-    (fetch_shown e 0 (Some []) s old new who i k (went_work s old new who i k went c.requires.at) (FetchStep name) trouble c.refusals_are_of_their_steps.ensures tt (λ swap. swap) c.in_err-bytes.ensures.trouble)
+    (fetch_shown e 0 (Some []) s (g.Q.Desk.seen c.args.desk.now) new who i k (went_work s (g.Q.Desk.seen c.args.desk.now) new who i k went c.requires.at) (FetchStep (ShardSnap i k c.args.source.number)) trouble c.refusals_are_of_their_steps.ensures tt (λ swap. swap) c.in_err-bytes.ensures.trouble)
 
 pub returns-in_err-bytes-clause-calls : goal.returns-in_err-bytes-clause-calls
 returns-in_err-bytes-clause-calls g c = c.fetch_whole.ensures.others
@@ -71,19 +70,10 @@ returns-in-None-clause-calls g c = c.fetch_whole.ensures.others
 -- ---- it was there
 
 pub returns-in-Some-clause-fetched : goal.returns-in-Some-clause-fetched
-returns-in-Some-clause-fetched g c =
-    let s = g.Q.Desk.start in
-    let old = own_of s (g.Q.Desk.seen c.args.desk.now) c.args.ticket in
-    let name = ShardSnap c.args.at.index.number c.args.at.number c.args.source.number in
-    ap (λ (o : Own). o.ticket) (c.in_ok-bytes.ensures.own ∙ ap (λ (o : Option Bytes). own_fetched hands.Unit (told_bytes s) name o old) c.in-Some.is)
+returns-in-Some-clause-fetched g c = came_fetched g.Q.Desk.start (g.Q.Desk.seen c.args.desk.now) (g.Q.Desk.seen c.fetch_whole.new.desk) c.args.ticket (ShardSnap c.args.at.index.number c.args.at.number c.args.source.number) c.in_ok-bytes.field-0 c.in-Some.bytes c.in-Some.is c.in_ok-bytes.ensures.own
 
 pub returns-in-Some-clause-found : goal.returns-in-Some-clause-found
-returns-in-Some-clause-found g c =
-    let s = g.Q.Desk.start in
-    let old = g.Q.Desk.seen c.args.desk.now in
-    let new = g.Q.Desk.seen c.fetch_whole.new.desk in
-    let step = FetchStep (ShardSnap c.args.at.index.number c.args.at.number c.args.source.number) in
-    stepped_had s old new c.args.ticket step WasFetched (subst (λ (reply : Reply). Stepped s old new c.args.ticket step reply) (ap fetch_reply c.in-Some.is) c.in_ok-bytes.ensures.step)
+returns-in-Some-clause-found g c = came_found g.Q.Desk.start (g.Q.Desk.seen c.args.desk.now) (g.Q.Desk.seen c.fetch_whole.new.desk) c.args.ticket (ShardSnap c.args.at.index.number c.args.at.number c.args.source.number) c.in_ok-bytes.field-0 c.in-Some.bytes c.in-Some.is c.in_ok-bytes.ensures.step
 
 pub returns-in-Some-clause-unread : goal.returns-in-Some-clause-unread
 returns-in-Some-clause-unread g c =

@@ -10,12 +10,39 @@ use Rattle.esr_desk.specs.Grew.{grew_by_on, outcome_grew_by}
 use Rattle.esr_desk.specs.Told.{draw_fresh, draw_tells}
 use Rattle.esr_unit.specs.declared.trouble.Trouble.TheVariants.{Step}
 use Rattle.esr_upload.specs.Trouble.{Shown}
+use Rattle.esr_upload.specs.Worked.{Went}
 use Rattle.esr_upload.proofs.Going.{went_on, went_same}
 use Rattle.esr_upload.proofs.Ending.{done_on, if_err}
 use Rattle.esr_upload.proofs.Drawing.{drew_went}
 use Rattle.esr_upload.proofs.Refusing.{passed, step_shown}
+use Rattle.esr_clone.specs.Copied.{IsCopy}
 use Rattle.esr_clone.proofs.Copying.{snap_copy, undrawn, can_draw, has_read}
 use Rattle.esr_clone.proofs.unit.work.Goals as goal
+use Rattle.esr_clone.proofs.unit.work.Goals.{In_ok-snap, In_ok-index, In_ok-first}
+
+-- the ticket is of the clone's shard once its source was read
+copy_at : (g : _) (c : In_ok-snap g) → IsCopy c.args.at.index.number c.args.at.number c.args.uuid.number c.args.source.number (option_map number_of c.args.base) (ticket_of g.Q.Desk.start (g.Q.Desk.seen c.fetch_snap.new.desk) c.args.ticket)
+copy_at g c =
+    let s = g.Q.Desk.start in
+    let who = c.args.ticket in
+    snap_copy s c.args.at.index.number c.args.at.number c.args.uuid.number c.args.source.number (option_map number_of c.args.base) (ticket_of s (g.Q.Desk.seen c.args.desk.now) who) (ticket_of s (g.Q.Desk.seen c.fetch_snap.new.desk) who)
+    c.in_ok-snap.snap c.requires.unit c.in_ok-snap.ensures.read
+
+-- how far it went when the base was read
+read_went : (g : _) (c : In_ok-index g) → Went g.Q.Desk.start (g.Q.Desk.seen c.args.desk.now) (g.Q.Desk.seen c.base_of.new.desk) c.args.ticket
+read_went g c = went_on g.Q.Desk.start (g.Q.Desk.seen c.args.desk.now) (g.Q.Desk.seen c.fetch_snap.new.desk) (g.Q.Desk.seen c.base_of.new.desk) c.args.ticket c.fetch_snap.ensures.went c.base_of.ensures.went
+
+-- and when its id was drawn
+drawn_went : (g : _) (c : In_ok-first g) → Went g.Q.Desk.start (g.Q.Desk.seen c.args.desk.now) (g.Q.Desk.seen c.draw.new.self) c.args.ticket
+drawn_went g c =
+    let s = g.Q.Desk.start in
+    let who = c.args.ticket in
+    let old = g.Q.Desk.seen c.args.desk.now in
+    let one = g.Q.Desk.seen c.fetch_snap.new.desk in
+    let two = g.Q.Desk.seen c.base_of.new.desk in
+    let new = g.Q.Desk.seen c.draw.new.self in
+    let drew = drew_went s two new who c.in_ok-first.first.number 1 (outcome_grew_by s two new who (DrawStep 1) (λ (first : Id). DrawnFrom first.number) c.draw.result c.draw.ensures.step) c.in_ok-first.ensures.own in
+    went_on s old one new who c.fetch_snap.ensures.went (went_on s one two new who c.base_of.ensures.went drew)
 
 pub fetch_snap-requires-clause-at : goal.fetch_snap-requires-clause-at
 fetch_snap-requires-clause-at g c κs within = c.requires.unit.at
@@ -24,32 +51,16 @@ pub fetch_snap-requires-clause-source : goal.fetch_snap-requires-clause-source
 fetch_snap-requires-clause-source g c κs within = c.requires.unit.source_is
 
 pub base_of-requires-clause-at : goal.base_of-requires-clause-at
-base_of-requires-clause-at g c κs within =
-    let s = g.Q.Desk.start in
-    let who = c.args.ticket in
-    (snap_copy s c.args.at.index.number c.args.at.number c.args.uuid.number c.args.source.number (option_map number_of c.args.base) (ticket_of s (g.Q.Desk.seen c.args.desk.now) who) (ticket_of s (g.Q.Desk.seen c.fetch_snap.new.desk) who)
-    c.in_ok-snap.snap c.requires.unit c.in_ok-snap.ensures.read).at
+base_of-requires-clause-at g c κs within = (copy_at g (goal.at.base_of-requires-clause-at g c).In_ok-snap).at
 
 pub base_of-requires-clause-undrawn : goal.base_of-requires-clause-undrawn
-base_of-requires-clause-undrawn g c κs within =
-    let s = g.Q.Desk.start in
-    let who = c.args.ticket in
-    (snap_copy s c.args.at.index.number c.args.at.number c.args.uuid.number c.args.source.number (option_map number_of c.args.base) (ticket_of s (g.Q.Desk.seen c.args.desk.now) who) (ticket_of s (g.Q.Desk.seen c.fetch_snap.new.desk) who)
-    c.in_ok-snap.snap c.requires.unit c.in_ok-snap.ensures.read).undrawn
+base_of-requires-clause-undrawn g c κs within = (copy_at g (goal.at.base_of-requires-clause-undrawn g c).In_ok-snap).undrawn
 
 pub base_of-requires-clause-uuid : goal.base_of-requires-clause-uuid
-base_of-requires-clause-uuid g c κs within =
-    let s = g.Q.Desk.start in
-    let who = c.args.ticket in
-    (snap_copy s c.args.at.index.number c.args.at.number c.args.uuid.number c.args.source.number (option_map number_of c.args.base) (ticket_of s (g.Q.Desk.seen c.args.desk.now) who) (ticket_of s (g.Q.Desk.seen c.fetch_snap.new.desk) who)
-    c.in_ok-snap.snap c.requires.unit c.in_ok-snap.ensures.read).uuid_is
+base_of-requires-clause-uuid g c κs within = (copy_at g (goal.at.base_of-requires-clause-uuid g c).In_ok-snap).uuid_is
 
 pub base_of-requires-clause-base : goal.base_of-requires-clause-base
-base_of-requires-clause-base g c κs within =
-    let s = g.Q.Desk.start in
-    let who = c.args.ticket in
-    (snap_copy s c.args.at.index.number c.args.at.number c.args.uuid.number c.args.source.number (option_map number_of c.args.base) (ticket_of s (g.Q.Desk.seen c.args.desk.now) who) (ticket_of s (g.Q.Desk.seen c.fetch_snap.new.desk) who)
-    c.in_ok-snap.snap c.requires.unit c.in_ok-snap.ensures.read).base_is
+base_of-requires-clause-base g c κs within = (copy_at g (goal.at.base_of-requires-clause-base g c).In_ok-snap).base_is
 
 pub returns-in_err-index-clause-trouble : goal.returns-in_err-index-clause-trouble
 returns-in_err-index-clause-trouble g c =
@@ -88,8 +99,7 @@ returns-in_err-first-clause-trouble g c =
     let new = g.Q.Desk.seen c.draw.new.self in
     let refusal = c.in_err-first.field-0.0 in
     let e = evidence g.Q.Stage.Counted.faults g.Q.Fetch.Counted.faults g.Q.Shard.Counted.faults g.Q.Target.Counted.faults g.Q.Shard.Shard.told g.Q.Target.Target.told in
-    let copy = snap_copy s c.args.at.index.number c.args.at.number c.args.uuid.number c.args.source.number (option_map number_of c.args.base) (ticket_of s (g.Q.Desk.seen c.args.desk.now) who) (ticket_of s (g.Q.Desk.seen c.fetch_snap.new.desk) who)
-    c.in_ok-snap.snap c.requires.unit c.in_ok-snap.ensures.read in
+    let copy = copy_at g (goal.at.returns-in_err-first-clause-trouble g c).In_ok-snap in
     let work = ap (λ (t : Ticket). t.work) (c.in_err-first.ensures.kept ∙ c.in_ok-index.ensures.based.has_base.is) ∙ copy.at.work in
     passed c.from_residual-in_err-first.result (Shown e 0 (Some []) s new who) (Step refusal) c.from_residual-in_err-first.ensures.1
     (step_shown e 0 (Some []) s mid new who c.args.at.index.number c.args.at.number work (DrawStep 1) refusal c.refusals_are_of_their_steps.ensures tt (λ swap. swap) c.in_err-first.ensures.step)
@@ -98,23 +108,19 @@ pub returns-in_err-first-clause-went : goal.returns-in_err-first-clause-went
 returns-in_err-first-clause-went g c =
     let s = g.Q.Desk.start in
     let who = c.args.ticket in
-    let old = g.Q.Desk.seen c.args.desk.now in
-    let one = g.Q.Desk.seen c.fetch_snap.new.desk in
-    let two = g.Q.Desk.seen c.base_of.new.desk in
+    let mid = g.Q.Desk.seen c.base_of.new.desk in
     let new = g.Q.Desk.seen c.draw.new.self in
-    let ended = went_same s two new who (outcome_grew_by s two new who (DrawStep 1) (λ (first : Id). DrawnFrom first.number) c.draw.result c.draw.ensures.step) c.in_err-first.ensures.kept in
-    if_err c.from_residual-in_err-first.result (went_on s old one new who c.fetch_snap.ensures.went (went_on s one two new who c.base_of.ensures.went ended))
+    let ended = went_same s mid new who (outcome_grew_by s mid new who (DrawStep 1) (λ (first : Id). DrawnFrom first.number) c.draw.result c.draw.ensures.step) c.in_err-first.ensures.kept in
+    if_err c.from_residual-in_err-first.result (went_on s (g.Q.Desk.seen c.args.desk.now) mid new who (read_went g (goal.at.returns-in_err-first-clause-went g c).In_ok-index) ended)
 
 pub returns-in_err-first-clause-grew : goal.returns-in_err-first-clause-grew
 returns-in_err-first-clause-grew g c =
     let s = g.Q.Desk.start in
     let who = c.args.ticket in
-    let old = g.Q.Desk.seen c.args.desk.now in
-    let one = g.Q.Desk.seen c.fetch_snap.new.desk in
-    let two = g.Q.Desk.seen c.base_of.new.desk in
+    let mid = g.Q.Desk.seen c.base_of.new.desk in
     let new = g.Q.Desk.seen c.draw.new.self in
-    grew_by_on s who old one new c.fetch_snap.ensures.went.grew
-    (grew_by_on s who one two new c.base_of.ensures.went.grew (outcome_grew_by s two new who (DrawStep 1) (λ (first : Id). DrawnFrom first.number) c.draw.result c.draw.ensures.step))
+    grew_by_on s who (g.Q.Desk.seen c.args.desk.now) mid new (read_went g (goal.at.returns-in_err-first-clause-grew g c).In_ok-index).grew
+    (outcome_grew_by s mid new who (DrawStep 1) (λ (first : Id). DrawnFrom first.number) c.draw.result c.draw.ensures.step)
 
 pub copy-requires-clause-read : goal.copy-requires-clause-read
 copy-requires-clause-read g c κs within =
@@ -136,53 +142,18 @@ returns-in_err-copy-clause-trouble g c =
 
 pub returns-in_err-copy-clause-went : goal.returns-in_err-copy-clause-went
 returns-in_err-copy-clause-went g c =
-    let s = g.Q.Desk.start in
-    let who = c.args.ticket in
-    let old = g.Q.Desk.seen c.args.desk.now in
-    let one = g.Q.Desk.seen c.fetch_snap.new.desk in
-    let two = g.Q.Desk.seen c.base_of.new.desk in
-    let drawn = g.Q.Desk.seen c.draw.new.self in
-    let new = g.Q.Desk.seen c.copy.new.desk in
-    let drew = drew_went s two drawn who c.in_ok-first.first.number 1 (outcome_grew_by s two drawn who (DrawStep 1) (λ (first : Id). DrawnFrom first.number) c.draw.result c.draw.ensures.step) c.in_ok-first.ensures.own in
-    if_err c.from_residual-in_err-copy.result (went_on s old one new who c.fetch_snap.ensures.went (went_on s one two new who c.base_of.ensures.went (went_on s two drawn new who drew c.in_err-copy.ensures.went)))
+    if_err c.from_residual-in_err-copy.result
+    (went_on g.Q.Desk.start (g.Q.Desk.seen c.args.desk.now) (g.Q.Desk.seen c.draw.new.self) (g.Q.Desk.seen c.copy.new.desk) c.args.ticket (drawn_went g (goal.at.returns-in_err-copy-clause-went g c).In_ok-first) c.in_err-copy.ensures.went)
 
 pub returns-in_err-copy-clause-grew : goal.returns-in_err-copy-clause-grew
 returns-in_err-copy-clause-grew g c =
-    let s = g.Q.Desk.start in
-    let who = c.args.ticket in
-    let old = g.Q.Desk.seen c.args.desk.now in
-    let one = g.Q.Desk.seen c.fetch_snap.new.desk in
-    let two = g.Q.Desk.seen c.base_of.new.desk in
-    let drawn = g.Q.Desk.seen c.draw.new.self in
-    let new = g.Q.Desk.seen c.copy.new.desk in
-    grew_by_on s who old one new c.fetch_snap.ensures.went.grew
-    (grew_by_on s who one two new c.base_of.ensures.went.grew
-    (grew_by_on s who two drawn new (outcome_grew_by s two drawn who (DrawStep 1) (λ (first : Id). DrawnFrom first.number) c.draw.result c.draw.ensures.step) c.copy.ensures.grew))
+    grew_by_on g.Q.Desk.start c.args.ticket (g.Q.Desk.seen c.args.desk.now) (g.Q.Desk.seen c.draw.new.self) (g.Q.Desk.seen c.copy.new.desk) (drawn_went g (goal.at.returns-in_err-copy-clause-grew g c).In_ok-first).grew c.copy.ensures.grew
 
 pub returns-clause-ok : goal.returns-clause-ok
-returns-clause-ok g c =
-    let s = g.Q.Desk.start in
-    let who = c.args.ticket in
-    let old = g.Q.Desk.seen c.args.desk.now in
-    let one = g.Q.Desk.seen c.fetch_snap.new.desk in
-    let two = g.Q.Desk.seen c.base_of.new.desk in
-    let drawn = g.Q.Desk.seen c.draw.new.self in
-    let new = g.Q.Desk.seen c.copy.new.desk in
-    let drew = drew_went s two drawn who c.in_ok-first.first.number 1 (outcome_grew_by s two drawn who (DrawStep 1) (λ (first : Id). DrawnFrom first.number) c.draw.result c.draw.ensures.step) c.in_ok-first.ensures.own in
-    done_on s old drawn new who (went_on s old one drawn who c.fetch_snap.ensures.went (went_on s one two drawn who c.base_of.ensures.went drew)) c.in_ok-copy.ensures.ok
+returns-clause-ok g c = done_on g.Q.Desk.start (g.Q.Desk.seen c.args.desk.now) (g.Q.Desk.seen c.draw.new.self) (g.Q.Desk.seen c.copy.new.desk) c.args.ticket (drawn_went g (goal.at.returns-clause-ok g c).In_ok-first) c.in_ok-copy.ensures.ok
 
 pub returns-clause-grew : goal.returns-clause-grew
-returns-clause-grew g c =
-    let s = g.Q.Desk.start in
-    let who = c.args.ticket in
-    let old = g.Q.Desk.seen c.args.desk.now in
-    let one = g.Q.Desk.seen c.fetch_snap.new.desk in
-    let two = g.Q.Desk.seen c.base_of.new.desk in
-    let drawn = g.Q.Desk.seen c.draw.new.self in
-    let new = g.Q.Desk.seen c.copy.new.desk in
-    grew_by_on s who old one new c.fetch_snap.ensures.went.grew
-    (grew_by_on s who one two new c.base_of.ensures.went.grew
-    (grew_by_on s who two drawn new (outcome_grew_by s two drawn who (DrawStep 1) (λ (first : Id). DrawnFrom first.number) c.draw.result c.draw.ensures.step) c.copy.ensures.grew))
+returns-clause-grew g c = grew_by_on g.Q.Desk.start c.args.ticket (g.Q.Desk.seen c.args.desk.now) (g.Q.Desk.seen c.draw.new.self) (g.Q.Desk.seen c.copy.new.desk) (drawn_went g (goal.at.returns-clause-grew g c).In_ok-first).grew c.copy.ensures.grew
 
 pub base_of-requires-clause-mine : goal.base_of-requires-clause-mine
 base_of-requires-clause-mine g c κs within = subst (λ (calls : List Call). HasTaken calls c.args.ticket) (sym c.fetch_snap.ensures.calls) c.requires.mine

@@ -6,7 +6,7 @@ use Rattle.esr_model.specs.Values.{Has}
 use Rattle.esr_model.specs.Delete.{uuids_of}
 use Rattle.esr_formats.specs.Names.{name_of}
 use Rattle.esr_formats.specs.Roots.{root_of}
-use Rattle.esr_results.specs.declared.pruned_root.PrunedShard.{PrunedShard as CodePruned}
+use Rattle.esr_results.specs.declared.pruned.PrunedShard.{PrunedShard as CodePruned}
 use Rattle.esr_results.specs.Pruned.{pruned_of}
 use Rattle.esr_reach.specs.Held.{HeldShard}
 use Rattle.esr_reach.specs.Listing.{root_names}

@@ -1,30 +1,37 @@
 use Rattle.esr_model.specs.Names.{ShardIndex}
 use Rattle.esr_desk.specs.declared.hand.Hand.TheVariants as hands
 use Rattle.esr_desk.specs.Evidence.{evidence}
+use Rattle.esr_desk.specs.Start.{ticket_of}
 use Rattle.esr_unit.specs.Shown.{Shown}
+use Rattle.esr_delete.specs.Gathered.{HasRead}
 use Rattle.esr_delete.proofs.Going.{passed}
 use Rattle.esr_delete.proofs.Fetching.{index_laid, left_read, came_read, came_fetched, came_found, was_absent, fetch_shown}
 use Rattle.esr_delete.proofs.gather.fetch_bytes.Goals as goal
+use Rattle.esr_delete.proofs.gather.fetch_bytes.Goals.{In_err-bytes}
 
 pub fetch_whole-requires-clause-layout : goal.fetch_whole-requires-clause-layout
 fetch_whole-requires-clause-layout g c κs within = index_laid c.args.shard c.args.base c.requires.few
 
 -- ---- it wasn't fetched
 
+-- it has read more at most
+left_at : (g : _) (c : In_err-bytes g) → HasRead (ticket_of g.Q.Desk.start (g.Q.Desk.seen c.args.desk.now) c.args.ticket) (ticket_of g.Q.Desk.start (g.Q.Desk.seen c.fetch_whole.new.desk) c.args.ticket)
+left_at g c =
+    left_read g.Q.Desk.start (g.Q.Desk.seen c.args.desk.now) (g.Q.Desk.seen c.fetch_whole.new.desk) c.args.ticket (ShardIndex c.args.shard.index.number c.args.shard.number c.args.base.number) c.in_err-bytes.ensures.left
+
 pub returns-in_err-bytes-clause-trouble : goal.returns-in_err-bytes-clause-trouble
 returns-in_err-bytes-clause-trouble g c =
     let s = g.Q.Desk.start in
-    let old = g.Q.Desk.seen c.args.desk.now in
     let new = g.Q.Desk.seen c.fetch_whole.new.desk in
     let who = c.args.ticket in
     let name = ShardIndex c.args.shard.index.number c.args.shard.number c.args.base.number in
     let e = evidence g.Q.Stage.Counted.faults g.Q.Fetch.Counted.faults g.Q.Shard.Counted.faults g.Q.Target.Counted.faults g.Q.Shard.Shard.told g.Q.Target.Target.told in
     let trouble = c.in_err-bytes.field-0.0 in
     passed c.from_residual.result (Shown hands.Delete e ⊥ s new who) trouble c.from_residual.ensures.1
-    (fetch_shown e s old new who name trouble c.refusals_are_of_their_steps.ensures c.requires.may (left_read s old new who name c.in_err-bytes.ensures.left) c.in_err-bytes.ensures.trouble)
+    (fetch_shown e s (g.Q.Desk.seen c.args.desk.now) new who name trouble c.refusals_are_of_their_steps.ensures c.requires.may (left_at g (goal.at.returns-in_err-bytes-clause-trouble g c).In_err-bytes) c.in_err-bytes.ensures.trouble)
 
 pub returns-in_err-bytes-clause-read : goal.returns-in_err-bytes-clause-read
-returns-in_err-bytes-clause-read g c = left_read g.Q.Desk.start (g.Q.Desk.seen c.args.desk.now) (g.Q.Desk.seen c.fetch_whole.new.desk) c.args.ticket (ShardIndex c.args.shard.index.number c.args.shard.number c.args.base.number) c.in_err-bytes.ensures.left
+returns-in_err-bytes-clause-read g c = left_at g (goal.at.returns-in_err-bytes-clause-read g c).In_err-bytes
 
 pub returns-in_err-bytes-clause-calls : goal.returns-in_err-bytes-clause-calls
 returns-in_err-bytes-clause-calls g c = c.fetch_whole.ensures.others

@@ -3,8 +3,7 @@ use Rattle.esr_model.specs.Delete.{PrunedShard}
 use Rattle.esr_formats.specs.Ids.{number_of}
 use Rattle.esr_formats.specs.Roots.{root_of}
 use Rattle.esr_formats.specs.Shards.{shard_index_of}
-use Rattle.esr_results.specs.Pruned.{pruned_of}
-use Rattle.esr_results.proofs.Pruning.{no_shard}
+use Rattle.esr_results.specs.Pruned.{pruned_of, no_shard}
 use Rattle.esr_reach.specs.Held.{HeldShard}
 use Rattle.esr_dooming.proofs.Loops.{next, all, item_is}
 use Rattle.esr_desk.specs.Start.{ticket_of}
@@ -58,7 +57,6 @@ loop-shard-preserved g c =
     let s = g.Q.Desk.start in
     let who = c.args.ticket in
     let old = g.Q.Desk.seen c.args.desk.now in
-    let mid = g.Q.Desk.seen c.loop-shard.desk in
     let new = g.Q.Desk.seen c.fetch_index.new.desk in
     let items = c.as_slice-shard-items.result.now in
     let k = c.loop-shard.shard-index in
@@ -67,7 +65,7 @@ loop-shard-preserved g c =
     let less = c.loop-shard-test.true in
     let there = there_in (root_of c.args.root.now) (ticket_of s old who).root (map pruned_of c.in_ok-shards.shards) p c.requires.may.root_is c.in_ok-shards.ensures.of_root (shard_in items c.in_ok-shards.shards k c.as_slice-shard-items.ensures less) in
     let more =
-    more_so_far s old mid new who (map pruned_of (take k items)) c.loop-shard.held c.insert.new.self p (shard_index_of c.in_ok-index.index) c.loop-shard.invariant.so_far there
+    more_so_far s old (g.Q.Desk.seen c.loop-shard.desk) new who (map pruned_of (take k items)) c.loop-shard.held c.insert.new.self p (shard_index_of c.in_ok-index.index) c.loop-shard.invariant.so_far there
     (apart_at (root_of c.args.root.now) items c.in_ok-shards.shards k c.as_slice-shard-items.ensures c.in_ok-shards.ensures.of_root less) c.in_ok-index.ensures.fetched c.fetch_index.ensures.made c.fetch_index.ensures.read c.fetch_index.ensures.grew c.in_ok-insert.ensures.ok in
     record {
       so_far = subst (λ (shards : List PrunedShard). IsSoFar s old new who shards c.insert.new.self) (sym (next pruned_of items k item less (item_is items k no_shard less))) more;

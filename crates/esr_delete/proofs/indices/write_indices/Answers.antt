@@ -2,8 +2,7 @@ use Rattle.std.proofs.Common.{◌≡◌, ◌+◌, ℕ, List, [], ◌∷◌, map,
 use Rattle.esr_model.specs.Delete.{PrunedShard, next_after, kept_count, left_uuids, uuids_of, pruned_blobs}
 use Rattle.esr_formats.specs.Ids.{number_of}
 use Rattle.esr_formats.specs.Roots.{root_of}
-use Rattle.esr_results.specs.Pruned.{pruned_of}
-use Rattle.esr_results.proofs.Pruning.{no_shard}
+use Rattle.esr_results.specs.Pruned.{pruned_of, no_shard}
 use Rattle.esr_dooming.proofs.Loops.{next, all, item_is}
 use Rattle.esr_desk.specs.Start.{formats_of, ticket_of}
 use Rattle.esr_finish.proofs.Runs.{taken_on, went_not, went_on}

@@ -112,13 +112,12 @@ returns-in_err-next-clause-trouble g c =
     let seen = g.Q.Desk.seen in
     let who = c.args.ticket in
     let inv = c.loop-left.invariant in
-    let mid = seen c.loop-left.desk in
     let new = seen c.list.new.self in
     let refusal = c.in_err-next.field-0.0 in
     let e = evidence g.Q.Stage.Counted.faults g.Q.Fetch.Counted.faults g.Q.Shard.Counted.faults g.Q.Target.Counted.faults g.Q.Shard.Shard.told g.Q.Target.Target.told in
     let is : HasListed (ticket_of s (seen c.args.desk.now) who) (ticket_of s new who) inv.pages false = c.in_err-next.ensures.kept ∙ inv.is in
     passed c.from_residual.result (Shown hands.Delete e ⊥ s new who) (Step refusal) c.from_residual.ensures.1
-    (list_shown e s mid new who (option_copied c.last_name-last.result) refusal c.refusals_are_of_their_steps.ensures (lists_on (ticket_of s (seen c.args.desk.now) who) (ticket_of s new who) inv.pages false c.requires.may is) c.in_err-next.ensures.step)
+    (list_shown e s (seen c.loop-left.desk) new who (option_copied c.last_name-last.result) refusal c.refusals_are_of_their_steps.ensures (lists_on (ticket_of s (seen c.args.desk.now) who) (ticket_of s new who) inv.pages false c.requires.may is) c.in_err-next.ensures.step)
 
 pub returns-in_err-next-clause-went : goal.returns-in_err-next-clause-went
 returns-in_err-next-clause-went g c =

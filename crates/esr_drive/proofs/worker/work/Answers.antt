@@ -1,7 +1,8 @@
 use Rattle.std.proofs.Common.{◌≡◌, ℕ, ◌+◌, ◌≤◌, Ok, [], length, refl, subst, arith}
+use Rattle.esr_desk.specs.declared.refusal.StepRefusal.TheVariants.{TurnsSpent}
 use Rattle.esr_quiet.specs.Asking.{asking_none, asking_on}
 use Rattle.esr_drive.proofs.Coming.{over_on}
-use Rattle.esr_drive.proofs.Taking.{calls_none, calls_on, calls_worked, found_few, found_true, found_false, ended_none, ended_on}
+use Rattle.esr_drive.proofs.Taking.{calls_none, calls_on, worked_out, worked_some, found_true, found_false, ended_none, ended_on}
 use Rattle.esr_drive.proofs.Works.{works_none, works_on}
 use Rattle.esr_drive.specs.Calls.{TakeCalls, found_none}
 use Rattle.esr_drive.specs.Takes.{idle_takes}
@@ -77,8 +78,11 @@ returns-then-not-did-clause-takes g c alone =
 pub returns-then-not-did-clause-calls : goal.returns-then-not-did-clause-calls
 returns-then-not-did-clause-calls g c =
     let first = g.Q.Desk.calls c.args.desk.now in
+    let before = g.Q.Desk.calls c.loop-round.desk in
     let after = g.Q.Desk.calls c.work_next.new.desk in
-    calls_worked (found_none c.work_next.result) first after (found_few c.work_next.result) (calls_on (found_none c.work_next.result) first (g.Q.Desk.calls c.loop-round.desk) after c.loop-round.invariant.calls c.work_next.ensures.calls)
+    let one : found_none (Ok c.in-Ok.did) ≡ 1 = found_false c.in-Ok.did c.if-not-did.true in
+    let last : TakeCalls 1 before after = subst (λ (n : ℕ). TakeCalls n before after) one c.in-Ok.ensures.calls in
+    worked_out first after (calls_on 1 first before after c.loop-round.invariant.calls last)
 
 pub returns-then-not-did-clause-ended : goal.returns-then-not-did-clause-ended
 returns-then-not-did-clause-ended g c =
@@ -108,7 +112,7 @@ pub returns-in-Err-clause-calls : goal.returns-in-Err-clause-calls
 returns-in-Err-clause-calls g c =
     let first = g.Q.Desk.calls c.args.desk.now in
     let after = g.Q.Desk.calls c.work_next.new.desk in
-    calls_worked (found_none c.work_next.result) first after (found_few c.work_next.result) (calls_on (found_none c.work_next.result) first (g.Q.Desk.calls c.loop-round.desk) after c.loop-round.invariant.calls c.work_next.ensures.calls)
+    worked_some first after c.in-Err.refusal (calls_on 0 first (g.Q.Desk.calls c.loop-round.desk) after c.loop-round.invariant.calls c.in-Err.ensures.calls)
 
 -- ---- turns were spent
 
@@ -127,4 +131,4 @@ returns-clause-takes g c alone =
     omega (arith, same)
 
 pub returns-clause-calls : goal.returns-clause-calls
-returns-clause-calls g c = calls_worked 0 (g.Q.Desk.calls c.args.desk.now) (g.Q.Desk.calls c.loop-round.desk) (omega arith) c.loop-round.invariant.calls
+returns-clause-calls g c = worked_some (g.Q.Desk.calls c.args.desk.now) (g.Q.Desk.calls c.loop-round.desk) TurnsSpent c.loop-round.invariant.calls

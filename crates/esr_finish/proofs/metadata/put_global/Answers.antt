@@ -1,17 +1,16 @@
-use Rattle.std.proofs.Common.{inl, inr, refl, ◌≡◌, [], ◌∷◌, ap, ◌∙◌, sym, subst}
+use Rattle.std.proofs.Common.{inl, inr, refl, [], ◌∷◌, ap, ◌∙◌, sym, subst}
 use Rattle.std.proofs.lemmas.Result.{on_ok_weaker}
 use Rattle.esr_model.specs.Names.{BlobName, Meta}
-use Rattle.esr_model.specs.Values.{Bytes}
 use Rattle.esr_names.specs.Layout.{IsName}
+use Rattle.esr_model.specs.Values.{Bytes}
 use Rattle.esr_meta.specs.Info.{Info}
 use Rattle.esr_formats.specs.Infos.{info_of_code}
 use Rattle.esr_desk.specs.Start.{formats_of, ticket_of}
-use Rattle.esr_desk.specs.Conditions.{CanCommit}
 use Rattle.esr_finish.specs.Blobs.{global_blob}
 use Rattle.esr_finish.specs.Ticket.{Puts}
 use Rattle.esr_finish.proofs.Runs.{went_not}
 use Rattle.esr_finish.proofs.Blobs.{global_blob_is}
-use Rattle.esr_finish.proofs.Writing.{may_commit}
+use Rattle.esr_finish.proofs.Writing.{may_store}
 use Rattle.esr_finish.specs.Ticket.{IsUnnoted}
 use Rattle.esr_finish.proofs.metadata.put_global.Goals as goal
 
@@ -25,10 +24,8 @@ put-requires-clause-layout g c κs within = tt
 pub put-requires-clause-may : goal.put-requires-clause-may
 put-requires-clause-may g c κs within =
     let s = g.Q.Desk.start in
-    let t = ticket_of s (g.Q.Desk.seen c.args.desk.now) c.args.ticket in
-    let blob = global_blob (formats_of s) (info_of_code c.args.info.now) in
-    let is : ◌≡◌ {A = BlobName × Bytes} (Meta c.info.inside.uuid.number, c.as_slice.result.now) blob = global_blob_is s c.args.info.now c.info.inside.uuid c.as_slice.result.now (ap (λ (i : Info). i.uuid) c.info.view_is) (c.as_slice.ensures ∙ c.in_ok-text.ensures) in
-    (c.as_slice.result.now, refl, subst (λ (b : BlobName × Bytes). CanCommit s t b.0 b.1) (sym is) (may_commit s t blob c.requires.may (λ same. cc) (c.args.info.now.uuid.number, inr (inl refl))))
+    may_store s (ticket_of s (g.Q.Desk.seen c.args.desk.now) c.args.ticket) (global_blob (formats_of s) (info_of_code c.args.info.now)) (Meta c.info.inside.uuid.number) c.as_slice.result.now
+    (global_blob_is s c.args.info.now c.info.inside.uuid c.as_slice.result.now (ap (λ (i : Info). i.uuid) c.info.view_is) (c.as_slice.ensures ∙ c.in_ok-text.ensures)) c.requires.may (λ same. cc) (c.args.info.now.uuid.number, inr (inl refl))
 
 pub returns-clause-ok : goal.returns-clause-ok
 returns-clause-ok g c =

@@ -1,9 +1,10 @@
-use Rattle.esr_core.specs.Entry.{BeginStep, CommitStep, WasBegun}
+use Rattle.esr_core.specs.Entry.{BeginStep, CommitStep}
 use Rattle.esr_formats.specs.Names.{name_of}
 use Rattle.esr_desk.specs.Start.{ticket_of}
 use Rattle.esr_desk.specs.Outcome.{commit_reply, Stepped}
 use Rattle.esr_desk.specs.Grew.{outcome_grew_by}
 use Rattle.esr_unit.specs.declared.trouble.Trouble.TheVariants.{Step}
+use Rattle.esr_finish.specs.Went.{Went}
 use Rattle.esr_finish.specs.Refused.{IsPutRefused}
 use Rattle.esr_finish.proofs.Runs.{passed, taken_on, went_on, worked_to, worked_not, begin_went, commit_went}
 use Rattle.esr_finish.proofs.Stopping.{other_than_latest, writing_refused}
@@ -12,13 +13,18 @@ use Rattle.std.specs.Io.KnownBytes.{append_known}
 use Rattle.esr_model.specs.Values.{Bytes}
 use Rattle.esr_core.specs.World.{Ticket}
 use Rattle.esr_desk.specs.Conditions.{CanCommit}
-use Rattle.esr_finish.proofs.Writing.{on_ok, told_append}
+use Rattle.esr_unit.specs.Objects.{on_ok, told_append}
 use Rattle.esr_names.specs.declared.blob.BlobName.{BlobName as CodeName}
 use Rattle.esr_model.specs.Names.{BlobName}
 use Rattle.esr_desk.specs.Once.{IsFresh}
 use Rattle.esr_desk.specs.Taken.{committed_by}
 use Rattle.esr_desk.specs.Told.{begin_fresh, commit_fresh, blob_tells}
 use Rattle.esr_finish.proofs.one_blob.put.Goals as goal
+use Rattle.esr_finish.proofs.one_blob.put.Goals.{In_ok-named}
+
+-- how far the begin went
+begun_went : (g : _) (c : In_ok-named g) → Went g.Q.Desk.start (g.Q.Desk.seen c.args.desk.now) (g.Q.Desk.seen c.begin.new.self) c.args.ticket
+begun_went g c = begin_went g.Q.Desk.start (g.Q.Desk.seen c.args.desk.now) (g.Q.Desk.seen c.begin.new.self) c.args.ticket (name_of c.args.name) c.begin.result c.begin.ensures.step c.begin.ensures.own
 
 pub returns-in_err-named-clause-went : goal.returns-in_err-named-clause-went
 returns-in_err-named-clause-went g c =
@@ -28,26 +34,19 @@ returns-in_err-named-clause-went g c =
 pub returns-in_err-commit-clause-went : goal.returns-in_err-commit-clause-went
 returns-in_err-commit-clause-went g c =
     let s = g.Q.Desk.start in
-    let old = g.Q.Desk.seen c.args.desk.now in
     let mid = g.Q.Desk.seen c.begin.new.self in
     let new = g.Q.Desk.seen c.commit.new.self in
-    let who = c.args.ticket in
-    let t0 = ticket_of s old who in
-    let t1 = ticket_of s mid who in
-    let t2 = ticket_of s new who in
-    went_on s old mid new who
-    (record { grew = outcome_grew_by s old mid who (BeginStep (name_of c.args.name)) (λ stage. WasBegun) c.begin.result c.begin.ensures.step; worked = worked_to t0 t0 t1 (worked_not t0) c.in_ok-named.ensures.own })
-    (record { grew = outcome_grew_by s mid new who (CommitStep (name_of c.in_ok-named.named.name)) commit_reply c.commit.result c.commit.ensures.step; worked = worked_to t1 t1 t2 (worked_not t1) c.in_err-commit.ensures.kept })
+    let t = ticket_of s mid c.args.ticket in
+    went_on s (g.Q.Desk.seen c.args.desk.now) mid new c.args.ticket (begun_went g (goal.at.returns-in_err-commit-clause-went g c).In_ok-named)
+    (record { grew = outcome_grew_by s mid new c.args.ticket (CommitStep (name_of c.in_ok-named.named.name)) commit_reply c.commit.result c.commit.ensures.step; worked = worked_to t t (ticket_of s new c.args.ticket) (worked_not t) c.in_err-commit.ensures.kept })
 
 pub returns-clause-went : goal.returns-clause-went
 returns-clause-went g c =
     let s = g.Q.Desk.start in
-    let old = g.Q.Desk.seen c.args.desk.now in
     let mid = g.Q.Desk.seen c.begin.new.self in
     let new = g.Q.Desk.seen c.commit.new.self in
-    let who = c.args.ticket in
-    went_on s old mid new who (begin_went s old mid who (name_of c.args.name) c.begin.result c.begin.ensures.step c.begin.ensures.own)
-    (commit_went s mid new who (name_of c.in_ok-named.named.name) (g.Q.Stage.Stage.contents c.write.new.self) c.in_ok-commit.field-0 c.in_ok-commit.ensures.step c.in_ok-commit.ensures.own)
+    went_on s (g.Q.Desk.seen c.args.desk.now) mid new c.args.ticket (begun_went g (goal.at.returns-clause-went g c).In_ok-named)
+    (commit_went s mid new c.args.ticket (name_of c.in_ok-named.named.name) (g.Q.Stage.Stage.contents c.write.new.self) c.in_ok-commit.field-0 c.in_ok-commit.ensures.step c.in_ok-commit.ensures.own)
 
 pub begin-requires-clause-may : goal.begin-requires-clause-may
 begin-requires-clause-may g c = inl (c.requires.may.0, c.requires.may.2)
@@ -78,7 +77,6 @@ commit-requires-clause-new g c =
 pub returns-clause-tells : goal.returns-clause-tells
 returns-clause-tells g c =
     let s = g.Q.Desk.start in
-    let old = g.Q.Desk.seen c.args.desk.now in
     let mid = g.Q.Desk.seen c.begin.new.self in
     let new = g.Q.Desk.seen c.commit.new.self in
     let who = c.args.ticket in
@@ -86,7 +84,7 @@ returns-clause-tells g c =
     let contents = g.Q.Stage.Stage.contents c.write.new.self in
     let is = ap name_of c.in_ok-named.ensures.name in
     let done = c.in_ok-commit.field-0 in
-    blob_tells s old mid new who name contents done c.requires.mine.some c.requires.tells c.requires.may.2.stored c.in_ok-named.ensures.step c.in_ok-named.ensures.own
+    blob_tells s (g.Q.Desk.seen c.args.desk.now) mid new who name contents done c.requires.mine.some c.requires.tells c.requires.may.2.stored c.in_ok-named.ensures.step c.in_ok-named.ensures.own
     (subst (λ (n : BlobName). Stepped s mid new who (CommitStep n) (commit_reply done)) is c.in_ok-commit.ensures.step)
     (subst (λ (n : BlobName). ticket_of s new who ≡ committed_by n contents done (ticket_of s mid who)) is c.in_ok-commit.ensures.own)
 

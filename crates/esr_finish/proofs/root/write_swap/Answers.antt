@@ -1,11 +1,17 @@
 use Rattle.esr_formats.specs.Infos.{info_of_code}
 use Rattle.esr_formats.specs.Roots.{root_of}
 use Rattle.esr_desk.specs.Start.{ticket_of}
+use Rattle.esr_finish.specs.Went.{Went}
 use Rattle.esr_finish.proofs.Runs.{taken_on, went_on}
 use Rattle.esr_finish.proofs.Swaps.{root_next}
 use Rattle.std.proofs.Common.{ap, ◌∙◌}
 use Rattle.esr_core.specs.World.{Ticket}
 use Rattle.esr_finish.proofs.root.write_swap.Goals as goal
+use Rattle.esr_finish.proofs.root.write_swap.Goals.{In_ok-generation}
+
+-- how far it went when the root was put
+put_went : (g : _) (c : In_ok-generation g) → Went g.Q.Desk.start (g.Q.Desk.seen c.args.desk.now) (g.Q.Desk.seen c.put_root.new.desk) c.args.ticket
+put_went g c = went_on g.Q.Desk.start (g.Q.Desk.seen c.args.desk.now) (g.Q.Desk.seen c.put_metadata.new.desk) (g.Q.Desk.seen c.put_root.new.desk) c.args.ticket c.put_metadata.ensures.went c.put_root.ensures.went
 
 pub put_root-requires-clause-may : goal.put_root-requires-clause-may
 put_root-requires-clause-may g c κs within =
@@ -21,13 +27,8 @@ returns-in_err-generation-clause-went g c =
 
 pub returns-clause-went : goal.returns-clause-went
 returns-clause-went g c =
-    let s = g.Q.Desk.start in
-    let who = c.args.ticket in
-    let old = g.Q.Desk.seen c.args.desk.now in
-    let metadata = g.Q.Desk.seen c.put_metadata.new.desk in
-    let root = g.Q.Desk.seen c.put_root.new.desk in
-    let new = g.Q.Desk.seen c.try_latest.new.desk in
-    went_on s old root new who (went_on s old metadata root who c.put_metadata.ensures.went c.put_root.ensures.went) c.try_latest.ensures.went
+    let seen = g.Q.Desk.seen in
+    went_on g.Q.Desk.start (seen c.args.desk.now) (seen c.put_root.new.desk) (seen c.try_latest.new.desk) c.args.ticket (put_went g (goal.at.returns-clause-went g c).In_ok-generation) c.try_latest.ensures.went
 
 pub put_metadata-requires-clause-new : goal.put_metadata-requires-clause-new
 put_metadata-requires-clause-new g c κs within = c.requires.may.unnoted
@@ -51,13 +52,8 @@ returns-clause-calls g c = c.try_latest.ensures.calls ∙ c.put_root.ensures.cal
 
 pub returns-in_err-try_latest-clause-went : goal.returns-in_err-try_latest-clause-went
 returns-in_err-try_latest-clause-went g c =
-    let s = g.Q.Desk.start in
-    let who = c.args.ticket in
-    let old = g.Q.Desk.seen c.args.desk.now in
-    let metadata = g.Q.Desk.seen c.put_metadata.new.desk in
-    let root = g.Q.Desk.seen c.put_root.new.desk in
-    let new = g.Q.Desk.seen c.try_latest.new.desk in
-    went_on s old root new who (went_on s old metadata root who c.put_metadata.ensures.went c.put_root.ensures.went) c.try_latest.ensures.went
+    let seen = g.Q.Desk.seen in
+    went_on g.Q.Desk.start (seen c.args.desk.now) (seen c.put_root.new.desk) (seen c.try_latest.new.desk) c.args.ticket (put_went g (goal.at.returns-in_err-try_latest-clause-went g c).In_ok-generation) c.try_latest.ensures.went
 
 pub returns-in_err-try_latest-clause-calls : goal.returns-in_err-try_latest-clause-calls
 returns-in_err-try_latest-clause-calls g c = c.try_latest.ensures.calls ∙ c.put_root.ensures.calls ∙ c.put_metadata.ensures.calls

@@ -1,12 +1,12 @@
-use Rattle.std.proofs.Common.{◌≡◌, inr, false, refl, sym, ap, ◌∙◌, subst}
+use Rattle.std.proofs.Common.{◌≡◌, List, inr, false, refl, sym, ap, ◌∙◌, subst}
 use Rattle.esr_core.specs.World.{Ticket}
-use Rattle.esr_core.specs.Entry.{SettleStep, FinishStep, WasSettled, HasEnded}
+use Rattle.esr_core.specs.Entry.{SettleStep, FinishStep, WasSettled, HasEnded, Moment}
 use Rattle.esr_desk.specs.declared.unit.UnitRefusal.TheVariants.{Stopped}
 use Rattle.esr_desk.specs.Start.{ticket_of}
 use Rattle.esr_desk.specs.Taken.{IsSettled}
 use Rattle.esr_desk.specs.Told.{settle_fresh}
 use Rattle.esr_desk.specs.Evidence.{evidence}
-use Rattle.esr_desk.specs.Grew.{grew_by_on, outcome_grew_by}
+use Rattle.esr_desk.specs.Grew.{GrewBy, grew_by_on, outcome_grew_by}
 use Rattle.esr_unit.specs.declared.trouble.Trouble.TheVariants.{Step}
 use Rattle.esr_finish.specs.Ticket.{IsUnsettledMaster}
 use Rattle.esr_finish.specs.Refused.{IsHalted, is_fault}
@@ -15,7 +15,7 @@ use Rattle.esr_finish.proofs.Swaps.{settled_ends}
 use Rattle.esr_finish.proofs.Stopping.{writing_refused, put_shown, put_ends, master_out, finish_stops}
 use Rattle.esr_finish.proofs.Ends.{unsettled_same, settle_halted}
 use Rattle.esr_finish.proofs.unit.settle.Goals as goal
-use Rattle.esr_finish.proofs.unit.settle.Goals.{In-Err}
+use Rattle.esr_finish.proofs.unit.settle.Goals.{In-Ok, In-Err}
 
 -- ---- the settle
 
@@ -26,6 +26,14 @@ pub settle-requires-clause-unpruned : goal.settle-requires-clause-unpruned
 settle-requires-clause-unpruned g c = c.requires.masters.fails.unpruned
 
 -- ---- the end
+
+-- the history goes on from the settle
+settled_grew : (g : _) (c : In-Ok g) (new : List Moment) → GrewBy g.Q.Desk.start c.args.ticket (g.Q.Desk.seen c.settle.new.self) new → GrewBy g.Q.Desk.start c.args.ticket (g.Q.Desk.seen c.args.desk.now) new
+settled_grew g c new more =
+    let s = g.Q.Desk.start in
+    let old = g.Q.Desk.seen c.args.desk.now in
+    let mid = g.Q.Desk.seen c.settle.new.self in
+    grew_by_on s c.args.ticket old mid new (outcome_grew_by s old mid c.args.ticket SettleStep (λ x. WasSettled) c.settle.result c.settle.ensures.step) more
 
 pub finish-requires-clause-mine : goal.finish-requires-clause-mine
 finish-requires-clause-mine g c = taken_on (g.Q.Desk.calls c.args.desk.now) (g.Q.Desk.calls c.settle.new.self) c.args.ticket c.settle.ensures.calls c.requires.mine
@@ -40,12 +48,8 @@ returns-in_ok-finish-in-Ok-clause-ok g c = c.in_ok-finish-in-Ok.ensures.own ∙ 
 
 pub returns-in_ok-finish-in-Ok-clause-grew : goal.returns-in_ok-finish-in-Ok-clause-grew
 returns-in_ok-finish-in-Ok-clause-grew g c =
-    let s = g.Q.Desk.start in
-    let old = g.Q.Desk.seen c.args.desk.now in
-    let mid = g.Q.Desk.seen c.settle.new.self in
     let new = g.Q.Desk.seen c.finish.new.self in
-    let who = c.args.ticket in
-    grew_by_on s who old mid new (outcome_grew_by s old mid who SettleStep (λ x. WasSettled) c.settle.result c.settle.ensures.step) (outcome_grew_by s mid new who FinishStep (λ x. HasEnded) c.finish.result c.finish.ensures.step)
+    settled_grew g (goal.at.returns-in_ok-finish-in-Ok-clause-grew g c).In-Ok new (outcome_grew_by g.Q.Desk.start (g.Q.Desk.seen c.settle.new.self) new c.args.ticket FinishStep (λ x. HasEnded) c.finish.result c.finish.ensures.step)
 
 pub returns-in_err-finish-in-Ok-clause-refused : goal.returns-in_err-finish-in-Ok-clause-refused
 returns-in_err-finish-in-Ok-clause-refused g c =
@@ -62,12 +66,8 @@ returns-in_err-finish-in-Ok-clause-refused g c =
 
 pub returns-in_err-finish-in-Ok-clause-grew : goal.returns-in_err-finish-in-Ok-clause-grew
 returns-in_err-finish-in-Ok-clause-grew g c =
-    let s = g.Q.Desk.start in
-    let old = g.Q.Desk.seen c.args.desk.now in
-    let mid = g.Q.Desk.seen c.settle.new.self in
     let new = g.Q.Desk.seen c.finish.new.self in
-    let who = c.args.ticket in
-    grew_by_on s who old mid new (outcome_grew_by s old mid who SettleStep (λ x. WasSettled) c.settle.result c.settle.ensures.step) (outcome_grew_by s mid new who FinishStep (λ x. HasEnded) c.finish.result c.finish.ensures.step)
+    settled_grew g (goal.at.returns-in_err-finish-in-Ok-clause-grew g c).In-Ok new (outcome_grew_by g.Q.Desk.start (g.Q.Desk.seen c.settle.new.self) new c.args.ticket FinishStep (λ x. HasEnded) c.finish.result c.finish.ensures.step)
 
 -- ---- it was refused
 

@@ -19,24 +19,22 @@ loop-k-init c =
 pub returns-in_default : goal.returns-in_default
 returns-in_default c = λ known told.
     let image = c.args.image.now in
-    let shard = c.args.shard in
     let e = c.args.entry.now in
     let k = c.loop-k.k in
     let less = subst (λ (n : ℕ). k < n) c.part_count-count.ensures.count c.loop-k-test.true in
     let f = formats known told in
     let none = exact_none (At f image (name_of c.part_name.result)) c.in_ok-part.field-0 c.in_default.is (c.in_ok-part.ensures known told) in
-    joined_absent (At f image) shard e c.requires.least k less (subst (λ (n : CodeName). (b : Bytes) → At f image (name_of n) b → ⊥) c.part_name.ensures none)
+    joined_absent (At f image) c.args.shard e c.requires.least k less (subst (λ (n : CodeName). (b : Bytes) → At f image (name_of n) b → ⊥) c.part_name.ensures none)
 
 pub returns-then-not-is_cut : goal.returns-then-not-is_cut
 returns-then-not-is_cut c = λ known told.
     let image = c.args.image.now in
-    let shard = c.args.shard in
     let e = c.args.entry.now in
     let k = c.loop-k.k in
     let less = subst (λ (n : ℕ). k < n) c.part_count-count.ensures.count c.loop-k-test.true in
     let f = formats known told in
     let there = exact_some (At f image (name_of c.part_name.result)) c.in_ok-part.field-0 c.in-Some.part c.in-Some.is (c.in_ok-part.ensures known told) in
-    joined_uncut (At f image) (at_one f image) shard e c.requires.least k c.in-Some.part less (subst (λ (n : CodeName). At f image (name_of n) c.in-Some.part) c.part_name.ensures there)
+    joined_uncut (At f image) (at_one f image) c.args.shard e c.requires.least k c.in-Some.part less (subst (λ (n : CodeName). At f image (name_of n) c.in-Some.part) c.part_name.ensures there)
     (λ cut. not_so c.is_cut.result c.is_cut.ensures c.if-not-is_cut.true (λ more. ap (λ (b : Bytes). length b) c.as_slice.ensures ∙ cut (subst (λ (n : ℕ). k + 1 < n) c.part_count-count.ensures.count more)))
 
 pub loop-k-preserved : goal.loop-k-preserved

@@ -12,27 +12,21 @@ pub returns-in_default : goal.returns-in_default
 returns-in_default c = λ known told.
     let f = formats known told in
     let image = c.args.image.now in
-    let has = At f image in
-    let root = root_of c.args.root.now in
     let snap = root_snap_of c.args.snap.now in
-    info_unread f has root snap (was_unread (λ f. f.info) info_of_code image (Snap snap.uuid) c.in_ok-info.field-0 c.in_ok-info.ensures c.in_default.is known told)
+    info_unread f (At f image) (root_of c.args.root.now) snap (was_unread (λ f. f.info) info_of_code image (Snap snap.uuid) c.in_ok-info.field-0 c.in_ok-info.ensures c.in_default.is known told)
 
 pub returns-then-branch : goal.returns-then-branch
 returns-then-branch c = λ known told.
     let f = formats known told in
     let image = c.args.image.now in
-    let has = At f image in
-    let root = root_of c.args.root.now in
     let snap = root_snap_of c.args.snap.now in
     let reads = was_read (λ f. f.info) info_of_code image (Snap snap.uuid) c.in_ok-info.field-0 c.in-Some.info c.in_ok-info.ensures c.in-Some.is known told in
-    info_agrees f has root snap (info_of_code c.in-Some.info) reads (so c.in_ok-agrees.field-0 (c.in_ok-agrees.ensures known told) c.if-branch.true)
+    info_agrees f (At f image) (root_of c.args.root.now) snap (info_of_code c.in-Some.info) reads (so c.in_ok-agrees.field-0 (c.in_ok-agrees.ensures known told) c.if-branch.true)
 
 pub returns-else-branch : goal.returns-else-branch
 returns-else-branch c = λ known told.
     let f = formats known told in
     let image = c.args.image.now in
-    let has = At f image in
-    let root = root_of c.args.root.now in
     let snap = root_snap_of c.args.snap.now in
     let reads = was_read (λ f. f.info) info_of_code image (Snap snap.uuid) c.in_ok-info.field-0 c.in-Some.info c.in_ok-info.ensures c.in-Some.is known told in
-    info_disagrees f has root snap (at_one f image) (info_of_code c.in-Some.info) reads (not_so c.in_ok-agrees.field-0 (c.in_ok-agrees.ensures known told) c.if-branch.false)
+    info_disagrees f (At f image) (root_of c.args.root.now) snap (at_one f image) (info_of_code c.in-Some.info) reads (not_so c.in_ok-agrees.field-0 (c.in_ok-agrees.ensures known told) c.if-branch.false)

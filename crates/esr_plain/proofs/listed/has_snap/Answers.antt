@@ -7,9 +7,9 @@ use Rattle.esr_plain.proofs.Loops.{holds, fails, so, not_so}
 use Rattle.esr_plain.proofs.Blobs.{was_read, was_unread}
 use Rattle.esr_plain.proofs.listed.has_snap.Goals as goal
 
-pub returns-then-not-lists_snap : goal.returns-then-not-lists_snap
-returns-then-not-lists_snap c = λ known told.
-    holds (λ s m e. absurd (not_so c.lists_snap.result c.lists_snap.ensures c.if-not-lists_snap.true (s, m, e)))
+pub returns-then-not-is_listed : goal.returns-then-not-is_listed
+returns-then-not-is_listed c = λ known told.
+    holds (λ s m e. absurd (not_so c.is_listed.result c.is_listed.ensures c.if-not-is_listed.true (s, m, sym e)))
 
 pub returns : goal.returns
 returns c = λ known told.
@@ -30,5 +30,5 @@ returns-in_default c = λ known told.
     let i = c.args.shard.index.number in
     let k = c.args.shard.number in
     let none = was_unread (λ f. f.shard_snap) shard_snap_of image (ShardSnap i k c.args.uuid.number) c.in_ok-_snap.field-0 c.in_ok-_snap.ensures c.in_default.is known told in
-    let listed = so c.lists_snap.result c.lists_snap.ensures c.if-not-lists_snap.false in
-    fails (λ all. let it = all listed.0 listed.1 listed.2 in none it.0 (subst (λ u. Reads has (ShardSnap i k u) f.shard_snap it.0) (sym listed.2) it.1))
+    let listed = so c.is_listed.result c.is_listed.ensures c.if-not-is_listed.false in
+    fails (λ all. let it = all listed.0 listed.1 (sym listed.2) in none it.0 (subst (λ u. Reads has (ShardSnap i k u) f.shard_snap it.0) listed.2 it.1))

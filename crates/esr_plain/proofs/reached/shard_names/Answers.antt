@@ -20,14 +20,14 @@ returns-in_default c =
     IfOk-weaker c.from_slice.result (λ names. names ≡ own ∷ []) (λ names. Always (λ f. AreNames names (OfShard f (At f c.args.image.now) (map root_snap_of c.args.snaps.now) c.args.shard.index.number c.args.shard.number c.args.generation.number)))
     (λ names is known told.
     let f = formats known told in
-    let image = c.args.image.now in
+    let has = At f c.args.image.now in
     let snaps = map root_snap_of c.args.snaps.now in
     let i = c.args.shard.index.number in
     let s = c.args.shard.number in
     let g = c.args.generation.number in
     let name = ShardIndex i s g in
-    let none = was_unread (λ f. f.shard_index) shard_index_of image name c.in_ok-held.field-0 c.in_ok-held.ensures c.in_default.is known told in
-    subst (λ (ns : List CodeName). AreNames ns (OfShard f (At f image) snaps i s g)) (sym is) (shard_unread f (At f image) snaps i s g (name ∷ []) none (are_one name)))
+    let none = was_unread (λ f. f.shard_index) shard_index_of c.args.image.now name c.in_ok-held.field-0 c.in_ok-held.ensures c.in_default.is known told in
+    subst (λ (ns : List CodeName). AreNames ns (OfShard f has snaps i s g)) (sym is) (shard_unread f has snaps i s g (name ∷ []) none (are_one name)))
     c.from_slice.ensures
 
 pub returns : goal.returns

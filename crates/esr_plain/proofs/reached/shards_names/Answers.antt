@@ -31,7 +31,5 @@ returns c = λ known told.
     let snaps = map root_snap_of c.args.snaps.now in
     let i = c.args.index.now.id.number in
     let h : Option Id → Option ℕ = option_map number_of in
-    let xs = c.as_slice-generation-items.result.now in
-    let k = c.loop-number.number in
     subst (λ (gs : List (Option Id)). AreNames c.loop-number.names (OfShards f (At f c.args.image.now) snaps i (map h gs))) c.as_slice-generation-items.ensures.items
-    (shards_all f (At f c.args.image.now) snaps i h xs k c.loop-number.names c.loop-number-test.false (c.loop-number.invariant known told))
+    (shards_all f (At f c.args.image.now) snaps i h c.as_slice-generation-items.result.now c.loop-number.number c.loop-number.names c.loop-number-test.false (c.loop-number.invariant known told))

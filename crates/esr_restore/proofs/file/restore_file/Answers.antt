@@ -11,7 +11,7 @@ use Rattle.esr_restore.proofs.Ending.{start_trouble}
 use Rattle.esr_restore.proofs.file.restore_file.Goals as goal
 
 pub returns-in_err-begin_file-clause-went : goal.returns-in_err-begin_file-clause-went
-returns-in_err-begin_file-clause-went g c = went_none g.Q.Desk.start (g.Q.Desk.seen c.args.desk.now) c.args.ticket
+returns-in_err-begin_file-clause-went g c = went_none g.Q.Desk.start (g.Q.Desk.seen c.args.desk.now) c.args.job.ticket
 
 pub returns-in_err-begin_file-clause-trouble : goal.returns-in_err-begin_file-clause-trouble
 returns-in_err-begin_file-clause-trouble g c =
@@ -21,27 +21,27 @@ returns-in_err-begin_file-clause-trouble g c =
     let target = c.begin_file.new.target in
     let count = g.Q.Target.Counted.faults target in
     let sure = (g.Q.Target.Target.told target).is_sure in
-    passed c.from_residual.result (IsTrouble e count sure s log c.args.ticket) c.in_err-begin_file.field-0.0 c.from_residual.ensures.1 (start_trouble e count sure s log c.args.ticket c.in_err-begin_file.field-0.0 c.in_err-begin_file.ensures.trouble)
+    passed c.from_residual.result (IsTrouble e count sure s log c.args.job.ticket) c.in_err-begin_file.field-0.0 c.from_residual.ensures.1 (start_trouble e count sure s log c.args.job.ticket c.in_err-begin_file.field-0.0 c.in_err-begin_file.ensures.trouble)
 
 pub returns-in-Some-clause-trouble : goal.returns-in-Some-clause-trouble
 returns-in-Some-clause-trouble g c =
     let s = g.Q.Desk.start in
-    let who = c.args.ticket in
+    let who = c.args.job.ticket in
     let old = g.Q.Desk.seen c.args.desk.now in
     let new = g.Q.Desk.seen c.read_parts.new.desk in
     let done = c.in_ok-is_exact.ensures in
-    judged_so (evidence g.Q.Stage.Counted.faults g.Q.Fetch.Counted.faults g.Q.Shard.Counted.faults g.Q.Target.Counted.faults g.Q.Shard.Shard.told g.Q.Target.Target.told) s new who c.read_parts.new.hasher (g.Q.Target.Target.told c.begin_file.new.target).begun (g.Q.Target.Target.told c.read_parts.new.target).begun c.args.at c.args.uuid c.args.entry.now c.end.result c.in_ok-is_exact.is_exact
-    (went_at s old new who c.args.at.index.number c.args.at.number c.args.uuid.number done.went c.requires.at)
+    judged_so (evidence g.Q.Stage.Counted.faults g.Q.Fetch.Counted.faults g.Q.Shard.Counted.faults g.Q.Target.Counted.faults g.Q.Shard.Shard.told g.Q.Target.Target.told) s new who c.read_parts.new.hasher (g.Q.Target.Target.told c.begin_file.new.target).begun (g.Q.Target.Target.told c.read_parts.new.target).begun c.args.job.at c.args.job.uuid c.args.entry.now c.end.result c.in_ok-is_exact.is_exact
+    (went_at s old new who c.args.job.at.index.number c.args.job.at.number c.args.job.uuid.number done.went c.requires.at)
     (listed_more s (reader_of s old who) (reader_of s new who) c.args.entry.now done.went.worked c.requires.listed)
     done.read c.end.ensures.joined c.judge.result c.in-Some.why c.judge.ensures c.in-Some.is
 
 pub returns-in-Ok-clause-restored : goal.returns-in-Ok-clause-restored
 returns-in-Ok-clause-restored g c =
     let s = g.Q.Desk.start in
-    let who = c.args.ticket in
+    let who = c.args.job.ticket in
     let e = c.args.entry.now in
-    let well = judged_well c.args.at c.args.uuid e c.end.result c.in_ok-is_exact.is_exact c.judge.result c.judge.ensures c.in_default.is in
-    restored_file s (reader_of s (g.Q.Desk.seen c.read_parts.new.desk) who) c.read_parts.new.hasher (g.Q.Target.Target.told c.begin_file.new.target).begun (g.Q.Target.Target.told c.read_parts.new.target).begun c.args.at e c.end.result c.in_ok-is_exact.is_exact
+    let well = judged_well c.args.job.at c.args.job.uuid e c.end.result c.in_ok-is_exact.is_exact c.judge.result c.judge.ensures c.in_default.is in
+    restored_file s (reader_of s (g.Q.Desk.seen c.read_parts.new.desk) who) c.read_parts.new.hasher (g.Q.Target.Target.told c.begin_file.new.target).begun (g.Q.Target.Target.told c.read_parts.new.target).begun c.args.job.at e c.end.result c.in_ok-is_exact.is_exact
     (g.Q.Target.Target.told c.args.target.now).files (g.Q.Target.Target.told c.read_parts.new.target).files (g.Q.Target.Target.told c.end-2.new.self).files
     c.in_ok-is_exact.ensures.read c.end.ensures.joined well.0 well.1 c.in_ok-begin_file.ensures.begun (c.read_parts.ensures.files ∙ c.begin_file.ensures.files) (ap (λ (t : TargetTold). t.files) c.in-Ok.ensures.ok)
 

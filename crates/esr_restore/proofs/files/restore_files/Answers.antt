@@ -19,14 +19,14 @@ loop-entry-init g c = record {
   steady = refl;
   made_for = refl;
   is_sure = refl;
-  went = went_none g.Q.Desk.start (g.Q.Desk.seen c.args.desk.now) c.args.ticket;
-  reads = reads_none g.Q.Desk.start (g.Q.Desk.seen c.args.desk.now) c.args.ticket (IsPartOfAny c.args.at (take 0 c.args.snap.now.files));
-  first = files_none g.Q.Desk.start (reader_of g.Q.Desk.start (g.Q.Desk.seen c.args.desk.now) c.args.ticket) c.args.at c.args.snap.now.files (g.Q.Target.Target.told c.args.target.now).files c.requires.empty;
+  went = went_none g.Q.Desk.start (g.Q.Desk.seen c.args.desk.now) c.args.job.ticket;
+  reads = reads_none g.Q.Desk.start (g.Q.Desk.seen c.args.desk.now) c.args.job.ticket (IsPartOfAny c.args.job.at (take 0 c.args.snap.now.files));
+  first = files_none g.Q.Desk.start (reader_of g.Q.Desk.start (g.Q.Desk.seen c.args.desk.now) c.args.job.ticket) c.args.job.at c.args.snap.now.files (g.Q.Target.Target.told c.args.target.now).files c.requires.empty;
 }
 
 pub restore_file-requires-clause-mine : goal.restore_file-requires-clause-mine
 restore_file-requires-clause-mine g c κs within =
-    still_mine (g.Q.Desk.calls c.args.desk.now) (g.Q.Desk.calls c.loop-entry.desk) c.args.ticket c.loop-entry.invariant.calls c.requires.mine
+    still_mine (g.Q.Desk.calls c.args.desk.now) (g.Q.Desk.calls c.loop-entry.desk) c.args.job.ticket c.loop-entry.invariant.calls c.requires.mine
 
 pub restore_file-requires-clause-entry : goal.restore_file-requires-clause-entry
 restore_file-requires-clause-entry g c κs within =
@@ -36,7 +36,7 @@ restore_file-requires-clause-entry g c κs within =
 pub restore_file-requires-clause-listed : goal.restore_file-requires-clause-listed
 restore_file-requires-clause-listed g c κs within =
     let s = g.Q.Desk.start in
-    let who = c.args.ticket in
+    let who = c.args.job.ticket in
     let old = reader_of s (g.Q.Desk.seen c.args.desk.now) who in
     let now = reader_of s (g.Q.Desk.seen c.loop-entry.desk) who in
     let here = at_same c.files-entry-items.result.now c.args.snap.now.files c.loop-entry.entry-index c.entry-item.result c.files-entry-items.ensures.files c.loop-entry-test.true c.entry-item.is in
@@ -46,18 +46,18 @@ pub restore_file-requires-clause-free : goal.restore_file-requires-clause-free
 restore_file-requires-clause-free g c κs within =
     let s = g.Q.Desk.start in
     let here = at_same c.files-entry-items.result.now c.args.snap.now.files c.loop-entry.entry-index c.entry-item.result c.files-entry-items.ensures.files c.loop-entry-test.true c.entry-item.is in
-    next_free s (reader_of s (g.Q.Desk.seen c.loop-entry.desk) c.args.ticket) c.args.at c.args.snap.now c.loop-entry.entry-index c.entry-item.result (g.Q.Target.Target.told c.args.target.now).files (g.Q.Target.Target.told c.loop-entry.target).files
+    next_free s (reader_of s (g.Q.Desk.seen c.loop-entry.desk) c.args.job.ticket) c.args.job.at c.args.snap.now c.loop-entry.entry-index c.entry-item.result (g.Q.Target.Target.told c.args.target.now).files (g.Q.Target.Target.told c.loop-entry.target).files
     c.files-entry-items.ensures.whole here.0 here.1 c.loop-entry.invariant.first
 
 pub returns-in_err-restore_file-clause-went : goal.returns-in_err-restore_file-clause-went
-returns-in_err-restore_file-clause-went g c = went_on g.Q.Desk.start (g.Q.Desk.seen c.args.desk.now) (g.Q.Desk.seen c.loop-entry.desk) (g.Q.Desk.seen c.restore_file.new.desk) c.args.ticket c.loop-entry.invariant.went c.restore_file.ensures.went
+returns-in_err-restore_file-clause-went g c = went_on g.Q.Desk.start (g.Q.Desk.seen c.args.desk.now) (g.Q.Desk.seen c.loop-entry.desk) (g.Q.Desk.seen c.restore_file.new.desk) c.args.job.ticket c.loop-entry.invariant.went c.restore_file.ensures.went
 
 pub returns-in_err-restore_file-clause-first : goal.returns-in_err-restore_file-clause-first
 returns-in_err-restore_file-clause-first g c =
     let s = g.Q.Desk.start in
-    let who = c.args.ticket in
-    let at = c.args.at in
-    let uuid = c.args.uuid in
+    let who = c.args.job.ticket in
+    let at = c.args.job.at in
+    let uuid = c.args.job.uuid in
     let old = g.Q.Desk.seen c.args.desk.now in
     let mid = g.Q.Desk.seen c.loop-entry.desk in
     let new = g.Q.Desk.seen c.restore_file.new.desk in
@@ -73,7 +73,7 @@ returns-in_err-restore_file-clause-calls g c = c.restore_file.ensures.calls ∙ 
 pub loop-entry-preserved : goal.loop-entry-preserved
 loop-entry-preserved g c =
     let s = g.Q.Desk.start in
-    let who = c.args.ticket in
+    let who = c.args.job.ticket in
     let inv = c.loop-entry.invariant in
     let done = c.in_ok-restore_file.ensures in
     let mid = g.Q.Desk.seen c.loop-entry.desk in
@@ -87,8 +87,8 @@ loop-entry-preserved g c =
       made_for = done.made_for ∙ inv.made_for;
       is_sure = done.is_sure ∙ inv.is_sure;
       went = went_on s (g.Q.Desk.seen c.args.desk.now) mid new who inv.went done.went;
-      reads = file_more s (g.Q.Desk.seen c.args.desk.now) mid new who c.args.at c.args.snap.now.files c.loop-entry.entry-index c.entry-item.result here.0 here.1 inv.reads done.reads;
-      first = files_next s (reader_of s mid who) (reader_of s new who) c.args.at c.args.snap.now.files c.loop-entry.entry-index c.entry-item.result (g.Q.Target.Target.told c.args.target.now).files (g.Q.Target.Target.told c.loop-entry.target).files
+      reads = file_more s (g.Q.Desk.seen c.args.desk.now) mid new who c.args.job.at c.args.snap.now.files c.loop-entry.entry-index c.entry-item.result here.0 here.1 inv.reads done.reads;
+      first = files_next s (reader_of s mid who) (reader_of s new who) c.args.job.at c.args.snap.now.files c.loop-entry.entry-index c.entry-item.result (g.Q.Target.Target.told c.args.target.now).files (g.Q.Target.Target.told c.loop-entry.target).files
           (g.Q.Target.Target.told c.restore_file.new.target).files done.went.worked here.0 here.1 inv.first done.restored;
     }
 
@@ -97,12 +97,12 @@ returns-clause-restored g c =
     let s = g.Q.Desk.start in
     let all : length c.files-entry-items.result.now ≤ c.loop-entry.entry-index = c.loop-entry-test.false in
     let le = subst (λ (l : List CodeEntry). length l ≤ c.loop-entry.entry-index) c.files-entry-items.ensures.files all in
-    files_all s (reader_of s (g.Q.Desk.seen c.loop-entry.desk) c.args.ticket) c.args.at c.args.snap.now.files c.loop-entry.entry-index (g.Q.Target.Target.told c.args.target.now).files (g.Q.Target.Target.told c.loop-entry.target).files le c.loop-entry.invariant.first
+    files_all s (reader_of s (g.Q.Desk.seen c.loop-entry.desk) c.args.job.ticket) c.args.job.at c.args.snap.now.files c.loop-entry.entry-index (g.Q.Target.Target.told c.args.target.now).files (g.Q.Target.Target.told c.loop-entry.target).files le c.loop-entry.invariant.first
 
 pub restore_file-requires-clause-new : goal.restore_file-requires-clause-new
 restore_file-requires-clause-new g c κs within =
     let here = at_same c.files-entry-items.result.now c.args.snap.now.files c.loop-entry.entry-index c.entry-item.result c.files-entry-items.ensures.files c.loop-entry-test.true c.entry-item.is in
-    file_unread g.Q.Desk.start (g.Q.Desk.seen c.args.desk.now) (g.Q.Desk.seen c.loop-entry.desk) c.args.ticket c.args.at c.args.snap.now c.loop-entry.entry-index c.entry-item.result c.files-entry-items.ensures.whole here.0 here.1 c.requires.new c.loop-entry.invariant.reads
+    file_unread g.Q.Desk.start (g.Q.Desk.seen c.args.desk.now) (g.Q.Desk.seen c.loop-entry.desk) c.args.job.ticket c.args.job.at c.args.snap.now c.loop-entry.entry-index c.entry-item.result c.files-entry-items.ensures.whole here.0 here.1 c.requires.new c.loop-entry.invariant.reads
 
 pub returns-clause-begun : goal.returns-clause-begun
 returns-clause-begun g c = c.loop-entry.invariant.begun

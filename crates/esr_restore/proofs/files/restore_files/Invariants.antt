@@ -16,7 +16,7 @@ invariant-loop-entry g l =
       steady : g.Q.Target.Counted.faults l.target ≡ g.Q.Target.Counted.faults l.fn.target;
       made_for : (g.Q.Target.Target.told l.target).made_for ≡ (g.Q.Target.Target.told l.fn.target).made_for;
       is_sure : (g.Q.Target.Target.told l.target).is_sure ≡ (g.Q.Target.Target.told l.fn.target).is_sure;
-      went : Went g.Q.Desk.start (g.Q.Desk.seen l.fn.desk) (g.Q.Desk.seen l.desk) l.ticket;
-      reads : ReadsOnly g.Q.Desk.start (g.Q.Desk.seen l.fn.desk) (g.Q.Desk.seen l.desk) l.ticket (IsPartOfAny l.at (take l.entry-index l.snap.files));
-      first : FirstFiles g.Q.Desk.start (reader_of g.Q.Desk.start (g.Q.Desk.seen l.desk) l.ticket) l.at l.snap.files l.entry-index (g.Q.Target.Target.told l.fn.target).files (g.Q.Target.Target.told l.target).files;
+      went : Went g.Q.Desk.start (g.Q.Desk.seen l.fn.desk) (g.Q.Desk.seen l.desk) l.job.ticket;
+      reads : ReadsOnly g.Q.Desk.start (g.Q.Desk.seen l.fn.desk) (g.Q.Desk.seen l.desk) l.job.ticket (IsPartOfAny l.job.at (take l.entry-index l.snap.files));
+      first : FirstFiles g.Q.Desk.start (reader_of g.Q.Desk.start (g.Q.Desk.seen l.desk) l.job.ticket) l.job.at l.snap.files l.entry-index (g.Q.Target.Target.told l.fn.target).files (g.Q.Target.Target.told l.target).files;
     }

@@ -27,14 +27,14 @@ loop-number-init g c = record {
   steady = refl;
   made_for = refl;
   is_sure = refl;
-  went = went_none g.Q.Desk.start (g.Q.Desk.seen c.args.desk.now) c.args.ticket;
-  reads = reads_none g.Q.Desk.start (g.Q.Desk.seen c.args.desk.now) c.args.ticket (IsPartBefore c.args.at c.args.entry.now 0);
-  so_far = so_far_none g.Q.Desk.start (reader_of g.Q.Desk.start (g.Q.Desk.seen c.args.desk.now) c.args.ticket) c.args.hasher.now (g.Q.Target.Target.told c.args.target.now).begun c.args.at c.args.entry.now c.requires.fresh c.requires.room;
+  went = went_none g.Q.Desk.start (g.Q.Desk.seen c.args.desk.now) c.args.job.ticket;
+  reads = reads_none g.Q.Desk.start (g.Q.Desk.seen c.args.desk.now) c.args.job.ticket (IsPartBefore c.args.job.at c.args.entry.now 0);
+  so_far = so_far_none g.Q.Desk.start (reader_of g.Q.Desk.start (g.Q.Desk.seen c.args.desk.now) c.args.job.ticket) c.args.hasher.now (g.Q.Target.Target.told c.args.target.now).begun c.args.job.at c.args.entry.now c.requires.fresh c.requires.room;
 }
 
 pub read_part-requires-clause-mine : goal.read_part-requires-clause-mine
 read_part-requires-clause-mine g c κs within =
-    still_mine (g.Q.Desk.calls c.args.desk.now) (g.Q.Desk.calls c.loop-number.desk) c.args.ticket c.loop-number.invariant.calls c.requires.mine
+    still_mine (g.Q.Desk.calls c.args.desk.now) (g.Q.Desk.calls c.loop-number.desk) c.args.job.ticket c.loop-number.invariant.calls c.requires.mine
 
 pub read_part-requires-clause-layout : goal.read_part-requires-clause-layout
 read_part-requires-clause-layout g c κs within =
@@ -43,14 +43,14 @@ read_part-requires-clause-layout g c κs within =
     let test : number < c.part_count-number-end.result = c.loop-number-test.true in
     let most : part_count e.print.len e.part_size ≤ e.print.len + 1 = few_parts e.print.len e.part_size c.requires.entry.least in
     let low : number < 2 ^ 61 = omega (arith, test, c.part_count-number-end.ensures.count, most, c.requires.entry.short) in
-    subst IsName (sym c.part_name-name.ensures) (part_layout c.args.at e number c.requires.few low)
+    subst IsName (sym c.part_name-name.ensures) (part_layout c.args.job.at e number c.requires.few low)
 
 pub read_part-requires-clause-may : goal.read_part-requires-clause-may
 read_part-requires-clause-may g c κs within =
     let s = g.Q.Desk.start in
-    let who = c.args.ticket in
+    let who = c.args.job.ticket in
     let e = c.args.entry.now in
-    let at = c.args.at in
+    let at = c.args.job.at in
     let number = c.loop-number.number in
     let old = g.Q.Desk.seen c.args.desk.now in
     let now = g.Q.Desk.seen c.loop-number.desk in
@@ -58,7 +58,7 @@ read_part-requires-clause-may g c κs within =
     let test : number < c.part_count-number-end.result = c.loop-number-test.true in
     let less : number < part_count e.print.len e.part_size = omega (arith, test, c.part_count-number-end.ensures.count) in
     subst (λ (n : CodeName). CanRead s (reader_of s now who) (name_of n)) (sym c.part_name-name.ensures)
-    (can_read_part s (reader_of s now who) at c.args.uuid.number e number (went_at s old now who at.index.number at.number c.args.uuid.number went c.requires.at)
+    (can_read_part s (reader_of s now who) at c.args.job.uuid.number e number (went_at s old now who at.index.number at.number c.args.job.uuid.number went c.requires.at)
     (listed_more s (reader_of s old who) (reader_of s now who) e went.worked c.requires.listed) c.requires.entry.least less)
 
 pub read_part-requires-clause-room : goal.read_part-requires-clause-room
@@ -75,7 +75,7 @@ read_part-requires-clause-bound g c κs within =
     c.part_count-number-end.ensures.count c.loop-number-test.true (fed_most c.loop-number.hasher so.fronts (number * e.part_size) e.print.len number so.fed so.count) c.part_plan-size.ensures.length
 
 pub returns-in_err-is_whole-clause-went : goal.returns-in_err-is_whole-clause-went
-returns-in_err-is_whole-clause-went g c = went_on g.Q.Desk.start (g.Q.Desk.seen c.args.desk.now) (g.Q.Desk.seen c.loop-number.desk) (g.Q.Desk.seen c.read_part.new.desk) c.args.ticket c.loop-number.invariant.went c.read_part.ensures.went
+returns-in_err-is_whole-clause-went g c = went_on g.Q.Desk.start (g.Q.Desk.seen c.args.desk.now) (g.Q.Desk.seen c.loop-number.desk) (g.Q.Desk.seen c.read_part.new.desk) c.args.job.ticket c.loop-number.invariant.went c.read_part.ensures.went
 
 pub returns-in_err-is_whole-clause-calls : goal.returns-in_err-is_whole-clause-calls
 returns-in_err-is_whole-clause-calls g c = c.read_part.ensures.calls ∙ c.loop-number.invariant.calls
@@ -84,7 +84,7 @@ pub loop-number-preserved : goal.loop-number-preserved
 loop-number-preserved g c =
     let inv = c.loop-number.invariant in
     let s = g.Q.Desk.start in
-    let who = c.args.ticket in
+    let who = c.args.job.ticket in
     let e = c.args.entry.now in
     let number = c.loop-number.number in
     let old = g.Q.Desk.seen c.args.desk.now in
@@ -109,8 +109,8 @@ loop-number-preserved g c =
       made_for = done.made_for ∙ inv.made_for;
       is_sure = done.is_sure ∙ inv.is_sure;
       went = went_on s old mid new who inv.went done.went;
-      reads = part_more s old mid new who c.args.at e number inv.reads (subst (λ (n : CodeName). ReadsOnly s mid new who (λ x. x ≡ name_of n)) c.part_name-name.ensures done.reads);
-      so_far = so_far_flag s (reader_of s mid who) (reader_of s new who) c.loop-number.hasher c.read_part.new.hasher begun_old begun_mid begun_new c.args.at e number c.part_plan-size.result.1 exact whole
+      reads = part_more s old mid new who c.args.job.at e number inv.reads (subst (λ (n : CodeName). ReadsOnly s mid new who (λ x. x ≡ name_of n)) c.part_name-name.ensures done.reads);
+      so_far = so_far_flag s (reader_of s mid who) (reader_of s new who) c.loop-number.hasher c.read_part.new.hasher begun_old begun_mid begun_new c.args.job.at e number c.part_plan-size.result.1 exact whole
           done.went.worked inv.so_far read c.part_plan-size.ensures.length c.if-is_exact.is_exact flag;
     }
 
@@ -120,7 +120,7 @@ returns-clause-read g c =
     let s = g.Q.Desk.start in
     let e = c.args.entry.now in
     let last : c.loop-number.number ≡ c.part_count-number-end.result = omega (arith, c.loop-number.auto.number-end, c.loop-number-test.false) in
-    so_far_all s (reader_of s (g.Q.Desk.seen c.loop-number.desk) c.args.ticket) c.loop-number.hasher (g.Q.Target.Target.told c.args.target.now).begun (g.Q.Target.Target.told c.loop-number.target).begun c.args.at e c.loop-number.number c.loop-number.is_exact
+    so_far_all s (reader_of s (g.Q.Desk.seen c.loop-number.desk) c.args.job.ticket) c.loop-number.hasher (g.Q.Target.Target.told c.args.target.now).begun (g.Q.Target.Target.told c.loop-number.target).begun c.args.job.at e c.loop-number.number c.loop-number.is_exact
     c.requires.entry.least (last ∙ c.part_count-number-end.ensures.count) inv.so_far
 
 pub read_part-requires-clause-new : goal.read_part-requires-clause-new
@@ -132,10 +132,10 @@ read_part-requires-clause-new g c κs within =
     let now = g.Q.Desk.seen c.loop-number.desk in
     let test : number < c.part_count-number-end.result = c.loop-number-test.true in
     let less : number < part_count e.print.len e.part_size = omega (arith, test, c.part_count-number-end.ensures.count) in
-    subst (λ (n : CodeName). IsFresh s now c.args.ticket (ReadStep (ReadBlob (name_of n)))) (sym c.part_name-name.ensures) (part_unread s old now c.args.ticket c.args.at e number c.requires.new less c.loop-number.invariant.reads)
+    subst (λ (n : CodeName). IsFresh s now c.args.job.ticket (ReadStep (ReadBlob (name_of n)))) (sym c.part_name-name.ensures) (part_unread s old now c.args.job.ticket c.args.job.at e number c.requires.new less c.loop-number.invariant.reads)
 
 pub returns-clause-reads : goal.returns-clause-reads
-returns-clause-reads g c = parts_all g.Q.Desk.start (g.Q.Desk.seen c.args.desk.now) (g.Q.Desk.seen c.loop-number.desk) c.args.ticket c.args.at c.args.entry.now c.loop-number.number c.loop-number.invariant.reads
+returns-clause-reads g c = parts_all g.Q.Desk.start (g.Q.Desk.seen c.args.desk.now) (g.Q.Desk.seen c.loop-number.desk) c.args.job.ticket c.args.job.at c.args.entry.now c.loop-number.number c.loop-number.invariant.reads
 
 pub returns-clause-steady : goal.returns-clause-steady
 returns-clause-steady g c = c.loop-number.invariant.steady

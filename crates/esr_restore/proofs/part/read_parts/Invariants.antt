@@ -16,7 +16,7 @@ invariant-loop-number g l =
       steady : g.Q.Target.Counted.faults l.target ≡ g.Q.Target.Counted.faults l.fn.target;
       made_for : (g.Q.Target.Target.told l.target).made_for ≡ (g.Q.Target.Target.told l.fn.target).made_for;
       is_sure : (g.Q.Target.Target.told l.target).is_sure ≡ (g.Q.Target.Target.told l.fn.target).is_sure;
-      went : Went g.Q.Desk.start (g.Q.Desk.seen l.fn.desk) (g.Q.Desk.seen l.desk) l.ticket;
-      reads : ReadsOnly g.Q.Desk.start (g.Q.Desk.seen l.fn.desk) (g.Q.Desk.seen l.desk) l.ticket (IsPartBefore l.at l.entry l.number);
-      so_far : SoFar g.Q.Desk.start (reader_of g.Q.Desk.start (g.Q.Desk.seen l.desk) l.ticket) l.hasher (g.Q.Target.Target.told l.fn.target).begun (g.Q.Target.Target.told l.target).begun l.at l.entry l.number l.is_exact;
+      went : Went g.Q.Desk.start (g.Q.Desk.seen l.fn.desk) (g.Q.Desk.seen l.desk) l.job.ticket;
+      reads : ReadsOnly g.Q.Desk.start (g.Q.Desk.seen l.fn.desk) (g.Q.Desk.seen l.desk) l.job.ticket (IsPartBefore l.job.at l.entry l.number);
+      so_far : SoFar g.Q.Desk.start (reader_of g.Q.Desk.start (g.Q.Desk.seen l.desk) l.job.ticket) l.hasher (g.Q.Target.Target.told l.fn.target).begun (g.Q.Target.Target.told l.target).begun l.job.at l.entry l.number l.is_exact;
     }

@@ -36,7 +36,6 @@ returns-in-Failed-clause-refused g c =
     let s = g.Q.Desk.start in
     let who = c.args.ticket in
     let old = g.Q.Desk.seen c.args.desk.now in
-    let target = c.args.target in
     let new = g.Q.Desk.seen c.give_up.new.desk in
     given_refused e s old new who c.in-Failed.why c.in-Failed.by c.give_up.result c.give_up.ensures.end
 
@@ -79,9 +78,8 @@ returns-in-Own-clause-refused g c =
     let s = g.Q.Desk.start in
     let who = c.args.ticket in
     let old = g.Q.Desk.seen c.args.desk.now in
-    let target = c.args.target in
     let new = g.Q.Desk.seen c.give_up-in-Own.new.desk in
-    given_refused e s old new who whys.Target (shows.Object (objects.Target target)) c.give_up-in-Own.result c.give_up-in-Own.ensures.end
+    given_refused e s old new who whys.Target (shows.Object (objects.Target c.args.target)) c.give_up-in-Own.result c.give_up-in-Own.ensures.end
 
 pub returns-in-Own-clause-left : goal.returns-in-Own-clause-left
 returns-in-Own-clause-left g c =

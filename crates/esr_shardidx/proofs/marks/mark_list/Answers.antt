@@ -41,13 +41,11 @@ returns-then-index-turn-clause-gives c =
     let turn : ℕ = length c.args.before.now + 1 in
     let marks : List ℕ = c.loop-name.marks.items in
     let place : ℕ = c.in-Some.place in
-    let within : i < length names = omega arith in
-    let inside : place < length c.args.entries.now = c.in-Some.ensures.within in
-    let bound : place < length marks = omega (arith, inside, c.loop-name.invariant.2.any.len) in
+    let bound : place < length marks = omega (arith, c.in-Some.ensures.within, c.loop-name.invariant.2.any.len) in
     let read = get_or_read marks place c.index.result.now bound c.index.ensures 0 in
     let same : (get_or marks place 0 == turn) ≡ true = eq-eqb (get_or marks place 0) turn (sym read ∙ c.if-index-turn.true) in
     let there = sym (turn_tells c.args.entries.now c.args.before.now (take i names) turn _ place marks c.in-Some.ensures.found c.loop-name.invariant.2) ∙ same in
-    rw (repeats-at names i _ within there) refl
+    rw (repeats-at names i _ (omega arith) there) refl
 
 pub returns : goal.returns
 returns c =

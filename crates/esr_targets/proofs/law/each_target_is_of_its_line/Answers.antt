@@ -5,6 +5,8 @@ use Rattle.esr_targets.proofs.law.each_target_is_of_its_line.Goals as goal
 pub returns : goal.returns
 returns g c = λ e s moment lines log rest restored tracked reads legal numbered same targets.
     let laws : ReaderLaws = record {
+      takes = c.answers_tell_their_steps.ensures.gave;
+      began = c.answers_tell_their_steps.ensures.began;
       tracked = c.each_history_is_tracked.ensures;
       read_tracked = c.each_history_tracks_restores.ensures;
       given = c.readers_stay_as_given.ensures.given;

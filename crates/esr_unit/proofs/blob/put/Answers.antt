@@ -1,10 +1,10 @@
-use Rattle.std.proofs.Common.{◌≡◌, Option, Ok, sym, ap, ◌∙◌, subst}
+use Rattle.std.proofs.Common.{◌≡◌, List, Option, Ok, sym, ap, ◌∙◌, subst}
 use Rattle.std.specs.Result.{is_err}
 use Rattle.std.specs.Io.KnownBytes.{append_known}
 use Rattle.esr_names.specs.declared.blob.BlobName.{BlobName as CodeName}
 use Rattle.esr_model.specs.Names.{BlobName}
 use Rattle.esr_model.specs.Values.{Bytes}
-use Rattle.esr_core.specs.Entry.{BeginStep, CommitStep, WasBegun}
+use Rattle.esr_core.specs.Entry.{BeginStep, CommitStep, WasBegun, Moment}
 use Rattle.esr_core.specs.Allowed.{IsMetadata}
 use Rattle.esr_formats.specs.Names.{name_of}
 use Rattle.esr_desk.specs.Start.{ticket_of, told_bytes}
@@ -13,13 +13,15 @@ use Rattle.esr_desk.specs.Outcome.{Stepped, commit_reply}
 use Rattle.esr_desk.specs.Made.{fresh_after}
 use Rattle.esr_desk.specs.Taken.{committed_by}
 use Rattle.esr_desk.specs.Told.{blob_tells}
-use Rattle.esr_desk.specs.Grew.{grew_by_on, outcome_grew_by}
+use Rattle.esr_desk.specs.Grew.{GrewBy, grew_by_on, outcome_grew_by}
 use Rattle.esr_unit.specs.declared.trouble.Trouble.TheVariants.{Step}
 use Rattle.esr_unit.specs.Put.{PutErr}
+use Rattle.esr_unit.specs.Objects.{is_faulty, never_err, on_ok, told_append}
 use Rattle.esr_unit.proofs.Steps.{passed, on_err}
-use Rattle.esr_unit.proofs.Bytes.{is_faulty, never_err, on_ok, told_append, begun_same}
+use Rattle.esr_unit.proofs.Bytes.{begun_same}
 use Rattle.esr_unit.proofs.Reports.{begin_refused, commit_refused}
 use Rattle.esr_unit.proofs.blob.put.Goals as goal
+use Rattle.esr_unit.proofs.blob.put.Goals.{In_ok-named}
 
 -- ---- the begin was refused
 
@@ -57,6 +59,14 @@ returns-then-is_err-clause-grew g c =
 
 -- ---- the commit
 
+-- the history goes on from the begin
+begun_grew : (g : _) (c : In_ok-named g) (new : List Moment) → GrewBy g.Q.Desk.start c.args.ticket (g.Q.Desk.seen c.begin.new.self) new → GrewBy g.Q.Desk.start c.args.ticket (g.Q.Desk.seen c.args.desk.now) new
+begun_grew g c new more =
+    let s = g.Q.Desk.start in
+    let old = g.Q.Desk.seen c.args.desk.now in
+    let mid = g.Q.Desk.seen c.begin.new.self in
+    grew_by_on s c.args.ticket old mid new (outcome_grew_by s old mid c.args.ticket (BeginStep (name_of c.args.name)) (λ x. WasBegun) c.begin.result c.begin.ensures.step) more
+
 pub commit-requires-clause-new : goal.commit-requires-clause-new
 commit-requires-clause-new g c =
     let s = g.Q.Desk.start in
@@ -81,13 +91,8 @@ returns-in_err-commit-clause-trouble g c =
 
 pub returns-in_err-commit-clause-grew : goal.returns-in_err-commit-clause-grew
 returns-in_err-commit-clause-grew g c =
-    let s = g.Q.Desk.start in
-    let old = g.Q.Desk.seen c.args.desk.now in
-    let mid = g.Q.Desk.seen c.begin.new.self in
     let new = g.Q.Desk.seen c.commit.new.self in
-    let who = c.args.ticket in
-    grew_by_on s who old mid new (outcome_grew_by s old mid who (BeginStep (name_of c.args.name)) (λ x. WasBegun) c.begin.result c.begin.ensures.step)
-    (outcome_grew_by s mid new who (CommitStep (name_of c.in_ok-named.named.name)) commit_reply c.commit.result c.commit.ensures.step)
+    begun_grew g (goal.at.returns-in_err-commit-clause-grew g c).In_ok-named new (outcome_grew_by g.Q.Desk.start (g.Q.Desk.seen c.begin.new.self) new c.args.ticket (CommitStep (name_of c.in_ok-named.named.name)) commit_reply c.commit.result c.commit.ensures.step)
 
 pub returns-clause-own : goal.returns-clause-own
 returns-clause-own g c =
@@ -119,10 +124,5 @@ returns-clause-tells g c = λ tells.
 
 pub returns-clause-grew : goal.returns-clause-grew
 returns-clause-grew g c =
-    let s = g.Q.Desk.start in
-    let old = g.Q.Desk.seen c.args.desk.now in
-    let mid = g.Q.Desk.seen c.begin.new.self in
     let new = g.Q.Desk.seen c.commit.new.self in
-    let who = c.args.ticket in
-    grew_by_on s who old mid new (outcome_grew_by s old mid who (BeginStep (name_of c.args.name)) (λ x. WasBegun) c.begin.result c.begin.ensures.step)
-    (outcome_grew_by s mid new who (CommitStep (name_of c.in_ok-named.named.name)) commit_reply c.commit.result c.commit.ensures.step)
+    begun_grew g (goal.at.returns-clause-grew g c).In_ok-named new (outcome_grew_by g.Q.Desk.start (g.Q.Desk.seen c.begin.new.self) new c.args.ticket (CommitStep (name_of c.in_ok-named.named.name)) commit_reply c.commit.result c.commit.ensures.step)

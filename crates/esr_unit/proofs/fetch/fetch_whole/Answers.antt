@@ -11,9 +11,11 @@ use Rattle.esr_desk.specs.Outcome.{Stepped, fetch_reply}
 use Rattle.esr_desk.specs.Grew.{outcome_grew_by}
 use Rattle.esr_unit.specs.declared.trouble.Trouble.TheVariants.{Step}
 use Rattle.esr_unit.specs.Fetch.{FetchErr, IsFetched}
+use Rattle.esr_unit.specs.Objects.{is_faulty}
 use Rattle.esr_unit.proofs.Steps.{passed, on_err, fetch_maker, mine_on, leaves_on, outcome_one, outcome_asked}
-use Rattle.esr_unit.proofs.Bytes.{is_faulty, did_fail, came, told_left, fetched_own, absent_own}
+use Rattle.esr_unit.proofs.Bytes.{did_fail, came, told_left, fetched_own, absent_own}
 use Rattle.esr_unit.proofs.fetch.fetch_whole.Goals as goal
+use Rattle.esr_unit.proofs.fetch.fetch_whole.Goals.{In-Some}
 
 -- ---- the fetch was refused
 
@@ -96,6 +98,20 @@ returns-in-None-clause-others g c =
 
 -- ---- it was read
 
+-- what is left of it are told bytes
+told_at : (g : _) (c : In-Some g) → (bytes : Bytes) × (g.Q.Fetch.Fetch.left c.in-Some.fetch ≡ told_bytes g.Q.Desk.start bytes)
+told_at g c = came c.in_ok-fetch.field-0 c.in-Some.fetch (λ f. (bytes : Bytes) × (g.Q.Fetch.Fetch.left f ≡ told_bytes g.Q.Desk.start bytes)) c.in-Some.is c.in_ok-fetch.ensures.told
+
+-- which were fetched
+left_fetched : (g : _) (c : In-Some g) → IsFetched c.args.hand g.Q.Desk.start (name_of c.args.name) (own_of g.Q.Desk.start (g.Q.Desk.seen c.args.desk.now) c.args.who) (own_of g.Q.Desk.start (g.Q.Desk.seen c.fetch.new.self) c.args.who)
+left_fetched g c =
+    let s = g.Q.Desk.start in
+    let old = own_of s (g.Q.Desk.seen c.args.desk.now) c.args.who in
+    let name = name_of c.args.name in
+    let left = g.Q.Fetch.Fetch.left in
+    let told = told_at g c in
+    inr (told.0, c.in_ok-fetch.ensures.own ∙ ap (λ o. own_fetched c.args.hand left name o old) c.in-Some.is ∙ fetched_own c.args.hand s left name c.in-Some.fetch told.0 old told.1)
+
 pub returns-in-Ok-clause-step : goal.returns-in-Ok-clause-step
 returns-in-Ok-clause-step g c =
     let s = g.Q.Desk.start in
@@ -110,7 +126,7 @@ returns-in-Ok-clause-own g c =
     let name = name_of c.args.name in
     let fetch = c.in-Some.fetch in
     let left = g.Q.Fetch.Fetch.left in
-    let told = came c.in_ok-fetch.field-0 fetch (λ f. (bytes : Bytes) × (left f ≡ told_bytes s bytes)) c.in-Some.is c.in_ok-fetch.ensures.told in
+    let told = told_at g (goal.at.returns-in-Ok-clause-own g c).In-Some in
     c.in_ok-fetch.ensures.own ∙ ap (λ o. own_fetched c.args.hand left name o old) c.in-Some.is
     ∙ fetched_own c.args.hand s left name fetch c.in-Ok.bytes old (told_left s (left fetch) told.0 c.in-Ok.bytes told.1 c.in-Ok.ensures.told)
 
@@ -151,14 +167,7 @@ returns-in-Err-Failed-clause-trouble g c =
     (did_fail c.read_whole.result c.in-Err-Failed.field-0 c.in-Err-Failed.is c.in-Err-Failed.field-0-is)
 
 pub returns-in-Err-Memory-clause-left : goal.returns-in-Err-Memory-clause-left
-returns-in-Err-Memory-clause-left g c =
-    let s = g.Q.Desk.start in
-    let old = own_of s (g.Q.Desk.seen c.args.desk.now) c.args.who in
-    let name = name_of c.args.name in
-    let fetch = c.in-Some.fetch in
-    let left = g.Q.Fetch.Fetch.left in
-    let told = came c.in_ok-fetch.field-0 fetch (λ f. (bytes : Bytes) × (left f ≡ told_bytes s bytes)) c.in-Some.is c.in_ok-fetch.ensures.told in
-    inr (told.0, c.in_ok-fetch.ensures.own ∙ ap (λ o. own_fetched c.args.hand left name o old) c.in-Some.is ∙ fetched_own c.args.hand s left name fetch told.0 old told.1)
+returns-in-Err-Memory-clause-left g c = left_fetched g (goal.at.returns-in-Err-Memory-clause-left g c).In-Some
 
 pub returns-in-Err-Memory-clause-made : goal.returns-in-Err-Memory-clause-made
 returns-in-Err-Memory-clause-made g c =
@@ -184,14 +193,7 @@ returns-in-Err-Memory-clause-others g c =
     leaves_on c.args.hand (g.Q.Desk.seen c.fetch.new.self) (fetch_step c.args.hand (name_of c.args.name)) fetch_reply c.fetch.result (g.Q.Desk.calls c.args.desk.now) (g.Q.Desk.calls c.fetch.new.self) c.fetch.ensures.calls
 
 pub returns-in-Err-Failed-clause-left : goal.returns-in-Err-Failed-clause-left
-returns-in-Err-Failed-clause-left g c =
-    let s = g.Q.Desk.start in
-    let old = own_of s (g.Q.Desk.seen c.args.desk.now) c.args.who in
-    let name = name_of c.args.name in
-    let fetch = c.in-Some.fetch in
-    let left = g.Q.Fetch.Fetch.left in
-    let told = came c.in_ok-fetch.field-0 fetch (λ f. (bytes : Bytes) × (left f ≡ told_bytes s bytes)) c.in-Some.is c.in_ok-fetch.ensures.told in
-    inr (told.0, c.in_ok-fetch.ensures.own ∙ ap (λ o. own_fetched c.args.hand left name o old) c.in-Some.is ∙ fetched_own c.args.hand s left name fetch told.0 old told.1)
+returns-in-Err-Failed-clause-left g c = left_fetched g (goal.at.returns-in-Err-Failed-clause-left g c).In-Some
 
 pub returns-in-Err-Failed-clause-made : goal.returns-in-Err-Failed-clause-made
 returns-in-Err-Failed-clause-made g c =

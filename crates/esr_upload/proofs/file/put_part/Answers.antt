@@ -13,7 +13,7 @@ use Rattle.esr_unit.specs.declared.trouble.Trouble.TheVariants.{Step}
 use Rattle.esr_upload.specs.Trouble.{Shown}
 use Rattle.esr_core.specs.World.{Ticket}
 use Rattle.esr_upload.proofs.Going.{went_same}
-use Rattle.esr_upload.proofs.Putting.{has_risen, is_faulty}
+use Rattle.esr_unit.specs.Objects.{has_risen, is_faulty}
 use Rattle.esr_upload.proofs.Refusing.{passed, step_shown}
 use Rattle.esr_upload.proofs.FileParts.{begun_is, stage_holds, can_commit, went_refused, not_there, part_put, went_put}
 use Rattle.std.proofs.Common.{◌≡◌, sym}

@@ -10,10 +10,16 @@ use Rattle.std.proofs.Common.{[], Some, List, sym, subst, ◌∙◌}
 use Rattle.esr_desk.specs.Evidence.{evidence}
 use Rattle.esr_unit.specs.declared.trouble.Trouble.TheVariants.{Step}
 use Rattle.esr_upload.specs.Trouble.{Shown}
+use Rattle.esr_upload.specs.Worked.{Went}
 use Rattle.esr_upload.proofs.Refusing.{passed, done_shown}
 use Rattle.esr_upload.proofs.Going.{went_on, went_same}
 use Rattle.esr_upload.proofs.Ending.{if_err, has_done}
 use Rattle.esr_upload.proofs.publish.end_shard.Goals as goal
+use Rattle.esr_upload.proofs.publish.end_shard.Goals.{In_ok-put_index}
+
+-- how far it went when its two blobs were written
+put_went : (g : _) (c : In_ok-put_index g) → Went g.Q.Desk.start (g.Q.Desk.seen c.args.desk.now) (g.Q.Desk.seen c.put_index.new.desk) c.args.ticket
+put_went g c = went_on g.Q.Desk.start (g.Q.Desk.seen c.args.desk.now) (g.Q.Desk.seen c.put_snap.new.desk) (g.Q.Desk.seen c.put_index.new.desk) c.args.ticket c.put_snap.ensures.went c.put_index.ensures.went
 
 pub returns-in_err-end_shard-clause-trouble : goal.returns-in_err-end_shard-clause-trouble
 returns-in_err-end_shard-clause-trouble g c =
@@ -30,32 +36,23 @@ pub returns-in_err-end_shard-clause-went : goal.returns-in_err-end_shard-clause-
 returns-in_err-end_shard-clause-went g c =
     let s = g.Q.Desk.start in
     let who = c.args.ticket in
-    let old = g.Q.Desk.seen c.args.desk.now in
-    let one = g.Q.Desk.seen c.put_snap.new.desk in
-    let two = g.Q.Desk.seen c.put_index.new.desk in
+    let mid = g.Q.Desk.seen c.put_index.new.desk in
     let new = g.Q.Desk.seen c.end_shard.new.self in
-    let ended = went_same s two new who (outcome_grew_by s two new who (DoneStep (result_of c.args.outcome.now)) (λ x. HasEnded) c.end_shard.result c.end_shard.ensures.step) c.in_err-end_shard.ensures.kept in
-    if_err c.from_residual-in_err-end_shard.result (went_on s old one new who c.put_snap.ensures.went (went_on s one two new who c.put_index.ensures.went ended))
+    let ended = went_same s mid new who (outcome_grew_by s mid new who (DoneStep (result_of c.args.outcome.now)) (λ x. HasEnded) c.end_shard.result c.end_shard.ensures.step) c.in_err-end_shard.ensures.kept in
+    if_err c.from_residual-in_err-end_shard.result (went_on s (g.Q.Desk.seen c.args.desk.now) mid new who (put_went g (goal.at.returns-in_err-end_shard-clause-went g c).In_ok-put_index) ended)
 
 pub returns-in_err-end_shard-clause-grew : goal.returns-in_err-end_shard-clause-grew
 returns-in_err-end_shard-clause-grew g c =
     let s = g.Q.Desk.start in
     let who = c.args.ticket in
-    let old = g.Q.Desk.seen c.args.desk.now in
-    let one = g.Q.Desk.seen c.put_snap.new.desk in
-    let two = g.Q.Desk.seen c.put_index.new.desk in
+    let mid = g.Q.Desk.seen c.put_index.new.desk in
     let new = g.Q.Desk.seen c.end_shard.new.self in
-    grew_by_on s who old one new c.put_snap.ensures.went.grew (grew_by_on s who one two new c.put_index.ensures.went.grew (outcome_grew_by s two new who (DoneStep (result_of c.args.outcome.now)) (λ x. HasEnded) c.end_shard.result c.end_shard.ensures.step))
+    grew_by_on s who (g.Q.Desk.seen c.args.desk.now) mid new (put_went g (goal.at.returns-in_err-end_shard-clause-grew g c).In_ok-put_index).grew (outcome_grew_by s mid new who (DoneStep (result_of c.args.outcome.now)) (λ x. HasEnded) c.end_shard.result c.end_shard.ensures.step)
 
 pub returns-clause-ok : goal.returns-clause-ok
 returns-clause-ok g c =
-    let s = g.Q.Desk.start in
-    let who = c.args.ticket in
-    let old = g.Q.Desk.seen c.args.desk.now in
-    let one = g.Q.Desk.seen c.put_snap.new.desk in
-    let two = g.Q.Desk.seen c.put_index.new.desk in
-    let new = g.Q.Desk.seen c.end_shard.new.self in
-    has_done s old two new who (result_of c.args.outcome.now) (went_on s old one two who c.put_snap.ensures.went c.put_index.ensures.went) c.in_ok-end_shard.ensures.step c.in_ok-end_shard.ensures.own
+    has_done g.Q.Desk.start (g.Q.Desk.seen c.args.desk.now) (g.Q.Desk.seen c.put_index.new.desk) (g.Q.Desk.seen c.end_shard.new.self) c.args.ticket (result_of c.args.outcome.now) (put_went g (goal.at.returns-clause-ok g c).In_ok-put_index)
+    c.in_ok-end_shard.ensures.step c.in_ok-end_shard.ensures.own
 
 pub put_snap-requires-clause-unnoted : goal.put_snap-requires-clause-unnoted
 put_snap-requires-clause-unnoted g c κs within =
@@ -88,11 +85,9 @@ pub returns-clause-grew : goal.returns-clause-grew
 returns-clause-grew g c =
     let s = g.Q.Desk.start in
     let who = c.args.ticket in
-    let old = g.Q.Desk.seen c.args.desk.now in
-    let one = g.Q.Desk.seen c.put_snap.new.desk in
-    let two = g.Q.Desk.seen c.put_index.new.desk in
+    let mid = g.Q.Desk.seen c.put_index.new.desk in
     let new = g.Q.Desk.seen c.end_shard.new.self in
-    grew_by_on s who old one new c.put_snap.ensures.went.grew (grew_by_on s who one two new c.put_index.ensures.went.grew (outcome_grew_by s two new who (DoneStep (result_of c.args.outcome.now)) (λ x. HasEnded) c.end_shard.result c.end_shard.ensures.step))
+    grew_by_on s who (g.Q.Desk.seen c.args.desk.now) mid new (put_went g (goal.at.returns-clause-grew g c).In_ok-put_index).grew (outcome_grew_by s mid new who (DoneStep (result_of c.args.outcome.now)) (λ x. HasEnded) c.end_shard.result c.end_shard.ensures.step)
 
 pub put_index-requires-clause-mine : goal.put_index-requires-clause-mine
 put_index-requires-clause-mine g c κs within = subst (λ (calls : List Call). HasTaken calls c.args.ticket) (sym c.put_snap.ensures.calls) c.requires.mine

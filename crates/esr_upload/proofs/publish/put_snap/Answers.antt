@@ -1,11 +1,11 @@
-use Rattle.esr_names.specs.Layout.{IsName}
-use Rattle.std.proofs.Common.{inr, sym, ap, ◌∙◌, subst}
+use Rattle.std.proofs.Common.{sym, ap, ◌∙◌, subst}
 use Rattle.esr_names.specs.declared.ids.Id.{Id}
 use Rattle.esr_model.specs.Names.{ShardSnap}
+use Rattle.esr_names.specs.Layout.{IsName}
 use Rattle.esr_model.specs.Values.{Has}
 use Rattle.esr_desk.specs.Start.{formats_of, ticket_of}
 use Rattle.esr_upload.proofs.Going.{went_none}
-use Rattle.esr_upload.proofs.Pieces.{no_swap, no_deletion, of_shard}
+use Rattle.esr_upload.proofs.Pieces.{own_can}
 use Rattle.esr_upload.proofs.Putting.{snap_numbered}
 use Rattle.esr_upload.proofs.publish.put_snap.Goals as goal
 
@@ -18,19 +18,9 @@ put_own-requires-clause-layout g c κs within = c.requires.few
 
 pub put_own-requires-clause-may : goal.put_own-requires-clause-may
 put_own-requires-clause-may g c κs within =
-    let s = g.Q.Desk.start in
-    let at = c.args.at in
-    let work = c.requires.work in
-    let t = ticket_of s (g.Q.Desk.seen c.args.desk.now) c.args.ticket in
-    record {
-      out = work.out;
-      unsettled = work.unsettled;
-      may = inr (no_swap s t at.index.number at.number work.work, (work.work, ap (λ (u : Id). u.number) c.uuid.ensures ∙ sym c.requires.uuid), of_shard t at.index.number at.number work.work);
-      stored = λ same. cc;
-      once = λ other noted. c.requires.unnoted (subst (λ (u : Id). Has t.noted (ShardSnap at.index.number at.number u.number)) c.uuid.ensures noted);
-      numbered = λ index number is. snap_numbered (formats_of s) s.part_size t number at.index.number at.number c.uuid.result.number t.source;
-      late = λ uuids plan deletes clean. absurd (no_deletion t at.index.number at.number uuids plan work.work deletes);
-    }
+    let t = ticket_of g.Q.Desk.start (g.Q.Desk.seen c.args.desk.now) c.args.ticket in
+    own_can g.Q.Desk.start t c.args.at.index.number c.args.at.number (ShardSnap c.args.at.index.number c.args.at.number c.uuid.result.number) c.as_slice.result.now c.requires.work (λ same. cc) (c.requires.work.work, ap (λ (u : Id). u.number) c.uuid.ensures ∙ sym c.requires.uuid)
+    (λ index number is. snap_numbered (formats_of g.Q.Desk.start) g.Q.Desk.start.part_size t number c.args.at.index.number c.args.at.number c.uuid.result.number t.source) (λ noted. c.requires.unnoted (subst (λ (u : Id). Has t.noted (ShardSnap c.args.at.index.number c.args.at.number u.number)) c.uuid.ensures noted))
 
 pub put_own-requires-clause-work : goal.put_own-requires-clause-work
 put_own-requires-clause-work g c κs within = (c.args.at.index.number, c.args.at.number, c.requires.work.work)

@@ -11,6 +11,7 @@ use Rattle.esr_desk.specs.Evidence.{evidence}
 use Rattle.esr_unit.specs.declared.trouble.Trouble.TheVariants.{Step}
 use Rattle.esr_upload.specs.Entries.{new_count}
 use Rattle.esr_upload.specs.Trouble.{Shown, shown_any}
+use Rattle.esr_upload.specs.Worked.{Went}
 use Rattle.esr_upload.proofs.Going.{went_on, went_same, fetched_later, same_on, same_read, steady_on}
 use Rattle.esr_upload.proofs.Ending.{done_on, if_err}
 use Rattle.esr_upload.proofs.Drawing.{can_draw, has_drawn, drawn_for, drew_went, ok_on, err_on}
@@ -20,6 +21,18 @@ use Rattle.esr_core.specs.World.{Ticket}
 use Rattle.esr_desk.specs.Made.{none_fresh}
 use Rattle.esr_desk.specs.Told.{none_tells, draw_fresh, draw_tells}
 use Rattle.esr_upload.proofs.unit.work.Goals as goal
+use Rattle.esr_upload.proofs.unit.work.Goals.{In_ok-first}
+
+-- how far it went when its ids were drawn
+drawn_went : (g : _) (c : In_ok-first g) → Went g.Q.Desk.start (g.Q.Desk.seen c.args.desk.now) (g.Q.Desk.seen c.draw.new.self) c.args.job.ticket
+drawn_went g c =
+    let s = g.Q.Desk.start in
+    let who = c.args.job.ticket in
+    let mid = g.Q.Desk.seen c.base_of.new.desk in
+    let drawn = g.Q.Desk.seen c.draw.new.self in
+    let n = c.count_new.result + 1 in
+    went_on s (g.Q.Desk.seen c.args.desk.now) mid drawn who c.base_of.ensures.went
+    (drew_went s mid drawn who c.in_ok-first.first.number n (outcome_grew_by s mid drawn who (DrawStep n) (λ (first : Id). DrawnFrom first.number) c.draw.result c.draw.ensures.step) c.in_ok-first.ensures.own)
 
 pub base_of-requires-clause-new : goal.base_of-requires-clause-new
 base_of-requires-clause-new g c κs within =
@@ -52,22 +65,20 @@ pub returns-in_err-first-clause-went : goal.returns-in_err-first-clause-went
 returns-in_err-first-clause-went g c =
     let s = g.Q.Desk.start in
     let who = c.args.job.ticket in
-    let old = g.Q.Desk.seen c.args.desk.now in
     let mid = g.Q.Desk.seen c.base_of.new.desk in
     let new = g.Q.Desk.seen c.draw.new.self in
     let n = c.count_new.result + 1 in
     if_err c.from_residual-in_err-first.result
-    (went_on s old mid new who c.base_of.ensures.went (went_same s mid new who (outcome_grew_by s mid new who (DrawStep n) (λ (first : Id). DrawnFrom first.number) c.draw.result c.draw.ensures.step) c.in_err-first.ensures.kept))
+    (went_on s (g.Q.Desk.seen c.args.desk.now) mid new who c.base_of.ensures.went (went_same s mid new who (outcome_grew_by s mid new who (DrawStep n) (λ (first : Id). DrawnFrom first.number) c.draw.result c.draw.ensures.step) c.in_err-first.ensures.kept))
 
 pub returns-in_err-first-clause-grew : goal.returns-in_err-first-clause-grew
 returns-in_err-first-clause-grew g c =
     let s = g.Q.Desk.start in
     let who = c.args.job.ticket in
-    let old = g.Q.Desk.seen c.args.desk.now in
     let mid = g.Q.Desk.seen c.base_of.new.desk in
     let new = g.Q.Desk.seen c.draw.new.self in
     let n = c.count_new.result + 1 in
-    grew_by_on s who old mid new c.base_of.ensures.went.grew (outcome_grew_by s mid new who (DrawStep n) (λ (first : Id). DrawnFrom first.number) c.draw.result c.draw.ensures.step)
+    grew_by_on s who (g.Q.Desk.seen c.args.desk.now) mid new c.base_of.ensures.went.grew (outcome_grew_by s mid new who (DrawStep n) (λ (first : Id). DrawnFrom first.number) c.draw.result c.draw.ensures.step)
 
 pub returns-in_err-first-clause-trouble : goal.returns-in_err-first-clause-trouble
 returns-in_err-first-clause-trouble g c =
@@ -85,16 +96,7 @@ returns-in_err-first-clause-trouble g c =
     (step_shown e n files s mid new who at.index.number at.number work (DrawStep (c.count_new.result + 1)) refusal c.refusals_are_of_their_steps.ensures tt (λ swap. swap) c.in_err-first.ensures.step)
 
 pub returns-clause-grew : goal.returns-clause-grew
-returns-clause-grew g c =
-    let s = g.Q.Desk.start in
-    let who = c.args.job.ticket in
-    let old = g.Q.Desk.seen c.args.desk.now in
-    let mid = g.Q.Desk.seen c.base_of.new.desk in
-    let drawn = g.Q.Desk.seen c.draw.new.self in
-    let new = g.Q.Desk.seen c.store.new.desk in
-    let n = c.count_new.result + 1 in
-    grew_by_on s who old drawn new
-    (grew_by_on s who old mid drawn c.base_of.ensures.went.grew (outcome_grew_by s mid drawn who (DrawStep n) (λ (first : Id). DrawnFrom first.number) c.draw.result c.draw.ensures.step)) c.store.ensures.grew
+returns-clause-grew g c = grew_by_on g.Q.Desk.start c.args.job.ticket (g.Q.Desk.seen c.args.desk.now) (g.Q.Desk.seen c.draw.new.self) (g.Q.Desk.seen c.store.new.desk) (drawn_went g (goal.at.returns-clause-grew g c).In_ok-first).grew c.store.ensures.grew
 
 pub returns-clause-steady : goal.returns-clause-steady
 returns-clause-steady g c =
@@ -103,27 +105,11 @@ returns-clause-steady g c =
 
 pub returns-clause-ok : goal.returns-clause-ok
 returns-clause-ok g c =
-    let s = g.Q.Desk.start in
-    let who = c.args.job.ticket in
-    let old = g.Q.Desk.seen c.args.desk.now in
-    let mid = g.Q.Desk.seen c.base_of.new.desk in
-    let drawn = g.Q.Desk.seen c.draw.new.self in
-    let new = g.Q.Desk.seen c.store.new.desk in
-    let n = c.count_new.result + 1 in
-    let went = drew_went s mid drawn who c.in_ok-first.first.number n (outcome_grew_by s mid drawn who (DrawStep n) (λ (first : Id). DrawnFrom first.number) c.draw.result c.draw.ensures.step) c.in_ok-first.ensures.own in
-    ok_on c.store.result (done_on s old drawn new who (went_on s old mid drawn who c.base_of.ensures.went went)) c.store.ensures.ok
+    ok_on c.store.result (done_on g.Q.Desk.start (g.Q.Desk.seen c.args.desk.now) (g.Q.Desk.seen c.draw.new.self) (g.Q.Desk.seen c.store.new.desk) c.args.job.ticket (drawn_went g (goal.at.returns-clause-ok g c).In_ok-first)) c.store.ensures.ok
 
 pub returns-clause-went : goal.returns-clause-went
 returns-clause-went g c =
-    let s = g.Q.Desk.start in
-    let who = c.args.job.ticket in
-    let old = g.Q.Desk.seen c.args.desk.now in
-    let mid = g.Q.Desk.seen c.base_of.new.desk in
-    let drawn = g.Q.Desk.seen c.draw.new.self in
-    let new = g.Q.Desk.seen c.store.new.desk in
-    let n = c.count_new.result + 1 in
-    let went = drew_went s mid drawn who c.in_ok-first.first.number n (outcome_grew_by s mid drawn who (DrawStep n) (λ (first : Id). DrawnFrom first.number) c.draw.result c.draw.ensures.step) c.in_ok-first.ensures.own in
-    err_on c.store.result (went_on s old drawn new who (went_on s old mid drawn who c.base_of.ensures.went went)) c.store.ensures.went
+    err_on c.store.result (went_on g.Q.Desk.start (g.Q.Desk.seen c.args.desk.now) (g.Q.Desk.seen c.draw.new.self) (g.Q.Desk.seen c.store.new.desk) c.args.job.ticket (drawn_went g (goal.at.returns-clause-went g c).In_ok-first)) c.store.ensures.went
 
 pub draw-requires-clause-may : goal.draw-requires-clause-may
 draw-requires-clause-may g c =

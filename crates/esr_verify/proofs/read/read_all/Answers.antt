@@ -58,19 +58,17 @@ returns-in_err-read_test-clause-kept g c =
 pub loop-name-preserved : goal.loop-name-preserved
 loop-name-preserved g c =
     let s = g.Q.Desk.start in
-    let inv = c.loop-name.invariant in
     let id = c.args.id.number in
     let names = c.args.names.now in
-    let items = c.as_slice-name-items.result.now in
     let k = c.loop-name.name-index in
     let old = g.Q.Desk.seen c.args.desk.now in
     let mid = g.Q.Desk.seen c.loop-name.desk in
     let new = g.Q.Desk.seen c.read_test.new.desk in
-    let done = c.in_ok-read_test.ensures in
-    let here = item_at items names k (Root 0) c.as_slice-name-items.ensures c.loop-name-test.true in
+    let inv = c.loop-name.invariant in
+    let here = item_at c.as_slice-name-items.result.now names k (Root 0) c.as_slice-name-items.ensures c.loop-name-test.true in
     let more = names_more names k _ here.0 here.1 in
     let before = map name_of (take k names) in
-    let read = done.read in
+    let read = c.in_ok-read_test.ensures.read in
     record {
       went = went_as old new _ _ (sym (ap (λ (l : List BlobName). reading l) more ∙ reading_both before _)) (went_on old mid new (reading before) _ inv.went read.went);
       done = subst (λ (l : List BlobName). HasDone s (caller_of s new) id (map name_of names) l) (sym more) (read_done s id (map name_of names) before _ (caller_of s mid) inv.done (caller_of s new) read.own);

@@ -4,7 +4,7 @@ use Rattle.esr_handle.proofs.Growing.{begins_after, mine_of_desk, calls_stay}
 use Rattle.esr_handle.proofs.desk.SittingDesk.begin.Goals as goal
 
 pub invariant_of-self : goal.invariant_of-self
-invariant_of-self g c = (c.self.invariant.0, begins_after g.Q.Desk.start g.B.Since.before (g.Q.Desk.seen c.self.inside.desk) (g.Q.Desk.seen c.begin.new.self) c.args.ticket c.self.invariant.1 (BeginStep (name_of c.args.name)) _ c.begin.result c.begin.ensures.step, c.self.invariant.2)
+invariant_of-self g c = (c.self.invariant.0, begins_after g.Q.Desk.start g.B.Since.before (g.Q.Desk.seen c.self.inside.desk) (g.Q.Desk.seen c.begin.new.self) c.args.ticket c.self.invariant.1 (BeginStep (name_of c.args.blob.name)) _ c.begin.result c.begin.ensures.step, c.self.invariant.2)
 
 pub begin-requires-clause-mine : goal.begin-requires-clause-mine
 begin-requires-clause-mine g c = mine_of_desk (g.Q.Desk.seen c.self.inside.desk) c.args.self.now c.args.ticket (g.met.Q.Sole.all_calls c.self.inside.desk) c.self.view_is c.requires.mine

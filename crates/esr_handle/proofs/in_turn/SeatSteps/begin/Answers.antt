@@ -17,19 +17,19 @@ pub begin-answer-requires-clause-mine : goal.begin-answer-requires-clause-mine
 begin-answer-requires-clause-mine g c = c.turn-lent.ensures.turned.taken c.args.ticket c.requires.mine
 
 pub begin-answer-requires-clause-may : goal.begin-answer-requires-clause-may
-begin-answer-requires-clause-may g c = begin_on c.turn-lent.ensures.turned c.args.ticket c.requires.mine (name_of c.args.name) c.requires.may
+begin-answer-requires-clause-may g c = begin_on c.turn-lent.ensures.turned c.args.ticket c.requires.mine (name_of c.args.blob.name) c.requires.may
 
 pub begin-answer-requires-clause-new : goal.begin-answer-requires-clause-new
-begin-answer-requires-clause-new g c = fresh_on c.turn-lent.ensures.turned c.args.ticket c.requires.mine (BeginStep (name_of c.args.name)) c.requires.new
+begin-answer-requires-clause-new g c = fresh_on c.turn-lent.ensures.turned c.args.ticket c.requires.mine (BeginStep (name_of c.args.blob.name)) c.requires.new
 
 pub home-requires : goal.home-requires
-home-requires g c = (c.turn-lent.ensures.lent, step_came c.turn-lent.ensures.turned c.args.ticket c.requires.mine c.begin-answer.new.self (BeginStep (name_of c.args.name)) (λ _. WasBegun) c.begin-answer.result c.is_told.result (λ x. refl) c.is_told.ensures c.begin-answer.ensures.step)
+home-requires g c = (c.turn-lent.ensures.lent, step_came c.turn-lent.ensures.turned c.args.ticket c.requires.mine c.begin-answer.new.self (BeginStep (name_of c.args.blob.name)) (λ _. WasBegun) c.begin-answer.result c.is_told.result (λ x. refl) c.is_told.ensures c.begin-answer.ensures.step)
 
 pub returns-clause-step : goal.returns-clause-step
-returns-clause-step g c = step_shown c.turn-lent.ensures.turned c.args.ticket c.requires.mine c.home.ensures (BeginStep (name_of c.args.name)) (λ _. WasBegun) c.begin-answer.result c.begin-answer.ensures.step
+returns-clause-step g c = step_shown c.turn-lent.ensures.turned c.args.ticket c.requires.mine c.home.ensures.pass (BeginStep (name_of c.args.blob.name)) (λ _. WasBegun) c.begin-answer.result c.begin-answer.ensures.step
 
 pub returns-clause-own : goal.returns-clause-own
-returns-clause-own g c = ticket_back c.turn-lent.ensures.turned c.args.ticket c.requires.mine c.home.ensures (λ (old new : Ticket). new ≡ begun_by (name_of c.args.name) c.begin-answer.result old) c.begin-answer.ensures.own
+returns-clause-own g c = ticket_back c.turn-lent.ensures.turned c.args.ticket c.requires.mine c.home.ensures.pass (λ (old new : Ticket). new ≡ begun_by (name_of c.args.blob.name) c.begin-answer.result old) c.begin-answer.ensures.own
 
 pub returns-clause-calls : goal.returns-clause-calls
-returns-clause-calls g c = step_calls c.turn-lent.ensures.turned c.args.ticket c.requires.mine c.home.ensures (BeginStep (name_of c.args.name)) (λ _. WasBegun) c.begin-answer.result c.begin-answer.ensures.step
+returns-clause-calls g c = step_calls c.turn-lent.ensures.turned c.args.ticket c.requires.mine c.home.ensures.pass (BeginStep (name_of c.args.blob.name)) (λ _. WasBegun) c.begin-answer.result c.begin-answer.ensures.step

@@ -28,13 +28,13 @@ pub home-requires : goal.home-requires
 home-requires g c = (c.turn-lent.ensures.lent, step_came c.turn-lent.ensures.turned c.args.ticket c.requires.mine c.commit-answer.new.self (CommitStep (name_of c.args.name)) commit_reply c.commit-answer.result c.is_told.result commit_gives c.is_told.ensures c.commit-answer.ensures.step)
 
 pub returns-clause-step : goal.returns-clause-step
-returns-clause-step g c = step_shown c.turn-lent.ensures.turned c.args.ticket c.requires.mine c.home.ensures (CommitStep (name_of c.args.name)) commit_reply c.commit-answer.result c.commit-answer.ensures.step
+returns-clause-step g c = step_shown c.turn-lent.ensures.turned c.args.ticket c.requires.mine c.home.ensures.pass (CommitStep (name_of c.args.name)) commit_reply c.commit-answer.result c.commit-answer.ensures.step
 
 pub returns-clause-own : goal.returns-clause-own
-returns-clause-own g c = ticket_back c.turn-lent.ensures.turned c.args.ticket c.requires.mine c.home.ensures (λ (old new : Ticket). IfOk c.commit-answer.result (λ (k : Commit). new ≡ committed_by (name_of c.args.name) (g.Q.Stage.Stage.contents c.args.stage) k old)) c.commit-answer.ensures.own
+returns-clause-own g c = ticket_back c.turn-lent.ensures.turned c.args.ticket c.requires.mine c.home.ensures.pass (λ (old new : Ticket). IfOk c.commit-answer.result (λ (k : Commit). new ≡ committed_by (name_of c.args.name) (g.Q.Stage.Stage.contents c.args.stage) k old)) c.commit-answer.ensures.own
 
 pub returns-clause-kept : goal.returns-clause-kept
-returns-clause-kept g c = ticket_back c.turn-lent.ensures.turned c.args.ticket c.requires.mine c.home.ensures (λ (old new : Ticket). OnErr c.commit-answer.result (new ≡ old)) c.commit-answer.ensures.kept
+returns-clause-kept g c = ticket_back c.turn-lent.ensures.turned c.args.ticket c.requires.mine c.home.ensures.pass (λ (old new : Ticket). OnErr c.commit-answer.result (new ≡ old)) c.commit-answer.ensures.kept
 
 pub returns-clause-calls : goal.returns-clause-calls
-returns-clause-calls g c = step_calls c.turn-lent.ensures.turned c.args.ticket c.requires.mine c.home.ensures (CommitStep (name_of c.args.name)) commit_reply c.commit-answer.result c.commit-answer.ensures.step
+returns-clause-calls g c = step_calls c.turn-lent.ensures.turned c.args.ticket c.requires.mine c.home.ensures.pass (CommitStep (name_of c.args.name)) commit_reply c.commit-answer.result c.commit-answer.ensures.step

@@ -25,13 +25,13 @@ pub home-requires : goal.home-requires
 home-requires g c = (c.turn-lent.ensures.lent, step_came c.turn-lent.ensures.turned c.args.ticket c.requires.mine c.draw-answer.new.self (DrawStep c.args.count) (λ (first : Id). DrawnFrom first.number) c.draw-answer.result c.is_told.result (λ x. refl) c.is_told.ensures c.draw-answer.ensures.step)
 
 pub returns-clause-step : goal.returns-clause-step
-returns-clause-step g c = step_shown c.turn-lent.ensures.turned c.args.ticket c.requires.mine c.home.ensures (DrawStep c.args.count) (λ (first : Id). DrawnFrom first.number) c.draw-answer.result c.draw-answer.ensures.step
+returns-clause-step g c = step_shown c.turn-lent.ensures.turned c.args.ticket c.requires.mine c.home.ensures.pass (DrawStep c.args.count) (λ (first : Id). DrawnFrom first.number) c.draw-answer.result c.draw-answer.ensures.step
 
 pub returns-clause-own : goal.returns-clause-own
-returns-clause-own g c = ticket_back c.turn-lent.ensures.turned c.args.ticket c.requires.mine c.home.ensures (λ (old new : Ticket). IfOk c.draw-answer.result (λ (first : Id). new ≡ record old { first = first.number; drawn = c.args.count })) c.draw-answer.ensures.own
+returns-clause-own g c = ticket_back c.turn-lent.ensures.turned c.args.ticket c.requires.mine c.home.ensures.pass (λ (old new : Ticket). IfOk c.draw-answer.result (λ (first : Id). new ≡ record old { first = first.number; drawn = c.args.count })) c.draw-answer.ensures.own
 
 pub returns-clause-kept : goal.returns-clause-kept
-returns-clause-kept g c = ticket_back c.turn-lent.ensures.turned c.args.ticket c.requires.mine c.home.ensures (λ (old new : Ticket). OnErr c.draw-answer.result (new ≡ old)) c.draw-answer.ensures.kept
+returns-clause-kept g c = ticket_back c.turn-lent.ensures.turned c.args.ticket c.requires.mine c.home.ensures.pass (λ (old new : Ticket). OnErr c.draw-answer.result (new ≡ old)) c.draw-answer.ensures.kept
 
 pub returns-clause-calls : goal.returns-clause-calls
-returns-clause-calls g c = step_calls c.turn-lent.ensures.turned c.args.ticket c.requires.mine c.home.ensures (DrawStep c.args.count) (λ (first : Id). DrawnFrom first.number) c.draw-answer.result c.draw-answer.ensures.step
+returns-clause-calls g c = step_calls c.turn-lent.ensures.turned c.args.ticket c.requires.mine c.home.ensures.pass (DrawStep c.args.count) (λ (first : Id). DrawnFrom first.number) c.draw-answer.result c.draw-answer.ensures.step

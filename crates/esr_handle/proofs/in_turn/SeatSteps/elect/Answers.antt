@@ -16,7 +16,7 @@ home-requires g c = (
 )
 
 pub returns-clause-step : goal.returns-clause-step
-returns-clause-step g c = outcome g.Q.Desk.start g.B.Since.before c.args.self.pass c.turn-lent.result.held.turn c.turn-lent.result.held.value c.turn-lent.ensures.turned c.elect-answer.new.self c.home.result.pass 0 ElectStep (λ term. ElectedTerm term) c.elect-answer.result (no_ticket g.Q.Desk.start g.B.Since.before c.args.self.pass c.turn-lent.result.held.turn c.turn-lent.result.held.value c.turn-lent.ensures.turned) c.home.ensures.whole c.elect-answer.ensures.step
+returns-clause-step g c = outcome g.Q.Desk.start g.B.Since.before c.args.self.pass c.turn-lent.result.held.turn c.turn-lent.result.held.value c.turn-lent.ensures.turned c.elect-answer.new.self c.home.result.pass 0 ElectStep (λ term. ElectedTerm term) c.elect-answer.result (no_ticket g.Q.Desk.start g.B.Since.before c.args.self.pass c.turn-lent.result.held.turn c.turn-lent.result.held.value c.turn-lent.ensures.turned) c.home.ensures.pass.whole c.elect-answer.ensures.step
 
 pub returns-clause-calls : goal.returns-clause-calls
-returns-clause-calls g c = calls_client g.Q.Desk.start g.B.Since.before c.args.self.pass c.turn-lent.result.held.turn c.turn-lent.result.held.value c.turn-lent.ensures.turned c.elect-answer.new.self c.home.result.pass ElectStep (λ term. ElectedTerm term) c.elect-answer.result c.home.ensures c.elect-answer.ensures.step
+returns-clause-calls g c = calls_client g.Q.Desk.start g.B.Since.before c.args.self.pass c.turn-lent.result.held.turn c.turn-lent.result.held.value c.turn-lent.ensures.turned c.elect-answer.new.self c.home.result.pass ElectStep (λ term. ElectedTerm term) c.elect-answer.result c.home.ensures.pass c.elect-answer.ensures.step

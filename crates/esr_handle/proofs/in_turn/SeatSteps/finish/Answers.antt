@@ -22,13 +22,13 @@ pub home-requires : goal.home-requires
 home-requires g c = (c.turn-lent.ensures.lent, step_came c.turn-lent.ensures.turned c.args.ticket c.requires.mine c.finish-answer.new.self FinishStep (λ _. HasEnded) c.finish-answer.result c.is_told.result (λ x. refl) c.is_told.ensures c.finish-answer.ensures.step)
 
 pub returns-clause-step : goal.returns-clause-step
-returns-clause-step g c = step_shown c.turn-lent.ensures.turned c.args.ticket c.requires.mine c.home.ensures FinishStep (λ _. HasEnded) c.finish-answer.result c.finish-answer.ensures.step
+returns-clause-step g c = step_shown c.turn-lent.ensures.turned c.args.ticket c.requires.mine c.home.ensures.pass FinishStep (λ _. HasEnded) c.finish-answer.result c.finish-answer.ensures.step
 
 pub returns-clause-own : goal.returns-clause-own
-returns-clause-own g c = ticket_back c.turn-lent.ensures.turned c.args.ticket c.requires.mine c.home.ensures (λ (old new : Ticket). OnOk c.finish-answer.result (HasEndedAs old new)) c.finish-answer.ensures.own
+returns-clause-own g c = ticket_back c.turn-lent.ensures.turned c.args.ticket c.requires.mine c.home.ensures.pass (λ (old new : Ticket). OnOk c.finish-answer.result (HasEndedAs old new)) c.finish-answer.ensures.own
 
 pub returns-clause-kept : goal.returns-clause-kept
-returns-clause-kept g c = ticket_back c.turn-lent.ensures.turned c.args.ticket c.requires.mine c.home.ensures (λ (old new : Ticket). OnErr c.finish-answer.result (new ≡ old)) c.finish-answer.ensures.kept
+returns-clause-kept g c = ticket_back c.turn-lent.ensures.turned c.args.ticket c.requires.mine c.home.ensures.pass (λ (old new : Ticket). OnErr c.finish-answer.result (new ≡ old)) c.finish-answer.ensures.kept
 
 pub returns-clause-calls : goal.returns-clause-calls
-returns-clause-calls g c = step_calls c.turn-lent.ensures.turned c.args.ticket c.requires.mine c.home.ensures FinishStep (λ _. HasEnded) c.finish-answer.result c.finish-answer.ensures.step
+returns-clause-calls g c = step_calls c.turn-lent.ensures.turned c.args.ticket c.requires.mine c.home.ensures.pass FinishStep (λ _. HasEnded) c.finish-answer.result c.finish-answer.ensures.step

@@ -25,10 +25,10 @@ pub home-requires : goal.home-requires
 home-requires g c = (c.turn-lent.ensures.lent, step_came c.turn-lent.ensures.turned c.args.ticket c.requires.mine c.latest-answer.new.self LatestStep (λ _. WasReplaced) c.latest-answer.result c.is_told.result (λ x. refl) c.is_told.ensures c.latest-answer.ensures.step)
 
 pub returns-clause-step : goal.returns-clause-step
-returns-clause-step g c = step_shown c.turn-lent.ensures.turned c.args.ticket c.requires.mine c.home.ensures LatestStep (λ _. WasReplaced) c.latest-answer.result c.latest-answer.ensures.step
+returns-clause-step g c = step_shown c.turn-lent.ensures.turned c.args.ticket c.requires.mine c.home.ensures.pass LatestStep (λ _. WasReplaced) c.latest-answer.result c.latest-answer.ensures.step
 
 pub returns-clause-own : goal.returns-clause-own
-returns-clause-own g c = ticket_back c.turn-lent.ensures.turned c.args.ticket c.requires.mine c.home.ensures (λ (old new : Ticket). new ≡ tried_by c.latest-answer.result old) c.latest-answer.ensures.own
+returns-clause-own g c = ticket_back c.turn-lent.ensures.turned c.args.ticket c.requires.mine c.home.ensures.pass (λ (old new : Ticket). new ≡ tried_by c.latest-answer.result old) c.latest-answer.ensures.own
 
 pub returns-clause-calls : goal.returns-clause-calls
-returns-clause-calls g c = step_calls c.turn-lent.ensures.turned c.args.ticket c.requires.mine c.home.ensures LatestStep (λ _. WasReplaced) c.latest-answer.result c.latest-answer.ensures.step
+returns-clause-calls g c = step_calls c.turn-lent.ensures.turned c.args.ticket c.requires.mine c.home.ensures.pass LatestStep (λ _. WasReplaced) c.latest-answer.result c.latest-answer.ensures.step

@@ -26,13 +26,13 @@ pub home-requires : goal.home-requires
 home-requires g c = (c.turn-lent.ensures.lent, step_came c.turn-lent.ensures.turned c.args.ticket c.requires.mine c.list-answer.new.self (ListStep (option_copied c.args.after)) (λ page. WasListed (page_of page)) c.list-answer.result c.is_told.result (λ x. refl) c.is_told.ensures c.list-answer.ensures.step)
 
 pub returns-clause-step : goal.returns-clause-step
-returns-clause-step g c = step_shown c.turn-lent.ensures.turned c.args.ticket c.requires.mine c.home.ensures (ListStep (option_copied c.args.after)) (λ page. WasListed (page_of page)) c.list-answer.result c.list-answer.ensures.step
+returns-clause-step g c = step_shown c.turn-lent.ensures.turned c.args.ticket c.requires.mine c.home.ensures.pass (ListStep (option_copied c.args.after)) (λ page. WasListed (page_of page)) c.list-answer.result c.list-answer.ensures.step
 
 pub returns-clause-own : goal.returns-clause-own
-returns-clause-own g c = ticket_back c.turn-lent.ensures.turned c.args.ticket c.requires.mine c.home.ensures (λ (old new : Ticket). IfOk c.list-answer.result (λ page. new ≡ listing old (page_of page))) c.list-answer.ensures.own
+returns-clause-own g c = ticket_back c.turn-lent.ensures.turned c.args.ticket c.requires.mine c.home.ensures.pass (λ (old new : Ticket). IfOk c.list-answer.result (λ page. new ≡ listing old (page_of page))) c.list-answer.ensures.own
 
 pub returns-clause-kept : goal.returns-clause-kept
-returns-clause-kept g c = ticket_back c.turn-lent.ensures.turned c.args.ticket c.requires.mine c.home.ensures (λ (old new : Ticket). OnErr c.list-answer.result (new ≡ old)) c.list-answer.ensures.kept
+returns-clause-kept g c = ticket_back c.turn-lent.ensures.turned c.args.ticket c.requires.mine c.home.ensures.pass (λ (old new : Ticket). OnErr c.list-answer.result (new ≡ old)) c.list-answer.ensures.kept
 
 pub returns-clause-calls : goal.returns-clause-calls
-returns-clause-calls g c = step_calls c.turn-lent.ensures.turned c.args.ticket c.requires.mine c.home.ensures (ListStep (option_copied c.args.after)) (λ page. WasListed (page_of page)) c.list-answer.result c.list-answer.ensures.step
+returns-clause-calls g c = step_calls c.turn-lent.ensures.turned c.args.ticket c.requires.mine c.home.ensures.pass (ListStep (option_copied c.args.after)) (λ page. WasListed (page_of page)) c.list-answer.result c.list-answer.ensures.step

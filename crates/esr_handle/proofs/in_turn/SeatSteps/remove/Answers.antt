@@ -25,10 +25,10 @@ pub home-requires : goal.home-requires
 home-requires g c = (c.turn-lent.ensures.lent, step_came c.turn-lent.ensures.turned c.args.ticket c.requires.mine c.remove-answer.new.self (PruneStep (RemoveDoomed (map name_of c.args.names.now))) (λ _. WasRemoved) c.remove-answer.result c.is_told.result (λ x. refl) c.is_told.ensures c.remove-answer.ensures.step)
 
 pub returns-clause-step : goal.returns-clause-step
-returns-clause-step g c = step_shown c.turn-lent.ensures.turned c.args.ticket c.requires.mine c.home.ensures (PruneStep (RemoveDoomed (map name_of c.args.names.now))) (λ _. WasRemoved) c.remove-answer.result c.remove-answer.ensures.step
+returns-clause-step g c = step_shown c.turn-lent.ensures.turned c.args.ticket c.requires.mine c.home.ensures.pass (PruneStep (RemoveDoomed (map name_of c.args.names.now))) (λ _. WasRemoved) c.remove-answer.result c.remove-answer.ensures.step
 
 pub returns-clause-own : goal.returns-clause-own
-returns-clause-own g c = ticket_back c.turn-lent.ensures.turned c.args.ticket c.requires.mine c.home.ensures (λ (old new : Ticket). new ≡ old) c.remove-answer.ensures.own
+returns-clause-own g c = ticket_back c.turn-lent.ensures.turned c.args.ticket c.requires.mine c.home.ensures.pass (λ (old new : Ticket). new ≡ old) c.remove-answer.ensures.own
 
 pub returns-clause-calls : goal.returns-clause-calls
-returns-clause-calls g c = step_calls c.turn-lent.ensures.turned c.args.ticket c.requires.mine c.home.ensures (PruneStep (RemoveDoomed (map name_of c.args.names.now))) (λ _. WasRemoved) c.remove-answer.result c.remove-answer.ensures.step
+returns-clause-calls g c = step_calls c.turn-lent.ensures.turned c.args.ticket c.requires.mine c.home.ensures.pass (PruneStep (RemoveDoomed (map name_of c.args.names.now))) (λ _. WasRemoved) c.remove-answer.result c.remove-answer.ensures.step

@@ -29,13 +29,13 @@ pub home-requires : goal.home-requires
 home-requires g c = (c.turn-lent.ensures.lent, step_came c.turn-lent.ensures.turned c.args.ticket c.requires.mine c.settle-answer.new.self SettleStep (λ _. WasSettled) c.settle-answer.result c.is_told.result (λ x. refl) c.is_told.ensures c.settle-answer.ensures.step)
 
 pub returns-clause-step : goal.returns-clause-step
-returns-clause-step g c = step_shown c.turn-lent.ensures.turned c.args.ticket c.requires.mine c.home.ensures SettleStep (λ _. WasSettled) c.settle-answer.result c.settle-answer.ensures.step
+returns-clause-step g c = step_shown c.turn-lent.ensures.turned c.args.ticket c.requires.mine c.home.ensures.pass SettleStep (λ _. WasSettled) c.settle-answer.result c.settle-answer.ensures.step
 
 pub returns-clause-own : goal.returns-clause-own
-returns-clause-own g c = ticket_back c.turn-lent.ensures.turned c.args.ticket c.requires.mine c.home.ensures (λ (old new : Ticket). OnOk c.settle-answer.result (new ≡ record old { settled = true })) c.settle-answer.ensures.own
+returns-clause-own g c = ticket_back c.turn-lent.ensures.turned c.args.ticket c.requires.mine c.home.ensures.pass (λ (old new : Ticket). OnOk c.settle-answer.result (new ≡ record old { settled = true })) c.settle-answer.ensures.own
 
 pub returns-clause-kept : goal.returns-clause-kept
-returns-clause-kept g c = ticket_back c.turn-lent.ensures.turned c.args.ticket c.requires.mine c.home.ensures (λ (old new : Ticket). LeftBy (IsSettled old) c.settle-answer.result old new) c.settle-answer.ensures.kept
+returns-clause-kept g c = ticket_back c.turn-lent.ensures.turned c.args.ticket c.requires.mine c.home.ensures.pass (λ (old new : Ticket). LeftBy (IsSettled old) c.settle-answer.result old new) c.settle-answer.ensures.kept
 
 pub returns-clause-calls : goal.returns-clause-calls
-returns-clause-calls g c = step_calls c.turn-lent.ensures.turned c.args.ticket c.requires.mine c.home.ensures SettleStep (λ _. WasSettled) c.settle-answer.result c.settle-answer.ensures.step
+returns-clause-calls g c = step_calls c.turn-lent.ensures.turned c.args.ticket c.requires.mine c.home.ensures.pass SettleStep (λ _. WasSettled) c.settle-answer.result c.settle-answer.ensures.step

@@ -26,13 +26,13 @@ pub home-requires : goal.home-requires
 home-requires g c = (c.turn-lent.ensures.lent, step_came c.turn-lent.ensures.turned c.args.ticket c.requires.mine c.settle_delete-answer.new.self (PruneStep SettlePruned) (λ _. WasSettled) c.settle_delete-answer.result c.is_told.result (λ x. refl) c.is_told.ensures c.settle_delete-answer.ensures.step)
 
 pub returns-clause-step : goal.returns-clause-step
-returns-clause-step g c = step_shown c.turn-lent.ensures.turned c.args.ticket c.requires.mine c.home.ensures (PruneStep SettlePruned) (λ _. WasSettled) c.settle_delete-answer.result c.settle_delete-answer.ensures.step
+returns-clause-step g c = step_shown c.turn-lent.ensures.turned c.args.ticket c.requires.mine c.home.ensures.pass (PruneStep SettlePruned) (λ _. WasSettled) c.settle_delete-answer.result c.settle_delete-answer.ensures.step
 
 pub returns-clause-own : goal.returns-clause-own
-returns-clause-own g c = ticket_back c.turn-lent.ensures.turned c.args.ticket c.requires.mine c.home.ensures (λ (old new : Ticket). OnOk c.settle_delete-answer.result (new ≡ record old { settled = true })) c.settle_delete-answer.ensures.own
+returns-clause-own g c = ticket_back c.turn-lent.ensures.turned c.args.ticket c.requires.mine c.home.ensures.pass (λ (old new : Ticket). OnOk c.settle_delete-answer.result (new ≡ record old { settled = true })) c.settle_delete-answer.ensures.own
 
 pub returns-clause-kept : goal.returns-clause-kept
-returns-clause-kept g c = ticket_back c.turn-lent.ensures.turned c.args.ticket c.requires.mine c.home.ensures (λ (old new : Ticket). LeftBy (IsSettled old) c.settle_delete-answer.result old new) c.settle_delete-answer.ensures.kept
+returns-clause-kept g c = ticket_back c.turn-lent.ensures.turned c.args.ticket c.requires.mine c.home.ensures.pass (λ (old new : Ticket). LeftBy (IsSettled old) c.settle_delete-answer.result old new) c.settle_delete-answer.ensures.kept
 
 pub returns-clause-calls : goal.returns-clause-calls
-returns-clause-calls g c = step_calls c.turn-lent.ensures.turned c.args.ticket c.requires.mine c.home.ensures (PruneStep SettlePruned) (λ _. WasSettled) c.settle_delete-answer.result c.settle_delete-answer.ensures.step
+returns-clause-calls g c = step_calls c.turn-lent.ensures.turned c.args.ticket c.requires.mine c.home.ensures.pass (PruneStep SettlePruned) (λ _. WasSettled) c.settle_delete-answer.result c.settle_delete-answer.ensures.step

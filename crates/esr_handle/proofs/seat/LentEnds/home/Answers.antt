@@ -12,5 +12,5 @@ invariant_of-result g c =
     is_seated g.B.Since.before c.args.self.held.turn c.args.self.held.value c.home-pass.result c.requires.0.below c.home-pass.ensures.seen c.home-pass.ensures.mine g.Q.Desk.start g.W.Share.lock c.args.self.lock.now g.W.Share.total c.args.is_told
     c.requires.0 c.requires.1 c.home-pass.ensures.own c.home-pass.ensures.turns c.is_legal.ensures.legal c.never_fails.ensures
 
-pub returns : goal.returns
-returns g c = is_homed g.B.Since.before c.args.self.held.turn c.args.self.held.value c.home-pass.result c.requires.0.below c.home-pass.ensures.seen c.home-pass.ensures.mine c.args.is_told c.requires.1
+pub returns-clause-pass : goal.returns-clause-pass
+returns-clause-pass g c = is_homed g.B.Since.before c.args.self.held.turn c.args.self.held.value c.home-pass.result c.requires.0.below c.home-pass.ensures.seen c.home-pass.ensures.mine c.args.is_told c.requires.1

@@ -8,13 +8,12 @@ use Rattle.esr_repo.specs.Next.{Added}
 use Rattle.esr_desk.specs.Entries.{step_of}
 use Rattle.esr_desk.specs.Refusals.{refusal_of}
 use Rattle.esr_repo.specs.Repo.{Kept}
-use Rattle.esr_repo.proofs.Plain.{blocked_added, blocked_repo, free_goes, refused_tickets}
+use Rattle.esr_repo.specs.Grown.{own_same}
+use Rattle.esr_repo.proofs.Plain.{blocked_added, blocked_repo, free_goes, refused_tickets, refused_readers}
 use Rattle.esr_repo.proofs.BlobCalls.{Pushed}
 use Rattle.esr_repo.proofs.Pasts.{noted_whole}
-use Rattle.esr_repo.proofs.Reading.{refused_readers}
 use Rattle.esr_repo.proofs.Callers.{blocked_caller}
 use Rattle.esr_repo.proofs.Blocked.{Tells, block_tells, block_plain, block_no_fault}
-use Rattle.esr_repo.proofs.HandSteps.{own_same}
 use Rattle.esr_repo.proofs.Failing.{no_later, blocked_faults}
 use Rattle.esr_repo.proofs.Calms.{no_call, calm_goes}
 use Rattle.esr_repo.proofs.repo.Repo.check.Goals as goal

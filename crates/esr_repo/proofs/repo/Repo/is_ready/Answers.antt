@@ -1,7 +1,7 @@
 use Rattle.std.proofs.Common.{sym, ◌∙◌}
 use Rattle.esr_desk.specs.Start.{world_of}
 use Rattle.esr_repo.specs.Repo.{Kept}
-use Rattle.esr_repo.proofs.Ready.{next_ready, none_ready, goes_live, fell}
+use Rattle.esr_repo.proofs.ReadyUnits.{next_ready, none_ready, goes_live, fell}
 use Rattle.esr_repo.proofs.repo.Repo.is_ready.Goals as goal
 
 pub returns-then-is_some-clause-ready : goal.returns-then-is_some-clause-ready

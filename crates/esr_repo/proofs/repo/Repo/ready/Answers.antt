@@ -3,7 +3,7 @@ use Rattle.std.proofs.lemmas.Int.{to_z-of_z}
 use Rattle.esr_formats.specs.Clusters.{count_of}
 use Rattle.esr_ops.specs.Units.{NextUnit}
 use Rattle.esr_desk.specs.Start.{world_of}
-use Rattle.esr_repo.proofs.Taken.{given_in, next_unit}
+use Rattle.esr_repo.proofs.ReadyUnits.{given_in, next_unit}
 use Rattle.esr_repo.proofs.repo.Repo.ready.Goals as goal
 
 pub returns-in-Some-clause-next : goal.returns-in-Some-clause-next

@@ -20,6 +20,10 @@ all_done uuid xs slice start items k same past step =
     let end : length xs ≤ k = omega (arith, ap length same) in
     sym (step ∙ ap (λ (ys : List IndexRef). with_each uuid ys items) (drop_all k xs end))
 
+-- the snapshots, with the one that was pushed
+with_snap : (r : Root) (snap own : RootSnap) (copied pushed : List RootSnap) → copied ≡ r.snapshots → own ≡ snap → pushed ≡ copied ++ own ∷ [] → pushed ≡ r.snapshots ++ snap ∷ []
+with_snap r snap own copied pushed same is push = push ∙ ap (λ (ss : List RootSnap). ss ++ own ∷ []) same ∙ ap (λ (s : RootSnap). r.snapshots ++ s ∷ []) is
+
 pub from_items-indices-requires : goal.from_items-indices-requires
 from_items-indices-requires c =
     let refs : List IndexRef = c.args.indices.now in
@@ -35,9 +39,7 @@ from_parts-requires c =
     let slice : c.as_slice-index-items.result.now ≡ refs = c.as_slice-index-items.ensures in
     let whole = all_done c.args.snap.now.uuid refs c.as_slice-index-items.result.now c.args.self.now.indices c.loop-index.items.items c.loop-index.index-index slice c.loop-index-test.false c.loop-index.invariant.done in
     let indices = c.from_items-indices.ensures ∙ c.from_vec.ensures ∙ whole in
-    let snaps : c.push.new.self ≡ c.args.self.now.snapshots ++ c.args.snap.now ∷ [] =
-    c.in_ok-push.ensures.ok ∙ ap (λ (ss : List RootSnap). ss ++ c.in_ok-try_clone.field-0 ∷ []) (c.in_ok-snapshots.ensures ∙ ap (λ (r : Root). r.snapshots) c.self.view_is)
-    ∙ ap (λ (s : RootSnap). c.args.self.now.snapshots ++ s ∷ []) c.in_ok-try_clone.ensures in
+    let snaps = with_snap c.args.self.now c.args.snap.now c.in_ok-try_clone.field-0 _ c.push.new.self (c.in_ok-snapshots.ensures ∙ ap (λ (r : Root). r.snapshots) c.self.view_is) c.in_ok-try_clone.ensures c.in_ok-push.ensures.ok in
     subst (λ (ss : List RootSnap). AllByRecursion (IsListed ss) c.from_items-indices.result) (sym snaps)
     (subst (AllByRecursion (IsListed (c.args.self.now.snapshots ++ c.args.snap.now ∷ []))) (sym indices) (listed_added c.args.self.now c.args.snap.now refs c.rule.ensures))
 
@@ -56,8 +58,6 @@ returns-clause-order c = λ order.
     let slice : c.as_slice-index-items.result.now ≡ refs = c.as_slice-index-items.ensures in
     let whole = all_done c.args.snap.now.uuid refs c.as_slice-index-items.result.now c.args.self.now.indices c.loop-index.items.items c.loop-index.index-index slice c.loop-index-test.false c.loop-index.invariant.done in
     let indices = c.from_items-indices.ensures ∙ c.from_vec.ensures ∙ whole in
-    let snaps : c.push.new.self ≡ c.args.self.now.snapshots ++ c.args.snap.now ∷ [] =
-    c.in_ok-push.ensures.ok ∙ ap (λ (ss : List RootSnap). ss ++ c.in_ok-try_clone.field-0 ∷ []) (c.in_ok-snapshots.ensures ∙ ap (λ (r : Root). r.snapshots) c.self.view_is)
-    ∙ ap (λ (s : RootSnap). c.args.self.now.snapshots ++ s ∷ []) c.in_ok-try_clone.ensures in
+    let snaps = with_snap c.args.self.now c.args.snap.now c.in_ok-try_clone.field-0 _ c.push.new.self (c.in_ok-snapshots.ensures ∙ ap (λ (r : Root). r.snapshots) c.self.view_is) c.in_ok-try_clone.ensures c.in_ok-push.ensures.ok in
     let root = c.from_parts.ensures ∙ ap (λ (ss : List RootSnap). root_with ss c.from_items-indices.result) snaps ∙ ap (root_with (c.args.self.now.snapshots ++ c.args.snap.now ∷ [])) indices in
     subst (λ (r : Root). AllByRecursion (IsInRootOrder r.snapshots) r.indices) (sym root) (ordered_added c.args.self.now c.args.snap.now refs c.rule.ensures c.requires order)

@@ -21,6 +21,10 @@ all_done uuids all slice items k same past step =
     let end : length all ≤ k = omega (arith, ap length same) in
     step ∙ ap (λ (is : List RootIndex). filter has_some (map (thinned uuids) is)) (take_all k all end)
 
+-- the snapshots, without those of the uuids
+kept_snaps : (r : Root) (uuids slice : List Id) (old new : List RootSnap) → old ≡ r.snapshots → slice ≡ uuids → new ≡ filter (λ (s : RootSnap). not (has_id s.uuid slice)) old → new ≡ (without_of r uuids).snapshots
+kept_snaps r uuids slice old new same is kept = kept ∙ ap (λ (us : List Id). filter (λ (s : RootSnap). not (has_id s.uuid us)) old) is ∙ ap (filter (λ (s : RootSnap). not (has_id s.uuid uuids))) same
+
 pub from_items-indices-requires : goal.from_items-indices-requires
 from_items-indices-requires c =
     let all : List RootIndex = c.args.self.now.indices in
@@ -33,9 +37,7 @@ from_parts-requires c =
     let all : List RootIndex = c.args.self.now.indices in
     let slice : c.as_slice-index-items.result.now ≡ all = c.as_slice-index-items.ensures.items ∙ ap (λ (r : Root). r.indices) c.self.view_is in
     let whole = all_done c.args.uuids.now all c.as_slice-index-items.result.now c.loop-index.items c.loop-index.index-index slice c.loop-index-test.false c.loop-index.invariant in
-    let snaps : c.in_ok-snapshots.snapshots ≡ (without_of c.args.self.now c.args.uuids.now).snapshots =
-    c.in_ok-snapshots.ensures ∙ ap (λ (us : List Id). filter (λ s. not (has_id s.uuid us)) c.self.inside.snapshots) c.as_slice.ensures
-    ∙ ap (λ (r : Root). filter (λ s. not (has_id s.uuid c.args.uuids.now)) r.snapshots) c.self.view_is in
+    let snaps = kept_snaps c.args.self.now c.args.uuids.now _ c.self.inside.snapshots c.in_ok-snapshots.snapshots (ap (λ (r : Root). r.snapshots) c.self.view_is) c.as_slice.ensures c.in_ok-snapshots.ensures in
     subst (λ (ss : List RootSnap). AllByRecursion (IsListed ss) c.from_items-indices.result) (sym snaps)
     (subst (AllByRecursion (IsListed (without_of c.args.self.now c.args.uuids.now).snapshots)) (sym (c.from_items-indices.ensures ∙ whole)) (listed_without c.args.self.now c.args.uuids.now c.rule.ensures))
 
@@ -53,8 +55,6 @@ returns-clause-order c = λ order.
     let all : List RootIndex = c.args.self.now.indices in
     let slice : c.as_slice-index-items.result.now ≡ all = c.as_slice-index-items.ensures.items ∙ ap (λ (r : Root). r.indices) c.self.view_is in
     let whole = all_done c.args.uuids.now all c.as_slice-index-items.result.now c.loop-index.items c.loop-index.index-index slice c.loop-index-test.false c.loop-index.invariant in
-    let snaps : c.in_ok-snapshots.snapshots ≡ (without_of c.args.self.now c.args.uuids.now).snapshots =
-    c.in_ok-snapshots.ensures ∙ ap (λ (us : List Id). filter (λ s. not (has_id s.uuid us)) c.self.inside.snapshots) c.as_slice.ensures
-    ∙ ap (λ (r : Root). filter (λ s. not (has_id s.uuid c.args.uuids.now)) r.snapshots) c.self.view_is in
+    let snaps = kept_snaps c.args.self.now c.args.uuids.now _ c.self.inside.snapshots c.in_ok-snapshots.snapshots (ap (λ (r : Root). r.snapshots) c.self.view_is) c.as_slice.ensures c.in_ok-snapshots.ensures in
     let root = c.from_parts.ensures ∙ ap (λ (ss : List RootSnap). root_with ss c.from_items-indices.result) snaps ∙ ap (root_with (without_of c.args.self.now c.args.uuids.now).snapshots) (c.from_items-indices.ensures ∙ whole) in
     subst (λ (r : Root). AllByRecursion (IsInRootOrder r.snapshots) r.indices) (sym root) (ordered_without c.args.self.now c.args.uuids.now order)

@@ -1,22 +1,19 @@
 use Rattle.std.proofs.Common.{refl}
-use Rattle.esr_solo.proofs.Stepping.{keeps, outcome, waited, spends}
+use Rattle.esr_solo.proofs.Stepping.{keeps, outcome, spent}
 use Rattle.esr_core.specs.Entry.{RaiseStep}
 use Rattle.esr_solo.proofs.Calls.{calls_ticket}
 use Rattle.esr_solo.proofs.desk.SoloDesk.raise.Goals as goal
 
 pub returns-then-self-eq0-clause-step : goal.returns-then-self-eq0-clause-step
-returns-then-self-eq0-clause-step g c = (
-  waited g.K.Told.start c.self.inside.repo c.args.self.now c.args.ticket c.self.view_is c.is_legal.ensures,
-  spends g.K.Told.start c.self.inside.repo c.args.self.now c.self.inside.left c.self.view_is c.self.invariant.0 c.if-self-eq0.true,
-)
+returns-then-self-eq0-clause-step g c = spent g.K.Told.start c.self.inside.repo c.args.self.now c.args.ticket c.self.inside.left c.self.view_is c.is_legal.ensures c.self.invariant.0 c.if-self-eq0.true
 
 pub invariant_of-self : goal.invariant_of-self
 invariant_of-self g c =
-    keeps _ g.K.Told.start c.self.inside.repo c.raise-answer.new.self c.args.ticket c.self.inside.faults.items c.self.inside.targets.items c.self.inside.left c.turns.result _ c.self.invariant c.if-self-eq0.false
+    keeps _ g.K.Told.start c.self.inside.repo c.raise-answer.new.repo c.args.ticket c.self.inside.faults.items c.self.inside.targets.items c.self.inside.left c.turns.result _ c.self.invariant c.if-self-eq0.false
     RaiseStep _ c.raise-answer.result c.turns.ensures (λ x why e d. cc) (λ x before who. refl) (λ name e no_metadata noted. cc) c.raise-answer.ensures.step tt tt
 
 pub returns-clause-step : goal.returns-clause-step
-returns-clause-step g c = outcome g.K.Told.start c.self.inside.repo c.args.self.now c.raise-answer.new.self c.args.ticket RaiseStep _ c.raise-answer.result c.self.inside.left c.self.view_is c.is_legal.ensures c.self.invariant.0 c.if-self-eq0.false c.grounds.ensures c.raise-answer.ensures.step
+returns-clause-step g c = outcome g.K.Told.start c.self.inside.repo c.args.self.now c.raise-answer.new.repo c.args.ticket RaiseStep _ c.raise-answer.result c.self.inside.left c.self.view_is c.is_legal.ensures c.self.invariant.0 c.if-self-eq0.false c.grounds.ensures c.raise-answer.ensures.step
 
 pub returns-clause-calls : goal.returns-clause-calls
-returns-clause-calls g c = calls_ticket g.K.Told.start c.self.inside.repo c.args.self.now c.raise-answer.new.self c.args.ticket RaiseStep _ c.raise-answer.result c.self.view_is c.requires.mine.some c.raise-answer.ensures.step
+returns-clause-calls g c = calls_ticket g.K.Told.start c.self.inside.repo c.args.self.now c.raise-answer.new.repo c.args.ticket RaiseStep _ c.raise-answer.result c.self.view_is c.requires.mine.some c.raise-answer.ensures.step

@@ -1,0 +1,11 @@
+use Rattle.esr_bounds.proofs.steps_are_lawful.Goals as goal
+
+pub returns : goal.returns
+returns c = λ f size. record {
+  tracks = c.each_step_is_tracked.ensures f size;
+  reads = c.each_step_tracks_restores.ensures f size;
+  frame = c.each_step_leaves_the_others.ensures.frame f;
+  maker = c.each_step_has_its_maker.ensures f size;
+  others = c.entries_are_of_their_makers.ensures.others;
+  own = c.entries_are_of_their_makers.ensures.own;
+}

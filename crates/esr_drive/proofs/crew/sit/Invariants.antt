@@ -1,0 +1,4 @@
+use Rattle.esr_drive.proofs.crew.sit.Given as goal
+
+abbrev pub ghosts-sit_told : goal.ghosts-sit_told
+ghosts-sit_told g a = record { before = g.Q.Desk.seen a.desk }

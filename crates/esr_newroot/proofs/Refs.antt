@@ -1,0 +1,153 @@
+-- References to indices whose names and ids differ.
+use Rattle.std.proofs.Common.{◌≡◌, ◌≢◌, ℕ, Bool, false, ◌==◌, List, [], ◌∷◌, ◌++◌, map, Option, Some, None, refl, sym, ap, ◌∙◌, subst, inl, inr}
+use Rattle.std.specs.Prelude.{if◌then◌else◌, ◌≤◌}
+use Rattle.std.specs.List.{list_any, AllByRecursion, IsDistinct}
+use Rattle.std.specs.Str.{bytes_eq}
+use Rattle.std.proofs.lemmas.Bool.{cases_Bool, eqb-true, eq-eqb}
+use Rattle.esr_names.specs.declared.index_ref.IndexRef.{IndexRef}
+use Rattle.esr_names.specs.Indices.{clashes, AreRefs}
+use Rattle.esr_root.specs.Ids.{same_id}
+use Rattle.esr_formats.specs.Refs.{ref_of_code}
+use Rattle.esr_model.specs.Values.{Bytes, Has, RootIndex}
+use Rattle.esr_model.specs.Finalize.{ref_of}
+use Rattle.esr_newroot.specs.Named.{ref_named}
+use Rattle.esr_newroot.proofs.Choices.{chosen, passed, same_names, named_so, other_names, differ, or_false, is_false}
+use Rattle.esr_newroot.proofs.Named.{some_is, none_some}
+
+abbrev pub one_name : IndexRef → IndexRef → Bool
+one_name p q = bytes_eq p.name q.name
+
+abbrev pub one_id : IndexRef → IndexRef → Bool
+one_id p q = same_id p.id q.id
+
+-- ---- lists that keep their rule
+
+has_last : (before : List IndexRef) (q : IndexRef) → Has (before ++ q ∷ []) q
+has_last [] q = inl refl
+has_last (p ∷ before) q = inr (has_last before q)
+
+has_more : (before : List IndexRef) (p q : IndexRef) → Has before p → Has (before ++ q ∷ []) p
+has_more [] p q h = absurd h
+has_more (x ∷ before) p q (inl e) = inl e
+has_more (x ∷ before) p q (inr h) = inr (has_more before p q h)
+
+no_clash : (q p : IndexRef) (before : List IndexRef) → Has before p → list_any (clashes q) before ≡ false → clashes q p ≡ false
+no_clash q p [] h e = absurd h
+no_clash q p (x ∷ before) (inl is) e = subst (λ (z : IndexRef). clashes q z ≡ false) is (or_false (clashes q x) (list_any (clashes q) before) e).0
+no_clash q p (x ∷ before) (inr h) e = no_clash q p before h (or_false (clashes q x) (list_any (clashes q) before) e).1
+
+-- none of the later ones clashes with one before them
+clear : (p : IndexRef) (before qs : List IndexRef) → Has before p → AreRefs before qs → AllByRecursion (λ q. clashes q p ≡ false) qs
+clear p before [] h a = tt
+clear p before (q ∷ qs) h a = (no_clash q p before h a.1, clear p (before ++ q ∷ []) qs (has_more before p q h) a.2)
+
+pub all_weaken : {A : Type 0} (P Q : A → Type 0) → ((x : A) → P x → Q x) → (xs : List A) → AllByRecursion P xs → AllByRecursion Q xs
+all_weaken P Q f [] h = tt
+all_weaken P Q f (x ∷ xs) h = (f x h.0, all_weaken P Q f xs h.1)
+
+distinct_by : (e : IndexRef → IndexRef → Bool) → ((p q : IndexRef) → clashes q p ≡ false → e p q ≡ false) → (before qs : List IndexRef) → AreRefs before qs → IsDistinct e qs
+unfolding IsDistinct
+distinct_by e f before [] a = tt
+distinct_by e f before (q ∷ qs) a =
+    (all_weaken (λ r. clashes r q ≡ false) (λ r. e q r ≡ false) (λ r. f q r) qs (clear q (before ++ q ∷ []) qs (has_last before q) a.2), distinct_by e f (before ++ q ∷ []) qs a.2)
+
+-- one of the later ones differs
+pub other_later : (e : IndexRef → IndexRef → Bool) (p : IndexRef) (qs : List IndexRef) (q : IndexRef) → Has qs q → AllByRecursion (λ r. e p r ≡ false) qs → e p q ≡ false
+other_later e p [] q h a = absurd h
+other_later e p (r ∷ qs) q (inl is) a = subst (λ (z : IndexRef). e p z ≡ false) is a.0
+other_later e p (r ∷ qs) q (inr h) a = other_later e p qs q h a.1
+
+pub all_has : (P : IndexRef → Type 0) (qs : List IndexRef) → ((q : IndexRef) → Has qs q → P q) → AllByRecursion P qs
+all_has P [] f = tt
+all_has P (q ∷ qs) f = (f q (inl refl), all_has P qs (λ p h. f p (inr h)))
+
+pub names_distinct : (qs : List IndexRef) → AreRefs [] qs → IsDistinct one_name qs
+names_distinct qs a = distinct_by one_name (λ p q c. (or_false (bytes_eq p.name q.name) (p.id.number == q.id.number) c).0) [] qs a
+
+pub ids_distinct : (qs : List IndexRef) → AreRefs [] qs → IsDistinct one_id qs
+ids_distinct qs a = distinct_by one_id (λ p q c. (or_false (bytes_eq p.name q.name) (p.id.number == q.id.number) c).1) [] qs a
+
+pub refs_few : (before qs : List IndexRef) → AreRefs before qs → AllByRecursion (λ q. q.shards ≤ 1024) qs
+refs_few before [] a = tt
+refs_few before (q ∷ qs) a = (a.0.most, refs_few (before ++ q ∷ []) qs a.2)
+
+-- ---- a step for each reference of a name
+
+-- what the references of a name make of an index, one after another
+abbrev pub by_refs : (IndexRef → Option RootIndex → Option RootIndex) → Bytes → List IndexRef → Option RootIndex → Option RootIndex
+by_refs step name [] y = y
+by_refs step name (q ∷ qs) y = by_refs step name qs (if bytes_eq q.name name then step q y else y)
+
+-- what one makes, where there is one
+abbrev pub at_ref : (IndexRef → Option RootIndex → Option RootIndex) → Option IndexRef → Option RootIndex → Option RootIndex
+at_ref step None y = y
+at_ref step (Some q) y = step q y
+
+by_none : (step : IndexRef → Option RootIndex → Option RootIndex) (name : Bytes) (qs : List IndexRef) (y : Option RootIndex) → AllByRecursion (λ q. bytes_eq q.name name ≡ false) qs → by_refs step name qs y ≡ y
+by_none step name [] y h = refl
+by_none step name (q ∷ qs) y h = ap (by_refs step name qs) (passed (step q y) y h.0) ∙ by_none step name qs y h.1
+
+pub by_one : (step : IndexRef → Option RootIndex → Option RootIndex) (name : Bytes) (qs : List IndexRef) (y : Option RootIndex) → IsDistinct one_name qs → by_refs step name qs y ≡ at_ref step (ref_named name qs) y
+unfolding IsDistinct
+by_one step name [] y h = refl
+by_one step name (q ∷ qs) y h = elim (cases_Bool (bytes_eq q.name name)) [
+  | inl same ↦
+      let apart = all_weaken (λ r. bytes_eq q.name r.name ≡ false) (λ r. bytes_eq r.name name ≡ false) (λ r e. other_names r.name name (λ d. differ q.name r.name e (same_names q.name name same ∙ sym d))) qs h.0 in
+      ap (by_refs step name qs) (chosen (step q y) y same) ∙ by_none step name qs (step q y) apart ∙ sym (ap (λ (o : Option IndexRef). at_ref step o y) (chosen (Some q) (ref_named name qs) same))
+  | inr other ↦
+      ap (by_refs step name qs) (passed (step q y) y other) ∙ by_one step name qs y h.1 ∙ sym (ap (λ (o : Option IndexRef). at_ref step o y) (passed (Some q) (ref_named name qs) other))
+]
+
+-- ---- a reference that is found
+
+pub ref_has : (name : Bytes) (qs : List IndexRef) (q : IndexRef) → ref_named name qs ≡ Some q → (q.name ≡ name) × Has qs q
+ref_has name [] q e = absurd (none_some e)
+ref_has name (p ∷ qs) q e = elim (cases_Bool (bytes_eq p.name name)) [
+  | inl same ↦
+      let is : p ≡ q = some_is (sym (chosen (Some p) (ref_named name qs) same) ∙ e) in
+      (sym (ap (λ (r : IndexRef). r.name) is) ∙ same_names p.name name same, inl is)
+  | inr other ↦
+      let rest = ref_has name qs q (sym (passed (Some p) (ref_named name qs) other) ∙ e) in
+      (rest.0, inr rest.1)
+]
+
+pub ref_none : (name : Bytes) (qs : List IndexRef) (q : IndexRef) → ref_named name qs ≡ None → Has qs q → q.name ≢ name
+ref_none name [] q e h = absurd h
+ref_none name (p ∷ qs) q e h = elim (cases_Bool (bytes_eq p.name name)) [
+  | inl same ↦ absurd (none_some (sym e ∙ chosen (Some p) (ref_named name qs) same))
+  | inr other ↦ elim h [
+    | inl is ↦ subst (λ (r : IndexRef). r.name ≢ name) is (differ p.name name other)
+    | inr there ↦ ref_none name qs q (sym (passed (Some p) (ref_named name qs) other) ∙ e) there
+  ]
+]
+
+pub ref_some : (qs : List IndexRef) (q : IndexRef) → IsDistinct one_name qs → Has qs q → ref_named q.name qs ≡ Some q
+unfolding IsDistinct
+ref_some [] q d h = absurd h
+ref_some (p ∷ qs) q d (inl e) = chosen (Some p) (ref_named q.name qs) (named_so p.name q.name (ap (λ (r : IndexRef). r.name) e)) ∙ ap Some e
+ref_some (p ∷ qs) q d (inr h) = passed (Some p) (ref_named q.name qs) (other_later one_name p qs q h d.0) ∙ ref_some qs q d.1 h
+
+pub ref_apart : (name : Bytes) (qs : List IndexRef) → AllByRecursion (λ q. bytes_eq q.name name ≡ false) qs → ref_named name qs ≡ None
+ref_apart name [] h = refl
+ref_apart name (q ∷ qs) h = passed (Some q) (ref_named name qs) h.0 ∙ ref_apart name qs h.1
+
+-- ---- references by their ids
+
+pub has_of : (qs : List IndexRef) (q : IndexRef) → Has qs q → Has (map ref_of_code qs) (ref_of_code q)
+has_of [] q h = absurd h
+has_of (p ∷ qs) q (inl e) = inl (ap ref_of_code e)
+has_of (p ∷ qs) q (inr h) = inr (has_of qs q h)
+
+pub id_none : (id : ℕ) (qs : List IndexRef) → ((q : IndexRef) → Has qs q → q.id.number ≢ id) → ref_of (map ref_of_code qs) id ≡ None
+id_none id [] h = refl
+id_none id (q ∷ qs) h =
+    passed (Some (ref_of_code q)) (ref_of (map ref_of_code qs) id) (is_false (q.id.number == id) (λ e. h q (inl refl) (eqb-true q.id.number id e)))
+    ∙ id_none id qs (λ p there. h p (inr there))
+
+pub id_some : (qs : List IndexRef) (q : IndexRef) → IsDistinct one_id qs → Has qs q → ref_of (map ref_of_code qs) q.id.number ≡ Some (ref_of_code q)
+unfolding IsDistinct
+id_some [] q d h = absurd h
+id_some (p ∷ qs) q d (inl e) =
+    chosen (Some (ref_of_code p)) (ref_of (map ref_of_code qs) q.id.number) (eq-eqb p.id.number q.id.number (ap (λ (r : IndexRef). r.id.number) e)) ∙ ap (λ (r : IndexRef). Some (ref_of_code r)) e
+id_some (p ∷ qs) q d (inr h) =
+    passed (Some (ref_of_code p)) (ref_of (map ref_of_code qs) q.id.number) (other_later one_id p qs q h d.0) ∙ id_some qs q d.1 h

@@ -1,0 +1,2 @@
+pub mod NewRoot
+pub mod Named

@@ -1,7 +1,0 @@
-use Rattle.esr_repo.proofs.Swapping.{may_raise}
-use Rattle.esr_repo.proofs.repo.Repo.raised.Goals as goal
-
-pub returns : goal.returns
-returns g c =
-    may_raise g.K.Told.start c.args.self.now c.args.ticket c.args.generation c.args.cluster c.plan.result.now c.in_ok-progress.progress c.next_id.result.number c.rules.ensures.tracked c.requires.may c.requires.present c.requires.pending c.requires.room c.requires.record c.plan.ensures
-    c.in_ok-progress.ensures c.next_id.ensures.number

@@ -1,5 +1,0 @@
-use Rattle.esr_results.proofs.Pruning.{Passed}
-use Rattle.esr_results.proofs.pruned_root.renewed_shard.Given as goal
-
-abbrev pub invariant-loop-index : goal.invariant-loop-index
-invariant-loop-index l = Passed l.index-items l.shard.shard.index.number l.index-index

@@ -1,5 +1,0 @@
-mod Closing
-mod Joining
-mod Places
-mod Weights
-mod Working

@@ -1,4 +1,0 @@
-use Rattle.esr_shared.proofs.crew.sit.Given as goal
-
-abbrev pub ghosts-sit_told : goal.ghosts-sit_told
-ghosts-sit_told g a = record { before = g.Q.Desk.seen a.desk }

@@ -1,4 +1,0 @@
-use Rattle.esr_shared.proofs.workers.worker.Given as goal
-
-abbrev pub ghosts-worker_told : goal.ghosts-worker_told
-ghosts-worker_told g a = record { lock = a.lock.now; total = a.pass.left }

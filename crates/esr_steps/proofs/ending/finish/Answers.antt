@@ -1,0 +1,17 @@
+use Rattle.esr_core.specs.Entry.{FinishStep, HasEnded}
+use Rattle.esr_steps.proofs.Stepping.{on_done}
+use Rattle.esr_steps.proofs.Ended.{may_finish, finished_ticket}
+use Rattle.esr_steps.proofs.Fresh.{free_fresh}
+use Rattle.esr_steps.proofs.ending.finish.Goals as goal
+
+pub note-requires-clause-may : goal.note-requires-clause-may
+note-requires-clause-may g c =
+    may_finish g.K.Told.start c.args.repo.now c.check.new.self c.args.ticket c.plan.result.now c.in_ok-progress.progress c.next_id-next.result.number c.in_ok-check.ensures.step.0 c.requires.may c.rules.ensures.stale c.plan.ensures c.in_ok-progress.ensures c.next_id-next.ensures.number
+
+pub returns-clause-own : goal.returns-clause-own
+returns-clause-own g c =
+    on_done g.K.Told.start c.check.new.self c.note.new.self c.args.ticket FinishStep HasEnded c.note.result c.note.ensures.step
+    (finished_ticket g.K.Told.start c.args.repo.now c.check.new.self c.note.new.self c.args.ticket c.in_ok-check.ensures.step.0 c.requires.may)
+
+pub check-requires-clause-fresh : goal.check-requires-clause-fresh
+check-requires-clause-fresh g c = free_fresh g.K.Told.start c.args.repo.now c.args.ticket FinishStep tt

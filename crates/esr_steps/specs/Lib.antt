@@ -1,0 +1,4 @@
+pub mod Asked
+pub mod Hands
+pub mod Given
+pub mod Leave
