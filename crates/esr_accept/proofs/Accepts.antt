@@ -18,18 +18,17 @@ use Rattle.esr_core.specs.Allowed.{NoCleanup, IsNameOf, IsUnused, open_count}
 use Rattle.esr_core.specs.Tracked.{Named}
 use Rattle.esr_names.specs.declared.index_ref.IndexRef.{IndexRef as CodeRef}
 use Rattle.std.proofs.lemmas.List.{length-map}
+use Rattle.std.proofs.lemmas.Option.{same_Some, none-some}
 use Rattle.esr_formats.specs.Refs.{ref_of_code, AreApart}
-use Rattle.esr_ops.specs.declared.unit.Slot.{Slot}
 use Rattle.esr_ops.specs.Asked.{IsAskable}
 use Rattle.esr_formats.specs.Formats.{formats}
 use Rattle.esr_ops.specs.declared.refusal.Refusal.{Refusal}
 use Rattle.esr_ops.specs.declared.command.Accepted.{Accepted}
-use Rattle.esr_ops.specs.Plan.{Plan, RestorePlan, IsPlanOf, IsAskedIn}
+use Rattle.esr_ops.specs.Plan.{Plan, RestorePlan, IsPlanOf, IsAskedIn, TicketMaps}
 use Rattle.esr_ops.specs.Inside.{numbers_of, Rise, IsProgress, plan_with}
 use Rattle.esr_accept.specs.Accepting.{MayAccept, IsAccepted, IsRefused, drawn_by}
 use Rattle.esr_accept.specs.Asking.{open_cleanup, snap_uuid, op_uuid, name_user, known_in, first_refusal, refs_by, new_by, op_begun}
 use Rattle.esr_ops.specs.Entries.{get_from, find-member}
-use Rattle.esr_ops.specs.Lists.{some_same, none_some}
 use Rattle.esr_ops.specs.Numbers.{found_member, entries_from}
 use Rattle.esr_accept.proofs.Drawn.{new-same, refs-same, refs_apart, length-refs_by}
 use Rattle.esr_accept.proofs.Finds.{len_from, found, missed, same_true, same_false, neither, either_some, are_known}
@@ -107,19 +106,19 @@ module _ (ops : List (ℕ × Op)) (deletes : List (ℕ × Deletion)) (p : Plan) 
   module _ (name : Bytes) (command : Asked) where
     refused_by : (cleanup user : Option ℕ) (full : Bool) (r : Refusal) → open_cleanup deletes ≡ cleanup → name_user root ops name ≡ user → not (nat_lt (length ops + length deletes) 1000) ≡ full
         → Some r ≡ first_refusal cleanup user full → IsRefused w name command r
-    refused_by (Some d) user full r a b c e = subst (IsRefused w name command) (sym (some_same _ _ e)) (cleanup_there d a)
-    refused_by None (Some uuid) full r a b c e = subst (IsRefused w name command) (sym (some_same _ _ e)) (no_cleanup a, user_there name uuid (either_some _ _ uuid b))
-    refused_by None None true r a b c e = subst (IsRefused w name command) (sym (some_same _ _ e)) (refl, no_cleanup a, unused name b, full_is c)
-    refused_by None None false r a b c e = absurd (none_some r (sym e))
+    refused_by (Some d) user full r a b c e = subst (IsRefused w name command) (sym (same_Some _ _ e)) (cleanup_there d a)
+    refused_by None (Some uuid) full r a b c e = subst (IsRefused w name command) (sym (same_Some _ _ e)) (no_cleanup a, user_there name uuid (either_some _ _ uuid b))
+    refused_by None None true r a b c e = subst (IsRefused w name command) (sym (same_Some _ _ e)) (refl, no_cleanup a, unused name b, full_is c)
+    refused_by None None false r a b c e = absurd (none-some r (sym e))
 
     pub refused : (r : Refusal) → Some r ≡ first_refusal (open_cleanup deletes) (name_user root ops name) (not (nat_lt (length ops + length deletes) 1000)) → IsRefused w name command r
     refused r e = refused_by _ _ _ r refl refl refl e
 
   may_by : (name : Bytes) (cleanup user : Option ℕ) (full : Bool) → open_cleanup deletes ≡ cleanup → name_user root ops name ≡ user → not (nat_lt (length ops + length deletes) 1000) ≡ full
       → ◌≡◌ {A = Option Refusal} None (first_refusal cleanup user full) → MayAccept w name
-  may_by name (Some d) user full a b c e = absurd (none_some _ e)
-  may_by name None (Some uuid) full a b c e = absurd (none_some _ e)
-  may_by name None None true a b c e = absurd (none_some _ e)
+  may_by name (Some d) user full a b c e = absurd (none-some _ e)
+  may_by name None (Some uuid) full a b c e = absurd (none-some _ e)
+  may_by name None None true a b c e = absurd (none-some _ e)
   may_by name None None false a b c e = record { no_cleanup = no_cleanup a; unused = unused name b; room = room_is c }
 
   pub may_accept : (name : Bytes) → ◌≡◌ {A = Option Refusal} None (first_refusal (open_cleanup deletes) (name_user root ops name) (not (nat_lt (length ops + length deletes) 1000))) → MayAccept w name
@@ -185,7 +184,8 @@ module _ (ops : List (ℕ × Op)) (deletes : List (ℕ × Deletion)) (p : Plan) 
 
 -- ---- the lists of a plan
 
-pub listed : (ops : List (ℕ × Op)) (deletes : List (ℕ × Deletion)) (completed : List ℕ) (seats : List Slot) (next : ℕ) (restores : List (ℕ × RestorePlan)) (p : Plan) → IsProgress ops deletes next restores → plan_with ops deletes completed seats next restores ≡ p → IsListed ops deletes p
+pub listed : (ops : List (ℕ × Op)) (deletes : List (ℕ × Deletion)) (completed : List ℕ) (seats : TicketMaps) (next : ℕ) (restores : List (ℕ × RestorePlan)) (p : Plan) → IsProgress ops deletes next restores
+    → plan_with ops deletes completed seats next restores ≡ p → IsListed ops deletes p
 listed ops deletes completed seats next restores p h view = record {
   ops_rise = h.ops_numbered.rise;
   deletes_rise = h.deletes_numbered.rise;
@@ -196,7 +196,8 @@ listed ops deletes completed seats next restores p h view = record {
 -- ---- the indices of what is made
 
 module _ (ops : List (ℕ × Op)) (root : RootData) (next : ℕ) (indices : List AskedIndex) (refs : List CodeRef) (are : map ref_of_code refs ≡ refs_by (known_in root ops) (suc next) indices) where
-  pub refs_fit : (deletes : List (ℕ × Deletion)) (p : Plan) → IsListed ops deletes p → Named root p.ops next → (command : Asked) (name : Bytes) (moment : ℕ) → command ≡ Snapshot name indices moment → IsAskable command → AreApart (map ref_of_code refs)
+  pub refs_fit : (deletes : List (ℕ × Deletion)) (p : Plan) → IsListed ops deletes p → Named root p.ops next → (command : Asked) (name : Bytes) (moment : ℕ) → command ≡ Snapshot name indices moment → IsAskable command
+      → AreApart (map ref_of_code refs)
   refs_fit deletes p h named command name moment is askable =
       let fit : IsAskable (Snapshot name indices moment) = subst IsAskable is askable in
       subst AreApart (sym are) (refs_apart (known_in root ops) next (suc next) indices (are_known root ops p.ops next h.ops_rise h.ops_are named) (omega arith) fit.0 fit.1)

@@ -30,7 +30,8 @@ module _ (P : OpenShard → Type 0) where
   all_from at index first zero h = tt
   all_from at index first (suc n) h = (h first (omega arith), all_from at index (suc first) n (λ k lt. h k (omega arith)))
 
-  pub all_of : (at : ℕ) (refs : List CodeRef) → AreApart (map ref_of_code refs) → ((j k : ℕ) (index : Id) → j < at + length refs → k < 1024 → P (record { at = j; shard = record { index = index; number = k }; state = states.Pending })) → AllByRecursion P (shards_of at refs)
+  pub all_of : (at : ℕ) (refs : List CodeRef) → AreApart (map ref_of_code refs) → ((j k : ℕ) (index : Id) → j < at + length refs → k < 1024 → P (record { at = j; shard = record { index = index; number = k }; state = states.Pending }))
+      → AllByRecursion P (shards_of at refs)
   all_of at [] apart h = tt
   all_of at (r ∷ refs) apart h =
       let most = apart.1 in

@@ -1,13 +1,13 @@
 -- What stands against a cleanup, and the list with one more, in a world of which the list tells.
 use Rattle.std.proofs.Common.{◌≡◌, ℕ, ◌+◌, ◌<◌, ◌^◌, List, [], ◌∷◌, ◌++◌, Option, Some, None, map, refl, sym, ap, ◌∙◌, subst, inl, inr, arith, nat_cmp}
 use Rattle.std.specs.FinMap as fin
+use Rattle.esr_model.specs.Lists.{Has-map}
 use Rattle.esr_core.specs.World.{World, Op, Deletion}
 use Rattle.esr_core.specs.Ready.{IsOpen}
 use Rattle.esr_core.specs.After.{cleanup_opened}
 use Rattle.esr_core.specs.Allowed.{HasTicket}
-use Rattle.esr_ops.specs.declared.unit.Slot.{Slot}
 use Rattle.esr_ops.specs.Deletes.{cleanup_begun}
-use Rattle.esr_ops.specs.Plan.{Plan, RestorePlan, IsPlanOf, IsAskedIn}
+use Rattle.esr_ops.specs.Plan.{Plan, RestorePlan, IsPlanOf, IsAskedIn, TicketMaps}
 use Rattle.esr_ops.specs.Inside.{plan_with, numbers_of, Rise, IsProgress}
 use Rattle.esr_ops.specs.Units.{IsLowest}
 use Rattle.esr_progress.specs.Choice.{first_number, lower_of}
@@ -15,7 +15,6 @@ use Rattle.esr_accept.specs.Asking.{open_cleanup, cleanup_refusal}
 use Rattle.esr_accept.specs.AskedDeletes.{aborted_by}
 use Rattle.esr_accept.specs.Accepting.{IsCleanupRuledOn}
 use Rattle.esr_ops.specs.Entries.{find-member}
-use Rattle.esr_ops.specs.Lists.{Has-map}
 use Rattle.esr_progress.specs.Lookups.{got_op as law-got_op, got_delete as law-got_delete}
 use Rattle.esr_progress.specs.Lowest.{lowest_of}
 use Rattle.esr_ops.specs.Numbers.{found_member}
@@ -34,12 +33,13 @@ number_lowest {A} f (e ∷ es) rise is = (
 )
 
 -- a delete that names none aborts none
-none_aborted : (seats : List Slot) (ops : List (ℕ × Op)) → map (aborted_by seats 0 [] 0) ops ≡ ops
+none_aborted : (seats : TicketMaps) (ops : List (ℕ × Op)) → map (aborted_by seats 0 [] 0) ops ≡ ops
 none_aborted seats [] = refl
 none_aborted seats (e ∷ ops) = ap (λ (es : List (ℕ × Op)). e ∷ es) (none_aborted seats ops)
 
-module _ (ops : List (ℕ × Op)) (deletes : List (ℕ × Deletion)) (completed : List ℕ) (seats : List Slot) (next : ℕ) (restores : List (ℕ × RestorePlan)) (now : Plan) (view : plan_with ops deletes completed seats next restores ≡ now) (h : IsProgress ops deletes next restores) where
-  pub cleanup_keeps : (new_ops : List (ℕ × Op)) → new_ops ≡ ops → (new_deletes : List (ℕ × Deletion)) → new_deletes ≡ deletes ++ (next, cleanup_begun) ∷ [] → next < 2 ^ 62 → IsProgress new_ops new_deletes (next + 1) (fin.entries now.restores)
+module _ (ops : List (ℕ × Op)) (deletes : List (ℕ × Deletion)) (completed : List ℕ) (seats : TicketMaps) (next : ℕ) (restores : List (ℕ × RestorePlan)) (now : Plan) (view : plan_with ops deletes completed seats next restores ≡ now) (h : IsProgress ops deletes next restores) where
+  pub cleanup_keeps : (new_ops : List (ℕ × Op)) → new_ops ≡ ops → (new_deletes : List (ℕ × Deletion)) → new_deletes ≡ deletes ++ (next, cleanup_begun) ∷ [] → next < 2 ^ 62
+      → IsProgress new_ops new_deletes (next + 1) (fin.entries now.restores)
   cleanup_keeps new_ops ops_are new_deletes deletes_are room =
       opened_keeps ops deletes completed seats next restores now view h 0 [] 0 new_ops (ops_are ∙ sym (none_aborted seats ops)) new_deletes (next, cleanup_begun) refl deletes_are room
 

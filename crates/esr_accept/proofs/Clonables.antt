@@ -2,8 +2,9 @@
 use Rattle.std.proofs.Common.{◌≡◌, ℕ, suc, ◌<◌, ◌≤◌, Bool, true, false, true≢false, cond, eqb, List, [], ◌∷◌, Option, Some, None, option_map, map, take, drop, refl, sym, ap, ◌∙◌, subst, inl, inr, eq-eqb}
 use Rattle.std.specs.Prelude.{not, nat_lt, ◌||◌}
 use Rattle.std.specs.List.{list_any, position}
-use Rattle.std.proofs.lemmas.Bool.{cases_lt}
+use Rattle.std.proofs.lemmas.Bool.{cases_lt, and_parts, and_from, not-true}
 use Rattle.std.proofs.lemmas.Bool.Decides.{Decides-ltb}
+use Rattle.std.proofs.lemmas.Option.{same_Some, none-some}
 use Rattle.esr_names.specs.declared.ids.Id.{Id}
 use Rattle.esr_root.specs.declared.indices.RootIndex.{RootIndex as CodeIndex}
 use Rattle.esr_model.specs.Values.{Bytes, Has, RootData}
@@ -15,14 +16,13 @@ use Rattle.esr_core.specs.Allowed.{IsListed, HasIndexNamed, HaveIndices, IsFirst
 use Rattle.esr_formats.specs.Ids.{number_of}
 use Rattle.esr_formats.specs.Roots.{root_index_of}
 use Rattle.esr_ops.specs.declared.refusal.Refusal.{Refusal}
-use Rattle.esr_ops.specs.declared.unit.Slot.{Slot}
-use Rattle.esr_ops.specs.Plan.{Plan, RestorePlan, IsAskedIn}
+use Rattle.esr_ops.specs.Plan.{Plan, RestorePlan, IsAskedIn, TicketMaps}
 use Rattle.esr_ops.specs.Inside.{plan_with, IsProgress}
 use Rattle.esr_accept.specs.Asking.{open_cleanup, snap_uuid, op_uuid, name_user, deleting, is_index_of, lacks_index, name_refusal, source_refusal}
 use Rattle.esr_accept.specs.Accepting.{IsCloneRefused}
 use Rattle.esr_ops.specs.Entries.{eqb_is}
-use Rattle.esr_ops.specs.Lists.{position-None, some_same, none_some}
-use Rattle.esr_ops.specs.Tests.{and_true, any_true, both_true, not_true, clash, any_here, first_place, place_within}
+use Rattle.esr_ops.specs.Lists.{position-None}
+use Rattle.esr_ops.specs.Tests.{any_true, clash, any_here, first_place, place_within}
 use Rattle.esr_accept.proofs.Accepts.{not-false, IsListed as AreListed, cleanup_there, no_cleanup, user_there, unused}
 use Rattle.esr_accept.proofs.DeleteRules.{parts_at}
 use Rattle.esr_accept.proofs.Finds.{same_true, same_one, either_some}
@@ -64,14 +64,14 @@ module _ (w : World) (root : RootData) (root_is : w.root ≡ root) (uuid : ℕ) 
   index_there : (name : Bytes) → lacks_index root.indices uuid name ≡ false → HasIndexNamed w uuid name
   index_there name e =
       let (x, m, hit) = any_true (is_index_of uuid name) root.indices (not-false _ e) in
-      let (same, has) = and_true (same_bytes x.name name) (names_uuid x.snapshots uuid) hit in
+      let (same, has) = and_parts (same_bytes x.name name) (names_uuid x.snapshots uuid) hit in
       (x, subst (λ (r : RootData). Has r.indices x) (sym root_is) m, same_true x.name name same, named_there x.snapshots uuid has)
 
   index_missing : (name : Bytes) → lacks_index root.indices uuid name ≡ true → HasIndexNamed w uuid name → ⊥
   index_missing name e (x, m, name_is, has) =
       let same : same_bytes x.name name ≡ true = elim (same_one x.name name) [ inl t ↦ t.0 | inr f ↦ absurd (f.1 name_is) ] in
       clash (list_any (is_index_of uuid name) root.indices)
-      (any_here (is_index_of uuid name) root.indices x (subst (λ (r : RootData). Has r.indices x) root_is m) (both_true (same_bytes x.name name) (names_uuid x.snapshots uuid) same (there_named x.snapshots uuid has))) (not_true _ e)
+      (any_here (is_index_of uuid name) root.indices x (subst (λ (r : RootData). Has r.indices x) root_is m) (and_from (same_bytes x.name name) (names_uuid x.snapshots uuid) same (there_named x.snapshots uuid has))) (not-true _ e)
 
   all_there : (names : List Bytes) → position (lacks_index root.indices uuid) names ≡ None → HaveIndices w uuid names
   all_there names e name m = index_there name (position-None (lacks_index root.indices uuid) names e name m)
@@ -95,16 +95,17 @@ module _ (w : World) (root : RootData) (root_is : w.root ≡ root) (uuid : ℕ) 
 
 module _ (ops : List (ℕ × Op)) (deletes : List (ℕ × Deletion)) (p : Plan) (root : RootData) (term next : ℕ) (h : AreListed ops deletes p) (w : World) (is : IsAskedIn p root term next w) where
   module _ (source name : Bytes) (names : List Bytes) where
-    pub name_refused : (cleanup : Option ℕ) (user : Option Id) → cleanup ≡ open_cleanup deletes → option_map number_of user ≡ name_user root ops name → (r : Refusal) → Some r ≡ name_refusal cleanup user → IsCloneRefused w source name names r
-    name_refused (Some op) user a b r e = subst (IsCloneRefused w source name names) (sym (some_same _ _ e)) (cleanup_there ops deletes p root term next h w is op (sym a))
+    pub name_refused : (cleanup : Option ℕ) (user : Option Id) → cleanup ≡ open_cleanup deletes → option_map number_of user ≡ name_user root ops name → (r : Refusal) → Some r ≡ name_refusal cleanup user
+        → IsCloneRefused w source name names r
+    name_refused (Some op) user a b r e = subst (IsCloneRefused w source name names) (sym (same_Some _ _ e)) (cleanup_there ops deletes p root term next h w is op (sym a))
     name_refused None (Some uuid) a b r e =
-        subst (IsCloneRefused w source name names) (sym (some_same _ _ e))
+        subst (IsCloneRefused w source name names) (sym (same_Some _ _ e))
         (no_cleanup ops deletes p root term next h w is (sym a), user_there ops deletes p root term next h w is name uuid.number (either_some (snap_uuid root.snapshots name) (op_uuid ops name) uuid.number (sym b)))
-    name_refused None None a b r e = absurd (none_some r (sym e))
+    name_refused None None a b r e = absurd (none-some r (sym e))
 
   pub may_name : (name : Bytes) (cleanup : Option ℕ) (user : Option Id) → cleanup ≡ open_cleanup deletes → option_map number_of user ≡ name_user root ops name → ◌≡◌ {A = Option Refusal} None (name_refusal cleanup user) → MayName w name
-  may_name name (Some op) user a b e = absurd (none_some _ e)
-  may_name name None (Some uuid) a b e = absurd (none_some _ e)
+  may_name name (Some op) user a b e = absurd (none-some _ e)
+  may_name name None (Some uuid) a b e = absurd (none-some _ e)
   may_name name None None a b e = record { no_cleanup = no_cleanup ops deletes p root term next h w is (sym a); unused = unused ops deletes p root term next h w is name (sym b) }
 
   pub source_listed : (source : Bytes) (found : Option Id) → option_map number_of found ≡ snap_uuid root.snapshots source → (uuid : Id) → found ≡ Some uuid → IsListed w source uuid.number
@@ -119,19 +120,20 @@ module _ (ops : List (ℕ × Op)) (deletes : List (ℕ × Deletion)) (p : Plan) 
   pub id_left : not (nat_lt (suc next) (first_id (suc term))) ≡ false → suc w.next_id < first_id (suc w.term)
   id_left e = subst (λ (n : ℕ). suc n < first_id (suc w.term)) (sym is.next_is) (subst (λ (t : ℕ). suc next < first_id (suc t)) (sym is.term_is) (is_less _ _ e))
 
-module _ (ops : List (ℕ × Op)) (deletes : List (ℕ × Deletion)) (completed : List ℕ) (seats : List Slot) (next_op : ℕ) (restores : List (ℕ × RestorePlan)) (p : Plan) (view : plan_with ops deletes completed seats next_op restores ≡ p)
+module _ (ops : List (ℕ × Op)) (deletes : List (ℕ × Deletion)) (completed : List ℕ) (seats : TicketMaps) (next_op : ℕ) (restores : List (ℕ × RestorePlan)) (p : Plan) (view : plan_with ops deletes completed seats next_op restores ≡ p)
     (h : IsProgress ops deletes next_op restores) (root : RootData) (term next : ℕ) (w : World) (is : IsAskedIn p root term next w) (source name : Bytes) (names : List Bytes) (may : MayName w name) (uuid : ℕ) (there : IsListed w source uuid) where
-  pub source_refused : (doomed missing : Option ℕ) → doomed ≡ deleting deletes uuid → missing ≡ position (lacks_index root.indices uuid) names → (r : Refusal) → Some r ≡ source_refusal doomed missing → IsCloneRefused w source name names r
+  pub source_refused : (doomed missing : Option ℕ) → doomed ≡ deleting deletes uuid → missing ≡ position (lacks_index root.indices uuid) names → (r : Refusal) → Some r ≡ source_refusal doomed missing
+      → IsCloneRefused w source name names r
   source_refused (Some d) missing a b r e =
-      subst (IsCloneRefused w source name names) (sym (some_same _ _ e)) (may, (uuid, there, being_deleted ops deletes completed seats next_op restores p view h w is.plan uuid d (sym a)))
+      subst (IsCloneRefused w source name names) (sym (same_Some _ _ e)) (may, (uuid, there, being_deleted ops deletes completed seats next_op restores p view h w is.plan uuid d (sym a)))
   source_refused None (Some i) a b r e =
-      subst (IsCloneRefused w source name names) (sym (some_same _ _ e))
+      subst (IsCloneRefused w source name names) (sym (same_Some _ _ e))
       (uuid, record { named = may; listed = there; spared = is_spared ops deletes completed seats next_op restores p view h w is.plan uuid (sym a) }, first_lacking w root is.root_is uuid names i (sym b))
-  source_refused None None a b r e = absurd (none_some r (sym e))
+  source_refused None None a b r e = absurd (none-some r (sym e))
 
   pub may_clone : (doomed missing : Option ℕ) → doomed ≡ deleting deletes uuid → missing ≡ position (lacks_index root.indices uuid) names → ◌≡◌ {A = Option Refusal} None (source_refusal doomed missing) → MayClone w source name names uuid
-  may_clone (Some d) missing a b e = absurd (none_some _ e)
-  may_clone None (Some i) a b e = absurd (none_some _ e)
+  may_clone (Some d) missing a b e = absurd (none-some _ e)
+  may_clone None (Some i) a b e = absurd (none-some _ e)
   may_clone None None a b e = record {
     copies = record { named = may; listed = there; spared = is_spared ops deletes completed seats next_op restores p view h w is.plan uuid (sym a) };
     there = all_there w root is.root_is uuid names (sym b);

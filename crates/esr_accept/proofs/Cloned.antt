@@ -3,6 +3,7 @@ use Rattle.std.proofs.Common.{◌≡◌, ◌≢◌, ℕ, zero, suc, ◌+◌, ◌
 use Rattle.std.specs.Str.{bytes_eq}
 use Rattle.std.specs.FinMap as fin
 use Rattle.std.proofs.lemmas.List.{map-append, length-replicate, append-nil, drop_all}
+use Rattle.std.proofs.lemmas.Option.{same_Some, none-some}
 use Rattle.esr_names.specs.declared.ids.Id.{Id}
 use Rattle.esr_names.specs.declared.index_ref.IndexRef.{IndexRef as CodeRef}
 use Rattle.esr_record.specs.declared.op.Making.{Making}
@@ -22,7 +23,7 @@ use Rattle.esr_ops.specs.Ops.{op_with, IsOpenOp}
 use Rattle.esr_ops.specs.Plan.{Plan, IsPlanOf}
 use Rattle.esr_accept.specs.Asking.{shards_from, shards_of, clone_begun}
 use Rattle.esr_ops.specs.Entries.{eqb_is}
-use Rattle.esr_ops.specs.Lists.{left_from, same_bytes-is, some_same, none_some}
+use Rattle.esr_ops.specs.Lists.{left_from, same_bytes-is}
 use Rattle.esr_accept.proofs.Begun.{begun_open}
 use Rattle.esr_accept.proofs.Finds.{same_true}
 
@@ -146,12 +147,13 @@ pub ref_left : (old new : List CodeRef) (o : Option IndexRef) → new ≡ old �
 ref_left old new o new_is none = ap (map ref_of_code) new_is ∙ sym (append-nil (map ref_of_code old)) ∙ ap (λ (z : Option IndexRef). map ref_of_code old ++ and_ref z []) (sym none)
 
 -- no two of them have one name or one id
-by_name : (r : IndexRef) (refs : List IndexRef) (name : Bytes) (b : Bool) → same_bytes r.name name ≡ b → (q : IndexRef) → cond b (Some r) (ref_by_name refs name) ≡ Some q → (ref_by_name refs name ≡ Some q → Has refs q × (q.name ≡ name)) → Has (r ∷ refs) q × (q.name ≡ name)
-by_name r refs name true h q e rest = let same = some_same r q e in (inl same, ap (λ (x : IndexRef). x.name) (sym same) ∙ same_true r.name name h)
+by_name : (r : IndexRef) (refs : List IndexRef) (name : Bytes) (b : Bool) → same_bytes r.name name ≡ b → (q : IndexRef) → cond b (Some r) (ref_by_name refs name) ≡ Some q
+    → (ref_by_name refs name ≡ Some q → Has refs q × (q.name ≡ name)) → Has (r ∷ refs) q × (q.name ≡ name)
+by_name r refs name true h q e rest = let same = same_Some r q e in (inl same, ap (λ (x : IndexRef). x.name) (sym same) ∙ same_true r.name name h)
 by_name r refs name false h q e rest = let (m, is) = rest e in (inr m, is)
 
 named_so : (refs : List IndexRef) (name : Bytes) (q : IndexRef) → ref_by_name refs name ≡ Some q → Has refs q × (q.name ≡ name)
-named_so [] name q e = absurd (none_some q e)
+named_so [] name q e = absurd (none-some q e)
 named_so (r ∷ refs) name q e = by_name r refs name (same_bytes r.name name) refl q e (λ later. named_so refs name q later)
 
 one_of : (all : List IndexRef) (name : Bytes) (names : List Bytes) (q : IndexRef) (o : Option IndexRef) → ref_by_name all name ≡ o → (rest : List IndexRef) → (Has rest q → Has all q × Has names q.name) → Has (and_ref o rest) q
@@ -176,7 +178,8 @@ some_shards [] apart a m = absurd m
 some_shards (r ∷ rs) apart a (inl x) = (subst (λ (z : IndexRef). 1 ≤ z.shards) x apart.0, subst (λ (z : IndexRef). z.shards ≤ 1024) x apart.1)
 some_shards (r ∷ rs) apart a (inr m) = some_shards rs apart.3 a m
 
-apart_and : (all : List IndexRef) (name : Bytes) (names : List Bytes) → AreApart all → (Has names name → ⊥) → (o : Option IndexRef) → ref_by_name all name ≡ o → AreApart (named_refs all names) → AreApart (and_ref o (named_refs all names))
+apart_and : (all : List IndexRef) (name : Bytes) (names : List Bytes) → AreApart all → (Has names name → ⊥) → (o : Option IndexRef) → ref_by_name all name ≡ o → AreApart (named_refs all names)
+    → AreApart (and_ref o (named_refs all names))
 apart_and all name names apart once None e rest = rest
 apart_and all name names apart once (Some r) e rest =
     let (there, name_is) = named_so all name r e in

@@ -4,17 +4,16 @@ use Rattle.std.specs.Prelude.{not, is_some}
 use Rattle.std.specs.FinMap as fin
 use Rattle.std.proofs.lemmas.Bool.Decides.{eqb_tells}
 use Rattle.std.proofs.lemmas.List.{map-append, take_more}
+use Rattle.esr_model.specs.Lists.{Has-either}
 use Rattle.esr_model.specs.Values.{Bytes, Has}
 use Rattle.esr_model.specs.Shelf.{names_uuid}
 use Rattle.esr_core.specs.World.{World, Op, Deletion}
 use Rattle.esr_core.specs.Deletes.{named_uuids, aborts_op, aborting, aborted_ops, delete_opened, delete_merged}
-use Rattle.esr_ops.specs.declared.unit.Slot.{Slot}
 use Rattle.esr_ops.specs.Deletes.{kept_delete, with_uuids, grown}
-use Rattle.esr_ops.specs.Plan.{Plan, RestorePlan, IsPlanOf}
+use Rattle.esr_ops.specs.Plan.{Plan, RestorePlan, IsPlanOf, TicketMaps}
 use Rattle.esr_ops.specs.Inside.{plan_with, numbers_of, AreNumbers, IsProgress}
 use Rattle.esr_accept.specs.AskedDeletes.{is_swapped, growing, aborts, aborted_by}
 use Rattle.esr_ops.specs.Entries.{find-cons, eqb_is, get_from, get_put, same_maps, from_push}
-use Rattle.esr_ops.specs.Lists.{Has-either}
 use Rattle.esr_ops.specs.Numbers.{entries_from, AreNumbers-next, numbers-push, found_below}
 use Rattle.esr_accept.proofs.NamedUuids.{with_uuids-named}
 use Rattle.esr_accept.proofs.DeleteTickets.{and_apart, unaborted_is, swapped_is}
@@ -35,11 +34,12 @@ map-same f g same [] = refl
 map-same f g same (x ∷ xs) = λ j. same x j ∷ map-same f g same xs j
 
 -- one more was copied
-pub map_more : {A : Type 0} (g : A → A) (xs : List A) (i : ℕ) (x : A) → i < length xs → x ≡ get_or xs i x → (now : List A) (y : A) (new : List A) → now ≡ map g (take i xs) → y ≡ g x → new ≡ now ++ y ∷ [] → new ≡ map g (take (i + 1) xs)
+pub map_more : {A : Type 0} (g : A → A) (xs : List A) (i : ℕ) (x : A) → i < length xs → x ≡ get_or xs i x → (now : List A) (y : A) (new : List A) → now ≡ map g (take i xs) → y ≡ g x → new ≡ now ++ y ∷ []
+    → new ≡ map g (take (i + 1) xs)
 map_more {A} g xs i x lt is now y new was made pushed =
     pushed ∙ (λ j. was j ++ (made ∙ ap g is) j ∷ []) ∙ sym (map-append g (take i xs) (get_or xs i x ∷ [])) ∙ ap (map g) (sym (take_more xs i x lt))
 
-aborted_numbers : (seats : List Slot) (term : ℕ) (uuids : List ℕ) (by : ℕ) (ops : List (ℕ × Op)) → numbers_of (map (aborted_by seats term uuids by) ops) ≡ numbers_of ops
+aborted_numbers : (seats : TicketMaps) (term : ℕ) (uuids : List ℕ) (by : ℕ) (ops : List (ℕ × Op)) → numbers_of (map (aborted_by seats term uuids by) ops) ≡ numbers_of ops
 aborted_numbers seats term uuids by ops = numbers-map (aborted_by seats term uuids by) (λ e. choice_number (aborts seats term uuids e) (record e.1 { aborted = Some by }) e) ops
 
 grown_numbers : (uuids : List ℕ) (d : ℕ) (deletes : List (ℕ × Deletion)) → numbers_of (map (growing uuids d) deletes) ≡ numbers_of deletes
@@ -79,7 +79,7 @@ module _ (uuids : List ℕ) where
 
 -- ---- the lists
 
-module _ (ops : List (ℕ × Op)) (deletes : List (ℕ × Deletion)) (completed : List ℕ) (seats : List Slot) (next : ℕ) (restores : List (ℕ × RestorePlan)) (now : Plan) (view : plan_with ops deletes completed seats next restores ≡ now) (h : IsProgress ops deletes next restores)
+module _ (ops : List (ℕ × Op)) (deletes : List (ℕ × Deletion)) (completed : List ℕ) (seats : TicketMaps) (next : ℕ) (restores : List (ℕ × RestorePlan)) (now : Plan) (view : plan_with ops deletes completed seats next restores ≡ now) (h : IsProgress ops deletes next restores)
     (term : ℕ) (uuids : List ℕ) (by : ℕ) (new_ops : List (ℕ × Op)) (ops_are : new_ops ≡ map (aborted_by seats term uuids by) ops) where
   numbers_stay : numbers_of new_ops ≡ numbers_of ops
   numbers_stay = ap numbers_of ops_are ∙ aborted_numbers seats term uuids by ops
@@ -125,7 +125,7 @@ module _ (ops : List (ℕ × Op)) (deletes : List (ℕ × Deletion)) (completed 
 
 -- ---- the plans
 
-module _ (ops : List (ℕ × Op)) (deletes : List (ℕ × Deletion)) (completed : List ℕ) (seats : List Slot) (next : ℕ) (restores : List (ℕ × RestorePlan)) (now : Plan) (view : plan_with ops deletes completed seats next restores ≡ now) (h : IsProgress ops deletes next restores)
+module _ (ops : List (ℕ × Op)) (deletes : List (ℕ × Deletion)) (completed : List ℕ) (seats : TicketMaps) (next : ℕ) (restores : List (ℕ × RestorePlan)) (now : Plan) (view : plan_with ops deletes completed seats next restores ≡ now) (h : IsProgress ops deletes next restores)
     (term : ℕ) (w : World) (is : IsPlanOf w now) (term_is : w.term ≡ term) where
   ops_in : fin.from_entries {R = nat_cmp} ops ≡ w.ops
   ops_in = ap (λ (p : Plan). p.ops) view ∙ is.ops

@@ -3,27 +3,28 @@ use Rattle.std.proofs.Common.{◌≡◌, ℕ, zero, suc, ◌+◌, ◌<◌, Bool,
 use Rattle.std.specs.Prelude.{not, is_some, nat_lt}
 use Rattle.std.specs.List.{position, filter}
 use Rattle.std.specs.FinMap as fin
-use Rattle.std.proofs.lemmas.Bool.{cases_lt}
+use Rattle.std.proofs.lemmas.Bool.{cases_lt, true_from_ne_false, and_parts}
 use Rattle.std.proofs.lemmas.Bool.Decides.{Decides-ltb}
+use Rattle.std.proofs.lemmas.Option.{same_Some, none-some}
+use Rattle.esr_model.specs.Lists.{Has-map}
 use Rattle.esr_model.specs.Values.{Bytes, Has, RootData}
 use Rattle.esr_model.specs.Shelf.{names_uuid}
 use Rattle.esr_core.specs.World.{World, Op, Deletion, Restoring}
 use Rattle.esr_core.specs.Allowed.{open_count, AreNamed, IsFirstUnused, Copies, ReadsOne, IsLowest, MayDelete, AcceptsDelete}
 use Rattle.esr_core.specs.Deletes.{named_uuids, is_listed_uuid, name_the_same, waits_for_ticket, runs_for, first_delete, waiting_delete, running_delete, number_by, delete_number, delete_by, delete_opened, delete_merged, asked_delete}
 use Rattle.esr_core.specs.Deletes as core
-use Rattle.esr_core.proofs.Recorded.{entry_got}
-use Rattle.esr_ops.specs.declared.unit.Slot.{Slot}
+use Rattle.esr_core.specs.Laws.Maps.{entry_got}
 use Rattle.esr_ops.specs.declared.refusal.Refusal.TheVariants as refusals
-use Rattle.esr_ops.specs.Plan.{Plan, RestorePlan, restore_plan, IsPlanOf, IsAskedIn}
+use Rattle.esr_ops.specs.Plan.{Plan, RestorePlan, restore_plan, IsPlanOf, IsAskedIn, TicketMaps}
 use Rattle.esr_ops.specs.Inside.{plan_with, numbers_of, Rise, IsProgress}
 use Rattle.esr_accept.specs.Asking.{snap_uuid, op_uuid, open_cleanup, name_user}
 use Rattle.esr_accept.specs.AskedDeletes.{is_unused, uuids_named, copies, copying, reading, rule_on, is_taken, waits_in, runs_in, is_joined}
 use Rattle.esr_accept.specs.Accepting.{IsDeleteRefused, IsRuledOn}
 use Rattle.esr_ops.specs.Entries.{get_from, find-member}
-use Rattle.esr_ops.specs.Lists.{some_same, none_some, Has-map, position-None}
+use Rattle.esr_ops.specs.Lists.{position-None}
 use Rattle.esr_ops.specs.Numbers.{entries_from, found_member}
 use Rattle.esr_progress.specs.Plans.{restore_of_plan}
-use Rattle.esr_ops.specs.Tests.{first_place, place_within, is_true, and_true}
+use Rattle.esr_ops.specs.Tests.{first_place, place_within}
 use Rattle.esr_accept.proofs.NamedUuids.{with_named-is}
 use Rattle.esr_accept.proofs.Accepts.{IsListed, listed, count, user_there, unused, op_there, op_listed, cleanup_there, no_cleanup}
 use Rattle.esr_accept.proofs.DeleteTickets.{taken_is, and_apart}
@@ -33,14 +34,15 @@ use Rattle.esr_accept.proofs.Finds.{either_some, missed, found}
 
 -- the place at which something stands parts the list
 pub parts_at : {A : Type 0} (xs : List A) (i : ℕ) (x : A) → slice_get xs i ≡ Some x → (xs ≡ take i xs ++ x ∷ drop (suc i) xs) × (i ≡ length (take i xs))
-parts_at [] i x e = absurd (none_some x e)
-parts_at (y ∷ ys) zero x e = (ap (λ z. z ∷ ys) (some_same y x e), refl)
+parts_at [] i x e = absurd (none-some x e)
+parts_at (y ∷ ys) zero x e = (ap (λ z. z ∷ ys) (same_Some y x e), refl)
 parts_at (y ∷ ys) (suc i) x e = let (are, place) = parts_at ys i x e in (ap (λ zs. y ∷ zs) are, ap suc place)
 
 module _ {A : Type 0} (f : List (ℕ × A) → Option ℕ) (t : ℕ × A → Bool) (cons : (x : ℕ × A) (xs : List (ℕ × A)) → f (x ∷ xs) ≡ cond (t x) (Some x.0) (f xs)) where
-  lower_by : (x : ℕ × A) (xs : List (ℕ × A)) → Rise (numbers_of (x ∷ xs)) → (d : ℕ) (y : ℕ × A) → y.0 < d → (b : Bool) → t x ≡ b → cond b (Some x.0) (f xs) ≡ Some d → (f xs ≡ Some d → Has xs y → t y ≡ false) → Has (x ∷ xs) y → t y ≡ false
-  lower_by x xs r d y lt true is e rest (inl same) = absurd (omega (arith, some_same x.0 d e, ap (λ (z : ℕ × A). z.0) same))
-  lower_by x xs r d y lt true is e rest (inr later) = let above : x.0 < y.0 = r.0 y.0 (Has-map (λ (z : ℕ × A). z.0) xs y later) in absurd (omega (arith, some_same x.0 d e))
+  lower_by : (x : ℕ × A) (xs : List (ℕ × A)) → Rise (numbers_of (x ∷ xs)) → (d : ℕ) (y : ℕ × A) → y.0 < d → (b : Bool) → t x ≡ b → cond b (Some x.0) (f xs) ≡ Some d → (f xs ≡ Some d → Has xs y → t y ≡ false)
+      → Has (x ∷ xs) y → t y ≡ false
+  lower_by x xs r d y lt true is e rest (inl same) = absurd (omega (arith, same_Some x.0 d e, ap (λ (z : ℕ × A). z.0) same))
+  lower_by x xs r d y lt true is e rest (inr later) = let above : x.0 < y.0 = r.0 y.0 (Has-map (λ (z : ℕ × A). z.0) xs y later) in absurd (omega (arith, same_Some x.0 d e))
   lower_by x xs r d y lt false is e rest (inl same) = ap t (sym same) ∙ is
   lower_by x xs r d y lt false is e rest (inr later) = rest e later
 
@@ -67,7 +69,7 @@ nobody (Some uuid) e = absurd (true≢false (sym e))
 
 -- ---- the rules
 
-module _ (ops : List (ℕ × Op)) (deletes : List (ℕ × Deletion)) (completed : List ℕ) (seats : List Slot) (next : ℕ) (restores : List (ℕ × RestorePlan)) (p : Plan) (view : plan_with ops deletes completed seats next restores ≡ p) (h : IsProgress ops deletes next restores)
+module _ (ops : List (ℕ × Op)) (deletes : List (ℕ × Deletion)) (completed : List ℕ) (seats : TicketMaps) (next : ℕ) (restores : List (ℕ × RestorePlan)) (p : Plan) (view : plan_with ops deletes completed seats next restores ≡ p) (h : IsProgress ops deletes next restores)
     (w : World) (is : IsPlanOf w p) where
   lists : IsListed ops deletes p
   lists = listed ops deletes completed seats next restores p h view
@@ -227,9 +229,9 @@ neither None (Some d) e = absurd (true≢false (sym e))
 neither (Some d) b e = absurd (true≢false (sym e))
 
 one_of : (a b : Option ℕ) (n : ℕ) → (not (is_joined a b) && not (nat_lt n 1000)) ≡ false → a ≡ None → b ≡ None → n < 1000
-one_of None None n e first second = (Decides-ltb n 1000).0 (is_true (nat_lt n 1000) (λ past. true≢false (sym (ap not past) ∙ e)))
-one_of None (Some d) n e first second = absurd (none_some d (sym second))
-one_of (Some d) b n e first second = absurd (none_some d (sym first))
+one_of None None n e first second = (Decides-ltb n 1000).0 (true_from_ne_false (nat_lt n 1000) (λ past. true≢false (sym (ap not past) ∙ e)))
+one_of None (Some d) n e first second = absurd (none-some d (sym second))
+one_of (Some d) b n e first second = absurd (none-some d (sym first))
 
 module _ (w : World) (names : List Bytes) (uuids : List ℕ) (named : uuids ≡ named_uuids w names) (waiting running : Option ℕ) (waits : waiting ≡ waiting_delete w) (runs : running ≡ running_delete w uuids) where
   runs_named : running ≡ running_delete w (named_uuids w names)
@@ -237,7 +239,7 @@ module _ (w : World) (names : List Bytes) (uuids : List ℕ) (named : uuids ≡ 
 
   pub full_refused : MayDelete w names → (not (is_joined waiting running) && not (nat_lt (open_count w) 1000)) ≡ true → IsDeleteRefused w names (refusals.TooMany 1000)
   full_refused may e =
-      let (apart, full) = and_true (not (is_joined waiting running)) (not (nat_lt (open_count w) 1000)) e in
+      let (apart, full) = and_parts (not (is_joined waiting running)) (not (nat_lt (open_count w) 1000)) e in
       let (no_waiting, no_running) = neither waiting running apart in (
         refl,
         may,

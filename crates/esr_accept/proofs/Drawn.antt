@@ -73,7 +73,8 @@ module _ (known : Bytes → Option ℕ) where
       let up : next ≤ next_by (known a.name) next = on (known a.name) next in
       record { a = h.a; there = inr h.there; name_is = h.name_is; id_is = elim h.id_is [ inl k ↦ inl k | inr k ↦ inr (omega (arith, up, k)) ] }
 
-  ids_apart : (first next : ℕ) → AreKnown known first → first ≤ next → (a b : AskedIndex) → a.name ≢ b.name → (o : Option ℕ) → known a.name ≡ o → (q : IndexRef) → (known b.name ≡ Some q.id) ⊎ (next_by o next ≤ q.id) → q.id ≢ (ref_by a o next).id
+  ids_apart : (first next : ℕ) → AreKnown known first → first ≤ next → (a b : AskedIndex) → a.name ≢ b.name → (o : Option ℕ) → known a.name ≡ o → (q : IndexRef) → (known b.name ≡ Some q.id) ⊎ (next_by o next ≤ q.id)
+      → q.id ≢ (ref_by a o next).id
   ids_apart first next h up a b names None k q (inl e) is = let lt : q.id < first = h.below b.name q.id e in absurd (omega (arith, is))
   ids_apart first next h up a b names None k q (inr le) is = absurd (omega (arith, le, is))
   ids_apart first next h up a b names (Some i) k q (inl e) is = absurd (names (h.one_name a.name b.name i k (e ∙ ap Some is)))

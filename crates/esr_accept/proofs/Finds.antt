@@ -5,13 +5,14 @@ use Rattle.esr_model.specs.Values.{Bytes, Has, IndexRef, RootIndex, RootData}
 use Rattle.esr_ops.specs.Inside.{numbers_of, Rise}
 use Rattle.std.specs.FinMap.{FinMap}
 use Rattle.std.proofs.lemmas.Slice.Eq.{bytes_eq-Decides}
+use Rattle.std.proofs.lemmas.Option.{same_Some, none-some}
 use Rattle.esr_model.specs.Uploads.{same_bytes}
 use Rattle.esr_core.specs.World.{Op}
 use Rattle.esr_core.specs.After.{or_else, root_index_id, index_id, open_index_id}
 use Rattle.esr_core.specs.Tracked.{Named}
 use Rattle.esr_accept.specs.Asking.{known_in}
 use Rattle.esr_ops.specs.Entries.{get_from}
-use Rattle.esr_ops.specs.Lists.{same_bytes-is, some_same, none_some}
+use Rattle.esr_ops.specs.Lists.{same_bytes-is}
 use Rattle.esr_ops.specs.Numbers.{entries_from, found_member}
 
 module _ {A : Type 0} where
@@ -42,15 +43,15 @@ module _ {A : Type 0} (f : List A → Option ℕ) (t : A → Bool) (v : A → �
     pub value : v x ≡ i
 
   found_by : (x : A) (xs : List A) (i : ℕ) (b : Bool) → t x ≡ b → cond b (Some (v x)) (f xs) ≡ Some i → (f xs ≡ Some i → Found xs i) → Found (x ∷ xs) i
-  found_by x xs i true h e rest = record { x = x; there = inl refl; hit = h; value = some_same (v x) i e }
+  found_by x xs i true h e rest = record { x = x; there = inl refl; hit = h; value = same_Some (v x) i e }
   found_by x xs i false h e rest = let r = rest e in record { x = r.x; there = inr r.there; hit = r.hit; value = r.value }
 
   pub found : (xs : List A) (i : ℕ) → f xs ≡ Some i → Found xs i
-  found [] i e = absurd (none_some i (sym nil ∙ e))
+  found [] i e = absurd (none-some i (sym nil ∙ e))
   found (x ∷ xs) i e = found_by x xs i (t x) refl (sym (cons x xs) ∙ e) (λ later. found xs i later)
 
   missed_by : (x y : A) (xs : List A) (b : Bool) → t x ≡ b → cond b (Some (v x)) (f xs) ≡ None → (f xs ≡ None → Has xs y → t y ≡ false) → Has (x ∷ xs) y → t y ≡ false
-  missed_by x y xs true h e rest m = absurd (none_some (v x) (sym e))
+  missed_by x y xs true h e rest m = absurd (none-some (v x) (sym e))
   missed_by x y xs false h e rest (inl is) = subst (λ (z : A). t z ≡ false) is h
   missed_by x y xs false h e rest (inr m) = rest e m
 
@@ -66,7 +67,7 @@ either_some (Some y) b x e = inl e
 
 pub neither : {A : Type 0} (a b : Option A) → or_else a b ≡ None → (a ≡ None) × (b ≡ None)
 neither None b e = (refl, e)
-neither (Some a) b e = absurd (none_some a (sym e))
+neither (Some a) b e = absurd (none-some a (sym e))
 
 -- ---- the id of an index name
 
@@ -78,14 +79,15 @@ pub record OpenHas (ops : List (ℕ × Op)) (name : Bytes) (i : ℕ) : Type 0 wh
   pub name_is : r.name ≡ name
   pub id_is : r.id ≡ i
 
-open_by : (e : ℕ × Op) (ops : List (ℕ × Op)) (name : Bytes) (i : ℕ) → (index_id e.1.indices name ≡ Some i) ⊎ (open_index_id ops name ≡ Some i) → (open_index_id ops name ≡ Some i → OpenHas ops name i) → OpenHas (e ∷ ops) name i
+open_by : (e : ℕ × Op) (ops : List (ℕ × Op)) (name : Bytes) (i : ℕ) → (index_id e.1.indices name ≡ Some i) ⊎ (open_index_id ops name ≡ Some i) → (open_index_id ops name ≡ Some i → OpenHas ops name i)
+    → OpenHas (e ∷ ops) name i
 open_by e ops name i (inl h) rest =
     let r = found (λ (rs : List IndexRef). index_id rs name) (λ (x : IndexRef). same_bytes x.name name) (λ (x : IndexRef). x.id) refl (λ x xs. refl) e.1.indices i h in
     record { e = e; there = inl refl; r = r.x; r_there = r.there; name_is = same_true r.x.name name r.hit; id_is = r.value }
 open_by e ops name i (inr h) rest = let r = rest h in record { e = r.e; there = inr r.there; r = r.r; r_there = r.r_there; name_is = r.name_is; id_is = r.id_is }
 
 open_has : (ops : List (ℕ × Op)) (name : Bytes) (i : ℕ) → open_index_id ops name ≡ Some i → OpenHas ops name i
-open_has [] name i e = absurd (none_some i e)
+open_has [] name i e = absurd (none-some i e)
 open_has (p ∷ ops) name i e = open_by p ops name i (either_some (index_id p.1.indices name) (open_index_id ops name) i e) (λ later. open_has ops name i later)
 
 pub record RootHas (root : RootData) (name : Bytes) (i : ℕ) : Type 0 where

@@ -70,7 +70,8 @@ names-kept : (xs ys : List ℕ) (u : ℕ) → names_uuid xs u ≡ true → names
 names-kept xs [] u e = e
 names-kept xs (y ∷ ys) u e = names-kept (with_uuid xs (Some y)) ys u (names-with xs y u e)
 
-after_by : (b : Bool) (xs ys : List ℕ) (y u : ℕ) → eqb y u ≡ b → cond b true (names_uuid ys u) ≡ true → (names_uuid ys u ≡ true → names_uuid (with_uuids (with_uuid xs (Some y)) ys) u ≡ true) → names_uuid (with_uuids (with_uuid xs (Some y)) ys) u ≡ true
+after_by : (b : Bool) (xs ys : List ℕ) (y u : ℕ) → eqb y u ≡ b → cond b true (names_uuid ys u) ≡ true → (names_uuid ys u ≡ true → names_uuid (with_uuids (with_uuid xs (Some y)) ys) u ≡ true)
+    → names_uuid (with_uuids (with_uuid xs (Some y)) ys) u ≡ true
 after_by true xs ys y u is e rest = names-kept (with_uuid xs (Some y)) ys u (subst (λ (z : ℕ). names_uuid (with_uuid xs (Some y)) z ≡ true) (eqb_is y u is) (names-own xs y))
 after_by false xs ys y u is e rest = rest e
 

@@ -7,6 +7,8 @@ use Rattle.std.specs.List.{AllByRecursion}
 use Rattle.std.specs.FinMap.{FinMap}
 use Rattle.std.specs.FinMap as fin
 use Rattle.std.proofs.lemmas.List.{map-append}
+use Rattle.std.proofs.lemmas.Option.{same_Some}
+use Rattle.esr_model.specs.Lists.{Has-map}
 use Rattle.esr_names.specs.declared.ids.Id.{Id}
 use Rattle.esr_names.specs.declared.index_ref.IndexRef.{IndexRef as CodeRef}
 use Rattle.esr_model.specs.Values.{Bytes, Has, IndexRef, RootSnap, RootData}
@@ -17,27 +19,27 @@ use Rattle.esr_core.specs.World.{World, Op, Deletion, Pending, Restoring}
 use Rattle.esr_core.specs.Restores.{unread, restore_of, restore_opened}
 use Rattle.esr_core.specs.Allowed.{IsListed, IsSpared, IsBeingDeleted}
 use Rattle.esr_formats.specs.Refs.{ref_of_code, AreApart}
-use Rattle.esr_ops.specs.declared.unit.Slot.{Slot}
 use Rattle.esr_ops.specs.declared.shard.ShardState.TheVariants as states
 use Rattle.esr_ops.specs.declared.shard.OpenShard.{OpenShard}
-use Rattle.esr_ops.specs.Plan.{Plan, RestorePlan, read_work, restore_plan, IsPlanOf}
+use Rattle.esr_ops.specs.Plan.{Plan, RestorePlan, read_work, restore_plan, IsPlanOf, TicketMaps}
 use Rattle.esr_ops.specs.Shards.{name_or_none, count_or_none}
 use Rattle.esr_ops.specs.Restores.{work_of_read, restore_with, LiesIn, IsOpenRestore}
 use Rattle.esr_ops.specs.Inside.{numbers_of, Rise, IsProgress, plan_with}
 use Rattle.esr_accept.specs.Asking.{snap_uuid, deleting, shards_from, shards_of, restore_begun}
 use Rattle.esr_progress.specs.Changes.{put_plan}
 use Rattle.esr_ops.specs.Entries.{get_from, find-member}
-use Rattle.esr_ops.specs.Lists.{some_same, Has-map, all_member}
+use Rattle.esr_ops.specs.Lists.{all_member}
 use Rattle.esr_ops.specs.Numbers.{found_member}
 use Rattle.esr_progress.specs.Plans.{is_there_by, restores_put, restores_put_count, restores_left, restores_left_count, any_waits-works}
 use Rattle.esr_accept.proofs.Begun.{all_of}
 use Rattle.esr_accept.proofs.Finds.{len_from, found, missed, same_true, same_false}
 
 -- none of a lower number names it
-first_by : (x : ℕ × Deletion) (deletes : List (ℕ × Deletion)) → Rise (numbers_of (x ∷ deletes)) → (uuid d : ℕ) (y : ℕ × Deletion) → y.0 < d → (b : Bool) → names_uuid x.1.uuids uuid ≡ b → cond b (Some x.0) (deleting deletes uuid) ≡ Some d
+first_by : (x : ℕ × Deletion) (deletes : List (ℕ × Deletion)) → Rise (numbers_of (x ∷ deletes)) → (uuid d : ℕ) (y : ℕ × Deletion) → y.0 < d → (b : Bool) → names_uuid x.1.uuids uuid ≡ b
+    → cond b (Some x.0) (deleting deletes uuid) ≡ Some d
     → (deleting deletes uuid ≡ Some d → Has deletes y → names_uuid y.1.uuids uuid ≡ false) → Has (x ∷ deletes) y → names_uuid y.1.uuids uuid ≡ false
-first_by x deletes r uuid d y lt true t is rest (inl same) = absurd (omega (arith, some_same x.0 d is, ap (λ (z : ℕ × Deletion). z.0) same))
-first_by x deletes r uuid d y lt true t is rest (inr later) = let above : x.0 < y.0 = r.0 y.0 (Has-map (λ (z : ℕ × Deletion). z.0) deletes y later) in absurd (omega (arith, some_same x.0 d is))
+first_by x deletes r uuid d y lt true t is rest (inl same) = absurd (omega (arith, same_Some x.0 d is, ap (λ (z : ℕ × Deletion). z.0) same))
+first_by x deletes r uuid d y lt true t is rest (inr later) = let above : x.0 < y.0 = r.0 y.0 (Has-map (λ (z : ℕ × Deletion). z.0) deletes y later) in absurd (omega (arith, same_Some x.0 d is))
 first_by x deletes r uuid d y lt false t is rest (inl same) = ap (λ (z : ℕ × Deletion). names_uuid z.1.uuids uuid) (sym same) ∙ t
 first_by x deletes r uuid d y lt false t is rest (inr later) = rest is later
 
@@ -45,7 +47,7 @@ first_deleting : (deletes : List (ℕ × Deletion)) → Rise (numbers_of deletes
 first_deleting [] r uuid d e y m lt = absurd m
 first_deleting (x ∷ deletes) r uuid d e y m lt = first_by x deletes r uuid d y lt (names_uuid x.1.uuids uuid) refl e (λ is later. first_deleting deletes r.1 uuid d is y later lt) m
 
-module _ (ops : List (ℕ × Op)) (deletes : List (ℕ × Deletion)) (completed : List ℕ) (seats : List Slot) (next : ℕ) (restores : List (ℕ × RestorePlan)) (p : Plan) (view : plan_with ops deletes completed seats next restores ≡ p)
+module _ (ops : List (ℕ × Op)) (deletes : List (ℕ × Deletion)) (completed : List ℕ) (seats : TicketMaps) (next : ℕ) (restores : List (ℕ × RestorePlan)) (p : Plan) (view : plan_with ops deletes completed seats next restores ≡ p)
     (h : IsProgress ops deletes next restores) (w : World) (is : IsPlanOf w p) where
   deletes_in : w.deletes ≡ fin.from_entries deletes
   deletes_in = sym is.deletes ∙ ap (λ (q : Plan). q.deletes) (sym view)

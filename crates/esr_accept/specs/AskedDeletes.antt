@@ -1,15 +1,14 @@
 -- What asking for a delete looks up over lists, and what it makes of them.
 use Rattle.std.specs.Prelude.{ℕ, Bool, false, not, is_some, ◌&&◌, ◌||◌, ◌==◌, List, [], ◌∷◌, Option, Some, None, if◌then◌else◌}
-use Rattle.std.specs.List.{list_any, filter}
+use Rattle.std.specs.List.{filter}
 use Rattle.esr_model.specs.Values.{Bytes, RootSnap, RootData}
 use Rattle.esr_model.specs.Shelf.{names_uuid}
 use Rattle.esr_core.specs.World.{Op, Deletion}
 use Rattle.esr_core.specs.Deletes.{with_uuid, is_listed_uuid, name_the_same}
 use Rattle.esr_ops.specs.declared.refusal.Refusal.{Refusal}
 use Rattle.esr_ops.specs.declared.refusal.Refusal.TheVariants as refusals
-use Rattle.esr_ops.specs.declared.unit.Slot.{Slot}
-use Rattle.esr_ops.specs.Plan.{RestorePlan}
-use Rattle.esr_ops.specs.Seats.{seat_in, holds, has_op, swaps_op}
+use Rattle.esr_ops.specs.Plan.{RestorePlan, TicketMaps}
+use Rattle.esr_ops.specs.Seats.{any_seat, has_op, swaps_op}
 use Rattle.esr_accept.specs.Asking.{name_user}
 use Rattle.esr_ops.specs.Deletes.{grown}
 
@@ -52,19 +51,19 @@ rule_on None None None None = None
 -- ---- the delete that it goes into
 
 -- a ticket of the term that is out has the op
-abbrev pub is_taken : List Slot → ℕ → ℕ → Bool
-is_taken seats term o = list_any (λ s. holds (has_op term o) (seat_in s)) seats
+abbrev pub is_taken : TicketMaps → ℕ → ℕ → Bool
+is_taken seats term o = any_seat (has_op term o) seats
 
 -- a swap of the term that hasn't settled has the op
-abbrev pub is_swapped : List Slot → ℕ → ℕ → Bool
-is_swapped seats term o = list_any (λ s. holds (swaps_op term o) (seat_in s)) seats
+abbrev pub is_swapped : TicketMaps → ℕ → ℕ → Bool
+is_swapped seats term o = any_seat (swaps_op term o) seats
 
 -- the delete hasn't failed, and no ticket of the term has it
-abbrev pub waits_in : List Slot → ℕ → ℕ × Deletion → Bool
+abbrev pub waits_in : TicketMaps → ℕ → ℕ × Deletion → Bool
 waits_in seats term e = not e.1.failed && not (is_taken seats term e.0)
 
 -- it runs, and those of its snapshots that are listed are just these
-abbrev pub runs_in : List RootSnap → List Slot → ℕ → List ℕ → ℕ × Deletion → Bool
+abbrev pub runs_in : List RootSnap → TicketMaps → ℕ → List ℕ → ℕ × Deletion → Bool
 runs_in snaps seats term uuids e = (not e.1.failed && is_taken seats term e.0) && name_the_same (filter (is_listed_uuid snaps) e.1.uuids) uuids
 
 -- an open delete takes it in
@@ -77,8 +76,8 @@ growing uuids number e = if e.0 == number then (e.0, grown uuids e.1) else e
 -- ---- the ops that it aborts
 
 -- the op makes one of these snapshots, no delete has aborted it before, and its finalization isn't out
-abbrev pub aborts : List Slot → ℕ → List ℕ → ℕ × Op → Bool
+abbrev pub aborts : TicketMaps → ℕ → List ℕ → ℕ × Op → Bool
 aborts seats term uuids e = (names_uuid uuids e.1.uuid && not (is_some e.1.aborted)) && not (is_swapped seats term e.0)
 
-abbrev pub aborted_by : List Slot → ℕ → List ℕ → ℕ → ℕ × Op → ℕ × Op
+abbrev pub aborted_by : TicketMaps → ℕ → List ℕ → ℕ → ℕ × Op → ℕ × Op
 aborted_by seats term uuids by e = if aborts seats term uuids e then (e.0, record e.1 { aborted = Some by }) else e

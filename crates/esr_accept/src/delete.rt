@@ -15,10 +15,8 @@ ghost use Rattle.esr_accept.specs.Accepting.{IsRuledOn, AcceptingDelete};
 
 use crate::snapshot::{LIMIT, is_full, name_user, open_cleanup};
 use esr_names::{Id, Ids, SnapName, SnapNames};
-use esr_ops::{
-    OpenDelete, OpenOp, OpenRestore, Refusal, Slot, names, op_is_swapped, op_is_taken, push_new,
-};
-use esr_progress::{Progress, copy_deletes};
+use esr_ops::{OpenDelete, OpenOp, OpenRestore, Refusal, names, push_new};
+use esr_progress::{Progress, Tickets, copy_deletes};
 use esr_root::{RootData, RootSnap};
 use std::alloc::{AllocError, Global};
 
@@ -88,7 +86,7 @@ fn waiting_delete(progress: &Progress, term: u64) -> Option<u64>
     ensures { (w : World) → IsPlanOf w progress.now → w.term ≡ term → result ≡ waiting_delete w }
 {
     let list = progress.lists();
-    waiting(list.deletes, list.seats, term)
+    waiting(list.deletes, list.tickets, term)
 }
 
 /// The running delete of just these snapshots.
@@ -99,7 +97,7 @@ fn running_delete(progress: &Progress, root: &RootData, term: u64, uuids: &Ids) 
     running(
         snaps_of(root),
         list.deletes,
-        list.seats,
+        list.tickets,
         term,
         uuids.as_slice(),
     )
@@ -151,7 +149,7 @@ fn merged(
         → is_some (fin.get w.deletes number) ≡ true → IsPlanOf (delete_merged w names number (fin.get w.deletes number)) p) }
 {
     let list = progress.lists();
-    let ops = aborted_ops(alloc, list.ops, list.seats, term, uuids, number)?;
+    let ops = aborted_ops(alloc, list.ops, list.tickets, term, uuids, number)?;
     let deletes = grown_deletes(alloc, list.deletes, number, uuids)?;
     progress.with_lists(alloc, ops, deletes, list.next_op)
 }
@@ -171,7 +169,7 @@ fn with_delete(
     let ops = aborted_ops(
         alloc,
         list.ops,
-        list.seats,
+        list.tickets,
         term,
         uuids.as_slice(),
         list.next_op,
@@ -294,11 +292,11 @@ fn snaps_of(root: &RootData) -> &[RootSnap]
 }
 
 /// The number of the first delete that waits.
-fn waiting(deletes: &[OpenDelete], seats: &[Slot], term: u64) -> Option<u64>
-    ensures { result ≡ first_delete (waits_in seats.now term) deletes.now }
+fn waiting(deletes: &[OpenDelete], tickets: &Tickets, term: u64) -> Option<u64>
+    ensures { result ≡ first_delete (waits_in tickets.now term) deletes.now }
 {
     for delete in deletes {
-        if waits(seats, term, delete) {
+        if waits(tickets, term, delete) {
             return Some(delete.number());
         }
     }
@@ -306,24 +304,24 @@ fn waiting(deletes: &[OpenDelete], seats: &[Slot], term: u64) -> Option<u64>
 }
 
 /// Whether a delete waits: it hasn't failed, and no ticket of the term has it.
-fn waits(seats: &[Slot], term: u64, delete: &OpenDelete) -> bool
-    ensures { result ≡ waits_in seats.now term delete.now }
+fn waits(tickets: &Tickets, term: u64, delete: &OpenDelete) -> bool
+    ensures { result ≡ waits_in tickets.now term delete.now }
 {
-    !delete.has_failed() && !op_is_taken(seats, term, delete.number())
+    !delete.has_failed() && !tickets.op_is_taken(term, delete.number())
 }
 
 /// The number of the first delete that runs, and of whose snapshots just these are listed.
 fn running(
     snaps: &[RootSnap],
     deletes: &[OpenDelete],
-    seats: &[Slot],
+    tickets: &Tickets,
     term: u64,
     uuids: &[Id],
 ) -> Option<u64>
-    ensures { result ≡ first_delete (runs_in (map root_snap_of snaps.now) seats.now term (map number_of uuids.now)) deletes.now }
+    ensures { result ≡ first_delete (runs_in (map root_snap_of snaps.now) tickets.now term (map number_of uuids.now)) deletes.now }
 {
     for delete in deletes {
-        if runs_for(snaps, seats, term, uuids, delete) {
+        if runs_for(snaps, tickets, term, uuids, delete) {
             return Some(delete.number());
         }
     }
@@ -333,15 +331,15 @@ fn running(
 /// Whether a delete runs, and of its snapshots just these are listed.
 fn runs_for(
     snaps: &[RootSnap],
-    seats: &[Slot],
+    tickets: &Tickets,
     term: u64,
     uuids: &[Id],
     delete: &OpenDelete,
 ) -> bool
-    ensures { result ≡ runs_in (map root_snap_of snaps.now) seats.now term (map number_of uuids.now) delete.now }
+    ensures { result ≡ runs_in (map root_snap_of snaps.now) tickets.now term (map number_of uuids.now) delete.now }
 {
     !delete.has_failed()
-        && op_is_taken(seats, term, delete.number())
+        && tickets.op_is_taken(term, delete.number())
         && delete.lists_just(snaps, uuids)
 }
 
@@ -367,16 +365,16 @@ fn number_by(next: u64, waiting: Option<u64>, running: Option<u64>) -> u64
 fn aborted_ops(
     alloc: Global,
     ops: &[OpenOp],
-    seats: &[Slot],
+    tickets: &Tickets,
     term: u64,
     uuids: &[Id],
     by: u64,
 ) -> Result<Vec<OpenOp>, AllocError>
-    ensures { IfOk result (λ v. v.items ≡ map (aborted_by seats.now term (map number_of uuids.now) by) ops.now) }
+    ensures { IfOk result (λ v. v.items ≡ map (aborted_by tickets.now term (map number_of uuids.now) by) ops.now) }
 {
     let mut copy = Vec::with_capacity(alloc, ops.len())?;
     for op in ops {
-        copy.push(aborted(alloc, op, seats, term, uuids, by)?)?;
+        copy.push(aborted(alloc, op, tickets, term, uuids, by)?)?;
     }
     Ok(copy)
 }
@@ -385,24 +383,24 @@ fn aborted_ops(
 fn aborted(
     alloc: Global,
     op: &OpenOp,
-    seats: &[Slot],
+    tickets: &Tickets,
     term: u64,
     uuids: &[Id],
     by: u64,
 ) -> Result<OpenOp, AllocError>
-    ensures { IfOk result (λ o. o ≡ aborted_by seats.now term (map number_of uuids.now) by op.now) }
+    ensures { IfOk result (λ o. o ≡ aborted_by tickets.now term (map number_of uuids.now) by op.now) }
 {
-    if aborts(op, seats, term, uuids) {
+    if aborts(op, tickets, term, uuids) {
         return op.aborted_by(alloc, by);
     }
     op.try_clone(alloc)
 }
 
 /// Whether an op makes one of these snapshots, no delete has aborted it before, and its finalization isn't out.
-fn aborts(op: &OpenOp, seats: &[Slot], term: u64, uuids: &[Id]) -> bool
-    ensures { result ≡ aborts seats.now term (map number_of uuids.now) op.now }
+fn aborts(op: &OpenOp, tickets: &Tickets, term: u64, uuids: &[Id]) -> bool
+    ensures { result ≡ aborts tickets.now term (map number_of uuids.now) op.now }
 {
-    names(uuids, op.uuid()) && !op.is_aborted() && !op_is_swapped(seats, term, op.number())
+    names(uuids, op.uuid()) && !op.is_aborted() && !tickets.op_is_swapped(term, op.number())
 }
 
 /// A copy of the deletes, in which the one of a number names these snapshots too.

@@ -1,4 +1,2 @@
-pub mod Texts
-pub mod Members
 pub mod Served
 pub mod Loops

@@ -1,7 +1,6 @@
 -- What holds of a list as far as a loop has come.
-use Rattle.std.proofs.Common.{◌≡◌, ◌⊎◌, ℕ, zero, suc, ◌+◌, ◌<◌, ◌≤◌, Bool, true, false, List, [], ◌∷◌, ◌++◌, map, length, take, get_or, refl, sym, ap, ◌∙◌, subst, inl, inr, arith}
-use Rattle.std.proofs.lemmas.List.{map_more, take_all, get_or_default}
-use Rattle.esr_model.specs.Values.{Has}
+use Rattle.std.proofs.Common.{◌≡◌, ℕ, zero, suc, ◌+◌, ◌<◌, Bool, true, false, List, [], ◌∷◌, ◌++◌, map, length, take, get_or, refl, sym, ap, subst, arith}
+use Rattle.esr_model.specs.Loops.{next}
 use Rattle.esr_model.specs.Image.{AllPairs}
 
 -- ---- answers that are exact
@@ -16,50 +15,6 @@ fails none = (λ e. absurd (cc), λ p. absurd (none p))
 pub exact_as : {P Q : Type 0} (b : Bool) → (b ≡ true → P) × (P → b ≡ true) → (P → Q) → (Q → P) → (b ≡ true → Q) × (Q → b ≡ true)
 exact_as b is to back = (λ e. to (is.0 e), λ q. is.1 (back q))
 
-pub not_so : {P : Type 0} (b : Bool) → (b ≡ true → P) × (P → b ≡ true) → b ≡ false → P → ⊥
-not_so b is no_test p = let yes_test = is.1 p in cc
-
-pub so : {P : Type 0} (b : Bool) → (b ≡ true → P) × (P → b ≡ true) → b ≡ true → P
-so b is test = is.0 test
-
--- ---- members
-
-pub has_push : {A : Type 0} (xs : List A) (y z : A) → Has (xs ++ y ∷ []) z → Has xs z ⊎ (y ≡ z)
-has_push [] y z (inl last) = inr last
-has_push [] y z (inr none) = absurd none
-has_push (x ∷ xs) y z (inl here) = inl (inl here)
-has_push (x ∷ xs) y z (inr later) = elim (has_push xs y z later) [ inl before ↦ inl (inr before) | inr last ↦ inr last ]
-
--- ---- one more
-
-pub next : {A B : Type 0} (f : A → B) (xs : List A) (i : ℕ) (x : A) → i < length xs → x ≡ get_or xs i x → map f (take (i + 1) xs) ≡ map f (take i xs) ++ f x ∷ []
-next {A} {B} f xs i x less is = map_more f xs i x less ∙ ap (λ (y : A). map f (take i xs) ++ f y ∷ []) (sym is)
-
-pub all : {A B : Type 0} (f : A → B) (xs : List A) (i : ℕ) → length xs ≤ i → map f (take i xs) ≡ map f xs
-all f xs i past = ap (map f) (take_all i xs past)
-
--- the one at a place is of the list
-pub has_at : {A B : Type 0} (f : A → B) (xs : List A) (i : ℕ) (x : A) → i < length xs → x ≡ get_or xs i x → Has (map f xs) (f x)
-has_at f [] i x less is = absurd (omega arith)
-has_at f (y ∷ ys) zero x less is = inl (ap f (sym is))
-has_at f (y ∷ ys) (suc i) x less is = inr (has_at f ys i x (omega arith) is)
-
--- an item that is read at a place of the list, at any default
-pub item_is : {A : Type 0} (xs : List A) (i : ℕ) (d : A) → i < length xs → get_or xs i d ≡ get_or xs i (get_or xs i d)
-item_is xs i d less = get_or_default xs i d (get_or xs i d) less
-
--- what holds of each so far holds of each with the next
-pub every_more : {A B : Type 0} (P : B → Type 0) (f : A → B) (xs : List A) (i : ℕ) (x : A) → i < length xs → x ≡ get_or xs i x
-    → ((y : B) → Has (map f (take i xs)) y → P y) → P (f x) → (y : B) → Has (map f (take (i + 1) xs)) y → P y
-every_more {A} {B} P f xs i x less is each one y has =
-    elim (has_push (map f (take i xs)) (f x) y (subst (λ (zs : List B). Has zs y) (next f xs i x less is) has)) [
-      | inl before ↦ each y before
-      | inr last ↦ subst P last one
-    ]
-
-pub every_all : {A B : Type 0} (P : B → Type 0) (f : A → B) (xs : List A) (i : ℕ) → length xs ≤ i → ((y : B) → Has (map f (take i xs)) y → P y) → (y : B) → Has (map f xs) y → P y
-every_all {A} {B} P f xs i past each y has = each y (subst (λ (zs : List B). Has zs y) (sym (all f xs i past)) has)
-
 -- ---- pair by pair
 
 pub pairs_length : {A B : Type 0} (R : A → B → Type 0) (xs : List A) (ys : List B) → AllPairs R xs ys → length xs ≡ length ys
@@ -69,7 +24,8 @@ pairs_length R (x ∷ xs) [] pairs = absurd pairs
 pairs_length R (x ∷ xs) (y ∷ ys) pairs = ap suc (pairs_length R xs ys pairs.1)
 
 -- the pair at a place of two lists
-pub pairs_both : {A B C D : Type 0} (R : C → D → Type 0) (g : A → C) (h : B → D) (xs : List A) (ys : List B) (k : ℕ) (x : A) (y : B) → k < length xs → x ≡ get_or xs k x → y ≡ get_or ys k y → AllPairs R (map g xs) (map h ys) → R (g x) (h y)
+pub pairs_both : {A B C D : Type 0} (R : C → D → Type 0) (g : A → C) (h : B → D) (xs : List A) (ys : List B) (k : ℕ) (x : A) (y : B) → k < length xs → x ≡ get_or xs k x → y ≡ get_or ys k y → AllPairs R (map g xs) (map h ys)
+    → R (g x) (h y)
 pairs_both R g h [] ys k x y less x_is y_is pairs = absurd (omega arith)
 pairs_both R g h (a ∷ xs) [] k x y less x_is y_is pairs = absurd pairs
 pairs_both {A} {B} {C} {D} R g h (a ∷ xs) (b ∷ ys) zero x y less x_is y_is pairs = subst (λ (z : A). R (g z) (h y)) (sym x_is) (subst (λ (z : B). R (g a) (h z)) (sym y_is) pairs.0)

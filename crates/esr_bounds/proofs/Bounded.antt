@@ -5,6 +5,7 @@ use Rattle.std.proofs.lemmas.Bool.Decides.{eqb_tells}
 use Rattle.std.proofs.lemmas.List.{length-append, length-map}
 use Rattle.std.proofs.Math.Nat.{mul-le-mul_right, zero-mul, suc-mul}
 use Rattle.std.specs.FinMap as fin
+use Rattle.std.proofs.lemmas.Option.{same_Some, none-some}
 use Rattle.esr_model.specs.Names.{BlobName, IndexMeta}
 use Rattle.esr_model.specs.Values.{Bytes, Has, IndexRef, SnapInfo, ShardResult, Formats}
 use Rattle.esr_model.specs.Shelf.{Command}
@@ -22,7 +23,6 @@ use Rattle.esr_bounds.specs.Keys.{Key, BeginKey, CommitKey, FetchKey, key, keys,
 use Rattle.esr_bounds.specs.Most.{names_of, base_names, source_names, fetch_names, single_keys, keys_of, IsDelete, MayDo, ids_by, parts_by, names_under, shard_names, swap_names, root_names, most_of_shard, most_of_final, most_of_drop}
 use Rattle.esr_bounds.specs.Laws.{StepLaws}
 use Rattle.esr_bounds.proofs.Few.{few_once}
-use Rattle.esr_core.specs.NumberMaps.{some_same, none_some}
 use Rattle.esr_bounds.proofs.Names.{Grown, keys_grown}
 use Rattle.esr_bounds.proofs.OwnSteps.{DrewFew, own_step}
 use Rattle.esr_bounds.proofs.Once.{Kept, counted, never_anew, blocked_unheard, looked_at, step_kept, untouched_kept, heard_kept}
@@ -75,7 +75,7 @@ module _ (f : Formats) (size : ℕ) (known : AllKnown f) (laws : StepLaws f size
     own_at : (t v : Ticket) → 1 ≤ m.entry.who → fin.get w.tickets m.entry.who ≡ Some t → IsUnits m.entry.step → fin.get (after f w m).tickets m.entry.who ≡ Some v → BoundedAt f size (after f w m) m.entry.who v
     own_at t v some there unit now =
         let own = own_step f size known w m.entry.who t there m.entry.step m.entry.reply m.image unit (looked_at f size laws w m a heard).1 in
-        let is : own.0.v ≡ v = some_same own.0.v v (sym own.0.at ∙ now) in
+        let is : own.0.v ≡ v = same_Some own.0.v v (sym own.0.at ∙ now) in
         let grown : Grown t v = subst (Grown t) is own.0.grown in (
           subst (DrewFew f) is (own.0.few (bounded.few m.entry.who t some there)),
           λ x h. may_on f size t v grown x
@@ -118,11 +118,11 @@ pub untouched_bounded : (f : Formats) (size : ℕ) (w : World) → IsUntouched w
 untouched_bounded f size w h = record { few = λ k t some there. absurd (no_ticket k t there); listed = λ k t x some there has. absurd (no_ticket k t there) }
   where
     no_ticket : (k : ℕ) (t : Ticket) → fin.get w.tickets k ≡ Some t → ⊥
-    no_ticket k t there = none_some t (sym (fin.get-empty nat_cmp k) ∙ ap (λ m. fin.get m k) (sym h.tickets) ∙ there)
+    no_ticket k t there = none-some t (sym (fin.get-empty nat_cmp k) ∙ ap (λ m. fin.get m k) (sym h.tickets) ∙ there)
 
 -- ---- how many steps it has made
 
-length_keys : (es : List Entry) → length (keys es) ≡ length es
+pub length_keys : (es : List Entry) → length (keys es) ≡ length es
 length_keys [] = refl
 length_keys (e ∷ es) = ap suc (length_keys es)
 
@@ -218,7 +218,7 @@ length_names f size t =
     length-append (shard_names f size t t.work t.first t.drawn) (swap_names (swap f t) ++ root_names t.raised) ∙ ap (λ n. length (shard_names f size t t.work t.first t.drawn) + n) (length-append (swap_names (swap f t)) (root_names t.raised))
 
 -- those of its work, and a root
-names_by : (f : Formats) (size : ℕ) (t : Ticket) (n : ℕ) → length (shard_names f size t t.work t.first t.drawn) + length (swap_names (swap f t)) ≤ n → length (names_of f size t) ≤ 1 + n
+pub names_by : (f : Formats) (size : ℕ) (t : Ticket) (n : ℕ) → length (shard_names f size t t.work t.first t.drawn) + length (swap_names (swap f t)) ≤ n → length (names_of f size t) ≤ 1 + n
 names_by f size t n few =
     parts_of_names (length (names_of f size t)) (length (shard_names f size t t.work t.first t.drawn)) (length (swap_names (swap f t))) (length (root_names t.raised)) n (length_names f size t) (few_roots t.raised) few
 
@@ -272,21 +272,21 @@ module _ (f : Formats) (size : ℕ) (w : World) (kept : Kept w) (bounded : Bound
 -- ---- over a history
 
 module _ (f : Formats) (size : ℕ) (known : AllKnown f) (laws : StepLaws f size) (w : World) (log : List Moment) (h : IsHeard f size w log) (k : ℕ) (t : Ticket) (some : 1 ≤ k) (there : fin.get (world_from f w log).tickets k ≡ Some t) where
-  bounded : Bounded f size (world_from f w log)
+  pub bounded : Bounded f size (world_from f w log)
   bounded = log_bounded f size known laws w log h.tracked h.readers (untouched_kept w h.untouched) (untouched_bounded f size w h.untouched) h.legal h.heard
 
   -- none of its entries was there before
-  all_made : (n : ℕ) → length (entries_by (world_from f w log).entries k) ≤ n → made_by log k ≤ n
-  all_made n few =
+  pub made_within : (n : ℕ) → length (entries_by (world_from f w log).entries k) ≤ n → made_by log k ≤ n
+  made_within n few =
       let whole : length (entries_by (world_from f w log).entries k) ≡ made_by log k + length (entries_by w.entries k) = made_length f size laws w log k some h.heard in
       let most : length (entries_by (world_from f w log).entries k) ≤ n = few in
       omega (arith, whole, most)
 
   pub shard_few : (index number : ℕ) → t.work ≡ Shard index number → made_by log k ≤ most_of_shard f size t.place t.name number t.source
-  shard_few index number is = all_made (most_of_shard f size t.place t.name number t.source) (shard_made f size (world_from f w log) (heard_kept f size laws w log h) bounded k t some there index number is)
+  shard_few index number is = made_within (most_of_shard f size t.place t.name number t.source) (shard_made f size (world_from f w log) (heard_kept f size laws w log h) bounded k t some there index number is)
 
   pub final_few : (info : SnapInfo) (results : List ShardResult) (made : Command) → t.work ≡ Finalize info results made → made_by log k ≤ most_of_final (length info.indices)
-  final_few info results made is = all_made (most_of_final (length info.indices)) (final_made f size (world_from f w log) (heard_kept f size laws w log h) bounded k t some there info results made is)
+  final_few info results made is = made_within (most_of_final (length info.indices)) (final_made f size (world_from f w log) (heard_kept f size laws w log h) bounded k t some there info results made is)
 
   pub drop_few : t.work ≡ Drop → made_by log k ≤ most_of_drop
-  drop_few is = all_made most_of_drop (drop_made f size (world_from f w log) (heard_kept f size laws w log h) bounded k t some there is)
+  drop_few is = made_within most_of_drop (drop_made f size (world_from f w log) (heard_kept f size laws w log h) bounded k t some there is)

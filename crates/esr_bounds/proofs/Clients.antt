@@ -1,6 +1,7 @@
 -- Who 0 ends as many checks and verifications at most as it begins.
 use Rattle.std.proofs.Common.{◌≡◌, ◌≢◌, ℕ, zero, suc, ◌+◌, ◌≤◌, List, [], ◌∷◌, Bool, true, false, Option, Some, None, refl, sym, ap, ◌∙◌, subst, inl, inr, ⊎_elim, arith}
 use Rattle.std.specs.Prelude.{if◌then◌else◌}
+use Rattle.std.proofs.lemmas.Option.{none-some}
 use Rattle.esr_model.specs.Names.{BlobName}
 use Rattle.esr_model.specs.Values.{Bytes, Formats}
 use Rattle.esr_model.specs.Image.{Image}
@@ -15,7 +16,6 @@ use Rattle.esr_core.specs.Allowed.{ReadAllows, VerifyAllows, Allows, Allowed}
 use Rattle.esr_core.specs.History.{IsLegal}
 use Rattle.esr_bounds.specs.Keys.{IsUnheard, AreHeard}
 use Rattle.esr_bounds.specs.Clients.{draws_by, looks_by, ends_by, draws_in, looks_in, ends_in}
-use Rattle.esr_core.specs.NumberMaps.{none_some}
 use Rattle.esr_bounds.specs.Laws.{StepLaws}
 use Rattle.esr_bounds.proofs.Once.{looked_at}
 
@@ -46,7 +46,7 @@ open_looked false drawn spent is = absurd cc
 open_drawn : (looked : Bool) (drawn : Option ℕ) (spent : Bool) (id : ℕ) → drawn ≡ Some id → open_by looked drawn spent ≡ 1
 open_drawn true drawn spent id is = refl
 open_drawn false (Some x) spent id is = refl
-open_drawn false None spent id is = absurd (none_some id is)
+open_drawn false None spent id is = absurd (none-some id is)
 
 open_spent : (looked : Bool) (drawn : Option ℕ) (spent : Bool) → spent ≡ true → open_by looked drawn spent ≡ 1
 open_spent true drawn spent is = refl
@@ -57,7 +57,7 @@ open_spent false None false is = absurd cc
 -- ---- a step
 
 -- steps leave what who 0 has done; what it does itself is noted besides
-same_caller : (f : Formats) (w : World) (who : ℕ) (step : Step) (new : World) → StepChange f w who step new → new.caller ≡ w.caller
+pub same_caller : (f : Formats) (w : World) (who : ℕ) (step : Step) (new : World) → StepChange f w who step new → new.caller ≡ w.caller
 same_caller f w who step new NoChange = refl
 same_caller f w who step new (NewOp ask op completed next_id is rises) = refl
 same_caller f w who step new (NewDeletion ask ops x aborts clean) = refl

@@ -4,6 +4,8 @@ use Rattle.std.specs.Prelude.{if◌then◌else◌, ◌==◌, ◌&&◌}
 use Rattle.std.proofs.lemmas.Bool.{eq-eqb}
 use Rattle.std.specs.FinMap.{FinMap}
 use Rattle.std.specs.FinMap as fin
+use Rattle.std.proofs.lemmas.Option.{same_Some, none-some}
+use Rattle.esr_model.specs.Lists.{Has-mapped}
 use Rattle.esr_model.specs.Values.{Has, IndexRef, Formats}
 use Rattle.esr_model.specs.Image.{Image}
 use Rattle.esr_core.specs.World.{World, Op, ShardWork, Pending, Out, RestoreShard, Restoring, Shard, Finalize, Deleting, Drop, Ticket, Swap, info_of, made_of}
@@ -18,8 +20,7 @@ use Rattle.esr_core.specs.Allowed as allowed
 use Rattle.esr_core.specs.Allowed.{GivesShard, Gives, Allows, Blocks, ByFailedSwap, ByDelete, IsBlocked, Allowed}
 use Rattle.esr_core.specs.History.{world_from, IsLegal}
 use Rattle.esr_bounds.specs.Keys.{IsUntouched}
-use Rattle.esr_core.specs.NumberMaps.{some_same, none_some, get_was, get_same, nothing}
-use Rattle.esr_bounds.proofs.Names.{of_map}
+use Rattle.esr_core.specs.Laws.NumberMaps.{nothing, was_in, same_in}
 use Rattle.esr_bounds.proofs.Works.{answered_works}
 
 -- the shard of the op isn't pending, if the op is open
@@ -39,7 +40,7 @@ module _ (f : Formats) (w : World) (tracked : Tracked w) where
 
   -- what is put at a ticket that was there is no new one
   put_none : (who : ℕ) (t u v : Ticket) → fin.get w.tickets who ≡ Some t → fin.get (fin.insert w.tickets who u) w.next_ticket ≡ Some v → ⊥
-  put_none who t u v there now = elim (get_was w.tickets who u w.next_ticket v now) [
+  put_none who t u v there now = elim (was_in w.tickets who u w.next_ticket v now) [
     | inl here ↦ none_next t (ap (fin.get w.tickets) here.0 ∙ there)
     | inr other ↦ none_next v other.1
   ]
@@ -83,16 +84,16 @@ module _ (f : Formats) (size : ℕ) (w : World) (tracked : Tracked w) where
   -- of a shard of this op
   gave_shard : (o index number : ℕ) (source base : Option ℕ) (g : GivesShard w o index number source base) (op : Option Op) (found : Option ShardWork) (v : Ticket) → op ≡ Some g.op → found ≡ Some g.s
       → fin.get (taken_shard w o g.op base found).tickets w.next_ticket ≡ Some v → FreshShard w (taken_shard w o g.op base found).ops v
-  gave_shard o index number source base g op None v is there now = absurd (none_some g.s there)
+  gave_shard o index number source base g op None v is there now = absurd (none-some g.s there)
   gave_shard o index number source base g op (Some s) v is there now =
-      let mine : shard_ticket w o g.op s base ≡ v = some_same (shard_ticket w o g.op s base) v (sym (get_same w.tickets w.next_ticket (shard_ticket w o g.op s base)) ∙ now) in
+      let mine : shard_ticket w o g.op s base ≡ v = same_Some (shard_ticket w o g.op s base) v (sym (same_in w.tickets w.next_ticket (shard_ticket w o g.op s base)) ∙ now) in
       subst (FreshShard w (fin.insert w.ops o (record g.op { shards = map (given w.next_ticket s.ref.id s.number) g.op.shards }))) mine
       (record {
         op = g.op;
         there = g.ready.op_there;
         s = s;
-        s_there = subst (Has g.op.shards) (sym (some_same s g.s there)) g.ready.s_there;
-        pending = ap (λ (x : ShardWork). x.state) (some_same s g.s there) ∙ g.ready.pending;
+        s_there = subst (Has g.op.shards) (sym (same_Some s g.s there)) g.ready.s_there;
+        pending = ap (λ (x : ShardWork). x.state) (same_Some s g.s there) ∙ g.ready.pending;
         work = refl;
         place = refl;
         name = refl;
@@ -132,19 +133,19 @@ module _ (f : Formats) (size : ℕ) (w : World) (tracked : Tracked w) where
     where
       by : (op : Option Op) → fin.get (taken_by f w o (GivenFinalize info results) op).tickets w.next_ticket ≡ Some v → ⊥
       by None now = none_next f w tracked v now
-      by (Some op) now = no_shard (ap (λ (x : Ticket). x.work) (some_same _ v (sym (get_same w.tickets w.next_ticket (final_ticket f w o op results)) ∙ now)) ∙ is)
+      by (Some op) now = no_shard (ap (λ (x : Ticket). x.work) (same_Some _ v (sym (same_in w.tickets w.next_ticket (final_ticket f w o op results)) ∙ now)) ∙ is)
         where
           no_shard : Finalize (info_of op results) results (made_of f w.blobs op) ≡ Shard index number → ⊥
           no_shard e = cc
-  unit_by o GivenDrop g v index number now is = absurd (no_shard (ap (λ (x : Ticket). x.work) (some_same _ v (sym (get_same w.tickets w.next_ticket (plain_ticket w o Drop)) ∙ now)) ∙ is))
+  unit_by o GivenDrop g v index number now is = absurd (no_shard (ap (λ (x : Ticket). x.work) (same_Some _ v (sym (same_in w.tickets w.next_ticket (plain_ticket w o Drop)) ∙ now)) ∙ is))
     where
       no_shard : Drop ≡ Shard index number → ⊥
       no_shard e = cc
-  unit_by o (GivenDelete uuids) g v index number now is = absurd (no_shard (ap (λ (x : Ticket). x.work) (some_same _ v (sym (get_same w.tickets w.next_ticket (plain_ticket w o (Deleting uuids None))) ∙ now)) ∙ is))
+  unit_by o (GivenDelete uuids) g v index number now is = absurd (no_shard (ap (λ (x : Ticket). x.work) (same_Some _ v (sym (same_in w.tickets w.next_ticket (plain_ticket w o (Deleting uuids None))) ∙ now)) ∙ is))
     where
       no_shard : Deleting uuids None ≡ Shard index number → ⊥
       no_shard e = cc
-  unit_by o GivenCleanup g v index number now is = absurd (no_shard (ap (λ (x : Ticket). x.work) (some_same _ v (sym (get_same w.tickets w.next_ticket (cleaning_ticket w o)) ∙ now)) ∙ is))
+  unit_by o GivenCleanup g v index number now is = absurd (no_shard (ap (λ (x : Ticket). x.work) (same_Some _ v (sym (same_in w.tickets w.next_ticket (cleaning_ticket w o)) ∙ now)) ∙ is))
     where
       no_shard : Deleting [] None ≡ Shard index number → ⊥
       no_shard e = cc
@@ -232,8 +233,8 @@ module _ (f : Formats) (size : ℕ) (change : (w : World) (who : ℕ) (step : St
     given_past : (v : Ticket) (index number : ℕ) → FreshShard w (after f w m).ops v → v.work ≡ Shard index number → IsPast (after f w m).ops v.op index number
     given_past v index number fresh is op s there h index_is number_is pending =
         let now : record fresh.op { shards = map (given w.next_ticket fresh.s.ref.id fresh.s.number) fresh.op.shards } ≡ op =
-        some_same _ op (sym (get_same w.ops v.op (record fresh.op { shards = map (given w.next_ticket fresh.s.ref.id fresh.s.number) fresh.op.shards })) ∙ ap (λ (x : FinMap nat_cmp Op). fin.get x v.op) (sym fresh.ops_are) ∙ there) in
-        let r = of_map (given w.next_ticket fresh.s.ref.id fresh.s.number) fresh.op.shards s (subst (λ (x : Op). Has x.shards s) (sym now) h) in
+        same_Some _ op (sym (same_in w.ops v.op (record fresh.op { shards = map (given w.next_ticket fresh.s.ref.id fresh.s.number) fresh.op.shards })) ∙ ap (λ (x : FinMap nat_cmp Op). fin.get x v.op) (sym fresh.ops_are) ∙ there) in
+        let r = Has-mapped (given w.next_ticket fresh.s.ref.id fresh.s.number) fresh.op.shards s (subst (λ (x : Op). Has x.shards s) (sym now) h) in
         let same : Shard fresh.s.ref.id fresh.s.number ≡ Shard index number = sym fresh.work ∙ is in
         out_now w.next_ticket fresh.s.ref.id fresh.s.number r.0 s r.2 (index_is ∙ sym (first_of same)) (number_is ∙ sym (second_of same)) pending
       where

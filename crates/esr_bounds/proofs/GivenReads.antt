@@ -4,6 +4,8 @@ use Rattle.std.specs.Prelude.{if◌then◌else◌, ◌==◌, ◌&&◌}
 use Rattle.std.proofs.lemmas.Bool.{eq-eqb}
 use Rattle.std.specs.FinMap.{FinMap}
 use Rattle.std.specs.FinMap as fin
+use Rattle.std.proofs.lemmas.Option.{same_Some, none-some}
+use Rattle.esr_model.specs.Lists.{Has-mapped}
 use Rattle.esr_model.specs.Values.{Has, IndexRef, Formats}
 use Rattle.esr_model.specs.Image.{Image}
 use Rattle.esr_core.specs.World.{World, Op, ShardWork, Unread, BeingRead, RestoreShard, Restoring, Reader}
@@ -17,8 +19,7 @@ use Rattle.esr_core.specs.Allowed as allowed
 use Rattle.esr_core.specs.Allowed.{Gives, GivesRestore, Allows, Allowed}
 use Rattle.esr_core.specs.History.{world_from, IsLegal}
 use Rattle.esr_bounds.specs.Keys.{IsUntouched}
-use Rattle.esr_core.specs.NumberMaps.{some_same, none_some, get_was, get_same, nothing}
-use Rattle.esr_bounds.proofs.Names.{of_map}
+use Rattle.esr_core.specs.Laws.NumberMaps.{nothing, was_in, same_in}
 use Rattle.esr_bounds.proofs.Works.{answered_works}
 use Rattle.esr_bounds.proofs.Given.{blocked_same}
 
@@ -35,12 +36,12 @@ pub record ReadOnce (w : World) : Type 0 where
 -- ---- the tickets of restores, after a step
 
 -- it was there with the same shard
-record WasReader (w : World) (k : ℕ) (v : Reader) : Type 0 where
-  q : Reader
-  there : fin.get w.readers k ≡ Some q
-  op : v.op ≡ q.op
-  index : v.index ≡ q.index
-  number : v.number ≡ q.number
+pub record WasReader (w : World) (k : ℕ) (v : Reader) : Type 0 where
+  pub q : Reader
+  pub there : fin.get w.readers k ≡ Some q
+  pub op : v.op ≡ q.op
+  pub index : v.index ≡ q.index
+  pub number : v.number ≡ q.number
 
 module _ (f : Formats) (w : World) where
   abbrev Comes : Step → FinMap nat_cmp Reader → Type 0
@@ -50,7 +51,7 @@ module _ (f : Formats) (w : World) where
   same_readers step k v e = inl (record { q = v; there = e; op = refl; index = refl; number = refl })
 
   put_reader : (step : Step) (who : ℕ) (q u : Reader) → fin.get w.readers who ≡ Some q → u.op ≡ q.op → u.index ≡ q.index → u.number ≡ q.number → Comes step (fin.insert w.readers who u)
-  put_reader step who q u there op index number k v e = elim (get_was w.readers who u k v e) [
+  put_reader step who q u there op index number k v e = elim (was_in w.readers who u k v e) [
     | inl here ↦ inl (record {
       q = q;
       there = ap (fin.get w.readers) here.0 ∙ there;
@@ -68,7 +69,7 @@ module _ (f : Formats) (w : World) where
   readers_come who step new (MergedDeletion ask ops d x y aborts there clean failed) = same_readers step
   readers_come who step new (NewRestore ask r) = same_readers step
   readers_come who step new (NewTicket take t is ops same) = same_readers step
-  readers_come who step new (NewReader take o r s there) = λ k v e. elim (get_was w.readers w.next_ticket (reader_of o r s) k v e) [
+  readers_come who step new (NewReader take o r s there) = λ k v e. elim (was_in w.readers w.next_ticket (reader_of o r s) k v e) [
     | inl here ↦ inr (here.0, take)
     | inr other ↦ inl (record { q = v; there = other.1; op = refl; index = refl; number = refl })
   ]
@@ -102,16 +103,16 @@ module _ (f : Formats) (size : ℕ) (w : World) (reads : ReadTracked w) where
 
   gave_read : (o index number uuid : ℕ) (g : GivesRestore w o index number uuid) (found : Option RestoreShard) (v : Reader) → found ≡ Some g.s → fin.get (taken_restore_shard w o g.r found).readers w.next_ticket ≡ Some v
       → FreshRead w (taken_restore_shard w o g.r found).restores v
-  gave_read o index number uuid g None v there now = absurd (none_some g.s there)
+  gave_read o index number uuid g None v there now = absurd (none-some g.s there)
   gave_read o index number uuid g (Some s) v there now =
-      let mine : reader_of o g.r s ≡ v = some_same (reader_of o g.r s) v (sym (get_same w.readers w.next_ticket (reader_of o g.r s)) ∙ now) in
+      let mine : reader_of o g.r s ≡ v = same_Some (reader_of o g.r s) v (sym (same_in w.readers w.next_ticket (reader_of o g.r s)) ∙ now) in
       subst (FreshRead w (fin.insert w.restores o (record g.r { shards = map (handed w.next_ticket s.ref.id s.number) g.r.shards }))) mine
       (record {
         r = g.r;
         there = g.ready.there;
         s = s;
-        s_there = subst (Has g.r.shards) (sym (some_same s g.s there)) g.ready.s_there;
-        unread = ap (λ (x : RestoreShard). x.state) (some_same s g.s there) ∙ g.ready.unread;
+        s_there = subst (Has g.r.shards) (sym (same_Some s g.s there)) g.ready.s_there;
+        unread = ap (λ (x : RestoreShard). x.state) (same_Some s g.s there) ∙ g.ready.unread;
         index = refl;
         number = refl;
         restores_are = refl;
@@ -177,10 +178,10 @@ read_now k index number z s is index_is number_is unread = by ((z.ref.id == inde
 
 module _ (f : Formats) (size : ℕ) (change : (w : World) (who : ℕ) (step : Step) (reply : Reply) (image : Option Image) → StepChange f w who step (answered f w who step reply image)) (frame : (w : World) (m : Moment) → StepFrame w (after f w m) m.entry.who m.entry.step) where
   module _ (w : World) (m : Moment) (reads : ReadTracked w) (a : Allowed f size w m) (h : ReadOnce w) where
-    come : (k : ℕ) (v : Reader) → fin.get (after f w m).readers k ≡ Some v → WasReader w k v ⊎ ((k ≡ w.next_ticket) × (m.entry.step ≡ TakeStep))
+    pub come : (k : ℕ) (v : Reader) → fin.get (after f w m).readers k ≡ Some v → WasReader w k v ⊎ ((k ≡ w.next_ticket) × (m.entry.step ≡ TakeStep))
     come = readers_come f w m.entry.who m.entry.step (answered f w m.entry.who m.entry.step m.entry.reply m.image) (change w m.entry.who m.entry.step m.entry.reply m.image)
 
-    fresh_at : (k : ℕ) (v : Reader) → (k ≡ w.next_ticket) × (m.entry.step ≡ TakeStep) → fin.get (after f w m).readers k ≡ Some v → FreshRead w (after f w m).restores v
+    pub fresh_at : (k : ℕ) (v : Reader) → (k ≡ w.next_ticket) × (m.entry.step ≡ TakeStep) → fin.get (after f w m).readers k ≡ Some v → FreshRead w (after f w m).restores v
     fresh_at k v new there = elim a.answered [
       | inl alive ↦ take_read f size w reads m.entry.who m.entry.step m.entry.reply m.image new.1 alive.1 v now
       | inr dead ↦ absurd (none_read f size w reads v (subst (λ (x : World). fin.get x.readers w.next_ticket ≡ Some v) (blocked_same f size change frame w m dead) now))
@@ -212,8 +213,8 @@ module _ (f : Formats) (size : ℕ) (change : (w : World) (who : ℕ) (step : St
     given_past : (v : Reader) → FreshRead w (after f w m).restores v → IsPastRead (after f w m).restores v.op v.index v.number
     given_past v fresh r s there had index_is number_is unread =
         let now : record fresh.r { shards = map (handed w.next_ticket fresh.s.ref.id fresh.s.number) fresh.r.shards } ≡ r =
-        some_same _ r (sym (get_same w.restores v.op (record fresh.r { shards = map (handed w.next_ticket fresh.s.ref.id fresh.s.number) fresh.r.shards })) ∙ ap (λ (x : FinMap nat_cmp Restoring). fin.get x v.op) (sym fresh.restores_are) ∙ there) in
-        let z = of_map (handed w.next_ticket fresh.s.ref.id fresh.s.number) fresh.r.shards s (subst (λ (x : Restoring). Has x.shards s) (sym now) had) in
+        same_Some _ r (sym (same_in w.restores v.op (record fresh.r { shards = map (handed w.next_ticket fresh.s.ref.id fresh.s.number) fresh.r.shards })) ∙ ap (λ (x : FinMap nat_cmp Restoring). fin.get x v.op) (sym fresh.restores_are) ∙ there) in
+        let z = Has-mapped (handed w.next_ticket fresh.s.ref.id fresh.s.number) fresh.r.shards s (subst (λ (x : Restoring). Has x.shards s) (sym now) had) in
         read_now w.next_ticket fresh.s.ref.id fresh.s.number z.0 s z.2 (index_is ∙ fresh.index) (number_is ∙ fresh.number) unread
 
     -- one that was there, and one that was given
@@ -242,7 +243,7 @@ module _ (f : Formats) (size : ℕ) (change : (w : World) (who : ℕ) (step : St
       ]
     ]
 
-    read_once : ReadOnce (after f w m)
+    pub read_once : ReadOnce (after f w m)
     read_once = record { begun = begun_now; past = past_now; one = one_now }
 
   pub reads_once : ((w : World) (m : Moment) → Tracked w → Allowed f size w m → Tracked (after f w m)) → ((w : World) (m : Moment) → Tracked w → ReadTracked w → Allowed f size w m → ReadTracked (after f w m))

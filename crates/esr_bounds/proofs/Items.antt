@@ -1,6 +1,7 @@
 -- The shards and finalizations of tickets are those of ops that were asked.
 use Rattle.std.proofs.Common.{◌≡◌, ℕ, suc, List, [], ◌∷◌, ◌++◌, append-nil, append_assoc, length, map, Option, Some, refl, sym, ap, ◌∙◌, subst, inl, inr}
 use Rattle.std.specs.FinMap as fin
+use Rattle.esr_model.specs.Lists.{Has-left, Has-right, Has-map}
 use Rattle.esr_model.specs.Values.{Bytes, Has, IndexRef, SnapInfo, ShardResult, Formats}
 use Rattle.esr_model.specs.Shelf.{Command}
 use Rattle.esr_core.specs.World.{World, Op, ShardWork, Shard, Finalize, Deleting, Ticket, Swap}
@@ -15,8 +16,7 @@ use Rattle.esr_bounds.specs.Keys.{IsUntouched}
 use Rattle.esr_bounds.specs.Most.{most_of_shard}
 use Rattle.esr_bounds.specs.Units.{asked_source, asked_shards, asked_indices, asked_counts}
 use Rattle.esr_bounds.specs.Laws.{MasterLaws}
-use Rattle.esr_core.specs.NumberMaps.{nothing}
-use Rattle.esr_bounds.proofs.Names.{in_front, in_back, in_map}
+use Rattle.esr_core.specs.Laws.NumberMaps.{nothing}
 use Rattle.esr_bounds.proofs.Works.{answered_works}
 use Rattle.esr_bounds.proofs.Given.{fresh_shard}
 use Rattle.esr_bounds.proofs.Masters.{MastersOnce, ReadyOf, ready_now, masters_on}
@@ -93,7 +93,7 @@ same_shard t v index number same is = elim same.work [
     no_shard : (uuids : List ℕ) (s : Swap) → Deleting uuids (Some s) ≡ Shard index number → ⊥
     no_shard uuids s e = cc
 
-same_final : (t v : Ticket) (info : SnapInfo) (results : List ShardResult) (made : Command) → SameUnit t v → v.work ≡ Finalize info results made → t.work ≡ Finalize info results made
+pub same_final : (t v : Ticket) (info : SnapInfo) (results : List ShardResult) (made : Command) → SameUnit t v → v.work ≡ Finalize info results made → t.work ≡ Finalize info results made
 same_final t v info results made same is = elim same.work [
   | inl kept ↦ sym kept ∙ is
   | inr plans ↦ absurd (no_final plans.0 plans.2 (sym plans.4 ∙ is))
@@ -119,24 +119,24 @@ module _ (f : Formats) (size : ℕ) (laws : MasterLaws f size) where
     shards_now : (o : ℕ) (op : Op) (s : ShardWork) → fin.get (after f w m).ops o ≡ Some op → Has op.shards s → Has (items ++ more) (item_of o op.source s)
     shards_now o op s there h = elim ((answered_works f w m.entry.who m.entry.step m.entry.reply m.image).ops o op there) [
       | inl new ↦
-          in_back items more (item_of o op.source s)
+          Has-right items more (item_of o op.source s)
           (subst (Has more) (sym (same_item o w.next_op op.source (asked_source m.entry.step) s s new.number new.source refl refl refl))
-          (in_map (item_of w.next_op (asked_source m.entry.step)) (asked_shards w m.entry.step) s (subst (λ (l : List ShardWork). Has l s) new.shards h)))
+          (Has-map (item_of w.next_op (asked_source m.entry.step)) (asked_shards w m.entry.step) s (subst (λ (l : List ShardWork). Has l s) new.shards h)))
       | inr was ↦
           let z = was.shards s h in
-          in_front items more (item_of o op.source s) (subst (Has items) (sym (same_item o o op.source was.op.source s z.0 refl was.source z.2 z.3 z.4)) (all.shards o was.op z.0 was.there z.1))
+          Has-left items more (item_of o op.source s) (subst (Has items) (sym (same_item o o op.source was.op.source s z.0 refl was.source z.2 z.3 z.4)) (all.shards o was.op z.0 was.there z.1))
     ]
 
     ops_now : (o : ℕ) (op : Op) → fin.get (after f w m).ops o ≡ Some op → Has (counts ++ more_counts) (o, length op.indices)
     ops_now o op there = elim ((answered_works f w m.entry.who m.entry.step m.entry.reply m.image).ops o op there) [
       | inl new ↦
-          in_back counts more_counts (o, length op.indices)
+          Has-right counts more_counts (o, length op.indices)
           (subst (λ (l : List (ℕ × ℕ)). Has l (o, length op.indices)) (sym new.counted) (inl (ap (λ (x : ℕ). (x, length (asked_indices w m.entry.step))) (sym new.number) ∙ ap (λ (l : List IndexRef). (o, length l)) (sym new.indices))))
-      | inr was ↦ in_front counts more_counts (o, length op.indices) (subst (λ (l : List IndexRef). Has counts (o, length l)) (sym was.indices) (all.ops o was.op was.there))
+      | inr was ↦ Has-left counts more_counts (o, length op.indices) (subst (λ (l : List IndexRef). Has counts (o, length l)) (sym was.indices) (all.ops o was.op was.there))
     ]
 
     tickets_now : (k : ℕ) (v : Ticket) (index number : ℕ) → fin.get (after f w m).tickets k ≡ Some v → v.work ≡ Shard index number → Has (items ++ more) (ticket_item v index number)
-    tickets_now k v index number there is = in_front items more (ticket_item v index number) (elim ((laws.frame w m).come k v there) [
+    tickets_now k v index number there is = Has-left items more (ticket_item v index number) (elim ((laws.frame w m).come k v there) [
       | inl old ↦ subst (Has items) (sym (same_ticket_item old.0 v index number old.2)) (all.tickets k old.0 index number old.1 (same_shard old.0 v index number old.2 is))
       | inr new ↦
           let fresh = fresh_shard f size laws.change laws.frame w m tracked a v index number (subst (λ (n : ℕ). fin.get (after f w m).tickets n ≡ Some v) new.0 there) is in
@@ -148,14 +148,14 @@ module _ (f : Formats) (size : ℕ) (laws : MasterLaws f size) where
 
     finals_now : (k : ℕ) (v : Ticket) (info : SnapInfo) (results : List ShardResult) (made : Command) → fin.get (after f w m).tickets k ≡ Some v → v.work ≡ Finalize info results made
         → Has (counts ++ more_counts) (v.op, length info.indices)
-    finals_now k v info results made there is = in_front counts more_counts (v.op, length info.indices) (elim ((laws.frame w m).come k v there) [
+    finals_now k v info results made there is = Has-left counts more_counts (v.op, length info.indices) (elim ((laws.frame w m).come k v there) [
       | inl old ↦ subst (λ (o : ℕ). Has counts (o, length info.indices)) (sym old.2.op) (all.finals k old.0 info results made old.1 (same_final old.0 v info results made old.2 is))
       | inr new ↦
           let ready = subst (ReadyOf w v.op) is (ready_now f size laws w m tracked reads a once v (subst (λ (n : ℕ). fin.get (after f w m).tickets n ≡ Some v) new.0 there)) in
           subst (λ (l : List IndexRef). Has counts (v.op, length l)) (sym ready.3) (all.ops v.op ready.0 ready.2.op_there)
     ])
 
-    in_now : AllIn (items ++ more) (counts ++ more_counts) (after f w m)
+    pub in_now : AllIn (items ++ more) (counts ++ more_counts) (after f w m)
     in_now = record { shards = shards_now; ops = ops_now; tickets = tickets_now; finals = finals_now }
 
   in_from : (w : World) (log : List Moment) (items : List Item) (counts : List (ℕ × ℕ)) → Tracked w → ReadTracked w → MastersOnce w → IsLegal f size w log → AllIn items counts w

@@ -1,6 +1,7 @@
 pub mod Few
 pub mod Once
 pub mod Names
+pub mod Further
 pub mod OwnSteps
 pub mod Bounded
 pub mod Works
@@ -11,3 +12,19 @@ pub mod Counting
 pub mod Items
 pub mod Totals
 pub mod Clients
+pub mod Prunes
+pub mod Pieces
+pub mod ToldTotals
+pub mod Verifying
+pub mod Idle
+pub mod RestoresAsked
+pub mod TicketCounts
+pub mod RootShards
+pub mod FewShards
+pub mod Listed
+pub mod FewCleanups
+pub mod Found
+pub mod Writes
+pub mod Checks
+pub mod DoomedSeen
+pub mod Closed

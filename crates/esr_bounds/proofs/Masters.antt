@@ -4,11 +4,13 @@ use Rattle.std.specs.Prelude.{if◌then◌else◌, ◌==◌}
 use Rattle.std.proofs.lemmas.Bool.Decides.{eqb_tells}
 use Rattle.std.specs.FinMap.{FinMap}
 use Rattle.std.specs.FinMap as fin
+use Rattle.std.proofs.lemmas.Option.{same_Some, none-some}
 use Rattle.esr_model.specs.Names.{BlobName}
-use Rattle.esr_model.specs.Values.{Bytes, ShardResult, Formats}
+use Rattle.esr_model.specs.Values.{Bytes, ShardResult, IsOneEach, Formats}
+use Rattle.esr_model.specs.Finalize.{finalized_root}
 use Rattle.esr_model.specs.Delete.{kept_count}
 use Rattle.esr_model.specs.Image.{Image}
-use Rattle.esr_core.specs.World.{World, Op, Deletion, ShardWork, RestoreShard, Restoring, Work, Shard, Finalize, Deleting, Drop, Ticket, Swap, swap, swap_of, record_of}
+use Rattle.esr_core.specs.World.{World, Op, Deletion, ShardWork, RestoreShard, Restoring, Work, Shard, Finalize, Deleting, Drop, Ticket, Swap, swap, swap_of, info_of, record_of}
 use Rattle.esr_core.specs.Ready.{Goes, IsShard, IsMaster, SwapIsOut, ReadyFinalize, ReadyDrop, ReadyDelete, ReadyCleanup}
 use Rattle.esr_core.specs.Steps.{IsOut, listing, noting, with_ticket, shard_ticket, final_ticket, plain_ticket}
 use Rattle.esr_core.specs.Turns.{cleaning_ticket, fails}
@@ -26,7 +28,7 @@ use Rattle.esr_bounds.specs.Keys.{IsUntouched}
 use Rattle.esr_bounds.specs.Most.{IsDelete}
 use Rattle.esr_bounds.specs.Units.{IsFinalize, IsDropped, OneOf}
 use Rattle.esr_bounds.specs.Laws.{MasterLaws}
-use Rattle.esr_core.specs.NumberMaps.{some_same, none_some, get_was, get_left, get_gone, get_same, nothing}
+use Rattle.esr_core.specs.Laws.NumberMaps.{nothing, was_in, left_in, gone_in, same_in}
 use Rattle.esr_bounds.proofs.Works.{Works, answered_works}
 use Rattle.esr_bounds.proofs.Given.{none_next, by_take, blocked_same}
 
@@ -54,15 +56,15 @@ record OwnEnd (f : Formats) (w : World) (k : ℕ) (t : Ticket) (up : World) : Ty
 module _ (f : Formats) (w : World) where
   module _ (k : ℕ) (t : Ticket) (there : fin.get w.tickets k ≡ Some t) where
     same_ticket : (u : Ticket) → IsOut w k u → u ≡ t
-    same_ticket u out = some_same u t (sym out.there ∙ there)
+    same_ticket u out = same_Some u t (sym out.there ∙ there)
 
     as_before : OwnEnd f w k t w
     as_before = record { v = t; at = there; outcome = GoesOn refl refl }
 
     anew : (g : Ticket → Ticket) → (g t).out ≡ t.out → (g t).settled ≡ t.settled → (o : Option Ticket) → o ≡ Some t → OwnEnd f w k t (with_given w k g o)
-    anew g out settled None is = absurd (none_some t is)
+    anew g out settled None is = absurd (none-some t is)
     anew g out settled (Some u) is =
-        subst (λ (x : Ticket). OwnEnd f w k t (with_given w k g (Some x))) (sym (some_same u t is)) (record { v = g t; at = get_same w.tickets k (g t); outcome = GoesOn out settled })
+        subst (λ (x : Ticket). OwnEnd f w k t (with_given w k g (Some x))) (sym (same_Some u t is)) (record { v = g t; at = same_in w.tickets k (g t); outcome = GoesOn out settled })
 
     -- with other numbers
     besides : (up new : World) → new.tickets ≡ up.tickets → new.ops ≡ up.ops → new.deletes ≡ up.deletes → OwnEnd f w k t up → OwnEnd f w k t new
@@ -75,7 +77,7 @@ module _ (f : Formats) (w : World) where
 
     -- over, and nothing else
     over_as : (settled_or_past : (v : Ticket) → Outcome f w w.ops w.deletes t v) → OwnEnd f w k t (with_ticket w k (record t { out = false }))
-    over_as why = record { v = record t { out = false }; at = get_same w.tickets k (record t { out = false }); outcome = why (record t { out = false }) }
+    over_as why = record { v = record t { out = false }; at = same_in w.tickets k (record t { out = false }); outcome = why (record t { out = false }) }
 
     over_given : ((v : Ticket) → Outcome f w w.ops w.deletes t v) → OwnEnd f w k t (with_given w k (λ (x : Ticket). record x { out = false }) (fin.get w.tickets k))
     over_given why = subst (λ (o : Option Ticket). OwnEnd f w k t (with_given w k (λ (x : Ticket). record x { out = false }) o)) (sym there) (over_as why)
@@ -106,7 +108,7 @@ module _ (f : Formats) (w : World) where
 
     settle_end : (o : Option Swap) (n : Option ℕ) → swap f t ≡ o → OwnEnd f w k t (settled_by f w k t o n)
     settle_end (Some s) (Some n) is =
-        record { v = record t { settled = true }; at = get_same w.tickets k (record t { settled = true }); outcome = Settles refl s is (get_gone w.ops t.op) (λ kept. get_gone w.deletes t.op) }
+        record { v = record t { settled = true }; at = same_in w.tickets k (record t { settled = true }); outcome = Settles refl s is (gone_in w.ops t.op) (λ kept. gone_in w.deletes t.op) }
     settle_end (Some s) None is = as_before
     settle_end None n is = as_before
 
@@ -115,11 +117,11 @@ module _ (f : Formats) (w : World) where
 
     left_gone : (b : Bool) → t.clean ≡ b → t.clean ≡ false → fin.get (if b then w.deletes else fin.remove w.deletes t.op) t.op ≡ None
     left_gone true is none = let clash : true ≡ false = sym is ∙ none in absurd cc
-    left_gone false is none = get_gone w.deletes t.op
+    left_gone false is none = gone_in w.deletes t.op
 
     delete_settle_end : (o : Option Swap) (n : Option ℕ) → swap f t ≡ o → OwnEnd f w k t (delete_settled_by f w k t o n)
     delete_settle_end (Some s) (Some n) is =
-        record { v = record t { settled = true }; at = get_same w.tickets k (record t { settled = true }); outcome = Settles refl s is (get_gone w.ops t.op) (left_gone t.clean refl) }
+        record { v = record t { settled = true }; at = same_in w.tickets k (record t { settled = true }); outcome = Settles refl s is (gone_in w.ops t.op) (left_gone t.clean refl) }
     delete_settle_end (Some s) None is = as_before
     delete_settle_end None n is = as_before
 
@@ -131,7 +133,7 @@ module _ (f : Formats) (w : World) where
       where
         by : (o : Option Op) → OwnEnd f w k t (done_by w k r t o)
         by None = as_before
-        by (Some op) = record { v = record t { out = false }; at = get_same w.tickets k (record t { out = false }); outcome = OfShard shard }
+        by (Some op) = record { v = record t { out = false }; at = same_in w.tickets k (record t { out = false }); outcome = OfShard shard }
 
     -- one that is stale is of an older term, another of the present one
     by_term : (b : Bool) → (if t.term == w.term then false else true) ≡ b → (b ≡ true → t.term ≢ w.term) × (b ≡ false → t.term ≡ w.term)
@@ -158,8 +160,8 @@ module _ (f : Formats) (w : World) where
         one (Some op) is now =
             record {
               v = record t { out = false };
-              at = get_same w.tickets k (record t { out = false });
-              outcome = FailsOp (no_delete now op is) unit (λ x e. ap (λ (y : Op). y.failed) (some_same x _ (sym e ∙ get_same w.ops t.op (record op { shards = map (fails k) op.shards; failed = true }))));
+              at = same_in w.tickets k (record t { out = false });
+              outcome = FailsOp (no_delete now op is) unit (λ x e. ap (λ (y : Op). y.failed) (same_Some x _ (sym e ∙ same_in w.ops t.op (record op { shards = map (fails k) op.shards; failed = true }))));
             }
 
         by : (b : Bool) → is_stale w t t.work ≡ b → OwnEnd f w k t (if b then with_ticket w k (record t { out = false }) else failed_by w k t (fin.get w.ops t.op))
@@ -174,8 +176,8 @@ module _ (f : Formats) (w : World) where
         one (Some x) =
             record {
               v = record t { out = false };
-              at = get_same w.tickets k (record t { out = false });
-              outcome = FailsDelete delete (λ y e. ap (λ (z : Deletion). z.failed) (some_same y _ (sym e ∙ get_same w.deletes t.op (record x { failed = true }))));
+              at = same_in w.tickets k (record t { out = false });
+              outcome = FailsDelete delete (λ y e. ap (λ (z : Deletion). z.failed) (same_Some y _ (sym e ∙ same_in w.deletes t.op (record x { failed = true }))));
             }
 
         by : (b : Bool) → is_stale w t t.work ≡ b → OwnEnd f w k t (if b then with_ticket w k (record t { out = false }) else delete_failed_by w k t (fin.get w.deletes t.op))
@@ -184,7 +186,7 @@ module _ (f : Formats) (w : World) where
 
     dropped_end : OwnEnd f w k t (dropped_of w k (fin.get w.tickets k))
     dropped_end = subst (λ (o : Option Ticket). OwnEnd f w k t (dropped_of w k o)) (sym there)
-        (record { v = record t { out = false }; at = get_same w.tickets k (record t { out = false }); outcome = Leaves refl (get_gone w.ops t.op) (get_gone w.deletes t.op) })
+        (record { v = record t { out = false }; at = same_in w.tickets k (record t { out = false }); outcome = Leaves refl (gone_in w.ops t.op) (gone_in w.deletes t.op) })
 
   module _ (size : ℕ) (tracked : Tracked w) where
     pruning_end : (k : ℕ) (t : Ticket) (there : fin.get w.tickets k ≡ Some t) (prune : Prune) (reply : Reply) (image : Option Image) → PruneAllows f w k prune reply image → OwnEnd f w k t (answered f w k (PruneStep prune) reply image)
@@ -282,18 +284,18 @@ module _ (f : Formats) (w : World) where
   same_deletes d v e = inr (v, e, λ h. h)
 
   put_delete : (d : ℕ) (x y : Deletion) → fin.get w.deletes d ≡ Some x → (y.failed ≡ false → x.failed ≡ false) → DeletesOn w (fin.insert w.deletes d y)
-  put_delete d x y there failed e v is = elim (get_was w.deletes d y e v is) [
+  put_delete d x y there failed e v is = elim (was_in w.deletes d y e v is) [
     | inl here ↦ inr (x, ap (fin.get w.deletes) here.0 ∙ there, λ h. failed (ap (λ (z : Deletion). z.failed) here.1 ∙ h))
     | inr other ↦ inr (v, other.1, λ h. h)
   ]
 
   removed : (o : ℕ) (deletes : FinMap nat_cmp Deletion) → (deletes ≡ fin.remove w.deletes o) → DeletesOn w deletes
-  removed o deletes is d v e = inr (v, (get_left w.deletes o d v (subst (λ (m : FinMap nat_cmp Deletion). fin.get m d ≡ Some v) is e)).1, λ h. h)
+  removed o deletes is d v e = inr (v, (left_in w.deletes o d v (subst (λ (m : FinMap nat_cmp Deletion). fin.get m d ≡ Some v) is e)).1, λ h. h)
 
   deletes_on : (who : ℕ) (step : Step) (new : World) → StepChange f w who step new → DeletesOn w new.deletes
   deletes_on who step new NoChange = same_deletes
   deletes_on who step new (NewOp ask op completed next_id is rises) = same_deletes
-  deletes_on who step new (NewDeletion ask ops x aborts clean) = λ d v e. elim (get_was w.deletes w.next_op x d v e) [ inl here ↦ inl here.0 | inr other ↦ inr (v, other.1, λ h. h) ]
+  deletes_on who step new (NewDeletion ask ops x aborts clean) = λ d v e. elim (was_in w.deletes w.next_op x d v e) [ inl here ↦ inl here.0 | inr other ↦ inr (v, other.1, λ h. h) ]
   deletes_on who step new (MergedDeletion ask ops d x y aborts there clean failed) = put_delete d x y there (λ h. sym failed ∙ h)
   deletes_on who step new (NewRestore ask r) = same_deletes
   deletes_on who step new (NewTicket take t is ops same) = same_deletes
@@ -391,7 +393,7 @@ module _ (f : Formats) (w : World) (step : Step) (new : World) (works : Works w 
       by None is = is
       by (Some op) is = elim (works.ops t.op op is) [
         | inl asked ↦ let at : t.op ≡ w.next_op = asked.number in let below : t.op < w.next_op = begun in absurd (omega (arith, at, below))
-        | inr was ↦ absurd (none_some was.op (sym none ∙ was.there))
+        | inr was ↦ absurd (none-some was.op (sym none ∙ was.there))
       ]
 
   gone_delete : fin.get w.deletes t.op ≡ None → fin.get new.deletes t.op ≡ None
@@ -401,7 +403,7 @@ module _ (f : Formats) (w : World) (step : Step) (new : World) (works : Works w 
       by None is = is
       by (Some x) is = elim (deletes t.op x is) [
         | inl asked ↦ let at : t.op ≡ w.next_op = asked in let below : t.op < w.next_op = begun in absurd (omega (arith, at, below))
-        | inr was ↦ absurd (none_some was.0 (sym none ∙ was.1))
+        | inr was ↦ absurd (none-some was.0 (sym none ∙ was.1))
       ]
 
   -- of the op under the number that it has later on
@@ -416,7 +418,7 @@ module _ (f : Formats) (w : World) (step : Step) (new : World) (works : Works w 
       let was = old_op op (at_op new.ops (Some op) there) goes in
       let held = h.final (final_back t v same work) was.0 was.1 was.2 in
       (out ∙ held.0, settled ∙ held.1)
-  final_on (Settles out s is gone left) work op there goes = absurd (none_some op (sym gone ∙ at_op new.ops (Some op) there))
+  final_on (Settles out s is gone left) work op there goes = absurd (none-some op (sym gone ∙ at_op new.ops (Some op) there))
   final_on (FailsOp no_delete unit failed) work op there goes = let clash : true ≡ false = sym (failed op (at_op new.ops (Some op) there)) ∙ goes.unfailed in absurd cc
   final_on (FailsDelete delete failed) work op there goes = absurd (clash t.work delete (final_back t v same work))
     where
@@ -425,7 +427,7 @@ module _ (f : Formats) (w : World) (step : Step) (new : World) (works : Works w 
       clash (Shard index number) a b = b
       clash (Finalize info results made) a b = a
       clash Drop a b = b
-  final_on (Leaves settled gone left) work op there goes = absurd (none_some op (sym gone ∙ at_op new.ops (Some op) there))
+  final_on (Leaves settled gone left) work op there goes = absurd (none-some op (sym gone ∙ at_op new.ops (Some op) there))
   final_on (WasSettled settled clean) work op there goes =
       let was = old_op op (at_op new.ops (Some op) there) goes in
       let clash : true ≡ false = sym settled ∙ (h.final (final_back t v same work) was.0 was.1 was.2).1 in absurd cc
@@ -447,7 +449,7 @@ module _ (f : Formats) (w : World) (step : Step) (new : World) (works : Works w 
   drop_on (Settles out s is gone left) work = absurd (clash t.work (drop_back t v same work) is)
     where
       clash : (u : Work) → IsDropped u → swap_of f u t.root ≡ Some s → ⊥
-      clash Drop a e = none_some s e
+      clash Drop a e = none-some s e
       clash (Shard index number) a e = a
       clash (Finalize info results made) a e = a
       clash (Deleting uuids plan) a e = a
@@ -484,10 +486,10 @@ module _ (f : Formats) (w : World) (step : Step) (new : World) (works : Works w 
   delete_on (Settles out s is gone left) work x there unfailed =
       let was = old_delete x (at_op new.deletes (Some x) there) unfailed in
       let held = h.delete (delete_back t v same work) was.0 was.1 was.2 in
-      (out ∙ held.0, λ clean. absurd (none_some x (sym (left (sym same.clean ∙ clean)) ∙ at_op new.deletes (Some x) there)))
+      (out ∙ held.0, λ clean. absurd (none-some x (sym (left (sym same.clean ∙ clean)) ∙ at_op new.deletes (Some x) there)))
   delete_on (FailsOp no_delete unit failed) work x there unfailed = absurd (no_delete (delete_back t v same work))
   delete_on (FailsDelete delete failed) work x there unfailed = let clash : true ≡ false = sym (failed x (at_op new.deletes (Some x) there)) ∙ unfailed in absurd cc
-  delete_on (Leaves settled gone left) work x there unfailed = absurd (none_some x (sym left ∙ at_op new.deletes (Some x) there))
+  delete_on (Leaves settled gone left) work x there unfailed = absurd (none-some x (sym left ∙ at_op new.deletes (Some x) there))
   delete_on (WasSettled settled clean) work x there unfailed =
       let was = old_delete x (at_op new.deletes (Some x) there) unfailed in
       let own : IsDelete t.work = delete_back t v same work in
@@ -506,16 +508,16 @@ module _ (f : Formats) (w : World) (step : Step) (new : World) (works : Works w 
 
 -- ---- a ticket that is given
 
--- its unit was ready
+-- its unit was ready; a delete or cleanup has no plan yet
 abbrev pub ReadyOf : World → ℕ → Work → Type 0
 ReadyOf w o (Shard index number) = Unit {0}
-ReadyOf w o (Finalize info results made) = (op : Op) × (rs : List ShardResult) × ReadyFinalize w o op rs × (info.indices ≡ op.indices)
-ReadyOf w o (Deleting uuids plan) = (x : Deletion) × (ReadyDelete w o x ⊎ ReadyCleanup w o x)
+ReadyOf w o (Finalize info results made) = (op : Op) × (rs : List ShardResult) × ReadyFinalize w o op rs × (info.indices ≡ op.indices) × (rs ≡ results) × IsOneEach (finalized_root w.root info results).indices
+ReadyOf w o (Deleting uuids plan) = (x : Deletion) × (ReadyDelete w o x ⊎ ReadyCleanup w o x) × (plan ≡ None)
 ReadyOf w o Drop = ReadyDrop w o
 
 module _ (f : Formats) (size : ℕ) (w : World) (tracked : Tracked w) (v : Ticket) where
   put_now : (u : Ticket) → fin.get (fin.insert w.tickets w.next_ticket u) w.next_ticket ≡ Some v → u ≡ v
-  put_now u now = some_same u v (sym (get_same w.tickets w.next_ticket u) ∙ now)
+  put_now u now = same_Some u v (sym (same_in w.tickets w.next_ticket u) ∙ now)
 
   ready_put : (u : Ticket) → fin.get (fin.insert w.tickets w.next_ticket u) w.next_ticket ≡ Some v → ReadyOf w u.op u.work → ReadyOf w v.op v.work
   ready_put u now ready = subst (λ (x : Ticket). ReadyOf w x.op x.work) (put_now u now) ready
@@ -538,13 +540,18 @@ module _ (f : Formats) (size : ℕ) (w : World) (tracked : Tracked w) (v : Ticke
       by : (r : Option Restoring) → fin.get (taken_restore w o i n r).tickets w.next_ticket ≡ Some v → ⊥
       by None now = none_next f w tracked v now
       by (Some r) now = one r (restore_shard r.shards i n) now
-  unit_ready o (GivenFinalize info results) g (Some op) is now = ready_put (final_ticket f w o op results) now (op, results, subst (λ (x : Op). ReadyFinalize w o x results) (some_same g.op op (sym g.ready.op_there ∙ is)) g.ready, refl)
+  unit_ready o (GivenFinalize info results) g (Some op) is now = ready_put (final_ticket f w o op results) now (op, results, subst (λ (x : Op). ReadyFinalize w o x results) (same_Some g.op op (sym g.ready.op_there ∙ is)) g.ready, refl, refl, one_each)
+    where
+      one_each : IsOneEach (finalized_root w.root (info_of op results) results).indices
+      one_each =
+          subst (λ (x : Op). IsOneEach (finalized_root w.root (info_of x results) results).indices) (same_Some g.op op (sym g.ready.op_there ∙ is))
+          (f.one_each (f.root.text (finalized_root w.root (info_of g.op results) results)) (finalized_root w.root (info_of g.op results) results) g.root_back)
   unit_ready o (GivenFinalize info results) g None is now = absurd (none_next f w tracked v now)
   unit_ready o GivenDrop g op is now = ready_put (plain_ticket w o Drop) now g
-  unit_ready o (GivenDelete uuids) g op is now = ready_put (plain_ticket w o (Deleting uuids None)) now (g.0, inl g.1)
-  unit_ready o GivenCleanup g op is now = ready_put (cleaning_ticket w o) now (g.0, inr g.1)
+  unit_ready o (GivenDelete uuids) g op is now = ready_put (plain_ticket w o (Deleting uuids None)) now (g.0, inl g.1, refl)
+  unit_ready o GivenCleanup g op is now = ready_put (cleaning_ticket w o) now (g.0, inr g.1, refl)
 
-  take_ready : (who : ℕ) (step : Step) (reply : Reply) (image : Option Image) → step ≡ TakeStep → Allows f size w who step reply image → fin.get (answered f w who step reply image).tickets w.next_ticket ≡ Some v → ReadyOf w v.op v.work
+  pub take_ready : (who : ℕ) (step : Step) (reply : Reply) (image : Option Image) → step ≡ TakeStep → Allows f size w who step reply image → fin.get (answered f w who step reply image).tickets w.next_ticket ≡ Some v → ReadyOf w v.op v.work
   take_ready who TakeStep reply image is (allowed.GivingNothing im none same) now = absurd (none_next f w tracked v now)
   take_ready who TakeStep reply image is (allowed.Giving k o unit im number lowest g same) now = unit_ready o unit g (fin.get w.ops o) refl now
   take_ready who step reply image is a now = absurd cc
@@ -569,8 +576,8 @@ module _ (w : World) (tracked : Tracked w) (j : ℕ) (t : Ticket) (there : fin.g
   no_drop work ready = ⊎_elim
       (λ (out : t.out ≡ true). ready.idle j (record { t = t; there = there; out = out; op_is = refl; counts = inr present }))
       (λ (gone : (fin.get w.ops t.op ≡ None) × (fin.get w.deletes t.op ≡ None)). ⊎_elim
-      (λ stopped. none_some stopped.0 (sym gone.0 ∙ stopped.1))
-      (λ stopped. none_some stopped.0 (sym gone.1 ∙ stopped.1))
+      (λ stopped. none-some stopped.0 (sym gone.0 ∙ stopped.1))
+      (λ stopped. none-some stopped.0 (sym gone.1 ∙ stopped.1))
       ready.stopped)
       (h.drop work).1
 
@@ -607,7 +614,7 @@ module _ (f : Formats) (size : ℕ) (laws : MasterLaws f size) (w : World) (m : 
       not_next is = none_next f w tracked t (ap (fin.get w.tickets) (sym is) ∙ there)
 
       as_it_was : fin.get w.tickets k ≡ Some v → Outcome f w up.ops up.deletes t v
-      as_it_was same = let is : v ≡ t = some_same v t (sym same ∙ there) in GoesOn (ap (λ (x : Ticket). x.out) is) (ap (λ (x : Ticket). x.settled) is)
+      as_it_was same = let is : v ≡ t = same_Some v t (sym same ∙ there) in GoesOn (ap (λ (x : Ticket). x.out) is) (ap (λ (x : Ticket). x.settled) is)
 
       blocked : IsBlocked w m → Outcome f w up.ops up.deletes t v
       blocked b = as_it_was (subst (λ (x : World). fin.get x.tickets k ≡ Some v) (blocked_is b) now)
@@ -617,7 +624,7 @@ module _ (f : Formats) (size : ℕ) (laws : MasterLaws f size) (w : World) (m : 
       by mine h (ReaderStep q reading steps) = absurd (reads.apart.tickets m.entry.who q t reading.there (ap (fin.get w.tickets) (sym mine) ∙ there))
       by mine h (UnitStep u out steps) =
           let end = own_end f w size tracked m.entry.who t (ap (fin.get w.tickets) (sym mine) ∙ there) m.entry.step m.entry.reply m.image steps h in
-          subst (Outcome f w up.ops up.deletes t) (some_same end.v v (sym end.at ∙ ap (fin.get up.tickets) (sym mine) ∙ now)) end.outcome
+          subst (Outcome f w up.ops up.deletes t) (same_Some end.v v (sym end.at ∙ ap (fin.get up.tickets) (sym mine) ∙ now)) end.outcome
 
       own : k ≡ m.entry.who → Outcome f w up.ops up.deletes t v
       own mine = elim a.answered [

@@ -2,6 +2,7 @@
 use Rattle.std.proofs.Common.{◌≡◌, ◌⊎◌, ℕ, zero, suc, ◌+◌, ◌<◌, ◌≤◌, List, [], ◌∷◌, ◌++◌, length, map, true, false, Option, Some, None, refl, sym, ap, ◌∙◌, subst, inl, inr, ⊎_elim, arith}
 use Rattle.std.specs.Prelude.{max}
 use Rattle.std.proofs.lemmas.Bool.Decides.{eqb_tells}
+use Rattle.esr_model.specs.Lists.{Has-left, Has-right, Has-either, Has-map, Has-mapped}
 use Rattle.esr_model.specs.Names.{BlobName, Root, Latest, Snap, Meta, IndexMeta, ShardSnap, ShardIndex, File, Part, TestMaster, TestNode}
 use Rattle.esr_model.specs.Values.{Bytes, Has, Formats, files_told}
 use Rattle.esr_model.specs.Parts.{part_count, parts_from}
@@ -11,30 +12,6 @@ use Rattle.esr_core.specs.Steps.{Drew, ShardCommits, MayCommit, IsToFetch}
 use Rattle.esr_core.specs.Allowed.{IsNumbered}
 use Rattle.esr_bounds.specs.Keys.{Key, BeginKey, CommitKey, FetchKey}
 use Rattle.esr_bounds.specs.Most.{most_parts, parts_by, names_under, shard_names, swap_names, root_names, names_of, base_names, source_names, fetch_names, single_keys, keys_of}
-
-pub in_front : {X : Type 0} (a b : List X) (x : X) → Has a x → Has (a ++ b) x
-in_front [] b x h = absurd h
-in_front (y ∷ a) b x (inl e) = inl e
-in_front (y ∷ a) b x (inr h) = inr (in_front a b x h)
-
-pub in_back : {X : Type 0} (a b : List X) (x : X) → Has b x → Has (a ++ b) x
-in_back [] b x h = h
-in_back (y ∷ a) b x h = inr (in_back a b x h)
-
-pub in_either : {X : Type 0} (a b : List X) (x : X) → Has (a ++ b) x → Has a x ⊎ Has b x
-in_either [] b x h = inr h
-in_either (y ∷ a) b x (inl e) = inl (inl e)
-in_either (y ∷ a) b x (inr h) = ⊎_elim (λ l. inl (inr l)) (λ r. inr r) (in_either a b x h)
-
-pub in_map : {X Y : Type 0} (g : X → Y) (xs : List X) (x : X) → Has xs x → Has (map g xs) (g x)
-in_map g [] x h = absurd h
-in_map g (y ∷ xs) x (inl e) = inl (ap g e)
-in_map g (y ∷ xs) x (inr h) = inr (in_map g xs x h)
-
-pub of_map : {X Y : Type 0} (g : X → Y) (xs : List X) (y : Y) → Has (map g xs) y → (x : X) × Has xs x × (g x ≡ y)
-of_map g [] y h = absurd h
-of_map g (x ∷ xs) y (inl e) = (x, inl refl, e)
-of_map g (x ∷ xs) y (inr h) = let r = of_map g xs y h in (r.0, inr r.1, r.2)
 
 -- ---- names under ids
 
@@ -63,7 +40,7 @@ under_one index number parts first (suc drawn) x name from below h = elim (eqb_t
   | inl here ↦ own (subst (λ (y : ℕ). Has (ShardIndex index number y ∷ File index number y ∷ parts_from index number y 0 parts) name) (sym here.1) h)
   | inr other ↦
       let past : x < first + suc drawn = below in
-      inr (inr (in_back (parts_from index number first 0 parts) (names_under index number parts (suc first) drawn) name
+      inr (inr (Has-right (parts_from index number first 0 parts) (names_under index number parts (suc first) drawn) name
       (under_one index number parts (suc first) drawn x name (above first x from other.1) (let same : first + suc drawn ≡ suc first + drawn = omega arith in omega (arith, past, same)) h)))
 ]
   where
@@ -73,7 +50,7 @@ under_one index number parts first (suc drawn) x name from below h = elim (eqb_t
     own : Has (ShardIndex index number first ∷ File index number first ∷ parts_from index number first 0 parts) name → Has (names_under index number parts first (suc drawn)) name
     own (inl e) = inl e
     own (inr (inl e)) = inr (inl e)
-    own (inr (inr h)) = inr (inr (in_front (parts_from index number first 0 parts) (names_under index number parts (suc first) drawn) name h))
+    own (inr (inr h)) = inr (inr (Has-left (parts_from index number first 0 parts) (names_under index number parts (suc first) drawn) name h))
 
 -- a file has no more parts than the longest
 few_parts : (size : ℕ) (files : List (Bytes × Bytes)) (file : Bytes × Bytes) (p : ℕ) → Has files file → p < part_count (length file.1) size → p < most_parts size files
@@ -158,22 +135,22 @@ module _ (f : Formats) (size : ℕ) (known : (place name : Bytes) (number : ℕ)
   of_shard t name Drop is shard c numbered = absurd shard
 
   in_swap : (o : Option Swap) (s : Swap) (name : BlobName) (bytes : Bytes) → o ≡ Some s → Has s.own (name, bytes) → Has (swap_names o) name
-  in_swap o s name bytes is own = subst (λ (x : Option Swap). Has (swap_names x) name) (sym is) (in_map (λ (b : BlobName × Bytes). b.0) s.own (name, bytes) own)
+  in_swap o s name bytes is own = subst (λ (x : Option Swap). Has (swap_names x) name) (sym is) (Has-map (λ (b : BlobName × Bytes). b.0) s.own (name, bytes) own)
 
   in_root : (o : Option ℕ) (n : ℕ) → o ≡ Some n → Has (root_names o) (Root n)
   in_root o n is = subst (λ (x : Option ℕ). Has (root_names x) (Root n)) (sym is) (inl refl)
 
   pub own_named : (t : Ticket) (s : Swap) (name : BlobName) (bytes : Bytes) → swap f t ≡ Some s → Has s.own (name, bytes) → Has (names_of f size t) name
   own_named t s name bytes is own =
-      in_back (shard_names f size t t.work t.first t.drawn) (swap_names (swap f t) ++ root_names t.raised) name (in_front (swap_names (swap f t)) (root_names t.raised) name (in_swap (swap f t) s name bytes is own))
+      Has-right (shard_names f size t t.work t.first t.drawn) (swap_names (swap f t) ++ root_names t.raised) name (Has-left (swap_names (swap f t)) (root_names t.raised) name (in_swap (swap f t) s name bytes is own))
 
   pub may_named : (t : Ticket) (name : BlobName) (bytes : Bytes) → MayCommit f t name bytes → ((index number : ℕ) → t.work ≡ Shard index number → IsNumbered f size t number name t.source) → Has (names_of f size t) name
   may_named t name bytes (inl c) numbered = ⊎_elim
       (λ (own : Has c.0.own (name, bytes)). own_named t c.0 name bytes c.1 own)
-      (λ root. in_back (shard_names f size t t.work t.first t.drawn) (swap_names (swap f t) ++ root_names t.raised) name
-      (in_back (swap_names (swap f t)) (root_names t.raised) name (subst (Has (root_names t.raised)) (sym root.1) (in_root t.raised root.0 root.2.raised))))
+      (λ root. Has-right (shard_names f size t t.work t.first t.drawn) (swap_names (swap f t) ++ root_names t.raised) name
+      (Has-right (swap_names (swap f t)) (root_names t.raised) name (subst (Has (root_names t.raised)) (sym root.1) (in_root t.raised root.0 root.2.raised))))
       c.2
-  may_named t name bytes (inr c) numbered = in_front (shard_names f size t t.work t.first t.drawn) (swap_names (swap f t) ++ root_names t.raised) name (of_shard t name t.work refl c.2 c.1 numbered)
+  may_named t name bytes (inr c) numbered = Has-left (shard_names f size t t.work t.first t.drawn) (swap_names (swap f t) ++ root_names t.raised) name (of_shard t name t.work refl c.2 c.1 numbered)
 
   -- ---- what it fetches
 
@@ -187,8 +164,8 @@ module _ (f : Formats) (size : ℕ) (known : (place name : Bytes) (number : ℕ)
   fetch_named t name (index, number, is, which) =
       subst (λ (work : Work). Has (fetch_names t work) name) (sym is)
       (⊎_elim
-      (λ base. in_front (base_names index number t.base) (source_names index number t.source) name (subst (Has (base_names index number t.base)) (sym base.2) (in_base index number base.0 t.base base.1)))
-      (λ source. in_back (base_names index number t.base) (source_names index number t.source) name (subst (Has (source_names index number t.source)) (sym source.2) (in_source index number source.0 t.source source.1)))
+      (λ base. Has-left (base_names index number t.base) (source_names index number t.source) name (subst (Has (base_names index number t.base)) (sym base.2) (in_base index number base.0 t.base base.1)))
+      (λ source. Has-right (base_names index number t.base) (source_names index number t.source) name (subst (Has (source_names index number t.source)) (sym source.2) (in_source index number source.0 t.source source.1)))
       which)
 
 -- ---- as it goes on
@@ -240,18 +217,18 @@ module _ (f : Formats) (size : ℕ) (t v : Ticket) (g : Grown t v) where
   names_grown n h = elim g.work [
     | inl kept ↦ ⊎_elim
         (λ (a : Has (shard_names f size t t.work t.first t.drawn) n).
-        in_front (shard_names f size v v.work v.first v.drawn) (swap_names (swap f v) ++ root_names v.raised) n (subst (λ (work : Work). Has (shard_names f size v work v.first v.drawn) n) (sym kept) (shard_part t.work refl n a)))
+        Has-left (shard_names f size v v.work v.first v.drawn) (swap_names (swap f v) ++ root_names v.raised) n (subst (λ (work : Work). Has (shard_names f size v work v.first v.drawn) n) (sym kept) (shard_part t.work refl n a)))
         (λ (b : Has (swap_names (swap f t) ++ root_names t.raised) n).
-        in_back (shard_names f size v v.work v.first v.drawn) (swap_names (swap f v) ++ root_names v.raised) n
+        Has-right (shard_names f size v v.work v.first v.drawn) (swap_names (swap f v) ++ root_names v.raised) n
         (⊎_elim
-        (λ (own : Has (swap_names (swap f t)) n). in_front (swap_names (swap f v)) (root_names v.raised) n (subst (λ (o : Option Swap). Has (swap_names o) n) (sym (same_swap kept)) own))
-        (λ (root : Has (root_names t.raised) n). in_back (swap_names (swap f v)) (root_names v.raised) n (root_part n root))
-        (in_either (swap_names (swap f t)) (root_names t.raised) n b)))
-        (in_either (shard_names f size t t.work t.first t.drawn) (swap_names (swap f t) ++ root_names t.raised) n h)
+        (λ (own : Has (swap_names (swap f t)) n). Has-left (swap_names (swap f v)) (root_names v.raised) n (subst (λ (o : Option Swap). Has (swap_names o) n) (sym (same_swap kept)) own))
+        (λ (root : Has (root_names t.raised) n). Has-right (swap_names (swap f v)) (root_names v.raised) n (root_part n root))
+        (Has-either (swap_names (swap f t)) (root_names t.raised) n b)))
+        (Has-either (shard_names f size t t.work t.first t.drawn) (swap_names (swap f t) ++ root_names t.raised) n h)
     | inr plans ↦
         let bare_h : Has (shard_names f size t (Deleting plans.0 None) t.first t.drawn ++ (swap_names (swap_of f (Deleting plans.0 None) t.root) ++ root_names t.raised)) n =
         subst (λ (work : Work). Has (shard_names f size t work t.first t.drawn ++ (swap_names (swap_of f work t.root) ++ root_names t.raised)) n) plans.2 h in
-        in_back (shard_names f size v v.work v.first v.drawn) (swap_names (swap f v) ++ root_names v.raised) n (in_back (swap_names (swap f v)) (root_names v.raised) n (root_part n bare_h))
+        Has-right (shard_names f size v v.work v.first v.drawn) (swap_names (swap f v) ++ root_names v.raised) n (Has-right (swap_names (swap f v)) (root_names v.raised) n (root_part n bare_h))
   ]
 
   fetch_part : (work : Work) → (n : BlobName) → Has (fetch_names t work) n → Has (fetch_names v work) n
@@ -268,18 +245,18 @@ module _ (f : Formats) (size : ℕ) (t v : Ticket) (g : Grown t v) where
   ]
 
   map_grown : (a b : List BlobName) (k : BlobName → Key) → ((n : BlobName) → Has a n → Has b n) → (x : Key) → Has (map k a) x → Has (map k b) x
-  map_grown a b k more x h = let r = of_map k a x h in subst (Has (map k b)) r.2 (in_map k b r.0 (more r.0 r.1))
+  map_grown a b k more x h = let r = Has-mapped k a x h in subst (Has (map k b)) r.2 (Has-map k b r.0 (more r.0 r.1))
 
   pub keys_grown : (x : Key) → Has (keys_of f size t) x → Has (keys_of f size v) x
   keys_grown x h = ⊎_elim
-      (λ (single : Has single_keys x). in_front single_keys (own_keys f size v) x single)
-      (λ (other : Has (own_keys f size t) x). in_back single_keys (own_keys f size v) x
+      (λ (single : Has single_keys x). Has-left single_keys (own_keys f size v) x single)
+      (λ (other : Has (own_keys f size t) x). Has-right single_keys (own_keys f size v) x
       (⊎_elim
-      (λ (fetch : Has (map FetchKey (fetch_names t t.work)) x). in_front (map FetchKey (fetch_names v v.work)) (name_keys f size v) x (map_grown (fetch_names t t.work) (fetch_names v v.work) FetchKey fetches_grown x fetch))
-      (λ (name : Has (name_keys f size t) x). in_back (map FetchKey (fetch_names v v.work)) (name_keys f size v) x
+      (λ (fetch : Has (map FetchKey (fetch_names t t.work)) x). Has-left (map FetchKey (fetch_names v v.work)) (name_keys f size v) x (map_grown (fetch_names t t.work) (fetch_names v v.work) FetchKey fetches_grown x fetch))
+      (λ (name : Has (name_keys f size t) x). Has-right (map FetchKey (fetch_names v v.work)) (name_keys f size v) x
       (⊎_elim
-      (λ (begin : Has (map BeginKey (names_of f size t)) x). in_front (map BeginKey (names_of f size v)) (map CommitKey (names_of f size v)) x (map_grown (names_of f size t) (names_of f size v) BeginKey names_grown x begin))
-      (λ (commit : Has (map CommitKey (names_of f size t)) x). in_back (map BeginKey (names_of f size v)) (map CommitKey (names_of f size v)) x (map_grown (names_of f size t) (names_of f size v) CommitKey names_grown x commit))
-      (in_either (map BeginKey (names_of f size t)) (map CommitKey (names_of f size t)) x name)))
-      (in_either (map FetchKey (fetch_names t t.work)) (name_keys f size t) x other)))
-      (in_either single_keys (own_keys f size t) x h)
+      (λ (begin : Has (map BeginKey (names_of f size t)) x). Has-left (map BeginKey (names_of f size v)) (map CommitKey (names_of f size v)) x (map_grown (names_of f size t) (names_of f size v) BeginKey names_grown x begin))
+      (λ (commit : Has (map CommitKey (names_of f size t)) x). Has-right (map BeginKey (names_of f size v)) (map CommitKey (names_of f size v)) x (map_grown (names_of f size t) (names_of f size v) CommitKey names_grown x commit))
+      (Has-either (map BeginKey (names_of f size t)) (map CommitKey (names_of f size t)) x name)))
+      (Has-either (map FetchKey (fetch_names t t.work)) (name_keys f size t) x other)))
+      (Has-either single_keys (own_keys f size t) x h)

@@ -4,6 +4,7 @@ use Rattle.std.specs.Prelude.{if◌then◌else◌, ◌==◌}
 use Rattle.std.proofs.lemmas.Bool.Decides.{eqb_tells}
 use Rattle.std.specs.FinMap.{FinMap}
 use Rattle.std.specs.FinMap as fin
+use Rattle.std.proofs.lemmas.Option.{same_Some}
 use Rattle.esr_model.specs.Names.{BlobName}
 use Rattle.esr_model.specs.Values.{Has, Formats, ShardResult}
 use Rattle.esr_model.specs.Delete.{PrunedShard}
@@ -23,7 +24,7 @@ use Rattle.esr_core.specs.Allowed.{FailsDeletion, ReadAllows, PruneAllows, Allow
 use Rattle.esr_core.specs.History.{world_from, IsLegal}
 use Rattle.esr_bounds.specs.Keys.{Key, DrawKey, BeginKey, CommitKey, LatestKey, FetchKey, PageKey, RaiseKey, SettleKey, DropKey, ReadKey, IndexKey, PlanKey, PrunedKey, NoneKey, RemovalKey, EndKey, ClientKey, key, keys, IsUnheard, AreHeard, IsUntouched, IsHeard}
 use Rattle.esr_bounds.specs.Laws.{StepLaws}
-use Rattle.esr_core.specs.NumberMaps.{some_same, get_same}
+use Rattle.esr_core.specs.Laws.NumberMaps.{same_in}
 
 -- ---- two steps of one key
 
@@ -37,7 +38,7 @@ IsTickets (ReadStep read) = IsReaders (ReadStep read)
 IsTickets step = Unit {0}
 
 -- what a step is that has the key
-abbrev Made : Step → Key → Type 0
+abbrev pub Made : Step → Key → Type 0
 Made a DrawKey = (count : ℕ) × (a ≡ DrawStep count)
 Made a (BeginKey name) = a ≡ BeginStep name
 Made a (CommitKey name) = a ≡ CommitStep name
@@ -56,7 +57,7 @@ Made a (RemovalKey name) = (names : List BlobName) × (a ≡ PruneStep (RemoveDo
 Made a EndKey = Unit {0}
 Made a ClientKey = IsTickets a → ⊥
 
-made : (a : Step) → Made a (key a)
+pub made : (a : Step) → Made a (key a)
 made (DrawStep count) = (count, refl)
 made (BeginStep name) = refl
 made (CommitStep name) = refl
@@ -137,7 +138,7 @@ on_off : (b : Bool) → b ≡ true → b ≡ false → ⊥
 on_off b on off = let clash : true ≡ false = sym on ∙ off in cc
 
 put_over : (tickets : FinMap nat_cmp Ticket) (k : ℕ) (v : Ticket) → v.out ≡ false → (t : Ticket) → fin.get (fin.insert tickets k v) k ≡ Some t → t.out ≡ false
-put_over tickets k v off t there = ap (λ (x : Ticket). x.out) (some_same t v (sym there ∙ get_same tickets k v)) ∙ off
+put_over tickets k v off t there = ap (λ (x : Ticket). x.out) (same_Some t v (sym there ∙ same_in tickets k v)) ∙ off
 
 -- the step has ended the ticket, and left those of restores
 abbrev Closes : World → ℕ → World → Type 0
@@ -197,7 +198,7 @@ module _ (w : World) (k : ℕ) (t : Ticket) (there : fin.get w.tickets k ≡ Som
   over_ticket reads new c = (c.0, λ q there_q. absurd (reads.apart.tickets k q t (subst (λ (m : FinMap nat_cmp Reader). fin.get m k ≡ Some q) c.1 there_q) there))
 
 put_read : (readers : FinMap nat_cmp Reader) (k : ℕ) (v : Reader) → v.out ≡ false → (q : Reader) → fin.get (fin.insert readers k v) k ≡ Some q → q.out ≡ false
-put_read readers k v off q there = ap (λ (x : Reader). x.out) (some_same q v (sym there ∙ get_same readers k v)) ∙ off
+put_read readers k v off q there = ap (λ (x : Reader). x.out) (same_Some q v (sym there ∙ same_in readers k v)) ∙ off
 
 over_reader : (w : World) (k : ℕ) (q : Reader) (state : ReadState) → ReadTracked w → IsReading w k q → IsOver (read_over w k state (fin.get w.readers k)).tickets (read_over w k state (fin.get w.readers k)).readers k
 over_reader w k q state reads reading =

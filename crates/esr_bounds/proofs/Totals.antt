@@ -5,6 +5,8 @@ use Rattle.std.proofs.lemmas.List.{length-append}
 use Rattle.std.proofs.Math.Nat.{mul-le-mul_right, zero-mul, suc-mul, mul-add, add-mul}
 use Rattle.std.specs.FinMap.{FinMap}
 use Rattle.std.specs.FinMap as fin
+use Rattle.std.proofs.lemmas.Option.{none-some}
+use Rattle.esr_model.specs.Lists.{Has-left, Has-right, Has-either, Has-map}
 use Rattle.esr_model.specs.Values.{Bytes, Has, IndexRef, SnapInfo, ShardResult, Formats}
 use Rattle.esr_model.specs.Shelf.{Command}
 use Rattle.esr_model.specs.Places.{numbered, places}
@@ -21,10 +23,9 @@ use Rattle.esr_core.specs.History.{world_from, IsLegal, AllKnown}
 use Rattle.esr_bounds.specs.Keys.{made_by, AreHeard, IsHeard}
 use Rattle.esr_bounds.specs.Most.{most_of_shard, most_of_final, most_of_drop}
 use Rattle.esr_bounds.specs.Units.{IsFinalize, IsDropped, asked_counts}
-use Rattle.esr_bounds.specs.Work.{work_of_shards, work_of_indices, count_of_shards, most_of_copy, shards_work, op_work, work_of, elections_by, elections_in, idle_in, made_if_delete, made_besides, made_of_others}
+use Rattle.esr_bounds.specs.Work.{work_of_shards, work_of_indices, count_of_shards, most_of_copy, shards_work, op_work, work_of, asks_by, asks_in, elections_by, elections_in, idle_in, made_if_delete, made_besides, made_of_others}
 use Rattle.esr_bounds.specs.Laws.{StepLaws, MasterLaws}
-use Rattle.esr_core.specs.NumberMaps.{none_some, nothing}
-use Rattle.esr_bounds.proofs.Names.{in_front, in_back, in_either, in_map}
+use Rattle.esr_core.specs.Laws.NumberMaps.{nothing}
 use Rattle.esr_bounds.proofs.Counting.{total, total_append, light_once, made_upto, all_made, units_upto, with_takes, gave_by, gave_in, nobody_made}
 use Rattle.esr_bounds.proofs.Once.{turn_of}
 use Rattle.esr_bounds.proofs.Bounded.{shard_few, final_few, drop_few}
@@ -34,10 +35,10 @@ use Rattle.esr_bounds.proofs.Items.{Item, item_of, ticket_item, most_of_item, as
 
 -- ---- what tickets up to a number have of a kind
 
-once_append : {A : Type 0} (xs ys : List A) → AreOnce xs → AreOnce ys → ((z : A) → Has xs z → Has ys z → ⊥) → AreOnce (xs ++ ys)
+pub once_append : {A : Type 0} (xs ys : List A) → AreOnce xs → AreOnce ys → ((z : A) → Has xs z → Has ys z → ⊥) → AreOnce (xs ++ ys)
 once_append [] ys once also apart = also
 once_append (x ∷ xs) ys once also apart =
-    (λ h. ⊎_elim (λ (here : Has xs x). once.0 here) (λ (there : Has ys x). apart x (inl refl) there) (in_either xs ys x h), once_append xs ys once.1 also (λ z a b. apart z (inr a) b))
+    (λ h. ⊎_elim (λ (here : Has xs x). once.0 here) (λ (there : Has ys x). apart x (inl refl) there) (Has-either xs ys x h), once_append xs ys once.1 also (λ z a b. apart z (inr a) b))
 
 module _ {A : Type 0} (of : Ticket → Work → List A) where
   abbrev pub at : Option Ticket → List A
@@ -52,9 +53,9 @@ module _ {A : Type 0} (of : Ticket → Work → List A) where
   of_at None x h = absurd h
   of_at (Some t) x h = (t, refl, h)
 
-  of_upto : (tickets : FinMap nat_cmp Ticket) (n : ℕ) (x : A) → Has (upto tickets n) x → (k : ℕ) × (k ≤ n) × (t : Ticket) × (fin.get tickets k ≡ Some t) × Has (of t t.work) x
+  pub of_upto : (tickets : FinMap nat_cmp Ticket) (n : ℕ) (x : A) → Has (upto tickets n) x → (k : ℕ) × (k ≤ n) × (t : Ticket) × (fin.get tickets k ≡ Some t) × Has (of t t.work) x
   of_upto tickets zero x h = absurd h
-  of_upto tickets (suc n) x h = elim (in_either (at (fin.get tickets (suc n))) (upto tickets n) x h) [
+  of_upto tickets (suc n) x h = elim (Has-either (at (fin.get tickets (suc n))) (upto tickets n) x h) [
     | inl here ↦ let r = of_at (fin.get tickets (suc n)) x here in (suc n, same_le (suc n), r.0, r.1, r.2)
     | inr there ↦ let r = of_upto tickets n x there in (r.0, up r.0 n r.1, r.2, r.3, r.4)
   ]
@@ -65,7 +66,7 @@ module _ {A : Type 0} (of : Ticket → Work → List A) where
       up : (a b : ℕ) → a ≤ b → a ≤ suc b
       up a b h = let less : a ≤ b = h in omega (arith, less)
 
-  once_upto : (tickets : FinMap nat_cmp Ticket) → ((t : Ticket) → AreOnce (of t t.work))
+  pub once_upto : (tickets : FinMap nat_cmp Ticket) → ((t : Ticket) → AreOnce (of t t.work))
       → ((j k : ℕ) (t u : Ticket) (x : A) → fin.get tickets j ≡ Some t → fin.get tickets k ≡ Some u → Has (of t t.work) x → Has (of u u.work) x → j ≡ k) → (n : ℕ) → AreOnce (upto tickets n)
   once_upto tickets single one zero = tt
   once_upto tickets single one (suc n) =
@@ -211,7 +212,7 @@ module _ (w : World) (given : GivenOnce w) (once : MastersOnce w) where
 -- ---- and is among what was asked
 
 -- so many numbers from the first on
-abbrev numbers : ℕ → ℕ → List ℕ
+abbrev pub numbers : ℕ → ℕ → List ℕ
 numbers first zero = []
 numbers first (suc n) = first ∷ numbers (suc first) n
 
@@ -228,13 +229,13 @@ in_numbers first (suc n) x from below = elim (eqb_tells first x) [
     beyond : (a c b : ℕ) → b < a + suc c → b < suc a + c
     beyond a c b under = let less : b < a + suc c = under in omega (arith, less)
 
-times_more : (n c : ℕ) → c + n * c ≡ suc n * c
+pub times_more : (n c : ℕ) → c + n * c ≡ suc n * c
 times_more n c = flip c (n * c) ∙ sym (suc-mul n c)
   where
     flip : (a b : ℕ) → a + b ≡ b + a
     flip a b = omega arith
 
-total_numbers : {A : Type 0} (g : ℕ → A) (weight : A → ℕ) (c first n : ℕ) → ((x : ℕ) → weight (g x) ≡ c) → total weight (map g (numbers first n)) ≡ n * c
+pub total_numbers : {A : Type 0} (g : ℕ → A) (weight : A → ℕ) (c first n : ℕ) → ((x : ℕ) → weight (g x) ≡ c) → total weight (map g (numbers first n)) ≡ n * c
 total_numbers g weight c first zero same = sym (zero-mul c)
 total_numbers g weight c first (suc n) same = ap (λ k. k + total weight (map g (numbers (suc first) n))) (same first) ∙ ap (λ k. c + k) (total_numbers g weight c (suc first) n same) ∙ times_more n c
 
@@ -249,12 +250,12 @@ finals_in first terms (c ∷ counts) = map (final_at c) (numbers first terms) ++
 in_finals : (first terms : ℕ) (counts : List (ℕ × ℕ)) (c : ℕ × ℕ) (term : ℕ) → Has counts c → Has (numbers first terms) term → Has (finals_in first terms counts) (final_at c term)
 in_finals first terms [] c term h among = absurd h
 in_finals first terms (d ∷ counts) c term (inl e) among =
-    in_front (map (final_at d) (numbers first terms)) (finals_in first terms counts) (final_at c term)
-    (subst (λ (y : ℕ × ℕ). Has (map (final_at d) (numbers first terms)) (final_at y term)) e (in_map (final_at d) (numbers first terms) term among))
+    Has-left (map (final_at d) (numbers first terms)) (finals_in first terms counts) (final_at c term)
+    (subst (λ (y : ℕ × ℕ). Has (map (final_at d) (numbers first terms)) (final_at y term)) e (Has-map (final_at d) (numbers first terms) term among))
 in_finals first terms (d ∷ counts) c term (inr h) among =
-    in_back (map (final_at d) (numbers first terms)) (finals_in first terms counts) (final_at c term) (in_finals first terms counts c term h among)
+    Has-right (map (final_at d) (numbers first terms)) (finals_in first terms counts) (final_at c term) (in_finals first terms counts c term h among)
 
-abbrev count_weight : ℕ → ℕ × ℕ → ℕ
+abbrev pub count_weight : ℕ → ℕ × ℕ → ℕ
 count_weight terms c = terms * suc (most_of_final c.1)
 
 total_finals : (first terms : ℕ) (counts : List (ℕ × ℕ)) → total final_weight (finals_in first terms counts) ≡ total (count_weight terms) counts
@@ -265,20 +266,20 @@ total_finals first terms (c ∷ counts) =
     ∙ ap (λ n. terms * suc (most_of_final c.1) + n) (total_finals first terms counts)
 
 -- each number of an op in each term
-abbrev drop_at : ℕ → ℕ → ℕ × ℕ
+abbrev pub drop_at : ℕ → ℕ → ℕ × ℕ
 drop_at o term = (o, term)
 
-abbrev drops_in : ℕ → ℕ → ℕ → List (ℕ × ℕ)
+abbrev pub drops_in : ℕ → ℕ → ℕ → List (ℕ × ℕ)
 drops_in first terms zero = []
 drops_in first terms (suc ops) = map (drop_at ops) (numbers first terms) ++ drops_in first terms ops
 
-in_drops : (first terms ops o term : ℕ) → o < ops → Has (numbers first terms) term → Has (drops_in first terms ops) (drop_at o term)
+pub in_drops : (first terms ops o term : ℕ) → o < ops → Has (numbers first terms) term → Has (drops_in first terms ops) (drop_at o term)
 in_drops first terms zero o term below among = let never : o < 0 = below in absurd (omega (arith, never))
 in_drops first terms (suc ops) o term below among = elim (eqb_tells ops o) [
   | inl here ↦
-      in_front (map (drop_at ops) (numbers first terms)) (drops_in first terms ops) (drop_at o term)
-      (subst (λ (y : ℕ). Has (map (drop_at ops) (numbers first terms)) (drop_at y term)) here.1 (in_map (drop_at ops) (numbers first terms) term among))
-  | inr other ↦ in_back (map (drop_at ops) (numbers first terms)) (drops_in first terms ops) (drop_at o term) (in_drops first terms ops o term (under ops o below other.1) among)
+      Has-left (map (drop_at ops) (numbers first terms)) (drops_in first terms ops) (drop_at o term)
+      (subst (λ (y : ℕ). Has (map (drop_at ops) (numbers first terms)) (drop_at y term)) here.1 (Has-map (drop_at ops) (numbers first terms) term among))
+  | inr other ↦ Has-right (map (drop_at ops) (numbers first terms)) (drops_in first terms ops) (drop_at o term) (in_drops first terms ops o term (under ops o below other.1) among)
 ]
   where
     under : (a b : ℕ) → b < suc a → (a ≡ b → ⊥) → b < a
@@ -298,9 +299,17 @@ total_map : {A B : Type 0} (weight : B → ℕ) (g : A → B) (xs : List A) → 
 total_map weight g [] = refl
 total_map weight g (x ∷ xs) = ap (λ n. weight (g x) + n) (total_map weight g xs)
 
-total_same : {A : Type 0} (weight : A → ℕ) (c : ℕ) (xs : List A) → ((x : A) → weight x ≡ c) → total weight xs ≡ length xs * c
+pub total_same : {A : Type 0} (weight : A → ℕ) (c : ℕ) (xs : List A) → ((x : A) → weight x ≡ c) → total weight xs ≡ length xs * c
 total_same weight c [] same = sym (zero-mul c)
 total_same weight c (x ∷ xs) same = ap (λ k. k + total weight xs) (same x) ∙ ap (λ k. c + k) (total_same weight c xs same) ∙ times_more (length xs) c
+
+length_numbered : (r : IndexRef) (first n : ℕ) → length (numbered r first n) ≡ n
+length_numbered r first zero = refl
+length_numbered r first (suc n) = ap suc (length_numbered r (suc first) n)
+
+pub length_places : (refs : List IndexRef) → length (places refs) ≡ count_of_shards refs
+length_places [] = refl
+length_places (r ∷ refs) = length-append (numbered r 0 r.shards) (places refs) ∙ ap (λ n. n + length (places refs)) (length_numbered r 0 r.shards) ∙ ap (λ n. r.shards + n) (length_places refs)
 
 module _ (f : Formats) (size : ℕ) (w : World) where
   abbrev shard_weight : Option ℕ → ShardWork → ℕ
@@ -326,14 +335,6 @@ module _ (f : Formats) (size : ℕ) (w : World) where
       ∙ ap (λ n. n + total (shard_weight None) (all_pending indices (refs_from w (next_by (known_id w a.name) next) indices))) (pending_weight a r 0 r.shards (ref_name a (known_id w a.name) next) ∙ ap (work_of_shards f size a 0) (ref_shards a (known_id w a.name) next))
       ∙ ap (λ n. work_of_shards f size a 0 a.shards + n) (indices_weight (next_by (known_id w a.name) next) indices)
 
-  length_numbered : (r : IndexRef) (first n : ℕ) → length (numbered r first n) ≡ n
-  length_numbered r first zero = refl
-  length_numbered r first (suc n) = ap suc (length_numbered r (suc first) n)
-
-  length_places : (refs : List IndexRef) → length (places refs) ≡ count_of_shards refs
-  length_places [] = refl
-  length_places (r ∷ refs) = length-append (numbered r 0 r.shards) (places refs) ∙ ap (λ n. n + length (places refs)) (length_numbered r 0 r.shards) ∙ ap (λ n. r.shards + n) (length_places refs)
-
   clone_weight : (source : ℕ) (refs : List IndexRef) → total (most_of_item f size) (map (item_of w.next_op (Some source)) (map copied_shard (places refs))) ≡ count_of_shards refs * most_of_copy
   clone_weight source refs =
       total_map (most_of_item f size) (item_of w.next_op (Some source)) (map copied_shard (places refs))
@@ -356,13 +357,6 @@ module _ (f : Formats) (size : ℕ) (w : World) where
   length_refs next (a ∷ indices) = ap suc (length_refs (next_by (known_id w a.name) next) indices)
 
 -- whether the step asks for an op
-abbrev pub asks_by : Step → ℕ
-asks_by (AskStep command) = 1
-asks_by step = 0
-
-abbrev pub asks_in : List Moment → ℕ
-asks_in [] = 0
-asks_in (m ∷ log) = asks_by m.entry.step + asks_in log
 
 spread : (terms a b : ℕ) → (terms * a + 0) + 1 * (terms * b) ≡ terms * (a + b)
 spread terms a b = ap (λ n. (terms * a + 0) + n) (one_times (terms * b)) ∙ no_more (terms * a) (terms * b) ∙ sym (mul-add terms a b)
@@ -401,7 +395,7 @@ op_weight f size terms w step = none terms (terms * suc most_of_drop)
 zeros : (x : ℕ) → 0 + (0 + 0 * x) ≡ 0
 zeros x = omega arith
 
-all_weight : (f : Formats) (size terms : ℕ) (w : World) (log : List Moment)
+pub all_weight : (f : Formats) (size terms : ℕ) (w : World) (log : List Moment)
     → total (most_of_item f size) (all_items f w log) + (total (count_weight terms) (all_counts f w log) + asks_in log * (terms * suc most_of_drop)) ≡ work_of f size terms log
 all_weight f size terms w [] = zeros (terms * suc most_of_drop)
 all_weight f size terms w (m ∷ log) =
@@ -464,7 +458,7 @@ ask_one (AskStep command) h = refl
 ask_one step h = absurd h
 
 module _ (f : Formats) (size : ℕ) (laws : MasterLaws f size) where
-  ops_few : (w : World) (log : List Moment) → (world_from f w log).next_op ≤ w.next_op + asks_in log
+  pub ops_few : (w : World) (log : List Moment) → (world_from f w log).next_op ≤ w.next_op + asks_in log
   ops_few w [] = let same : w.next_op ≤ w.next_op + 0 = omega arith in same
   ops_few w (m ∷ log) = both (world_from f (after f w m) log).next_op (after f w m).next_op w.next_op (asks_by m.entry.step) (asks_in log) (ops_few (after f w m) log) (one (next_on f w m.entry.who m.entry.step (answered f w m.entry.who m.entry.step m.entry.reply m.image) (laws.change w m.entry.who m.entry.step m.entry.reply m.image)))
     where
@@ -522,11 +516,11 @@ module _ (f : Formats) (size : ℕ) (steps : StepLaws f size) where
 
   -- each unit that is given has a number of its own
   given_shard_next : (w : World) (o : ℕ) (op : Op) (base : Option ℕ) (s : Option ShardWork) (z : ShardWork) → s ≡ Some z → suc w.next_ticket ≤ (taken_shard w o op base s).next_ticket
-  given_shard_next w o op base None z is = absurd (none_some z is)
+  given_shard_next w o op base None z is = absurd (none-some z is)
   given_shard_next w o op base (Some s) z is = same_le (suc w.next_ticket)
 
   given_restore_next : (w : World) (o : ℕ) (r : Restoring) (s : Option RestoreShard) (z : RestoreShard) → s ≡ Some z → suc w.next_ticket ≤ (taken_restore_shard w o r s).next_ticket
-  given_restore_next w o r None z is = absurd (none_some z is)
+  given_restore_next w o r None z is = absurd (none-some z is)
   given_restore_next w o r (Some s) z is = same_le (suc w.next_ticket)
 
   unit_next : (w : World) (o : ℕ) (unit : Given) → Gives f w o unit → suc w.next_ticket ≤ (taken_by f w o unit (fin.get w.ops o)).next_ticket
@@ -566,7 +560,7 @@ module _ (f : Formats) (size : ℕ) (steps : StepLaws f size) where
       let rest : gave_in log + (after f w m).next_ticket ≤ (world_from f (after f w m) log).next_ticket = gave_few gave (after f w m) log legal.1 in
       omega (arith, first, rest)
 
-  makers_below : (w : World) (log : List Moment) → Tracked w → ReadTracked w → IsLegal f size w log → AreHeard log → (m : Moment) → Has log m → Below (world_from f w log) m
+  pub makers_below : (w : World) (log : List Moment) → Tracked w → ReadTracked w → IsLegal f size w log → AreHeard log → (m : Moment) → Has log m → Below (world_from f w log) m
   makers_below w [] tracked reads legal heard m h = absurd h
   makers_below w (x ∷ log) tracked reads legal heard m (inr h) = makers_below (after f w x) log (steps.tracks w x tracked legal.0) (steps.reads w x tracked reads legal.0) legal.1 (λ n had. heard n (inr had)) m h
   makers_below w (x ∷ log) tracked reads legal heard m (inl same) = subst (Below (world_from f w (x ∷ log))) same (by (zero_or x.entry.who))
@@ -592,13 +586,13 @@ module _ (f : Formats) (size : ℕ) (known : AllKnown f) (steps : StepLaws f siz
   given : GivenOnce last
   given = log_once f size masters.change masters.frame masters.tracks w log h.tracked (untouched_once w h.untouched) h.legal
 
-  once : MastersOnce last
+  pub once : MastersOnce last
   once = masters_log f size masters w log h.tracked h.readers (untouched_masters w h.untouched) h.legal
 
   all : AllIn (all_items f w log) (all_counts f w log) last
   all = all_in f size masters w log h.tracked h.readers (untouched_masters w h.untouched) h.untouched h.legal
 
-  tracked_last : Tracked last
+  pub tracked_last : Tracked last
   tracked_last = on w log h.tracked h.legal
     where
       on : (v : World) (rest : List Moment) → Tracked v → IsLegal f size v rest → Tracked (world_from f v rest)
@@ -606,7 +600,7 @@ module _ (f : Formats) (size : ℕ) (known : AllKnown f) (steps : StepLaws f siz
       on v (m ∷ rest) tracked legal = on (after f v m) rest (masters.tracks v m tracked legal.0) legal.1
 
   -- the term of a ticket is one of these
-  term_in : (k : ℕ) (t : Ticket) → fin.get last.tickets k ≡ Some t → Has (numbers w.term terms) t.term
+  pub term_in : (k : ℕ) (t : Ticket) → fin.get last.tickets k ≡ Some t → Has (numbers w.term terms) t.term
   term_in k t there =
       let from : w.term ≤ t.term = (terms_from f size masters w.term w log (first_le w.term, λ j u at. absurd (nothing w.tickets j u h.untouched.tickets at))).1 k t there in
       let upto_last : t.term ≤ last.term = (tracked_last.tickets k t there).1 in
@@ -641,15 +635,15 @@ module _ (f : Formats) (size : ℕ) (known : AllKnown f) (steps : StepLaws f siz
   drop_in t (Finalize info results made) k x is there never = absurd never
   drop_in t (Deleting uuids plan) k x is there never = absurd never
 
-  items_few : total (most_of_item f size) (upto shard_of_ticket last.tickets last.next_ticket) ≤ total (most_of_item f size) (all_items f w log)
+  pub items_few : total (most_of_item f size) (upto shard_of_ticket last.tickets last.next_ticket) ≤ total (most_of_item f size) (all_items f w log)
   items_few = light_once (most_of_item f size) (upto shard_of_ticket last.tickets last.next_ticket) (all_items f w log) (items_once last given once last.next_ticket) (λ x had. let r = of_upto shard_of_ticket last.tickets last.next_ticket x had in item_in r.2 r.2.work r.0 x refl r.3 r.4)
 
-  finals_few : total final_weight (upto final_of_ticket last.tickets last.next_ticket) ≤ total (count_weight terms) (all_counts f w log)
+  pub finals_few : total final_weight (upto final_of_ticket last.tickets last.next_ticket) ≤ total (count_weight terms) (all_counts f w log)
   finals_few =
       subst (λ n. total final_weight (upto final_of_ticket last.tickets last.next_ticket) ≤ n) (total_finals w.term terms (all_counts f w log))
       (light_once final_weight (upto final_of_ticket last.tickets last.next_ticket) (finals_in w.term terms (all_counts f w log)) (finals_once last given once last.next_ticket) (λ x had. let r = of_upto final_of_ticket last.tickets last.next_ticket x had in final_in r.2 r.2.work r.0 x refl r.3 r.4))
 
-  drops_few : total drop_weight (upto drop_of_ticket last.tickets last.next_ticket) ≤ (w.next_op + asks_in log) * (terms * suc most_of_drop)
+  pub drops_few : total drop_weight (upto drop_of_ticket last.tickets last.next_ticket) ≤ (w.next_op + asks_in log) * (terms * suc most_of_drop)
   drops_few =
       both (total drop_weight (upto drop_of_ticket last.tickets last.next_ticket)) (last.next_op * (terms * suc most_of_drop)) ((w.next_op + asks_in log) * (terms * suc most_of_drop))
       (subst (λ n. total drop_weight (upto drop_of_ticket last.tickets last.next_ticket) ≤ n) (total_drops w.term terms last.next_op)

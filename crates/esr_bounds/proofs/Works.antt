@@ -3,6 +3,8 @@ use Rattle.std.proofs.Common.{◌≡◌, ◌⊎◌, ℕ, zero, suc, ◌+◌, Lis
 use Rattle.std.specs.Prelude.{option_map, if◌then◌else◌, ◌==◌, ◌&&◌}
 use Rattle.std.specs.FinMap.{FinMap}
 use Rattle.std.specs.FinMap as fin
+use Rattle.std.proofs.lemmas.Option.{same_Some, none-some}
+use Rattle.esr_model.specs.Lists.{Has-mapped}
 use Rattle.esr_model.specs.Names.{BlobName}
 use Rattle.esr_model.specs.Values.{Bytes, Has, ShardResult, Formats}
 use Rattle.esr_model.specs.Image.{Image}
@@ -16,9 +18,8 @@ use Rattle.esr_core.specs.Deletes.{named_uuids, waiting_delete, running_delete, 
 use Rattle.esr_core.specs.Entry.{AskedIndex, CloneOf, Snapshot, Clone, DeleteSnapshots, Restore, Cleanup, Given, GivenShard, GivenClone, GivenFinalize, GivenDrop, GivenRestore, GivenDelete, GivenCleanup, Read, ReadBlob, RestoredShard, DrawTest, CommitTest, ReadFails, Prune, FetchShard, PlanShards, SettlePruned, RemoveDoomed, EndDelete, DeleteFails, Step, AskStep, TakeStep, DrawStep, BeginStep, CommitStep, LatestStep, FetchStep, ListStep, RaiseStep, SettleStep, DoneStep, FailedStep, FinishStep, DroppedStep, ElectStep, ReadStep, PruneStep, DepotFault, Reply, Gave, DrawnFrom, WasDone, WasThere, WasFetched, WasListed, HasEnded, Refused, AcceptedRestore}
 use Rattle.esr_core.specs.After.{asked_op, cloned_op, asked, shard_of, taken_shard, taken_restore_shard, taken_restore, taken_by, with_given, committing, told_blob, fetching, settled_by, settled_of, done_by, done_of, is_stale, failed_by, failed_of, dropped_of, delete_settled_by, delete_settled, delete_failed_by, delete_failed, prune_step, read_told, shard_over, read_over, read_step, read_by, done_step, has_text, fallen, is_latest, tried, test_left, faulted, answered}
 use Rattle.esr_bounds.specs.Units.{asked_indices, asked_source, asked_shards, asked_counts}
-use Rattle.esr_core.specs.NumberMaps.{some_same, none_some, get_was, get_left}
-use Rattle.esr_core.specs.AbortLaws.{aborted_at}
-use Rattle.esr_bounds.proofs.Names.{of_map}
+use Rattle.esr_core.specs.Laws.NumberMaps.{was_in, left_in}
+use Rattle.esr_core.specs.Laws.AbortLaws.{aborted_at}
 
 -- ---- one op
 
@@ -107,7 +108,7 @@ failed_shard k s GivenUp = same_shard s
 
 each_on : (g : ShardWork → ShardWork) → ((s : ShardWork) → SameShard (g s) s) → (shards : List ShardWork) → ShardsOn shards (map g shards)
 each_on g same shards s h =
-    let r = of_map g shards s h in
+    let r = Has-mapped g shards s h in
     let one = same r.0 in
     (r.0, r.1, ap (λ (x : ShardWork). x.ref) (sym r.2) ∙ one.0, ap (λ (x : ShardWork). x.number) (sym r.2) ∙ one.1, ap (λ (x : ShardWork). x.place) (sym r.2) ∙ one.2, λ pending. one.3 (ap (λ (x : ShardWork). x.state) r.2 ∙ pending))
 
@@ -140,7 +141,7 @@ either_read new s false later = same_read s
 
 each_read : (g : RestoreShard → RestoreShard) → ((s : RestoreShard) → SameRead (g s) s) → (shards : List RestoreShard) → ReadsOn shards (map g shards)
 each_read g same shards s h =
-    let r = of_map g shards s h in
+    let r = Has-mapped g shards s h in
     let one = same r.0 in
     (r.0, r.1, ap (λ (x : RestoreShard). x.ref) (sym r.2) ∙ one.0, ap (λ (x : RestoreShard). x.number) (sym r.2) ∙ one.1, λ unread. one.2 (ap (λ (x : RestoreShard). x.state) r.2 ∙ unread))
 
@@ -162,8 +163,8 @@ ended_on k new shards later = each_read (ended k new) (λ s. ended_read k new s 
 -- a restore that is put or leaves
 put_was : (restores : FinMap nat_cmp Restoring) (o : ℕ) (r : Restoring) (p : ℕ) (v : Restoring) (b : Bool) → fin.get (if b then fin.insert restores o r else fin.remove restores o) p ≡ Some v
     → ((p ≡ o) × (r ≡ v)) ⊎ (fin.get restores p ≡ Some v)
-put_was restores o r p v true e = elim (get_was restores o r p v e) [ inl h ↦ inl h | inr h ↦ inr h.1 ]
-put_was restores o r p v false e = inr (get_left restores o p v e).1
+put_was restores o r p v true e = elim (was_in restores o r p v e) [ inl h ↦ inl h | inr h ↦ inr h.1 ]
+put_was restores o r p v false e = inr (left_in restores o p v e).1
 
 -- ---- ops that a delete aborts
 
@@ -181,7 +182,7 @@ module _ (w : World) (uuids : List ℕ) (by : ℕ) where
   now_was o op there = choose (aborts_op w uuids (o, op))
     where
       never : Some by ≡ None → op.aborted ≡ None
-      never h = absurd (none_some by (sym h))
+      never h = absurd (none-some by (sym h))
 
       choose : (b : Bool) → WasOp w o ((λ (e : ℕ × Op). e.1) (if b then (o, record op { aborted = Some by }) else (o, op)))
       choose true = record { op = op; there = there; indices = refl; source = refl; shards = shards_same op.shards; failed = λ h. h; aborted = never }
@@ -191,8 +192,8 @@ module _ (w : World) (uuids : List ℕ) (by : ℕ) where
   aborted_was o v e = at (fin.get w.ops o) refl (sym (get_at o) ∙ e)
     where
       at : (found : Option Op) → fin.get w.ops o ≡ found → option_map (now_at o) found ≡ Some v → WasOp w o v
-      at None is e = absurd (none_some v e)
-      at (Some op) is e = subst (WasOp w o) (some_same (now_at o op) v e) (now_was o op is)
+      at None is e = absurd (none-some v e)
+      at (Some op) is e = subst (WasOp w o) (same_Some (now_at o op) v e) (now_was o op is)
 
 -- ---- the maps
 
@@ -201,20 +202,20 @@ module _ (w : World) (step : Step) where
   ops_same o v e = inr (was_same w o v e)
 
   ops_put : (o : ℕ) (v : Op) → WasOp w o v → OpsOn w step (fin.insert w.ops o v)
-  ops_put o v was p x e = elim (get_was w.ops o v p x e) [
+  ops_put o v was p x e = elim (was_in w.ops o v p x e) [
     | inl here ↦ inr (subst (λ (n : ℕ). WasOp w n x) (sym here.0) (subst (WasOp w o) here.1 was))
     | inr other ↦ inr (was_same w p x other.1)
   ]
 
   ops_asked : (v : Op) → v.indices ≡ asked_indices w step → v.source ≡ asked_source step → v.shards ≡ asked_shards w step → asked_counts w step ≡ (w.next_op, length (asked_indices w step)) ∷ []
       → OpsOn w step (fin.insert w.ops w.next_op v)
-  ops_asked v indices source shards counted p x e = elim (get_was w.ops w.next_op v p x e) [
+  ops_asked v indices source shards counted p x e = elim (was_in w.ops w.next_op v p x e) [
     | inl here ↦ inl (record { number = here.0; indices = ap (λ (y : Op). y.indices) (sym here.1) ∙ indices; source = ap (λ (y : Op). y.source) (sym here.1) ∙ source; shards = ap (λ (y : Op). y.shards) (sym here.1) ∙ shards; counted = counted })
     | inr other ↦ inr (was_same w p x other.1)
   ]
 
   ops_left : (o : ℕ) → OpsOn w step (fin.remove w.ops o)
-  ops_left o p x e = inr (was_same w p x (get_left w.ops o p x e).1)
+  ops_left o p x e = inr (was_same w p x (left_in w.ops o p x e).1)
 
   ops_aborted : (uuids : List ℕ) (by : ℕ) → OpsOn w step (aborted_ops w uuids by)
   ops_aborted uuids by o v e = inr (aborted_was w uuids by o v e)
@@ -223,7 +224,7 @@ module _ (w : World) (step : Step) where
   restores_same o v e = inr (restore_same w o v e)
 
   restores_put : (o : ℕ) (r : Restoring) → WasRestore w o r → RestoresOn w (fin.insert w.restores o r)
-  restores_put o r was p x e = elim (get_was w.restores o r p x e) [
+  restores_put o r was p x e = elim (was_in w.restores o r p x e) [
     | inl here ↦ inr (subst (λ (n : ℕ). WasRestore w n x) (sym here.0) (subst (WasRestore w o) here.1 was))
     | inr other ↦ inr (restore_same w p x other.1)
   ]

@@ -4,3 +4,4 @@ pub mod Units
 pub mod Work
 pub mod Clients
 pub mod Laws
+pub mod Others

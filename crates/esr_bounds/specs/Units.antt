@@ -1,12 +1,13 @@
 -- Which shards are asked, and which tickets an op has in a term.
-use Rattle.std.specs.Prelude.{◌≡◌, ℕ, suc, List, [], ◌∷◌, length, map, Option, Some, None}
+use Rattle.std.specs.Prelude.{◌≡◌, ℕ, suc, ◌+◌, List, [], ◌∷◌, length, map, Option, Some, None}
 use Rattle.std.specs.Ordering.{nat_cmp}
 use Rattle.std.specs.FinMap.{FinMap}
 use Rattle.std.specs.FinMap as fin
 use Rattle.esr_model.specs.Values.{IndexRef}
 use Rattle.esr_model.specs.Places.{places}
 use Rattle.esr_core.specs.World.{World, ShardWork, Work, Shard, Finalize, Deleting, Drop, Ticket}
-use Rattle.esr_core.specs.Entry.{Snapshot, Clone, Step, AskStep}
+use Rattle.esr_core.specs.Entry.{AskedIndex, Snapshot, Clone, Step, AskStep, Moment}
+use Rattle.esr_bounds.specs.Work.{count_of_shards}
 use Rattle.esr_core.specs.After.{refs_from, all_pending, copied_shard}
 
 -- the indices and the shards of the op for which the step asks
@@ -30,6 +31,20 @@ abbrev pub asked_counts : World → Step → List (ℕ × ℕ)
 asked_counts w (AskStep (Snapshot name indices moment)) = (w.next_op, length (refs_from w (suc w.next_id) indices)) ∷ []
 asked_counts w (AskStep (Clone source name names moment (Some taken))) = (w.next_op, length taken.indices) ∷ []
 asked_counts w step = []
+
+-- how many shards the step asks for
+abbrev pub count_asked : List AskedIndex → ℕ
+count_asked [] = 0
+count_asked (a ∷ indices) = a.shards + count_asked indices
+
+abbrev pub shards_by : Step → ℕ
+shards_by (AskStep (Snapshot name indices moment)) = count_asked indices
+shards_by (AskStep (Clone source name names moment (Some taken))) = count_of_shards taken.indices
+shards_by step = 0
+
+abbrev pub shards_in : List Moment → ℕ
+shards_in [] = 0
+shards_in (m ∷ log) = shards_by m.entry.step + shards_in log
 
 -- ---- one ticket for an op in a term
 

@@ -3,7 +3,7 @@ use Rattle.std.specs.Prelude.{ℕ, zero, suc, ◌+◌, ◌*◌, List, [], ◌∷
 use Rattle.std.specs.FinMap as fin
 use Rattle.esr_model.specs.Values.{IndexRef, Formats}
 use Rattle.esr_core.specs.World.{Work, Shard, Finalize, Deleting, Drop, Ticket, World}
-use Rattle.esr_core.specs.Entry.{AskedIndex, Snapshot, Clone, Step, AskStep, ElectStep, Reply, Gave, Moment}
+use Rattle.esr_core.specs.Entry.{AskedIndex, Snapshot, Clone, Step, AskStep, ElectStep, Reply, Gave, AcceptedRestore, Moment}
 use Rattle.esr_core.specs.History.{world_from}
 use Rattle.esr_bounds.specs.Keys.{made_by}
 use Rattle.esr_bounds.specs.Most.{most_of_shard, most_of_final, most_of_drop}
@@ -21,6 +21,15 @@ work_of_indices f size (a ∷ indices) = work_of_shards f size a 0 a.shards + wo
 abbrev pub count_of_shards : List IndexRef → ℕ
 count_of_shards [] = 0
 count_of_shards (r ∷ refs) = r.shards + count_of_shards refs
+
+-- the shards of a restore that is accepted
+abbrev pub restores_by : Reply → ℕ
+restores_by (AcceptedRestore o uuid indices) = count_of_shards indices
+restores_by reply = 0
+
+abbrev pub restores_in : List Moment → ℕ
+restores_in [] = 0
+restores_in (m ∷ log) = restores_by m.entry.reply + restores_in log
 
 -- of one shard of a clone: it draws one id, and writes two blobs
 abbrev pub most_of_copy : ℕ
@@ -46,6 +55,15 @@ work_of_step f size terms step = shards_work f size step + terms * op_work step
 abbrev pub work_of : Formats → ℕ → ℕ → List Moment → ℕ
 work_of f size terms [] = 0
 work_of f size terms (m ∷ log) = work_of_step f size terms m.entry.step + work_of f size terms log
+
+-- whether the step asks for an op
+abbrev pub asks_by : Step → ℕ
+asks_by (AskStep command) = 1
+asks_by step = 0
+
+abbrev pub asks_in : List Moment → ℕ
+asks_in [] = 0
+asks_in (m ∷ log) = asks_by m.entry.step + asks_in log
 
 -- how many elections there were to be
 abbrev pub elections_by : Step → ℕ

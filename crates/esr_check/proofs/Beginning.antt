@@ -1,5 +1,6 @@
 -- What a check adds to a history.
 use Rattle.std.proofs.Common.{◌≡◌, inl, inr, ⊎_elim, ℕ, true, List, [], ◌∷◌, ◌++◌, append-nil, append_assoc, Option, Some, None, Result, Ok, Err, refl, sym, ap, ◌∙◌, subst}
+use Rattle.esr_model.specs.Lists.{Has-either}
 use Rattle.esr_model.specs.Names.{BlobName}
 use Rattle.esr_model.specs.Values.{Has}
 use Rattle.esr_core.specs.Entry.{Read, ReadBlob, CheckedAll, ReadFails, Step, LookStep, ReadStep, Reply, Refusal, Refused, HasEnded, Moment}
@@ -18,7 +19,6 @@ use Rattle.esr_desk.specs.Start.{Start}
 use Rattle.esr_desk.specs.Outcome.{Stepped, Refusing, Outcome}
 use Rattle.esr_desk.specs.Grew.{GrewBy, AllOf}
 use Rattle.esr_desk.specs.Check.Shown.{AllFetches, SinceLook}
-use Rattle.esr_reach.specs.Members.{has_either}
 use Rattle.esr_check.specs.Began.{IsOfCheck, AllOfCheck, GrewOfCheck, HasBegun, NotBegun, Begun, AsksOne, NoneChecked}
 use Rattle.esr_check.specs.Went.{Went}
 use Rattle.esr_check.proofs.Living.{front_is, moment_of, stepped_is}
@@ -67,7 +67,8 @@ refusing_of_check : (s : Start) (old new : List Moment) (read : Read) (refusal :
 refusing_of_check s old new read None alone of h = record { more = []; is = front_is s old new 0 alone h ∙ sym (append-nil old); legal = λ was. h.legal; all = tt }
 refusing_of_check s old new read (Some refusal) alone of h = stepped_of_check s old new read (Refused refusal) alone of h
 
-pub outcome_of_check : {X : Type 0} (s : Start) (old new : List Moment) (read : Read) (ok : X → Reply) (result : Result X StepRefusal) → s.alone ≡ true → IsOfCheck read → Outcome s old new 0 (ReadStep read) ok result → GrewOfCheck s old new
+pub outcome_of_check : {X : Type 0} (s : Start) (old new : List Moment) (read : Read) (ok : X → Reply) (result : Result X StepRefusal) → s.alone ≡ true → IsOfCheck read → Outcome s old new 0 (ReadStep read) ok result
+    → GrewOfCheck s old new
 outcome_of_check s old new read ok (Ok x) alone of h = stepped_of_check s old new read (ok x) alone of h
 outcome_of_check s old new read ok (Err e) alone of h = refusing_of_check s old new read (told_refusal e) alone of h.0
 
@@ -152,7 +153,7 @@ unchecked_on old mid new first second = record {
   more = first.more ++ second.more;
   is = second.is ∙ ap (λ (log : List Moment). log ++ second.more) first.is ∙ append_assoc old first.more second.more;
   none = λ m snapshots blobs has at ended.
-      ⊎_elim (λ (a : Has first.more m). first.none m snapshots blobs a at ended) (λ (b : Has second.more m). second.none m snapshots blobs b at ended) (has_either first.more second.more m has);
+      ⊎_elim (λ (a : Has first.more m). first.none m snapshots blobs a at ended) (λ (b : Has second.more m). second.none m snapshots blobs b at ended) (Has-either first.more second.more m has);
 }
 
 fetches_unchecked : (ms : List Moment) (m : Moment) (snapshots blobs : ℕ) → AllFetches ms → Has ms m → m.entry.step ≡ ReadStep (CheckedAll snapshots blobs) → ⊥
@@ -165,7 +166,8 @@ pub went_unchecked : (s : Start) (old new : List Moment) (P : BlobName → Type 
 went_unchecked s old new P went = record { more = went.more; is = went.is; none = λ m snapshots blobs has at ended. fetches_unchecked went.more m snapshots blobs went.all has at }
 
 -- by a step that is another, or was answered otherwise
-stepped_unchecked : (s : Start) (old new : List Moment) (step : Step) (reply : Reply) → s.alone ≡ true → ((snapshots blobs : ℕ) → step ≡ ReadStep (CheckedAll snapshots blobs) → reply ≡ HasEnded → ⊥) → Stepped s old new 0 step reply → NoneChecked old new
+stepped_unchecked : (s : Start) (old new : List Moment) (step : Step) (reply : Reply) → s.alone ≡ true → ((snapshots blobs : ℕ) → step ≡ ReadStep (CheckedAll snapshots blobs) → reply ≡ HasEnded → ⊥)
+    → Stepped s old new 0 step reply → NoneChecked old new
 stepped_unchecked s old new step reply alone other h =
     let one = moment_of s old new step reply alone h in
     record {
@@ -181,7 +183,8 @@ pub refusing_unchecked : (s : Start) (old new : List Moment) (step : Step) (refu
 refusing_unchecked s old new step None alone h = record { more = []; is = front_is s old new 0 alone h ∙ sym (append-nil old); none = λ m snapshots blobs has. absurd has }
 refusing_unchecked s old new step (Some refusal) alone h = stepped_unchecked s old new step (Refused refusal) alone (λ snapshots blobs at ended. cc) h
 
-pub outcome_unchecked : {X : Type 0} (s : Start) (old new : List Moment) (step : Step) (ok : X → Reply) (result : Result X StepRefusal) → s.alone ≡ true → ((snapshots blobs : ℕ) → step ≡ ReadStep (CheckedAll snapshots blobs) → ⊥) → Outcome s old new 0 step ok result → NoneChecked old new
+pub outcome_unchecked : {X : Type 0} (s : Start) (old new : List Moment) (step : Step) (ok : X → Reply) (result : Result X StepRefusal) → s.alone ≡ true → ((snapshots blobs : ℕ) → step ≡ ReadStep (CheckedAll snapshots blobs) → ⊥)
+    → Outcome s old new 0 step ok result → NoneChecked old new
 outcome_unchecked s old new step ok (Ok x) alone other h = stepped_unchecked s old new step (ok x) alone (λ snapshots blobs at ended. other snapshots blobs at) h
 outcome_unchecked s old new step ok (Err e) alone other h = refusing_unchecked s old new step (told_refusal e) alone h.0
 

@@ -46,7 +46,8 @@ use Rattle.esr_check.specs.First.{NamesOne, TellsOne, FirstOf}
 use Rattle.esr_check.specs.Refused.{EndsFailed, StopsCheck, IsCheckRefused}
 use Rattle.esr_check.proofs.Living.{moment_of, stepped_is, world_is, look_alive, look_root, look_snapshots, look_safe, end_blobs, end_safe, in_reach_as}
 use Rattle.esr_check.proofs.Counting.{look_so_far}
-use Rattle.esr_check.proofs.Refusing.{IsDeposal, IsAbort, HowRefused, fetched_all, refused_so, live_refusal, never_aborted}
+use Rattle.esr_check.specs.Fetches.{fetched_all}
+use Rattle.esr_check.proofs.Refusing.{IsDeposal, IsAbort, HowRefused, refused_so, live_refusal, never_aborted}
 use Rattle.esr_check.proofs.Failing.{unreported, ends_failed}
 
 -- ---- the last look of a history
@@ -71,12 +72,14 @@ last_look (x ∷ a) (y ∷ b) m n xs ys same one two all_xs all_ys =
 -- ---- a look
 
 -- it was answered by the root of the world
-pub look_as : (s : Start) (old new : List Moment) (snapshots : List RootSnap) (safe : ℕ) → s.alone ≡ true → Stepped s old new 0 LookStep (Looked snapshots safe) → Stepped s old new 0 LookStep (Looked (world_of s old).root.snapshots (world_of s old).safe)
+pub look_as : (s : Start) (old new : List Moment) (snapshots : List RootSnap) (safe : ℕ) → s.alone ≡ true → Stepped s old new 0 LookStep (Looked snapshots safe)
+    → Stepped s old new 0 LookStep (Looked (world_of s old).root.snapshots (world_of s old).safe)
 look_as s old new snapshots safe alone h =
     subst (λ (n : ℕ). Stepped s old new 0 LookStep (Looked (world_of s old).root.snapshots n)) (look_safe s old new snapshots safe alone h)
     (subst (λ (l : List RootSnap). Stepped s old new 0 LookStep (Looked l safe)) (look_snapshots s old new snapshots safe alone h) h)
 
-pub look_count : (s : Start) (old new : List Moment) (listing : List CodeSnap) (safe n : ℕ) → s.alone ≡ true → Stepped s old new 0 LookStep (Looked (map root_snap_of listing) safe) → n ≡ length listing → n ≡ length (world_of s old).root.snapshots
+pub look_count : (s : Start) (old new : List Moment) (listing : List CodeSnap) (safe n : ℕ) → s.alone ≡ true → Stepped s old new 0 LookStep (Looked (map root_snap_of listing) safe) → n ≡ length listing
+    → n ≡ length (world_of s old).root.snapshots
 look_count s old new listing safe n alone h is =
     is ∙ sym (length-map listing root_snap_of) ∙ ap (λ (l : List RootSnap). length l) (look_snapshots s old new (map root_snap_of listing) safe alone h)
 
@@ -133,7 +136,8 @@ module _ (s : Start) (old first mid : List Moment) (snapshots : List RootSnap) (
       }
 
   module _ {S F H T : Type 0} (e : Evidence S F H T) (law : RefusesSo) (new : List Moment) where
-    for_cause : (why : Why) (b : By S F H T) (result : UnitRefusal) → IsCheckShown e s mid 0 (why_of why) b → NamesOne (FirstOf s mid) (why_of why) → GivenUp hands.Check e s mid new 0 (endings.Failed why b) result → IsReported hands.Check s mid new 0 (endings.Failed why b) result → IsCheckRefused e s old new result
+    for_cause : (why : Why) (b : By S F H T) (result : UnitRefusal) → IsCheckShown e s mid 0 (why_of why) b → NamesOne (FirstOf s mid) (why_of why) → GivenUp hands.Check e s mid new 0 (endings.Failed why b) result
+        → IsReported hands.Check s mid new 0 (endings.Failed why b) result → IsCheckRefused e s old new result
     for_cause why b (units.Failed told) shown named h report =
         let ends = ends_failed e s mid new why b alone shown named report in
         (ap (λ (o : Own). o.caller) h.1, (mid, subst (λ (w : Why). EndsFailed e s mid new w) (sym h.0) ends), has_ended e new why ends)
@@ -173,7 +177,8 @@ module _ (s : Start) (old first mid : List Moment) (snapshots : List RootSnap) (
         by_trouble trouble result was named shown (subst (λ (x : Ending S F H T). GivenUp hands.Check e s mid new 0 x result) is h) (subst (λ (x : Ending S F H T). IsReported hands.Check s mid new 0 x result) is report)
 
 -- the end of the check isn't refused, but for want of memory or of turns
-pub end_stops : RefusesSo → (s : Start) (old mid new : List Moment) (snapshots blobs : ℕ) (e : StepRefusal) → s.alone ≡ true → IsAlive s mid → Refusing s mid new 0 (ReadStep (CheckedAll snapshots blobs)) (told_refusal e) × Grounds s new 0 e → StopsCheck s old new e
+pub end_stops : RefusesSo → (s : Start) (old mid new : List Moment) (snapshots blobs : ℕ) (e : StepRefusal) → s.alone ≡ true → IsAlive s mid
+    → Refusing s mid new 0 (ReadStep (CheckedAll snapshots blobs)) (told_refusal e) × Grounds s new 0 e → StopsCheck s old new e
 end_stops law s old mid new snapshots blobs steps.Memory alone alive h = tt
 end_stops law s old mid new snapshots blobs steps.TurnsSpent alone alive h = h.1
 end_stops law s old mid new snapshots blobs (steps.Refused x) alone alive h = absurd (⊎_elim

@@ -1,6 +1,7 @@
 -- How far a check has come, after its look and after each fetch.
 use Rattle.std.proofs.Common.{◌≡◌, ◌↔◌, inl, inr, ⊎_elim, ℕ, suc, ◌+◌, ◌≤◌, ◌<◌, ◌^◌, Bool, true, false, List, [], ◌∷◌, ◌++◌, append_assoc, length, length-append, Option, Some, None, IfSome, refl, sym, ap, ◌∙◌, subst, arith}
 use Rattle.std.specs.Prelude.{if◌then◌else◌, ◌≢◌}
+use Rattle.esr_model.specs.Lists.{Has-append, Has-left, Has-right}
 use Rattle.esr_model.specs.Names.{BlobName, Latest}
 use Rattle.esr_model.specs.Values.{Bytes, Has, RootSnap}
 use Rattle.esr_model.specs.Image.{Blobs, At}
@@ -21,7 +22,6 @@ use Rattle.esr_desk.specs.declared.hand.Hand.TheVariants as hands
 use Rattle.esr_desk.specs.Caller.{found_by}
 use Rattle.esr_desk.specs.Check.Conditions.{CanCheck}
 use Rattle.esr_desk.specs.Check.Shown.{HasFetched}
-use Rattle.esr_reach.specs.Members.{has_push, has_left, has_right}
 use Rattle.esr_check.specs.Names.{AreUnfetched, Just}
 use Rattle.esr_check.specs.Checked.{AreFetched}
 use Rattle.esr_check.specs.Went.{HasLooked, IsSoFar, Came, Went}
@@ -35,18 +35,21 @@ pub fetch_came : {F : Type 0} (o : Option F) (f : F) (P : F → Type 0) → o �
 fetch_came (Some g) f P is holds = let same : g ≡ f = cc in subst P same holds
 fetch_came None f P is holds = absurd cc
 
-pub step_told : {F : Type 0} (s : Start) (old new : List Moment) (name : BlobName) (o : Option F) (f : F) → o ≡ Some f → Stepped s old new 0 (ReadStep (ReadBlob name)) (fetch_reply o) → Stepped s old new 0 (ReadStep (ReadBlob name)) WasFetched
+pub step_told : {F : Type 0} (s : Start) (old new : List Moment) (name : BlobName) (o : Option F) (f : F) → o ≡ Some f → Stepped s old new 0 (ReadStep (ReadBlob name)) (fetch_reply o)
+    → Stepped s old new 0 (ReadStep (ReadBlob name)) WasFetched
 step_told s old new name None f is h = absurd cc
 step_told s old new name (Some g) f is h = h
 
-pub told_own : {F : Type 0} (left : F → Option Bytes) (o : Option F) (f : F) (s : Start) (name : BlobName) (bytes : Bytes) (c d : Caller) → o ≡ Some f → left f ≡ told_bytes s bytes → d ≡ found_by left name o c → d ≡ caller_told c name (told_bytes s bytes)
+pub told_own : {F : Type 0} (left : F → Option Bytes) (o : Option F) (f : F) (s : Start) (name : BlobName) (bytes : Bytes) (c d : Caller) → o ≡ Some f → left f ≡ told_bytes s bytes → d ≡ found_by left name o c
+    → d ≡ caller_told c name (told_bytes s bytes)
 told_own left None f s name bytes c d is holds own = absurd cc
 told_own {F} left (Some g) f s name bytes c d is holds own =
     let same : g ≡ f = cc in
     own ∙ ap (λ (x : F). caller_told c name (left x)) same ∙ ap (λ (o : Option Bytes). caller_told c name o) holds
 
 -- who 0 has read it
-pub caller_own : {F : Type 0} (left : F → Option Bytes) (s : Start) (old new : List Moment) (name : BlobName) (o : Option F) → own_of s new 0 ≡ own_fetched hands.Check left name o (own_of s old 0) → caller_of s new ≡ found_by left name o (caller_of s old)
+pub caller_own : {F : Type 0} (left : F → Option Bytes) (s : Start) (old new : List Moment) (name : BlobName) (o : Option F) → own_of s new 0 ≡ own_fetched hands.Check left name o (own_of s old 0)
+    → caller_of s new ≡ found_by left name o (caller_of s old)
 caller_own left s old new name o own = ap (λ (o : Own). o.caller) own
 
 -- ---- what is fresh
@@ -86,7 +89,7 @@ are_push (x ∷ moments) (n ∷ names) m name are is = (are.0, are_push moments 
 once_push : (names : List BlobName) (name : BlobName) → AreOnce names → (Has names name → ⊥) → AreOnce (names ++ name ∷ [])
 once_push [] name once new = (λ none. none, tt)
 once_push (n ∷ names) name once new = (
-  λ has. ⊎_elim (λ (before : Has names n). once.0 before) (λ (last : name ≡ n). new (inl (sym last))) (has_push names name n has),
+  λ has. ⊎_elim (λ (before : Has names n). once.0 before) (λ (last : name ≡ n). new (inl (sym last))) (Has-append names name n has),
   once_push names name once.1 (λ has. new (inr has)),
 )
 
@@ -94,11 +97,11 @@ both_push : (xs ys names : List BlobName) (name : BlobName) → ys ≡ name ∷ 
 both_push xs ys names name is both n = subst (λ (l : List BlobName). Has l n ↔ Has (names ++ name ∷ []) n) (sym is) (into, back)
   where
     into : Has (name ∷ xs) n → Has (names ++ name ∷ []) n
-    into (inl same) = has_right names (name ∷ []) n (inl same)
-    into (inr before) = has_left names (name ∷ []) n ((both n).0 before)
+    into (inl same) = Has-right names (name ∷ []) n (inl same)
+    into (inr before) = Has-left names (name ∷ []) n ((both n).0 before)
 
     back : Has (names ++ name ∷ []) n → Has (name ∷ xs) n
-    back has = ⊎_elim (λ (before : Has names n). inr ((both n).1 before)) (λ (last : name ≡ n). inl last) (has_push names name n has)
+    back has = ⊎_elim (λ (before : Has names n). inr ((both n).1 before)) (λ (last : name ≡ n). inl last) (Has-append names name n has)
 
 -- ---- after a look
 
@@ -203,7 +206,7 @@ module _ (s : Start) (old new : List Moment) (count : ℕ) (name : BlobName) (by
       ⊎_elim
       (λ (before : Has so.names n). still_reached n (so.reached tells n before))
       (λ (last : name ≡ n). still_reached n (subst (λ (x : BlobName). InReach (formats_of s) (world_of s old) x) last (may.reached tells)))
-      (has_push so.names name n has)
+      (Has-append so.names name n has)
 
   told_next : s.tells ≡ true → (n : BlobName) → Has (name ∷ (caller_of s old).found) n → (b : Bytes) × WasRead (caller_of s new).read n b
   told_next tells n (inl same) = (bytes, subst (λ (x : BlobName). WasRead (caller_of s new).read x bytes) same (is_read tells))
@@ -222,8 +225,8 @@ module _ (s : Start) (old new : List Moment) (count : ℕ) (name : BlobName) (by
 
   made_next : (e : Entry) (n : BlobName) → Has (made_of s new 0) e → e.step ≡ ReadStep (ReadBlob n) → Has (so.names ++ name ∷ []) n
   made_next e n has is = ⊎_elim
-      (λ (before : Has (made_of s old 0) e). has_left so.names (name ∷ []) n (so.made e n before is))
-      (λ (here : e.step ≡ ReadStep (ReadBlob name)). has_right so.names (name ∷ []) n (inl (fetch_name name n (sym here ∙ is))))
+      (λ (before : Has (made_of s old 0) e). Has-left so.names (name ∷ []) n (so.made e n before is))
+      (λ (here : e.step ≡ ReadStep (ReadBlob name)). Has-right so.names (name ∷ []) n (inl (fetch_name name n (sym here ∙ is))))
       (client_made s old new (ReadStep (ReadBlob name)) WasFetched alone h e has)
 
   pub next_so_far : IsSoFar s new (count + 1)
@@ -251,7 +254,8 @@ module _ (s : Start) (old new : List Moment) (count : ℕ) (name : BlobName) (by
 -- ---- what a fetch needs
 
 -- one that isn't fetched yet, and is reached
-pub can_check : (s : Start) (log : List Moment) (count : ℕ) (name : BlobName) → IsSoFar s log count → AreUnfetched (caller_of s log) (Just name) → name ≢ Latest → ((id : ℕ) → IsTestOf id name → ⊥) → (s.tells ≡ true → InReach (formats_of s) (world_of s log) name) → CanCheck s log name
+pub can_check : (s : Start) (log : List Moment) (count : ℕ) (name : BlobName) → IsSoFar s log count → AreUnfetched (caller_of s log) (Just name) → name ≢ Latest → ((id : ℕ) → IsTestOf id name → ⊥)
+    → (s.tells ≡ true → InReach (formats_of s) (world_of s log) name) → CanCheck s log name
 can_check s log count name so new stored untested reached = record { is_open = so.is_open; once = λ has. new name refl has; stored = stored; untested = untested; reached = reached }
 
 -- none of them, where none was fetched

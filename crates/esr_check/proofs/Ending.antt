@@ -15,7 +15,7 @@ use Rattle.esr_formats.specs.Clusters.{count_of}
 use Rattle.esr_desk.specs.Start.{Start, formats_of, world_of}
 use Rattle.esr_desk.specs.Own.{caller_of}
 use Rattle.esr_reach.specs.Reached.{index_found}
-use Rattle.esr_restore.proofs.Pairs.{pairs_map}
+use Rattle.esr_restore.specs.Pairs.{pairs_map}
 use Rattle.esr_agreement.specs.Lists.{IsOf}
 use Rattle.esr_check.specs.Checked.{last_root, HasReadAll}
 use Rattle.esr_check.specs.Went.{IsSoFar}
@@ -107,7 +107,8 @@ module _ (s : Start) (log : List Moment) (count n : ℕ) (root : RootData) (info
 
   -- ---- and it is whole
 
-  lists_at : (snap : RootSnap) (info : SnapInfo) (r : IndexRef) (k g : ℕ) → Has root.snapshots snap → Has infos info → HasInfo s c root snap info → Has info.indices r → k < r.shards → Generation root r.id k g → ListsAs (formats_of s) (At (formats_of s) blobs) r.id k g snap.uuid
+  lists_at : (snap : RootSnap) (info : SnapInfo) (r : IndexRef) (k g : ℕ) → Has root.snapshots snap → Has infos info → HasInfo s c root snap info → Has info.indices r → k < r.shards → Generation root r.id k g
+      → ListsAs (formats_of s) (At (formats_of s) blobs) r.id k g snap.uuid
   lists_at snap info r k g listed there h has less gen =
       let shard = shard_at r.id k g gen in
       let of : IsOf info r.id k = (r, has, refl, less) in

@@ -73,7 +73,8 @@ ending_shown {S} {F} {H} {T} e s log trouble ending is shown = subst (λ (x : En
 -- ---- how it ends then
 
 -- the report isn't refused, but where memory is wanting or turns are spent
-pub unreported : RefusesSo → (s : Start) (mid new : List Moment) (why : Why) (x : EntryRefusal) → s.alone ≡ true → IsAlive s mid → Stepped s mid new 0 (ReadStep (ReadFails (why_of why))) (Refused (refusal_of x)) → Halts s new 0 (steps.Refused x) → ⊥
+pub unreported : RefusesSo → (s : Start) (mid new : List Moment) (why : Why) (x : EntryRefusal) → s.alone ≡ true → IsAlive s mid → Stepped s mid new 0 (ReadStep (ReadFails (why_of why))) (Refused (refusal_of x))
+    → Halts s new 0 (steps.Refused x) → ⊥
 unreported law s mid new why (refusals.Deposed entry) alone alive h halts = ⊎_elim
     (λ (abort : IsAbort (refusal_of (refusals.Deposed entry))). abort)
     (λ (how : HowRefused (ReadStep (ReadFails (why_of why))) (refusal_of (refusals.Deposed entry))). how)
@@ -81,7 +82,8 @@ unreported law s mid new why (refusals.Deposed entry) alone alive h halts = ⊎_
 unreported law s mid new why x alone alive h halts = halts
 
 -- the entry tells it
-pub ends_failed : {S F H T : Type 0} (e : Evidence S F H T) (s : Start) (old new : List Moment) (why : Why) (b : By S F H T) → s.alone ≡ true → IsCheckShown e s old 0 (why_of why) b → NamesOne (FirstOf s old) (why_of why) → Stepped s old new 0 (ReadStep (ReadFails (why_of why))) HasEnded → EndsFailed e s old new why
+pub ends_failed : {S F H T : Type 0} (e : Evidence S F H T) (s : Start) (old new : List Moment) (why : Why) (b : By S F H T) → s.alone ≡ true → IsCheckShown e s old 0 (why_of why) b → NamesOne (FirstOf s old) (why_of why)
+    → Stepped s old new 0 (ReadStep (ReadFails (why_of why))) HasEnded → EndsFailed e s old new why
 ends_failed e s old new why b alone shown first step = record {
   image = step.image;
   is = stepped_is s old new (ReadStep (ReadFails (why_of why))) HasEnded alone step;

@@ -77,7 +77,8 @@ first_refusing : (s : Start) (old new : List Moment) (step : Step) (refusal : Op
 first_refusing s old new step None alone h was = subst (AreFirst s) (sym (front_is s old new 0 alone h)) was
 first_refusing s old new step (Some refusal) alone h was = first_stepped s old new step (Refused refusal) alone (λ why is ended. absurd (refused_no_end refusal ended)) h was
 
-pub first_outcome : {X : Type 0} (s : Start) (old new : List Moment) (step : Step) (ok : X → Reply) (result : Result X StepRefusal) → s.alone ≡ true → ((why : CoreWhy) → step ≡ ReadStep (ReadFails why) → ⊥) → Outcome s old new 0 step ok result
+pub first_outcome : {X : Type 0} (s : Start) (old new : List Moment) (step : Step) (ok : X → Reply) (result : Result X StepRefusal) → s.alone ≡ true → ((why : CoreWhy) → step ≡ ReadStep (ReadFails why) → ⊥)
+    → Outcome s old new 0 step ok result
     → AreFirst s old → AreFirst s new
 first_outcome s old new step ok (Ok x) alone other h was = first_stepped s old new step (ok x) alone (λ why is ended. absurd (other why is)) h was
 first_outcome s old new step ok (Err e) alone other h was = first_refusing s old new step (told_refusal e) alone h.0 was
@@ -108,7 +109,8 @@ trouble_names S F H T P (troubles.Found why) named = named
 same_why : (a b : CoreWhy) → ReadStep (ReadFails a) ≡ ReadStep (ReadFails b) → a ≡ b
 same_why a b e = cc
 
-first_reported : {S F H T : Type 0} (s : Start) (old new : List Moment) (ending : Ending S F H T) (result : UnitRefusal) → s.alone ≡ true → EndsOne (FirstOf s old) ending → IsReported hands.Check s old new 0 ending result → AreFirst s old → AreFirst s new
+first_reported : {S F H T : Type 0} (s : Start) (old new : List Moment) (ending : Ending S F H T) (result : UnitRefusal) → s.alone ≡ true → EndsOne (FirstOf s old) ending → IsReported hands.Check s old new 0 ending result → AreFirst s old
+    → AreFirst s new
 first_reported s old new (endings.Failed why b) (units.Failed told) alone named h was =
     first_stepped s old new (ReadStep (ReadFails (why_of why))) HasEnded alone (λ w is ended. subst (λ (x : CoreWhy). NamesOne (FirstOf s old) x) (same_why (why_of why) w is) named) h was
 first_reported s old new (endings.Failed why b) (units.Stopped refusal) alone named h was = first_refusing s old new (ReadStep (ReadFails (why_of why))) (told_refusal refusal) alone h was
@@ -117,7 +119,8 @@ first_reported s old new endings.Own result alone named h was = subst (AreFirst 
 first_reported s old new endings.Stale result alone named h was = subst (AreFirst s) (sym h) was
 first_reported s old new (endings.Stopped refusal) result alone named h was = subst (AreFirst s) (sym h) was
 
-pub first_report : {S F H T : Type 0} (s : Start) (old new : List Moment) (trouble : Trouble S F) (ending : Ending S F H T) (result : UnitRefusal) → s.alone ≡ true → ending ≡ ending_by trouble → TellsOne (FirstOf s old) trouble → IsReported hands.Check s old new 0 ending result
+pub first_report : {S F H T : Type 0} (s : Start) (old new : List Moment) (trouble : Trouble S F) (ending : Ending S F H T) (result : UnitRefusal) → s.alone ≡ true → ending ≡ ending_by trouble → TellsOne (FirstOf s old) trouble
+    → IsReported hands.Check s old new 0 ending result
     → AreFirst s old → AreFirst s new
 first_report {S} {F} {H} {T} s old new trouble ending result alone is named h was =
     first_reported s old new ending result alone (subst (λ (x : Ending S F H T). EndsOne (FirstOf s old) x) (sym is) (trouble_names S F H T (FirstOf s old) trouble named)) h was

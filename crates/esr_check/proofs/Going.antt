@@ -14,7 +14,7 @@ use Rattle.esr_desk.specs.Outcome.{Stepped, Refusing, Outcome}
 use Rattle.esr_desk.specs.Grew.{grew_by_none, grew_by_on, stepped_grew_by}
 use Rattle.esr_desk.specs.Own.{caller_of}
 use Rattle.esr_desk.specs.Check.Shown.{AllFetches, ReadAs}
-use Rattle.esr_restore.proofs.Pairs.{pairs_map}
+use Rattle.esr_restore.specs.Pairs.{pairs_map}
 use Rattle.esr_check.specs.Names.{Just, AreUnfetched}
 use Rattle.esr_check.specs.Went.{Grown, IsSame, Went}
 use Rattle.esr_check.specs.Pieces.{HasRoot, HasSafe, IsSnapOfRoot, IsShardOfRoot, HasMetas, HasInfo, HasInfosOf, HasHeld, HasFile, HasFiles, HasSnap, HasListed, HasLists, HasShard, HasPlace, HasShards}
@@ -197,7 +197,8 @@ safe_on s old new P root went h = (h.0, root_on s old new P h.0 root went h.1)
 pub snap_on : (s : Start) (old new : List Moment) (P : BlobName → Type 0) (n : ℕ) (root : RootData) (snap : RootSnap) → Went s old new P → IsSnapOfRoot s old n root snap → IsSnapOfRoot s new n root snap
 snap_on s old new P n root snap went h = record { safe = root_on s old new P n root went h.safe; listed = h.listed }
 
-pub shard_on : (s : Start) (old new : List Moment) (P : BlobName → Type 0) (root : RootData) (infos : List SnapInfo) (index number generation : ℕ) → Went s old new P → IsShardOfRoot s old root infos index number generation → IsShardOfRoot s new root infos index number generation
+pub shard_on : (s : Start) (old new : List Moment) (P : BlobName → Type 0) (root : RootData) (infos : List SnapInfo) (index number generation : ℕ) → Went s old new P → IsShardOfRoot s old root infos index number generation
+    → IsShardOfRoot s new root infos index number generation
 shard_on s old new P root infos index number generation went h = record {
   safe = safe_on s old new P root went h.safe;
   listed = infos_more s (caller_of s old) (caller_of s new) went.grown root root.snapshots infos h.listed;

@@ -22,7 +22,7 @@ use Rattle.esr_desk.specs.Start.{Start, formats_of}
 use Rattle.esr_desk.specs.Own.{caller_of}
 use Rattle.esr_desk.specs.Check.Shown.{HasReadFile, IsMisprinted, Disagree, FileBeside}
 use Rattle.esr_desk.specs.Restore.Parts.{AreFronts, AreExact}
-use Rattle.esr_restore.proofs.Standing.{there_sized, full_sized, same_concat}
+use Rattle.esr_restore.specs.PartReads.{there_sized, full_sized, same_concat}
 use Rattle.esr_check.specs.Parts.{ReadParts}
 use Rattle.esr_check.specs.Pieces.{HasHeld, HasFile}
 use Rattle.esr_check.specs.Trouble.{IsFound, IsOther, IsCutOtherwise, Judged}
@@ -45,7 +45,8 @@ pub judged_well : (at : ShardId) (generation : Id) (e : CodeEntry) (found : Prin
 judged_well at generation e found exact None h is = h
 judged_well at generation e found exact (Some why) h is = absurd cc
 
-pub has_file : (s : Start) (c : Caller) (hasher : Hasher) (at : ShardId) (e : CodeEntry) (found : Print) (exact : Bool) → ReadParts s c hasher at e exact → ((m : List ℕ) → HasFed hasher m → found ≡ print_of m) → (e.print ≡ found) × (exact ≡ true)
+pub has_file : (s : Start) (c : Caller) (hasher : Hasher) (at : ShardId) (e : CodeEntry) (found : Print) (exact : Bool) → ReadParts s c hasher at e exact → ((m : List ℕ) → HasFed hasher m → found ≡ print_of m)
+    → (e.print ≡ found) × (exact ≡ true)
     → HasFile s c at.index.number at.number (entry_of e)
 has_file s c hasher at e found exact read hashed well = record {
   found = read.found;

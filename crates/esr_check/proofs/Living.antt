@@ -186,12 +186,14 @@ module _ (s : Start) (old new : List Moment) (name : BlobName) (reply : Reply) (
 
 -- ---- what was read is there
 
-told_read : (f : Formats) (w : World) (name : BlobName) (told : Option Bytes) → ((b : Bytes) → told ≡ Some b → At f w.blobs name b) → (n : BlobName) (bytes : Bytes) → WasRead (caller_told w.caller name told).read n bytes → WasRead w.caller.read n bytes ⊎ At f w.blobs n bytes
+told_read : (f : Formats) (w : World) (name : BlobName) (told : Option Bytes) → ((b : Bytes) → told ≡ Some b → At f w.blobs name b) → (n : BlobName) (bytes : Bytes) → WasRead (caller_told w.caller name told).read n bytes
+    → WasRead w.caller.read n bytes ⊎ At f w.blobs n bytes
 told_read f w name None is_at n bytes has = inl has
 told_read f w name (Some b) is_at n bytes (inl same) = inr (subst (λ (p : BlobName × Bytes). At f w.blobs p.0 p.1) same (is_at b refl))
 told_read f w name (Some b) is_at n bytes (inr before) = inl before
 
-told_there : (f : Formats) (w : World) (image : Option Image) (name : BlobName) → IsStored f name → SameBlobs w image → (n : BlobName) (bytes : Bytes) → WasRead (caller_told w.caller name (told_blob f image name)).read n bytes → WasRead w.caller.read n bytes ⊎ At f w.blobs n bytes
+told_there : (f : Formats) (w : World) (image : Option Image) (name : BlobName) → IsStored f name → SameBlobs w image → (n : BlobName) (bytes : Bytes) → WasRead (caller_told w.caller name (told_blob f image name)).read n bytes
+    → WasRead w.caller.read n bytes ⊎ At f w.blobs n bytes
 told_there f w None name stored same n bytes has = inl has
 told_there f w (Some image) name stored same n bytes has =
     told_read f w name (fin.get image.blobs (f.names.text name)) (λ b is. (sym (ap (λ (blobs : Blobs). fin.get blobs (f.names.text name)) same) ∙ is, stored)) n bytes has

@@ -8,8 +8,8 @@ use Rattle.esr_model.specs.Names.{BlobName, Root, Snap, Meta, IndexMeta, ShardSn
 use Rattle.esr_model.specs.Values.{IndexRef, RootSnap, RootIndex, FileEntry, SnapList}
 use Rattle.esr_shardidx.specs.declared.entry.FileEntry.{FileEntry as CodeEntry}
 use Rattle.esr_shardidx.specs.Parts.{part_count}
-use Rattle.esr_restore.proofs.Sizes.{blob_name}
-use Rattle.esr_restore.proofs.Once.{parts_differ}
+use Rattle.esr_restore.specs.PartSizes.{blob_name}
+use Rattle.esr_restore.specs.PartsApart.{parts_differ}
 use Rattle.esr_check.specs.Names.{Just, IsAny, IsOfSnap, IsOfAnySnap, IsMetaIn, IsOfShard, IsSnapOf, IsOfFile, IsPieceOf, IsOfShards, IsOfAnyShard}
 
 -- ---- of one item

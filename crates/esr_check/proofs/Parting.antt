@@ -2,6 +2,8 @@
 use Rattle.std.proofs.Common.{◌≡◌, inl, inr, ⊎_elim, ℕ, zero, suc, ◌+◌, ◌-◌, ◌*◌, ◌<◌, ◌≤◌, min, nat_le, if◌then◌else◌, Bool, true, false, ◌&&◌, List, [], ◌∷◌, ◌++◌, length, Option, refl, sym, ap, ◌∙◌, subst, arith, length-append}
 use Rattle.std.specs.List.{concat}
 use Rattle.std.specs.Io.KnownBytes.{Consumes}
+use Rattle.std.proofs.lemmas.Bool.{and_parts}
+use Rattle.esr_model.specs.Lists.{Has-append}
 use Rattle.esr_names.specs.declared.blob.BlobName.TheVariants as codes
 use Rattle.esr_names.specs.declared.blob.ShardId.{ShardId}
 use Rattle.esr_model.specs.Names.{BlobName, File, Part}
@@ -22,10 +24,9 @@ use Rattle.esr_formats.specs.Shards.{entry_of}
 use Rattle.esr_desk.specs.Start.{Start}
 use Rattle.esr_desk.specs.Own.{caller_of}
 use Rattle.esr_desk.specs.Restore.Parts.{sized, sized_parts, IsFront}
-use Rattle.esr_reach.specs.Members.{has_push}
-use Rattle.esr_restore.proofs.Pairs.{pairs_push, pairs_pop, pairs_map}
-use Rattle.esr_restore.proofs.Sizes.{blob_name, size_of, sizes, sizes_next, sizes_all, same_count, part_listed}
-use Rattle.esr_restore.proofs.Parts.{IsExact, is_whole, front_read, told_some, extent_bound, extent_whole, extent_other, concat_push, both_true, one_false}
+use Rattle.esr_restore.specs.Pairs.{pairs_push, pairs_pop, pairs_map}
+use Rattle.esr_restore.specs.PartSizes.{blob_name, size_of, sizes, sizes_next, sizes_all, same_count, part_listed}
+use Rattle.esr_restore.specs.PartReads.{IsExact, is_whole, front_read, told_some, extent_bound, extent_whole, extent_other, concat_push, one_false}
 use Rattle.esr_check.specs.Went.{Grown, Came}
 use Rattle.esr_check.specs.Parts.{ReadPart, ReadParts}
 use Rattle.esr_check.specs.First.{FirstOfFile, AtPart}
@@ -89,7 +90,7 @@ module _ (s : Start) (a b : Caller) (hasher_old hasher_new : Hasher) (at : Shard
       ⊎_elim
       (λ (before : Has (sizes (blob_name at e) e.print.len e.part_size 0 k) p). grown.found p.0 (so.found p before))
       (λ (last : (blob_name at e k, size_of e.print.len e.part_size k) ≡ p). subst (λ (q : BlobName × ℕ). Has b.found q.0) last part.found)
-      (has_push (sizes (blob_name at e) e.print.len e.part_size 0 k) (blob_name at e k, size_of e.print.len e.part_size k) p (subst (λ (l : List (BlobName × ℕ)). Has l p) next has))
+      (Has-append (sizes (blob_name at e) e.print.len e.part_size 0 k) (blob_name at e k, size_of e.print.len e.part_size k) p (subst (λ (l : List (BlobName × ℕ)). Has l p) next has))
 
   read_next : s.tells ≡ true → AllPairs (IsFront (WasRead b.read)) (sizes (blob_name at e) e.print.len e.part_size 0 (k + 1)) (so.fronts ++ part.front ∷ [])
   read_next tells =
@@ -125,7 +126,7 @@ module _ (s : Start) (a b : Caller) (hasher_old hasher_new : Hasher) (at : Shard
         read = read_next;
         fed = subst (HasFed hasher_new) (sym (concat_push so.fronts part.front)) (part.fed.joined (concat so.fronts) so.fed);
         count = omega (arith, join, sum, so.count, part.bound);
-        whole = λ flag. let both = both_true exact whole flag in whole_next both.0 both.1;
+        whole = λ flag. let both = and_parts exact whole flag in whole_next both.0 both.1;
         other = λ flag. other_next (one_false exact whole flag);
       }
 
@@ -142,7 +143,8 @@ sized_has len size (p ∷ []) name (inr none) = absurd none
 sized_has len size (p ∷ q ∷ parts) name (inl here) = (size, inl (ap (λ (x : BlobName). (x, size)) here))
 sized_has len size (p ∷ q ∷ parts) name (inr later) = let found = sized_has (len - size) size (q ∷ parts) name later in (found.0, inr found.1)
 
-pub so_far_all : (s : Start) (c : Caller) (hasher : Hasher) (at : ShardId) (e : CodeEntry) (n : ℕ) (exact : Bool) → 1 ≤ e.part_size → n ≡ code_count e.print.len e.part_size → SoFar s c hasher at e n exact → ReadParts s c hasher at e exact
+pub so_far_all : (s : Start) (c : Caller) (hasher : Hasher) (at : ShardId) (e : CodeEntry) (n : ℕ) (exact : Bool) → 1 ≤ e.part_size → n ≡ code_count e.print.len e.part_size → SoFar s c hasher at e n exact
+    → ReadParts s c hasher at e exact
 so_far_all s c hasher at e n exact some all so =
     let are = sizes_all at e n some all in
     let found : AreFound c (sized_parts at.index.number at.number (entry_of e)) = subst (λ (l : List (BlobName × ℕ)). AreFound c l) (sym are) so.found in
@@ -190,7 +192,8 @@ part_found c at e k p q = elim (nat_le e.print.len e.part_size) as (λ b. Has c.
     ]
 
 -- the next part
-pub at_part : (s : Start) (c : Caller) (at : ShardId) (e : CodeEntry) (k : ℕ) (name : BlobName) → AreFound c (sizes (blob_name at e) e.print.len e.part_size 0 k) → 1 ≤ e.part_size → k < code_count e.print.len e.part_size → name ≡ blob_name at e k
+pub at_part : (s : Start) (c : Caller) (at : ShardId) (e : CodeEntry) (k : ℕ) (name : BlobName) → AreFound c (sizes (blob_name at e) e.print.len e.part_size 0 k) → 1 ≤ e.part_size → k < code_count e.print.len e.part_size
+    → name ≡ blob_name at e k
     → FirstOfFile s c at.index.number at.number (entry_of e) name
 at_part s c at e k name found some less is =
     let within : k < part_count e.print.len e.part_size = subst (λ (n : ℕ). k < n) (same_count e.print.len e.part_size some) less in

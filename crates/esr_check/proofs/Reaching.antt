@@ -18,17 +18,19 @@ use Rattle.esr_desk.specs.Own.{caller_of}
 use Rattle.esr_desk.specs.Check.Conditions.{CanCheck}
 use Rattle.esr_desk.specs.Check.Shown.{ReadAs}
 use Rattle.esr_agreement.specs.Lists.{IsListed}
-use Rattle.esr_restore.proofs.Sizes.{blob_name, same_count, part_listed, part_piece}
+use Rattle.esr_restore.specs.PartSizes.{blob_name, same_count, part_listed, part_piece}
 use Rattle.esr_check.specs.Names.{Just, AreUnfetched}
 use Rattle.esr_check.specs.Went.{IsSoFar}
 use Rattle.esr_check.specs.Pieces.{HasRoot, HasSafe, HasHeld}
 use Rattle.esr_check.proofs.Counting.{can_check, all_new}
 
 -- what was read is there, and reads so
-pub reads_at : {V : Type 0} (s : Start) (log : List Moment) (count : ℕ) → IsSoFar s log count → (name : BlobName) (kind : Kind V) (v : V) → ReadAs s (caller_of s log) name kind v → s.tells ≡ true → Reads (At (formats_of s) (world_of s log).blobs) name kind v
+pub reads_at : {V : Type 0} (s : Start) (log : List Moment) (count : ℕ) → IsSoFar s log count → (name : BlobName) (kind : Kind V) (v : V) → ReadAs s (caller_of s log) name kind v → s.tells ≡ true
+    → Reads (At (formats_of s) (world_of s log).blobs) name kind v
 reads_at s log count so name kind v h tells = record { bytes = h.bytes; there = so.there name h.bytes (h.fetched.read tells); reads = h.reads }
 
-pub in_reach : (s : Start) (log : List Moment) (count n : ℕ) (root : RootData) (name : BlobName) → IsSoFar s log count → HasRoot s log n root → s.tells ≡ true → Reached (formats_of s) (At (formats_of s) (world_of s log).blobs) root name → InReach (formats_of s) (world_of s log) name
+pub in_reach : (s : Start) (log : List Moment) (count n : ℕ) (root : RootData) (name : BlobName) → IsSoFar s log count → HasRoot s log n root → s.tells ≡ true → Reached (formats_of s) (At (formats_of s) (world_of s log).blobs) root name
+    → InReach (formats_of s) (world_of s log) name
 in_reach s log count n root name so has tells reached = (n, has.safe, inr (root, reads_at s log count so (Root n) (formats_of s).root root has.read tells, reached))
 
 -- ---- the root
@@ -79,8 +81,10 @@ piece_untested index number name piece id test = absurd piece
 no_latest : (at : ShardId) (e : CodeEntry) (k : ℕ) → blob_name at e k ≡ Latest → ⊥
 no_latest at e k same = subst (λ (name : BlobName). IsPiece at.index.number at.number name) same (part_piece at e k)
 
-pub can_part : (s : Start) (log : List Moment) (count : ℕ) (root : RootData) (at : ShardId) (generation : ℕ) (held : ShardFiles) (e : CodeEntry) (k : ℕ) → IsSoFar s log count → HasSafe s log root → Generation root at.index.number at.number generation
-    → HasHeld s (caller_of s log) at.index.number at.number generation held → Has held.files (entry_of e) → 1 ≤ e.part_size → k < code_count e.print.len e.part_size → AreUnfetched (caller_of s log) (Just (blob_name at e k)) → CanCheck s log (blob_name at e k)
+pub can_part : (s : Start) (log : List Moment) (count : ℕ) (root : RootData) (at : ShardId) (generation : ℕ) (held : ShardFiles) (e : CodeEntry) (k : ℕ) → IsSoFar s log count → HasSafe s log root
+    → Generation root at.index.number at.number generation
+    → HasHeld s (caller_of s log) at.index.number at.number generation held → Has held.files (entry_of e) → 1 ≤ e.part_size → k < code_count e.print.len e.part_size → AreUnfetched (caller_of s log) (Just (blob_name at e k))
+    → CanCheck s log (blob_name at e k)
 can_part s log count root at generation held e k so has gen read listed some less new =
     let within : k < part_count e.print.len e.part_size = rw (sym (same_count e.print.len e.part_size some)) less in
     can_check s log count (blob_name at e k) so new (no_latest at e k) (piece_untested at.index.number at.number (blob_name at e k) (part_piece at e k))

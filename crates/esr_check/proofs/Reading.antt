@@ -93,11 +93,13 @@ module _ (s : Start) (c : Caller) (name : BlobName) (bytes read : Bytes) (same :
 -- ---- they don't
 
 module _ {S F : Type 0} (faults : F → ℕ) (s : Start) (log : List Moment) (bytes read : Bytes) (refusal : ReadRefusal) (trouble : Trouble S F) (same : read ≡ bytes) where
-  by_refusal : (name : CodeName) (r : ReadRefusal) → HasFetched s (caller_of s log) (name_of name) bytes → ((why : Reason) → r ≡ reads.Damaged why → unreadable (name_of name) bytes ≡ Some (reason_of why)) → Shown faults s log (unread_as {S = S} {F = F} name r)
+  by_refusal : (name : CodeName) (r : ReadRefusal) → HasFetched s (caller_of s log) (name_of name) bytes → ((why : Reason) → r ≡ reads.Damaged why → unreadable (name_of name) bytes ≡ Some (reason_of why))
+      → Shown faults s log (unread_as {S = S} {F = F} name r)
   by_refusal name reads.Memory fetched h = tt
   by_refusal name (reads.Damaged why) fetched h = (bytes, fetched, h why refl)
 
-  unread_shown : (name : CodeName) → trouble ≡ unread_as name refusal → HasFetched s (caller_of s log) (name_of name) bytes → ((why : Reason) → refusal ≡ reads.Damaged why → unreadable (name_of name) bytes ≡ Some (reason_of why)) → Shown faults s log trouble
+  unread_shown : (name : CodeName) → trouble ≡ unread_as name refusal → HasFetched s (caller_of s log) (name_of name) bytes → ((why : Reason) → refusal ≡ reads.Damaged why → unreadable (name_of name) bytes ≡ Some (reason_of why))
+      → Shown faults s log trouble
   unread_shown name is fetched h = subst (λ (t : Trouble S F). Shown faults s log t) (sym is) (by_refusal name refusal fetched h)
 
   -- the reason that the reader gave is that of the reading

@@ -2,11 +2,12 @@
 use Rattle.std.proofs.Common.{◌≡◌, ◌⊎◌, inl, inr, ⊎_elim, ℕ, ◌≤◌, Bool, true, false, List, [], ◌∷◌, ◌++◌, append_assoc, Option, Some, None, Result, Ok, Err, IfErr, OnOk, refl, sym, ap, ◌∙◌, subst, arith}
 use Rattle.std.specs.Result.{IsErr, IsErrAnd, is_err}
 use Rattle.std.proofs.lemmas.Bool.{cases_Bool}
+use Rattle.esr_model.specs.Lists.{Has-right}
 use Rattle.esr_depot.specs.Calls.{HasCause, has_failed}
 use Rattle.esr_depot.specs.declared.error.CallError.{CallError}
 use Rattle.esr_depot.specs.declared.error.CallError.TheVariants.{Failed}
 use Rattle.esr_model.specs.Names.{BlobName}
-use Rattle.esr_core.specs.Entry.{ReadBlob, CheckedAll, ReadFails, Entry, Step, LookStep, ReadStep, Reply, WasAbsent, Refusal, DeposedAt, AbortedBy, DepotFault, Refused, Moment}
+use Rattle.esr_core.specs.Entry.{ReadBlob, CheckedAll, ReadFails, Step, LookStep, ReadStep, Reply, WasAbsent, Refusal, DeposedAt, AbortedBy, DepotFault, Refused, Moment}
 use Rattle.esr_core.specs.World.{World}
 use Rattle.esr_core.specs.Allowed.{Blocks, ByFailedSwap, ByDelete}
 use Rattle.esr_core.specs.Refusing.{MayRefuse, ReadFault}
@@ -21,10 +22,9 @@ use Rattle.esr_desk.specs.Evidence.{Faulty}
 use Rattle.esr_desk.specs.Check.Shown.{AllFetches}
 use Rattle.esr_unit.specs.Fetch.{IsRefusedBy}
 use Rattle.esr_unit.specs.Refusals.{RefusesSo, last_refused}
-use Rattle.esr_reach.specs.Members.{has_right}
-use Rattle.esr_check.specs.Checked.{AreFetched}
 use Rattle.esr_check.specs.Went.{IsAlive, IsSoFar}
 use Rattle.esr_check.specs.Trouble.{HadAnswer, IsFetchRefusal}
+use Rattle.esr_check.specs.Fetches.{fetched_all}
 use Rattle.esr_check.proofs.Living.{front_is, moment_of, stepped_is}
 
 contra : (b : Bool) → b ≡ true → b ≡ false → ⊥
@@ -93,11 +93,6 @@ never_aborted s log x is grounds = is
 
 -- ---- a fetch
 
-pub fetched_all : (moments : List Moment) (names : List BlobName) → AreFetched moments names → AllFetches moments
-fetched_all [] names are = tt
-fetched_all (m ∷ moments) [] are = absurd are
-fetched_all (m ∷ moments) (n ∷ names) are = (ap (λ (e : Entry). e.who) are.0, (n, ap (λ (e : Entry). e.step) are.0), fetched_all moments names are.1)
-
 all_push : (moments : List Moment) (m : Moment) → AllFetches moments → m.entry.who ≡ 0 → (name : BlobName) × (m.entry.step ≡ ReadStep (ReadBlob name)) → AllFetches (moments ++ m ∷ [])
 all_push [] m all of step = (of, step, tt)
 all_push (x ∷ moments) m all of step = (all.0, all.1, all_push moments m all.2 of step)
@@ -117,7 +112,7 @@ had_answer s old new count name reply alone so h =
         looks = was.looks;
         all = all_push was.fetches m (fetched_all was.fetches so.names was.are) refl (name, refl);
       };
-      had = record { image = h.image; there = has_right was.fetches (m ∷ []) m (inl refl) };
+      had = record { image = h.image; there = Has-right was.fetches (m ∷ []) m (inl refl) };
     }
 
 entry_refused : (s : Start) (new : List Moment) (name : BlobName) (x : EntryRefusal) → IsFault (refusal_of x) → HadAnswer new name (Refused (refusal_of x)) → Grounds s new 0 (steps.Refused x) → IsFetchRefusal s new (steps.Refused x)
@@ -135,7 +130,8 @@ fetch_refused law s old new count name (steps.Refused x) alone so h =
     entry_refused s new name x how (had_answer s old new count name (Refused (refusal_of x)) alone so h.0) h.1
 
 -- none is there
-pub absent : {F : Type 0} (o : Option F) (s : Start) (old new : List Moment) (count : ℕ) (name : BlobName) → o ≡ None → s.alone ≡ true → IsSoFar s old count → Stepped s old new 0 (ReadStep (ReadBlob name)) (fetch_reply o) → HadAnswer new name WasAbsent
+pub absent : {F : Type 0} (o : Option F) (s : Start) (old new : List Moment) (count : ℕ) (name : BlobName) → o ≡ None → s.alone ≡ true → IsSoFar s old count → Stepped s old new 0 (ReadStep (ReadBlob name)) (fetch_reply o)
+    → HadAnswer new name WasAbsent
 absent None s old new count name is alone so h = had_answer s old new count name WasAbsent alone so h
 absent (Some f) s old new count name is alone so h = absurd cc
 

@@ -1,6 +1,7 @@
 -- What the rule of roots says of one that was read.
 use Rattle.std.proofs.Common.{◌≡◌, ◌⊎◌, inl, inr, ℕ, ◌&&◌, ◌||◌, Bool, true, false, List, [], ◌∷◌, map, Some, refl, sym, ap, ◌∙◌, subst, eqb-true}
 use Rattle.std.specs.List.{list_all, list_any}
+use Rattle.esr_model.specs.Lists.{Has-mapped, Has-map}
 use Rattle.esr_names.specs.declared.ids.Id.{Id}
 use Rattle.esr_root.specs.Ids.{same_id}
 use Rattle.esr_root.specs.Snaps.{lists}
@@ -12,9 +13,9 @@ use Rattle.esr_formats.specs.Ids.{number_of}
 use Rattle.esr_formats.specs.Roots.{root_of, root_snap_of, root_index_of}
 use Rattle.esr_model.specs.Values.{Has, RootSnap, RootIndex}
 use Rattle.esr_model.specs.Image.{Generation, at_shard}
-use Rattle.esr_reach.specs.Members.{has_map, in_map, all_has}
+use Rattle.esr_reach.specs.Members.{all_has}
 use Rattle.esr_reach.specs.Reached.{generation_at}
-use Rattle.esr_reach.proofs.Apart.{indices_once, one_each}
+use Rattle.esr_reach.specs.OnceEach.{indices_once, one_each}
 use Rattle.esr_check.proofs.Ending.{AreListed}
 
 -- ---- tests of lists
@@ -44,18 +45,19 @@ any_has p (y ∷ ys) some = elim (either (p y) (list_any p ys) some) [
 listed_id : (snaps : List CodeSnap) (u : Id) → lists snaps u ≡ true → (snap : RootSnap) × Has (map root_snap_of snaps) snap × (snap.uuid ≡ u.number)
 listed_id snaps u is =
     let found = any_has (λ (s : CodeSnap). same_id s.uuid u) snaps is in
-    (root_snap_of found.0, in_map root_snap_of snaps found.0 found.1, eqb-true found.0.uuid.number u.number found.2)
+    (root_snap_of found.0, Has-map root_snap_of snaps found.0 found.1, eqb-true found.0.uuid.number u.number found.2)
 
 pub are_listed : (root : Root) → IsRoot root → AreListed (root_of root)
 are_listed root rule x u there named =
-    let index = has_map root_index_of root.indices x there in
+    let index = Has-mapped root_index_of root.indices x there in
     let own = subst (λ (y : RootIndex). Has y.snapshots u) (sym index.2) named in
-    let id = has_map number_of index.0.snapshots u own in
+    let id = Has-mapped number_of index.0.snapshots u own in
     let passes = pass_has (lists root.snapshots) index.0.snapshots id.0 (all_has (IsListed root.snapshots) root.indices index.0 rule.listed index.1) id.1 in
     let snap = listed_id root.snapshots id.0 passes in
     (snap.0, snap.1, snap.2 ∙ id.2)
 
 -- ---- the generations of its indices
 
-pub has_generation : (root : Root) (index : CodeIndex) → AreIndices root.indices → Has (map root_index_of root.indices) (root_index_of index) → (k g : ℕ) → at_shard (root_index_of index).generations k ≡ Some g → Generation (root_of root) index.id.number k g
+pub has_generation : (root : Root) (index : CodeIndex) → AreIndices root.indices → Has (map root_index_of root.indices) (root_index_of index) → (k g : ℕ) → at_shard (root_index_of index).generations k ≡ Some g
+    → Generation (root_of root) index.id.number k g
 has_generation root index rule there k g is = generation_at (root_of root) (one_each (map root_index_of root.indices) (indices_once root.indices rule)) (root_index_of index) there k g is

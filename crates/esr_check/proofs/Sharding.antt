@@ -3,6 +3,7 @@ use Rattle.std.proofs.Common.{◌≡◌, inl, inr, ℕ, zero, suc, ◌+◌, ◌<
 use Rattle.std.specs.Prelude.{MatchOption}
 use Rattle.std.specs.Result.{IsErrAnd}
 use Rattle.std.proofs.lemmas.List.{length-map, length-take-le}
+use Rattle.esr_model.specs.Loops.{next}
 use Rattle.esr_names.specs.declared.ids.Id.{Id}
 use Rattle.esr_formats.specs.Ids.{number_of}
 use Rattle.esr_model.specs.Names.{BlobName, Snap, ShardSnap, ShardIndex}
@@ -14,9 +15,8 @@ use Rattle.esr_desk.specs.Start.{Start, formats_of}
 use Rattle.esr_desk.specs.Own.{caller_of}
 use Rattle.esr_desk.specs.Check.Shown.{ReadAs, Disagree, IndexBeside, SnapBeside}
 use Rattle.esr_unit.specs.declared.trouble.Trouble.{Trouble}
-use Rattle.esr_reach.proofs.Shards.{at_push, at_place}
+use Rattle.esr_reach.specs.ShardPlaces.{at_push, at_place}
 use Rattle.esr_agreement.specs.Lists.{HaveShard, IsUnlisted}
-use Rattle.esr_agreement.proofs.Loops.{next as next_item}
 use Rattle.esr_check.specs.Went.{Grown, Went}
 use Rattle.esr_check.specs.Pieces.{HasInfo, HasInfos, HasHeld, HasSnap, HasShard, HasPlace}
 use Rattle.esr_check.specs.First.{TellsOne, FirstOfPlace, FirstOfShards}
@@ -66,7 +66,8 @@ module _ (s : Start) (old new : List Moment) (P : BlobName → Type 0) (root : R
       (IndexBeside un.info.uuid un.info of.0 index shard generation held (info_read s (caller_of s new) root infos un.info read_then un.there) of.1 of.2 of.3 read un.lost.unlisted)
 
   -- it lists other files
-  pub snap_beside : (snap : ShardSnapshot) → HasHeld s (caller_of s old) index shard generation held → ReadAs s (caller_of s new) (ShardSnap index shard uuid) (formats_of s).shard_snap snap → HaveShard infos uuid index shard → (Lists held uuid snap.files → ⊥)
+  pub snap_beside : (snap : ShardSnapshot) → HasHeld s (caller_of s old) index shard generation held → ReadAs s (caller_of s new) (ShardSnap index shard uuid) (formats_of s).shard_snap snap → HaveShard infos uuid index shard
+      → (Lists held uuid snap.files → ⊥)
       → Disagree s (caller_of s new) (ShardSnap index shard uuid) (ShardIndex index shard generation)
   snap_beside snap was read have differ =
       let info = have.0 in
@@ -86,7 +87,8 @@ as_listed s c infos index shard held u uuid same h = subst (λ (v : ℕ). HasSna
 abbrev pub HasFirst : Start → Caller → RootData → List SnapInfo → ℕ → List (Option ℕ) → Type 0
 HasFirst s c root infos index places = (k g : ℕ) → at_shard places k ≡ Some g → HasShard s c root infos index k g
 
-pub has_place : (s : Start) (c : Caller) (root : RootData) (infos : List SnapInfo) (index shard : ℕ) (place : Option Id) (id : Id) → place ≡ Some id → HasShard s c root infos index shard id.number → HasPlace s c root infos index shard (option_map number_of place)
+pub has_place : (s : Start) (c : Caller) (root : RootData) (infos : List SnapInfo) (index shard : ℕ) (place : Option Id) (id : Id) → place ≡ Some id → HasShard s c root infos index shard id.number
+    → HasPlace s c root infos index shard (option_map number_of place)
 has_place s c root infos index shard place id is h generation told =
     let number : Some id.number ≡ Some generation = sym (ap (λ (o : Option Id). option_map number_of o) is) ∙ told in
     let same : id.number ≡ generation = cc in
@@ -97,11 +99,12 @@ no_place s c root infos index shard place is generation told =
     let none : ◌≡◌ {A = Option ℕ} None (Some generation) = sym (ap (λ (o : Option Id). option_map number_of o) is) ∙ told in
     absurd cc
 
-pub first_next : (s : Start) (c d : Caller) (root : RootData) (infos : List SnapInfo) (index : ℕ) (gens : List (Option Id)) (n : ℕ) (x : Option Id) → Grown c d → n < length gens → x ≡ get_or gens n x → HasFirst s c root infos index (map (option_map number_of) (take n gens))
+pub first_next : (s : Start) (c d : Caller) (root : RootData) (infos : List SnapInfo) (index : ℕ) (gens : List (Option Id)) (n : ℕ) (x : Option Id) → Grown c d → n < length gens → x ≡ get_or gens n x
+    → HasFirst s c root infos index (map (option_map number_of) (take n gens))
     → HasPlace s d root infos index n (option_map number_of x) → HasFirst s d root infos index (map (option_map number_of) (take (n + 1) gens))
 first_next s c d root infos index gens n x grown less is before own k g at =
     let h : Option Id → Option ℕ = option_map number_of in
-    let more = next_item h gens n x less is in
+    let more = next h gens n x less is in
     elim (at_push (map h (take n gens)) (h x) k g (subst (λ (gs : List (Option ℕ)). at_shard gs k ≡ Some g) more at)) [
       | inl earlier ↦ shard_more s c d grown root infos index k g (before k g earlier)
       | inr last ↦
@@ -132,5 +135,6 @@ module _ (s : Start) (c d : Caller) (root : RootData) (infos : List SnapInfo) (x
       }
 
   -- what is found of the next one is told of the index
-  pub place_passes : {X S F : Type 0} (result : Result X (Trouble S F)) (trouble : Trouble S F) → IsErrAnd result (λ t. t ≡ trouble) → TellsOne (FirstOfPlace s d root infos x.id n (option_map number_of g)) trouble → IfErr result (TellsOne (FirstOfShards s d root infos x))
+  pub place_passes : {X S F : Type 0} (result : Result X (Trouble S F)) (trouble : Trouble S F) → IsErrAnd result (λ t. t ≡ trouble) → TellsOne (FirstOfPlace s d root infos x.id n (option_map number_of g)) trouble
+      → IfErr result (TellsOne (FirstOfShards s d root infos x))
   place_passes result trouble passed told = passes (FirstOfPlace s d root infos x.id n (option_map number_of g)) (FirstOfShards s d root infos x) result trouble passed place_first told

@@ -1,5 +1,6 @@
 -- The infos of the listed snapshots, and what disagrees with them.
 use Rattle.std.proofs.Common.{◌≡◌, ℕ, ◌+◌, ◌<◌, List, [], ◌∷◌, ◌++◌, map, take, length, get_or, sym, subst}
+use Rattle.esr_model.specs.Loops.{next as next_item}
 use Rattle.esr_meta.specs.Info.{Info}
 use Rattle.esr_root.specs.declared.snaps.RootSnap.{RootSnap as CodeSnap}
 use Rattle.esr_formats.specs.Infos.{info_of_code}
@@ -13,8 +14,7 @@ use Rattle.esr_core.specs.Entry.{Moment}
 use Rattle.esr_desk.specs.Start.{Start, formats_of}
 use Rattle.esr_desk.specs.Own.{caller_of}
 use Rattle.esr_desk.specs.Check.Shown.{ReadAs, Disagree, InfoBeside, GlobalBeside, IndexMetaBeside}
-use Rattle.esr_agreement.proofs.Loops.{next as next_item}
-use Rattle.esr_restore.proofs.Pairs.{pairs_push}
+use Rattle.esr_restore.specs.Pairs.{pairs_push}
 use Rattle.esr_check.specs.Went.{Grown, Went}
 use Rattle.esr_check.specs.Pieces.{HasRoot, HasMetas, HasInfo, HasInfosOf}
 use Rattle.esr_check.proofs.Going.{read_more, infos_more, root_on}
@@ -32,7 +32,8 @@ infos_next s c d root items i x infos info grown less is before here =
 
 -- ---- a snapshot, piece by piece
 
-pub has_info : (s : Start) (mid next new : List Moment) (root : RootData) (snap : RootSnap) (info : SnapInfo) (P Q : BlobName → Type 0) → Went s mid next P → Went s next new Q → ReadAs s (caller_of s mid) (Snap snap.uuid) (formats_of s).info info → Agrees root snap info
+pub has_info : (s : Start) (mid next new : List Moment) (root : RootData) (snap : RootSnap) (info : SnapInfo) (P Q : BlobName → Type 0) → Went s mid next P → Went s next new Q
+    → ReadAs s (caller_of s mid) (Snap snap.uuid) (formats_of s).info info → Agrees root snap info
     → ReadAs s (caller_of s next) (Meta snap.uuid) (formats_of s).global (global_of info) → HasMetas s (caller_of s new) snap.uuid info.indices → HasInfo s (caller_of s new) root snap info
 has_info s mid next new root snap info P Q first second read agrees global metas = record {
   read = read_more s (caller_of s next) (caller_of s new) second.grown (Snap snap.uuid) (formats_of s).info info (read_more s (caller_of s mid) (caller_of s next) first.grown (Snap snap.uuid) (formats_of s).info info read);
@@ -51,10 +52,12 @@ pub info_beside : (s : Start) (old new : List Moment) (P : BlobName → Type 0) 
     → ReadAs s (caller_of s new) (Snap snap.uuid) (formats_of s).info info → (Agrees root snap info → ⊥) → Disagree s (caller_of s new) (Snap snap.uuid) (Root n)
 info_beside s old new P n root snap info went has listed read differ = InfoBeside n root snap info (root_on s old new P n root went has).read listed read differ
 
-pub global_beside : (s : Start) (old new : List Moment) (P : BlobName → Type 0) (uuid : ℕ) (info : SnapInfo) (meta : GlobalMeta) → Went s old new P → ReadAs s (caller_of s old) (Snap uuid) (formats_of s).info info → ReadAs s (caller_of s new) (Meta uuid) (formats_of s).global meta
+pub global_beside : (s : Start) (old new : List Moment) (P : BlobName → Type 0) (uuid : ℕ) (info : SnapInfo) (meta : GlobalMeta) → Went s old new P → ReadAs s (caller_of s old) (Snap uuid) (formats_of s).info info
+    → ReadAs s (caller_of s new) (Meta uuid) (formats_of s).global meta
     → (meta ≡ global_of info → ⊥) → Disagree s (caller_of s new) (Meta uuid) (Snap uuid)
 global_beside s old new P uuid info meta went was read differ = GlobalBeside uuid info meta (read_more s (caller_of s old) (caller_of s new) went.grown (Snap uuid) (formats_of s).info info was) read differ
 
-pub meta_beside : (s : Start) (old new : List Moment) (P : BlobName → Type 0) (uuid : ℕ) (info : SnapInfo) (r : IndexRef) (meta : IndexMetadata) → Went s old new P → ReadAs s (caller_of s old) (Snap uuid) (formats_of s).info info → Has info.indices r
+pub meta_beside : (s : Start) (old new : List Moment) (P : BlobName → Type 0) (uuid : ℕ) (info : SnapInfo) (r : IndexRef) (meta : IndexMetadata) → Went s old new P → ReadAs s (caller_of s old) (Snap uuid) (formats_of s).info info
+    → Has info.indices r
     → ReadAs s (caller_of s new) (IndexMeta r.id uuid) (formats_of s).index_meta meta → (meta ≡ record { index = r; uuid = uuid } → ⊥) → Disagree s (caller_of s new) (IndexMeta r.id uuid) (Snap uuid)
 meta_beside s old new P uuid info r meta went was there read differ = IndexMetaBeside uuid info r meta (read_more s (caller_of s old) (caller_of s new) went.grown (Snap uuid) (formats_of s).info info was) there read differ

@@ -39,7 +39,8 @@ if_tells P Q each (Ok x) h = tt
 if_tells P Q each (Err trouble) h = tells_more P Q each trouble h
 
 -- a trouble that was passed on
-pub passes : {X S F : Type 0} (P Q : BlobName → Type 0) (result : Result X (Trouble S F)) (trouble : Trouble S F) → IsErrAnd result (λ x. x ≡ trouble) → ((name : BlobName) → P name → Q name) → TellsOne P trouble → IfErr result (TellsOne Q)
+pub passes : {X S F : Type 0} (P Q : BlobName → Type 0) (result : Result X (Trouble S F)) (trouble : Trouble S F) → IsErrAnd result (λ x. x ≡ trouble) → ((name : BlobName) → P name → Q name) → TellsOne P trouble
+    → IfErr result (TellsOne Q)
 passes P Q result trouble is each h = passed result (TellsOne Q) trouble is (tells_more P Q each trouble h)
 
 -- a text that wasn't read
@@ -63,11 +64,13 @@ next_at {A} {B} h (y ∷ ys) (suc i) x less is =
 -- ---- a file
 
 -- what is found of it
-judged_why : (P : BlobName → Type 0) (at : ShardId) (generation : Id) (e : CodeEntry) (found : Print) (exact : Bool) (why : Why) → IsOther at e found why ⊎ IsCutOtherwise at generation e found exact why → P (File at.index.number at.number e.name.number) → NamesOne P (why_of why)
+judged_why : (P : BlobName → Type 0) (at : ShardId) (generation : Id) (e : CodeEntry) (found : Print) (exact : Bool) (why : Why) → IsOther at e found why ⊎ IsCutOtherwise at generation e found exact why
+    → P (File at.index.number at.number e.name.number) → NamesOne P (why_of why)
 judged_why P at generation e found exact why (inl h) named = subst (λ (w : Why). NamesOne P (why_of w)) (sym h.0) named
 judged_why P at generation e found exact why (inr h) named = subst (λ (w : Why). NamesOne P (why_of w)) (sym h.0) named
 
-pub judged_tells : (P : BlobName → Type 0) (at : ShardId) (generation : Id) (e : CodeEntry) (found : Print) (exact : Bool) (judged : Option Why) (why : Why) → Judged at generation e found exact judged → judged ≡ Some why → P (File at.index.number at.number e.name.number)
+pub judged_tells : (P : BlobName → Type 0) (at : ShardId) (generation : Id) (e : CodeEntry) (found : Print) (exact : Bool) (judged : Option Why) (why : Why) → Judged at generation e found exact judged → judged ≡ Some why
+    → P (File at.index.number at.number e.name.number)
     → NamesOne P (why_of why)
 judged_tells P at generation e found exact None why h is named = absurd cc
 judged_tells P at generation e found exact (Some w) why h is named =

@@ -7,3 +7,4 @@ pub mod Parts
 pub mod First
 pub mod Trouble
 pub mod Refused
+pub mod Fetches

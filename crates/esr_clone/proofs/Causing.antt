@@ -15,7 +15,7 @@ use Rattle.esr_unit.specs.Fail.{GivenUp}
 use Rattle.esr_upload.specs.Refused.{IsUnitRefused}
 use Rattle.esr_upload.specs.Trouble.{Shown, shown_other}
 use Rattle.esr_upload.specs.Worked.{Worked}
-use Rattle.esr_upload.proofs.Refusing.{IsUntoldEnding, by_trouble, not_stale, given_up}
+use Rattle.esr_upload.specs.Ends.{IsUntoldEnding, by_trouble, not_stale, given_up}
 
 module _ {S F H T : Type 0} (e : Evidence S F H T) (s : Start) (old mid : List Moment) (who index number : ℕ) (trouble : Trouble S F) (ending : Ending S F H T)
     (worked : Worked (ticket_of s old who) (ticket_of s mid who)) (work : (ticket_of s mid who).work ≡ Shard index number) (shown : Shown {S = S} {F = F} {H = H} {T = T} e 0 (Some []) s mid who trouble) (is : ending ≡ ending_by trouble) where

@@ -31,9 +31,9 @@ use Rattle.esr_desk.specs.Taken.{TookWork, after_writes}
 use Rattle.esr_upload.specs.Published.{HasIndex, snap_blob, index_blob, last_blobs}
 use Rattle.esr_upload.specs.Stored.{IsAt}
 use Rattle.esr_upload.specs.Worked.{Worked}
-use Rattle.esr_upload.proofs.Adding.{with_snap_is}
-use Rattle.esr_upload.proofs.Closing.{based_on}
-use Rattle.esr_upload.proofs.Writing.{writes_keep, writes_at, all_wrote, wrote_only, all_noted}
+use Rattle.esr_upload.specs.SnapAdds.{with_snap_is}
+use Rattle.esr_upload.specs.BaseReads.{based_on}
+use Rattle.esr_upload.specs.Commits.{writes_keep, writes_at, all_wrote, wrote_only, all_noted}
 use Rattle.esr_clone.specs.Copied.{IsCopy, IsOn, ReadAs, HasSource, HasRead, len_of, sum_entries}
 
 -- ---- a unit that was taken

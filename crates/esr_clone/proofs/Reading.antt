@@ -33,7 +33,7 @@ use Rattle.esr_unit.specs.Fetch.{MadeOne}
 use Rattle.esr_unit.specs.Refusals.{stepped_had}
 use Rattle.esr_upload.specs.Stored.{IsAt}
 use Rattle.esr_upload.specs.Trouble.{Shown}
-use Rattle.esr_upload.proofs.Reading.{told_has, fetching_worked, fetching_base}
+use Rattle.esr_upload.specs.BaseReads.{told_has, fetching_worked, fetching_base}
 use Rattle.esr_clone.specs.Copied.{HasSource}
 
 -- its name is one of the layout
@@ -49,7 +49,8 @@ still_to_fetch : (t u : Ticket) (index number source : ℕ) → u.work ≡ t.wor
 still_to_fetch t u index number source work same at is = (index, number, work ∙ at.work, inr (source, same ∙ is, refl))
 
 -- after it was fetched each index is new to the ticket
-pub index_new : (s : Start) (old new : List Moment) (who index number source generation : ℕ) → made_of s old who ≡ [] → MadeOne s old new who (FetchStep (ShardSnap index number source)) → IsFresh s new who (FetchStep (ShardIndex index number generation))
+pub index_new : (s : Start) (old new : List Moment) (who index number source generation : ℕ) → made_of s old who ≡ [] → MadeOne s old new who (FetchStep (ShardSnap index number source))
+    → IsFresh s new who (FetchStep (ShardIndex index number generation))
 index_new s old new who index number source generation none made e has same = ⊎_elim
     (λ (before : Has (made_of s old who) e). absurd (subst (λ (entries : List Entry). Has entries e) none before))
     (λ (here : e.step ≡ FetchStep (ShardSnap index number source)). differ (subst (λ (x : Step). Repeats x (FetchStep (ShardIndex index number generation))) here same))

@@ -3,22 +3,20 @@ use Rattle.std.proofs.Common.{◌≡◌, ◌⊎◌, ℕ, Bool, true, false, true
 use Rattle.std.specs.Prelude.{option_map}
 use Rattle.std.specs.List.{list_any}
 use Rattle.std.specs.FinMap as fin
-use Rattle.std.proofs.lemmas.Bool.{eq-eqb}
+use Rattle.std.proofs.lemmas.Bool.{eq-eqb, cases_Bool, cond-true, cond-false}
+use Rattle.std.proofs.lemmas.Option.{same_Some, none-some}
+use Rattle.esr_core.specs.Laws.NumberMaps.{split_at}
 use Rattle.esr_model.specs.Values.{Bytes, Has, Formats}
 use Rattle.esr_model.specs.Shelf.{Shelved, names_uuid}
 use Rattle.esr_core.specs.World.{World, Op, Work, Shard, Finalize, Deleting, Drop, Ticket}
 use Rattle.esr_core.specs.Deletes.{named_uuids, has_op, is_swap, swaps_op, is_swapped, is_unaborted, aborts_op, aborting, aborted_ops}
 use Rattle.esr_core.specs.Ids.{Law}
 use Rattle.esr_core.specs.Allowed.{IsNameOf}
-use Rattle.esr_core.specs.AbortLaws.{aborted_at}
-use Rattle.esr_core.proofs.Accepting.{same_true}
-use Rattle.esr_core.proofs.AskedDeletes.{named_is, more_named}
-use Rattle.esr_core.proofs.Deleting.{bool_told}
-use Rattle.esr_core.proofs.DeletesHold.{names_has}
-use Rattle.esr_core.proofs.Queues.{split_at}
-use Rattle.esr_core.proofs.Reading.{some_same, none_some}
-use Rattle.esr_core.proofs.Recorded.{got_entry}
-use Rattle.esr_core.proofs.Results.{choose_true, choose_false}
+use Rattle.esr_core.specs.Laws.AbortLaws.{aborted_at}
+use Rattle.esr_core.specs.Laws.Tests.{same_true}
+use Rattle.esr_core.specs.Laws.DeleteAsks.{named_is, more_named}
+use Rattle.esr_core.specs.Laws.DeleteRoots.{names_has}
+use Rattle.esr_core.specs.Laws.Maps.{got_entry}
 use Rattle.esr_report.specs.Replies.{has_name}
 use Rattle.esr_complete.proofs.Following.{IsFinal, IsOutFinal}
 
@@ -57,15 +55,16 @@ module _ (w : World) (uuids : List ℕ) (by : ℕ) where
   pub was_op : (o : ℕ) (op : Op) → fin.get (aborted_ops w uuids by) o ≡ Some op → (old : Op) × (fin.get w.ops o ≡ Some old) × ((op ≡ old) ⊎ ((op ≡ record old { aborted = Some by }) × (aborts_op w uuids (o, old) ≡ true)))
   was_op o op e = found (fin.get w.ops o) refl (sym (get_at o) ∙ e)
     where
-      found : (was : Option Op) → fin.get w.ops o ≡ was → option_map (now_at o) was ≡ Some op → (old : Op) × (fin.get w.ops o ≡ Some old) × ((op ≡ old) ⊎ ((op ≡ record old { aborted = Some by }) × (aborts_op w uuids (o, old) ≡ true)))
-      found None is h = absurd (none_some op h)
+      found : (was : Option Op) → fin.get w.ops o ≡ was → option_map (now_at o) was ≡ Some op
+          → (old : Op) × (fin.get w.ops o ≡ Some old) × ((op ≡ old) ⊎ ((op ≡ record old { aborted = Some by }) × (aborts_op w uuids (o, old) ≡ true)))
+      found None is h = absurd (none-some op h)
       found (Some old) is h =
-          let now : op ≡ now_at o old = sym (some_same _ _ h) in (
+          let now : op ≡ now_at o old = sym (same_Some _ _ h) in (
             old,
             is,
-            elim (bool_told (aborts_op w uuids (o, old))) [
-              | inl b ↦ let as_now : aborting w uuids by (o, old) ≡ (o, record old { aborted = Some by }) = choose_true _ _ _ b in inr (now ∙ ap (λ (e : ℕ × Op). e.1) as_now, b)
-              | inr b ↦ let as_now : aborting w uuids by (o, old) ≡ (o, old) = choose_false _ _ _ b in inl (now ∙ ap (λ (e : ℕ × Op). e.1) as_now)
+            elim (cases_Bool (aborts_op w uuids (o, old))) [
+              | inl b ↦ let as_now : aborting w uuids by (o, old) ≡ (o, record old { aborted = Some by }) = cond-true _ _ _ b in inr (now ∙ ap (λ (e : ℕ × Op). e.1) as_now, b)
+              | inr b ↦ let as_now : aborting w uuids by (o, old) ≡ (o, old) = cond-false _ _ _ b in inl (now ∙ ap (λ (e : ℕ × Op). e.1) as_now)
             ],
           )
 
@@ -104,6 +103,6 @@ names_it f w shelf law names o op there aborts =
     same : (name : Bytes) → IsNameOf w name op.uuid → name ≡ op.name
     same name (inl s) = absurd ((law.lawful.sound.carried.ops o op there).unlisted s.0 s.1 s.3)
     same name (inr q) = elim (split_at q.0 o) [
-      | inl one ↦ sym q.3 ∙ ap (λ (x : Op). x.name) (some_same q.1 op (sym q.2 ∙ ap (fin.get w.ops) one ∙ there))
+      | inl one ↦ sym q.3 ∙ ap (λ (x : Op). x.name) (same_Some q.1 op (sym q.2 ∙ ap (fin.get w.ops) one ∙ there))
       | inr apart ↦ absurd ((law.lawful.sound.carried.together q.0 o q.1 op apart q.2 there).uuids q.4)
     ]

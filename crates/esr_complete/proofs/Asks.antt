@@ -2,15 +2,14 @@
 use Rattle.std.proofs.Common.{◌≡◌, ℕ, true, ◌==◌, ◌&&◌, List, ◌∷◌, sym, ap, ◌∙◌, subst, inl, inr}
 use Rattle.esr_model.specs.Values.{Bytes, Has}
 use Rattle.esr_core.specs.Entry.{DeleteSnapshots, Step, AskStep, Reply, Entry, Moment}
-use Rattle.esr_core.proofs.Reading.{Has-mapped}
+use Rattle.esr_model.specs.Lists.{Has-mapped}
 use Rattle.esr_script.specs.declared.item.ScriptLine.{ScriptLine}
 use Rattle.esr_desk.specs.Start.{Start, formats_of, world_of}
 use Rattle.esr_quiet.specs.Asked.{is_line_ask, is_asked, as_asked, asked_steps}
 use Rattle.esr_quiet.specs.Smooth.{IsSmooth, NoneFailed}
 use Rattle.esr_quiet.specs.Refusals.{AreByRule}
-use Rattle.esr_quiet.proofs.Askers.{AsksOrElects, asker}
-use Rattle.esr_quiet.proofs.Passing.{quiet_at, legal_at}
-use Rattle.esr_quiet.proofs.Prefixes.{place_of}
+use Rattle.esr_quiet.specs.Askers.{AsksOrElects, asker}
+use Rattle.esr_quiet.specs.PrefixLaws.{quiet_at, legal_at, place_of}
 use Rattle.esr_complete.specs.Lines.{steps_of, entries_of}
 use Rattle.esr_complete.proofs.OpEnds.{IsCalm, calm_unblocked}
 use Rattle.esr_complete.proofs.Histories.{calm_of}

@@ -5,98 +5,53 @@ use Rattle.std.proofs.lemmas.Bool.{le-ltb, lt-ltb}
 use Rattle.esr_model.specs.Names.{BlobName}
 use Rattle.esr_model.specs.Values.{Has}
 use Rattle.esr_core.specs.After.{or_else}
-use Rattle.esr_core.specs.Entry.{Refusal, CleanupRunning, NameInUse, TooMany, NoSnapshot, NoIndex, BeingDeleted, CloneRunning, RestoreRunning, BusyOp, Entry, Moment}
+use Rattle.esr_core.specs.Entry.{Asked, Snapshot, Clone, DeleteSnapshots, Restore, Cleanup, Refusal, GenerationsSpent, TermsSpent, IdsSpent, Entry, Moment}
 use Rattle.esr_script.specs.declared.item.Item.{Item}
 use Rattle.esr_script.specs.declared.item.Item.TheVariants as items
 use Rattle.esr_script.specs.declared.item.ScriptLine.{ScriptLine}
-use Rattle.esr_report.specs.Replies.{Reply, Made, Deleted, Restored, Cleaned, Term, Waited, Listed, Checked, Verified, Refused, Aborted, fails_swap, has_fallen, wait_reply, is_short, end_reply, replies}
+use Rattle.esr_report.specs.Replies.{Reply, Refused, Failed, Deposed, fails_swap, has_fallen, wait_reply, is_short, end_reply, replies}
 use Rattle.esr_report.specs.Status.{is_deposed, damaged_name, first_damaged, is_spent, are_ok, AllOk, SomeRefused, SwapFailed, ending_by, ending}
-use Rattle.esr_quiet.specs.Refusals.{RefusesSnapshot, RefusesRestore, RefusesClone, RefusesDelete, RefusesCleanup}
+use Rattle.esr_quiet.specs.Refusals.{IsByRule}
 use Rattle.esr_complete.specs.Lines.{entries_of}
 use Rattle.esr_complete.specs.Answers.{IsAnswer, AreAnsweredIn, AreAnswered, EndsWell}
 use Rattle.esr_complete.proofs.Facts.{Fact}
 
--- a rule of accepting refused a command
-abbrev IsRuled : Refusal → Type 0
-IsRuled (CleanupRunning op) = Unit {0}
-IsRuled (NameInUse uuid) = Unit {0}
-IsRuled (TooMany limit) = Unit {0}
-IsRuled (NoSnapshot place) = Unit {0}
-IsRuled (NoIndex place) = Unit {0}
-IsRuled (BeingDeleted op) = Unit {0}
-IsRuled (CloneRunning op) = Unit {0}
-IsRuled (RestoreRunning op) = Unit {0}
-IsRuled (BusyOp op) = Unit {0}
-IsRuled refusal = ⊥
-
-ruled_snapshot : (refusal : Refusal) → RefusesSnapshot refusal → IsRuled refusal
-ruled_snapshot (CleanupRunning op) h = tt
-ruled_snapshot (NameInUse uuid) h = tt
-ruled_snapshot (TooMany limit) h = tt
-ruled_snapshot refusal h = absurd h
-
-ruled_restore : (refusal : Refusal) → RefusesRestore refusal → IsRuled refusal
-ruled_restore (NoSnapshot place) h = tt
-ruled_restore (BeingDeleted op) h = tt
-ruled_restore (TooMany limit) h = tt
-ruled_restore refusal h = absurd h
-
-ruled_clone : (refusal : Refusal) → RefusesClone refusal → IsRuled refusal
-ruled_clone (CleanupRunning op) h = tt
-ruled_clone (NameInUse uuid) h = tt
-ruled_clone (NoSnapshot place) h = tt
-ruled_clone (BeingDeleted op) h = tt
-ruled_clone (NoIndex place) h = tt
-ruled_clone (TooMany limit) h = tt
-ruled_clone refusal h = absurd h
-
-ruled_delete : (refusal : Refusal) → RefusesDelete refusal → IsRuled refusal
-ruled_delete (CleanupRunning op) h = tt
-ruled_delete (NoSnapshot place) h = tt
-ruled_delete (CloneRunning op) h = tt
-ruled_delete (RestoreRunning op) h = tt
-ruled_delete (TooMany limit) h = tt
-ruled_delete refusal h = absurd h
-
-ruled_cleanup : (refusal : Refusal) → RefusesCleanup refusal → IsRuled refusal
-ruled_cleanup (CleanupRunning op) h = tt
-ruled_cleanup (BusyOp op) h = tt
-ruled_cleanup refusal h = absurd h
+-- no rule says that a number is spent
+unspent_rule : (command : Asked) (refusal : Refusal) → IsByRule command refusal → is_spent (Refused refusal) ≡ false
+unspent_rule (Snapshot name indices moment) (GenerationsSpent pending) rule = absurd rule
+unspent_rule (Snapshot name indices moment) (TermsSpent term) rule = absurd rule
+unspent_rule (Snapshot name indices moment) (IdsSpent next) rule = absurd rule
+unspent_rule (Restore name place) (GenerationsSpent pending) rule = absurd rule
+unspent_rule (Restore name place) (TermsSpent term) rule = absurd rule
+unspent_rule (Restore name place) (IdsSpent next) rule = absurd rule
+unspent_rule (Clone source name names moment taken) (GenerationsSpent pending) rule = absurd rule
+unspent_rule (Clone source name names moment taken) (TermsSpent term) rule = absurd rule
+unspent_rule (Clone source name names moment taken) (IdsSpent next) rule = absurd rule
+unspent_rule (DeleteSnapshots names) (GenerationsSpent pending) rule = absurd rule
+unspent_rule (DeleteSnapshots names) (TermsSpent term) rule = absurd rule
+unspent_rule (DeleteSnapshots names) (IdsSpent next) rule = absurd rule
+unspent_rule Cleanup (GenerationsSpent pending) rule = absurd rule
+unspent_rule Cleanup (TermsSpent term) rule = absurd rule
+unspent_rule Cleanup (IdsSpent next) rule = absurd rule
+unspent_rule command refusal rule = refl
 
 -- a reply that ends no run
 abbrev IsFine : Reply → Type 0
-IsFine (Made uuid) = Unit {0}
-IsFine (Deleted op) = Unit {0}
-IsFine (Aborted by) = Unit {0}
-IsFine (Restored files bytes) = Unit {0}
-IsFine (Cleaned blobs bytes) = Unit {0}
-IsFine (Term term) = Unit {0}
-IsFine Waited = Unit {0}
-IsFine (Listed snapshots) = Unit {0}
-IsFine (Checked snapshots blobs) = Unit {0}
-IsFine Verified = Unit {0}
-IsFine (Refused refusal) = IsRuled refusal
-IsFine reply = ⊥
+IsFine (Refused refusal) = (command : Asked) × IsByRule command refusal
+IsFine (Failed why op) = ⊥
+IsFine Deposed = ⊥
+IsFine reply = Unit {0}
 
 fine_answer : (script before : List ScriptLine) (item : Item) (reply : Reply) → IsAnswer script before item reply → IsFine reply
-fine_answer script before (items.Snapshot name indices) (Made uuid) h = tt
-fine_answer script before (items.Snapshot name indices) (Aborted by) h = tt
-fine_answer script before (items.Snapshot name indices) (Refused refusal) h = ruled_snapshot refusal h.0
-fine_answer script before (items.Clone source name indices) (Made uuid) h = tt
-fine_answer script before (items.Clone source name indices) (Aborted by) h = tt
-fine_answer script before (items.Clone source name indices) (Refused refusal) h = ruled_clone refusal h.0
-fine_answer script before (items.Delete names) (Deleted op) h = tt
-fine_answer script before (items.Delete names) (Refused refusal) h = ruled_delete refusal h.0
-fine_answer script before (items.Restore name place) (Restored files bytes) h = tt
-fine_answer script before (items.Restore name place) (Refused refusal) h = ruled_restore refusal h
-fine_answer script before items.Cleanup (Cleaned blobs bytes) h = tt
-fine_answer script before items.Cleanup (Refused refusal) h = ruled_cleanup refusal h.0
-fine_answer script before items.Failover (Term term) h = tt
-fine_answer script before items.Wait Waited h = tt
-fine_answer script before items.List (Listed snapshots) h = tt
-fine_answer script before items.Check (Checked snapshots blobs) h = tt
-fine_answer script before items.Verify Verified h = tt
-fine_answer script before item reply h = absurd h
+fine_answer script before (items.Snapshot name indices) (Refused refusal) h = (Snapshot name [] 0, h.0)
+fine_answer script before (items.Clone source name indices) (Refused refusal) h = (Clone source name indices 0 None, h.0)
+fine_answer script before (items.Delete names) (Refused refusal) h = (DeleteSnapshots names, h.0)
+fine_answer script before (items.Restore name place) (Refused refusal) h = (Restore name place, h)
+fine_answer script before items.Cleanup (Refused refusal) h = (Cleanup, h.0)
+fine_answer script before item (Refused refusal) h = absurd h
+fine_answer script before item (Failed why op) h = absurd h
+fine_answer script before item Deposed h = absurd h
+fine_answer script before item reply h = tt
 
 record Calm (reply : Reply) : Type 0 where
   undeposed : is_deposed reply ≡ false
@@ -104,27 +59,10 @@ record Calm (reply : Reply) : Type 0 where
   unspent : is_spent reply ≡ false
 
 calm_reply : (reply : Reply) → IsFine reply → Calm reply
-calm_reply (Made uuid) fine = record { undeposed = refl; undamaged = refl; unspent = refl }
-calm_reply (Deleted op) fine = record { undeposed = refl; undamaged = refl; unspent = refl }
-calm_reply (Aborted by) fine = record { undeposed = refl; undamaged = refl; unspent = refl }
-calm_reply (Restored files bytes) fine = record { undeposed = refl; undamaged = refl; unspent = refl }
-calm_reply (Cleaned blobs bytes) fine = record { undeposed = refl; undamaged = refl; unspent = refl }
-calm_reply (Term term) fine = record { undeposed = refl; undamaged = refl; unspent = refl }
-calm_reply Waited fine = record { undeposed = refl; undamaged = refl; unspent = refl }
-calm_reply (Listed snapshots) fine = record { undeposed = refl; undamaged = refl; unspent = refl }
-calm_reply (Checked snapshots blobs) fine = record { undeposed = refl; undamaged = refl; unspent = refl }
-calm_reply Verified fine = record { undeposed = refl; undamaged = refl; unspent = refl }
-calm_reply (Refused (CleanupRunning op)) fine = record { undeposed = refl; undamaged = refl; unspent = refl }
-calm_reply (Refused (NameInUse uuid)) fine = record { undeposed = refl; undamaged = refl; unspent = refl }
-calm_reply (Refused (TooMany limit)) fine = record { undeposed = refl; undamaged = refl; unspent = refl }
-calm_reply (Refused (NoSnapshot place)) fine = record { undeposed = refl; undamaged = refl; unspent = refl }
-calm_reply (Refused (NoIndex place)) fine = record { undeposed = refl; undamaged = refl; unspent = refl }
-calm_reply (Refused (BeingDeleted op)) fine = record { undeposed = refl; undamaged = refl; unspent = refl }
-calm_reply (Refused (CloneRunning op)) fine = record { undeposed = refl; undamaged = refl; unspent = refl }
-calm_reply (Refused (RestoreRunning op)) fine = record { undeposed = refl; undamaged = refl; unspent = refl }
-calm_reply (Refused (BusyOp op)) fine = record { undeposed = refl; undamaged = refl; unspent = refl }
-calm_reply (Refused refusal) fine = absurd fine
-calm_reply reply fine = absurd fine
+calm_reply (Refused refusal) (command, rule) = record { undeposed = refl; undamaged = refl; unspent = unspent_rule command refusal rule }
+calm_reply (Failed why op) fine = absurd fine
+calm_reply Deposed fine = absurd fine
+calm_reply reply fine = record { undeposed = refl; undamaged = refl; unspent = refl }
 
 record AllCalm (lines : List ScriptLine) (rs : List Reply) : Type 0 where
   undeposed : list_any is_deposed rs ≡ false

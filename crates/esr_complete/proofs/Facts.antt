@@ -1,8 +1,10 @@
 -- What each entry of a history where nothing fails answers to a line.
 use Rattle.std.proofs.Common.{◌≡◌, ◌⊎◌, ◌||◌, ◌&&◌, ◌==◌, ℕ, Bool, true, false, true≢false, List, [], ◌∷◌, ◌++◌, Option, Some, None, refl, sym, ap, ◌∙◌, subst, inl, inr}
+use Rattle.std.proofs.lemmas.Option.{same_Some}
+use Rattle.std.proofs.lemmas.Bool.{cond-true}
 use Rattle.esr_model.specs.Values.{Bytes, Has}
 use Rattle.esr_core.specs.Entry as entry
-use Rattle.esr_core.specs.Entry.{AskedIndex, CloneOf, Asked, Snapshot, Clone, DeleteSnapshots, Cleanup, SettlePruned, Restore, Step, AskStep, SettleStep, DroppedStep, ElectStep, LookStep, PruneStep, Refusal, CleanupRunning, NameInUse, TooMany, StaleTerm, DepotFault, NoSnapshot, NoIndex, BeingDeleted, CloneRunning, RestoreRunning, BusyOp, Accepted, WasSettled, HasEnded, AcceptedRestore, ElectedTerm, Looked, Entry, Moment}
+use Rattle.esr_core.specs.Entry.{AskedIndex, CloneOf, Asked, Snapshot, Clone, DeleteSnapshots, Cleanup, SettlePruned, Restore, Step, AskStep, SettleStep, DroppedStep, ElectStep, LookStep, PruneStep, Refusal, CleanupRunning, DeposedAt, StaleTerm, DepotFault, Accepted, WasSettled, HasEnded, AcceptedRestore, ElectedTerm, Looked, Entry, Moment}
 use Rattle.esr_core.specs.After.{or_else}
 use Rattle.esr_core.specs.Ready.{IsOpen}
 use Rattle.esr_core.specs.World.{World}
@@ -11,18 +13,18 @@ use Rattle.esr_script.specs.declared.item.Item.{Item}
 use Rattle.esr_script.specs.declared.item.Item.TheVariants as items
 use Rattle.esr_script.specs.declared.item.ScriptLine.{ScriptLine}
 use Rattle.esr_report.specs.Cleaned.{is_cleanup_ticket}
-use Rattle.esr_report.specs.Replies.{Reply, Deleted, Cleaned, name_by, name_of_op, has_name, fails_swap, has_fallen, deposed_by, end_of_op, restore_reply, ask_reply, look_reply, is_election_step, is_election, election_reply}
+use Rattle.esr_report.specs.Replies.{Reply, Deleted, Cleaned, Refused, refused_reply, name_by, name_of_op, has_name, fails_swap, has_fallen, deposed_by, end_of_op, restore_reply, ask_reply, look_reply, is_election_step, is_election, election_reply}
+use Rattle.esr_report.specs.Aborts.{accepted_by}
 use Rattle.esr_desk.specs.Start.{Start, world_of}
 use Rattle.esr_quiet.specs.Refusals.{IsByRule, IsOfCleanup, IsOfRule, IsOfTerm, AreByRule}
 use Rattle.esr_quiet.specs.Smooth.{IsSmooth, NoneFailed, NoneUndeleted, NoneUnrestored}
 use Rattle.esr_complete.specs.Lines.{entries_of}
 use Rattle.esr_complete.specs.Answers.{IsIdle, IsDeletedBy, IsCleaningBy, IsAnswer}
-use Rattle.esr_core.proofs.Accepting.{same_one}
-use Rattle.esr_core.proofs.Reading.{some_same, Has-mapped}
-use Rattle.esr_core.proofs.Results.{choose_true}
+use Rattle.esr_core.specs.Laws.Tests.{same_one}
+use Rattle.esr_model.specs.Lists.{Has-mapped}
 use Rattle.esr_complete.proofs.Tickets.{is_cleanup_op, same_op}
 use Rattle.esr_complete.proofs.OpEnds.{IsCalm, AreCalmIn, IsPruned, IsSettled, IsDropped, IsOver, IsOverBy, IsOfKind, WasAborted, IsEnded, EndsIn, aborted_in, end_found, settled_in, over_found, prune_deleted, drop_cleaned}
-use Rattle.esr_complete.proofs.Following.{IsSaid, snapshot_of, delete_of, HasName, IsNameless, IsOverIn, FollowsIn}
+use Rattle.esr_complete.proofs.Following.{IsSaid, delete_of, HasName, IsNameless, IsOverIn, FollowsIn}
 use Rattle.esr_complete.proofs.Steps.{apart_name}
 use Rattle.esr_complete.proofs.RestoreTickets.{IsRestoredReply, restored_reply}
 use Rattle.esr_complete.proofs.FollowingRestores.{AskedRestore, opens}
@@ -46,8 +48,10 @@ IsAskedIn front reply = Unit {0}
 
 pub record Fact (script : List ScriptLine) (all : List Entry) (e : Entry) : Type 0 where
   pub unfallen : fails_swap e.step e.reply ≡ false
-  pub asked : (before : List ScriptLine) → IsCleaningIn before e.reply → (of : Bytes) (refs : List AskedIndex) (moment : ℕ) → e.step ≡ AskStep (Snapshot of refs moment) → (indices : List LineIndex) → IsAnswerOf script before (items.Snapshot of indices) (ask_reply all e.reply)
-  pub cloned : (before : List ScriptLine) → IsCleaningIn before e.reply → (source of : Bytes) (names : List Bytes) (moment : ℕ) (taken : Option CloneOf) → e.step ≡ AskStep (Clone source of names moment taken) → (from : Bytes) (indices : List Bytes) → IsAnswerOf script before (items.Clone from of indices) (ask_reply all e.reply)
+  pub asked : (before : List ScriptLine) → IsCleaningIn before e.reply → (of : Bytes) (refs : List AskedIndex) (moment : ℕ) → e.step ≡ AskStep (Snapshot of refs moment) → (indices : List LineIndex)
+      → IsAnswerOf script before (items.Snapshot of indices) (ask_reply all e.reply)
+  pub cloned : (before : List ScriptLine) → IsCleaningIn before e.reply → (source of : Bytes) (names : List Bytes) (moment : ℕ) (taken : Option CloneOf) → e.step ≡ AskStep (Clone source of names moment taken)
+      → (from : Bytes) (indices : List Bytes) → IsAnswerOf script before (items.Clone from of indices) (ask_reply all e.reply)
   pub deleted : (before : List ScriptLine) → IsCleaningIn before e.reply → (names : List Bytes) → e.step ≡ AskStep (DeleteSnapshots names) → IsAnswerOf script before (items.Delete names) (ask_reply all e.reply)
   pub cleaned : (before : List ScriptLine) → IsCleaningIn before e.reply → e.step ≡ AskStep Cleanup → IsAnswerOf script before items.Cleanup (ask_reply all e.reply)
   pub restored : (before : List ScriptLine) (of place : Bytes) → e.step ≡ AskStep (Restore of place) → (name at : Bytes) → IsAnswerOf script before (items.Restore name at) (ask_reply all e.reply)
@@ -62,6 +66,20 @@ no_fault_rule (Restore name place) rule = rule
 no_fault_rule (Clone source name names moment taken) rule = rule
 no_fault_rule (DeleteSnapshots names) rule = rule
 no_fault_rule Cleanup rule = rule
+
+-- no rule says that a record swap had failed
+no_down_rule : (command : Asked) (place : ℕ) → IsByRule command (DeposedAt place) → ⊥
+no_down_rule (Snapshot name indices moment) place rule = rule
+no_down_rule (Restore name below) place rule = rule
+no_down_rule (Clone source name names moment taken) place rule = rule
+no_down_rule (DeleteSnapshots names) place rule = rule
+no_down_rule Cleanup place rule = rule
+
+-- what a rule refused is answered so
+ruled_reply : (command : Asked) (refusal : Refusal) → IsByRule command refusal → refused_reply refusal ≡ Refused refusal
+ruled_reply command DepotFault rule = absurd (no_fault_rule command rule)
+ruled_reply command (DeposedAt place) rule = absurd (no_down_rule command place rule)
+ruled_reply command refusal rule = refl
 
 unfallen_by : (reply : entry.Reply) (step : Step) → IsCalm (Unit {0}) reply step → fails_swap step reply ≡ false
 unfallen_by (entry.Refused DepotFault) (AskStep command) calm = absurd (no_fault_rule command calm)
@@ -80,7 +98,7 @@ AsksAll script all = (e : Entry) (names : List Bytes) → Has all e → e.step �
 
 -- the snapshot or the clone of each that was accepted was made or aborted
 abbrev AreEnded : List Entry → Step → entry.Reply → Type 0
-AreEnded all step reply = (o : ℕ) → snapshot_of step reply ≡ Some o → (name : Bytes) × (name_by o step reply ≡ Some name) × (name_of_op all o ≡ Some name) × IsEnded all o (end_of_op all o [] all)
+AreEnded all step reply = (o : ℕ) → accepted_by step reply ≡ Some o → (name : Bytes) × (name_by o step reply ≡ Some name) × (name_of_op all o ≡ Some name) × IsEnded all o (end_of_op all o [] all)
 
 has_has : (names : List Bytes) (name : Bytes) → has_name names name ≡ true → Has names name
 has_has [] name e = absurd (true≢false (sym e))
@@ -89,41 +107,37 @@ has_has (x ∷ names) name e = elim (same_one x name) [ inl h ↦ inl h.1 | inr 
 -- a delete for which the script asks aborted it
 deleted_line : (script : List ScriptLine) (all : List Entry) (o : ℕ) (name : Bytes) (answer : Option Reply) → AsksAll script all → name_of_op all o ≡ Some name → WasAborted all o answer → IsDeletedBy script name
 deleted_line script all o name answer asks is h =
-    let same : h.of ≡ name = some_same h.of name (sym h.of_is ∙ is) in
+    let same : h.of ≡ name = same_Some h.of name (sym h.of_is ∙ is) in
     let (line, there, item) = asks h.e h.names h.has h.step in
     (line, h.names, there, item, has_has h.names name (subst (λ (n : Bytes). has_name h.names n ≡ true) same h.named))
 
-asked_by : (script before : List ScriptLine) (all : List Entry) (of : Bytes) (refs : List AskedIndex) (moment : ℕ) (reply : entry.Reply) (indices : List LineIndex) → IsCalm (Unit {0}) reply (AskStep (Snapshot of refs moment)) → IsSaid (AskStep (Snapshot of refs moment)) reply → IsCleaningIn before reply → AsksAll script all
+asked_by : (script before : List ScriptLine) (all : List Entry) (of : Bytes) (refs : List AskedIndex) (moment : ℕ) (reply : entry.Reply) (indices : List LineIndex) → IsCalm (Unit {0}) reply (AskStep (Snapshot of refs moment))
+    → IsSaid (AskStep (Snapshot of refs moment)) reply → IsCleaningIn before reply → AsksAll script all
     → AreEnded all (AskStep (Snapshot of refs moment)) reply → IsAnswerOf script before (items.Snapshot of indices) (ask_reply all reply)
 asked_by script before all of refs moment (Accepted op) indices calm said cleaning asks ended =
     let (name, by, is, how) = ended op refl in
-    let same : of ≡ name = some_same of name (sym (choose_true _ _ _ (same_op op)) ∙ by) in
+    let same : of ≡ name = same_Some of name (sym (cond-true _ _ _ (same_op op)) ∙ by) in
     elim how [
       | inl made ↦ subst (λ (a : Option Reply). IsAnswerOf script before (items.Snapshot of indices) (or_else a (deposed_by (has_fallen all)))) (sym made.is) tt
       | inr aborted ↦ subst (λ (a : Option Reply). IsAnswerOf script before (items.Snapshot of indices) (or_else a (deposed_by (has_fallen all)))) (sym aborted.is) (subst (IsDeletedBy script) (sym same) (deleted_line script all op name (end_of_op all op [] all) asks is aborted))
     ]
-asked_by script before all of refs moment (entry.Refused (CleanupRunning op)) indices calm said cleaning asks ended = (tt, cleaning)
-asked_by script before all of refs moment (entry.Refused (NameInUse uuid)) indices calm said cleaning asks ended = (tt, tt)
-asked_by script before all of refs moment (entry.Refused (TooMany limit)) indices calm said cleaning asks ended = (tt, tt)
-asked_by script before all of refs moment (entry.Refused refusal) indices calm said cleaning asks ended = absurd calm
+asked_by script before all of refs moment (entry.Refused refusal) indices calm said cleaning asks ended =
+    subst (λ (r : Reply). IsAnswerOf script before (items.Snapshot of indices) (Some r)) (sym (ruled_reply (Snapshot of refs moment) refusal calm)) (calm, cleaning)
 asked_by script before all of refs moment reply indices calm said cleaning asks ended = absurd said
 
-cloned_by : (script before : List ScriptLine) (all : List Entry) (source of : Bytes) (names : List Bytes) (moment : ℕ) (taken : Option CloneOf) (reply : entry.Reply) (from : Bytes) (indices : List Bytes) → IsCalm (Unit {0}) reply (AskStep (Clone source of names moment taken))
-    → IsSaid (AskStep (Clone source of names moment taken)) reply → IsCleaningIn before reply → AsksAll script all → AreEnded all (AskStep (Clone source of names moment taken)) reply → IsAnswerOf script before (items.Clone from of indices) (ask_reply all reply)
+cloned_by : (script before : List ScriptLine) (all : List Entry) (source of : Bytes) (names : List Bytes) (moment : ℕ) (taken : Option CloneOf) (reply : entry.Reply) (from : Bytes) (indices : List Bytes)
+    → IsCalm (Unit {0}) reply (AskStep (Clone source of names moment taken))
+    → IsSaid (AskStep (Clone source of names moment taken)) reply → IsCleaningIn before reply → AsksAll script all → AreEnded all (AskStep (Clone source of names moment taken)) reply
+    → IsAnswerOf script before (items.Clone from of indices) (ask_reply all reply)
 cloned_by script before all source of names moment (Some taken) (Accepted op) from indices calm said cleaning asks ended =
     let (name, by, is, how) = ended op refl in
-    let same : of ≡ name = some_same of name (sym (choose_true _ _ _ (same_op op)) ∙ by) in
+    let same : of ≡ name = same_Some of name (sym (cond-true _ _ _ (same_op op)) ∙ by) in
     elim how [
       | inl made ↦ subst (λ (a : Option Reply). IsAnswerOf script before (items.Clone from of indices) (or_else a (deposed_by (has_fallen all)))) (sym made.is) tt
       | inr aborted ↦ subst (λ (a : Option Reply). IsAnswerOf script before (items.Clone from of indices) (or_else a (deposed_by (has_fallen all)))) (sym aborted.is) (subst (IsDeletedBy script) (sym same) (deleted_line script all op name (end_of_op all op [] all) asks is aborted))
     ]
-cloned_by script before all source of names moment taken (entry.Refused (CleanupRunning op)) from indices calm said cleaning asks ended = (tt, cleaning)
-cloned_by script before all source of names moment taken (entry.Refused (NameInUse uuid)) from indices calm said cleaning asks ended = (tt, tt)
-cloned_by script before all source of names moment taken (entry.Refused (NoSnapshot at)) from indices calm said cleaning asks ended = (tt, tt)
-cloned_by script before all source of names moment taken (entry.Refused (BeingDeleted op)) from indices calm said cleaning asks ended = (tt, tt)
-cloned_by script before all source of names moment taken (entry.Refused (NoIndex at)) from indices calm said cleaning asks ended = (tt, tt)
-cloned_by script before all source of names moment taken (entry.Refused (TooMany limit)) from indices calm said cleaning asks ended = (tt, tt)
-cloned_by script before all source of names moment taken (entry.Refused refusal) from indices calm said cleaning asks ended = absurd calm
+cloned_by script before all source of names moment taken (entry.Refused refusal) from indices calm said cleaning asks ended =
+    subst (λ (r : Reply). IsAnswerOf script before (items.Clone from of indices) (Some r)) (sym (ruled_reply (Clone source of names moment taken) refusal calm)) (calm, cleaning)
 cloned_by script before all source of names moment taken reply from indices calm said cleaning asks ended = absurd said
 
 -- the delete of each that was accepted was carried out, and the cleanup came to its end
@@ -138,39 +152,35 @@ cleanup_answer : (script before : List ScriptLine) (reply : Reply) → IsOver tr
 cleanup_answer script before (Cleaned blobs bytes) over = tt
 cleanup_answer script before reply over = absurd over
 
-deleted_by : (script before : List ScriptLine) (all : List Entry) (names : List Bytes) (reply : entry.Reply) → IsCalm (Unit {0}) reply (AskStep (DeleteSnapshots names)) → IsSaid (AskStep (DeleteSnapshots names)) reply → IsCleaningIn before reply → AreDeleted all (AskStep (DeleteSnapshots names)) reply
+deleted_by : (script before : List ScriptLine) (all : List Entry) (names : List Bytes) (reply : entry.Reply) → IsCalm (Unit {0}) reply (AskStep (DeleteSnapshots names)) → IsSaid (AskStep (DeleteSnapshots names)) reply
+    → IsCleaningIn before reply → AreDeleted all (AskStep (DeleteSnapshots names)) reply
     → IsAnswerOf script before (items.Delete names) (ask_reply all reply)
 deleted_by script before all names (Accepted op) calm said cleaning deleted =
     let h = deleted false op refl in
     subst (λ (a : Option Reply). IsAnswerOf script before (items.Delete names) (or_else a (deposed_by (has_fallen all)))) (sym h.is) (delete_answer script before names h.reply h.over)
-deleted_by script before all names (entry.Refused (CleanupRunning op)) calm said cleaning deleted = (tt, cleaning)
-deleted_by script before all names (entry.Refused (NoSnapshot place)) calm said cleaning deleted = (tt, tt)
-deleted_by script before all names (entry.Refused (CloneRunning op)) calm said cleaning deleted = (tt, tt)
-deleted_by script before all names (entry.Refused (RestoreRunning op)) calm said cleaning deleted = (tt, tt)
-deleted_by script before all names (entry.Refused (TooMany limit)) calm said cleaning deleted = (tt, tt)
-deleted_by script before all names (entry.Refused refusal) calm said cleaning deleted = absurd calm
+deleted_by script before all names (entry.Refused refusal) calm said cleaning deleted =
+    subst (λ (r : Reply). IsAnswerOf script before (items.Delete names) (Some r)) (sym (ruled_reply (DeleteSnapshots names) refusal calm)) (calm, cleaning)
 deleted_by script before all names reply calm said cleaning deleted = absurd said
 
-cleaned_by : (script before : List ScriptLine) (all : List Entry) (reply : entry.Reply) → IsCalm (Unit {0}) reply (AskStep Cleanup) → IsSaid (AskStep Cleanup) reply → IsCleaningIn before reply → AreDeleted all (AskStep Cleanup) reply → IsAnswerOf script before items.Cleanup (ask_reply all reply)
+cleaned_by : (script before : List ScriptLine) (all : List Entry) (reply : entry.Reply) → IsCalm (Unit {0}) reply (AskStep Cleanup) → IsSaid (AskStep Cleanup) reply → IsCleaningIn before reply → AreDeleted all (AskStep Cleanup) reply
+    → IsAnswerOf script before items.Cleanup (ask_reply all reply)
 cleaned_by script before all (Accepted op) calm said cleaning deleted =
     let h = deleted true op refl in
     subst (λ (a : Option Reply). IsAnswerOf script before items.Cleanup (or_else a (deposed_by (has_fallen all)))) (sym h.is) (cleanup_answer script before h.reply h.over)
-cleaned_by script before all (entry.Refused (CleanupRunning op)) calm said cleaning deleted = (tt, cleaning)
-cleaned_by script before all (entry.Refused (BusyOp op)) calm said cleaning deleted = (tt, tt)
-cleaned_by script before all (entry.Refused refusal) calm said cleaning deleted = absurd calm
+cleaned_by script before all (entry.Refused refusal) calm said cleaning deleted =
+    subst (λ (r : Reply). IsAnswerOf script before items.Cleanup (Some r)) (sym (ruled_reply Cleanup refusal calm)) (calm, cleaning)
 cleaned_by script before all reply calm said cleaning deleted = absurd said
 
 -- the restore of each that was accepted is answered
 abbrev IsAnswered : List Entry → entry.Reply → Type 0
 IsAnswered all reply = (a : AskedRestore) → opens reply ≡ Some a → IsRestoredReply (restore_reply all a.op a.uuid a.indices)
 
-restored_by : (script before : List ScriptLine) (all : List Entry) (of place : Bytes) (reply : entry.Reply) (name at : Bytes) → IsCalm (Unit {0}) reply (AskStep (Restore of place)) → IsSaid (AskStep (Restore of place)) reply → IsAnswered all reply → IsAnswerOf script before (items.Restore name at) (ask_reply all reply)
+restored_by : (script before : List ScriptLine) (all : List Entry) (of place : Bytes) (reply : entry.Reply) (name at : Bytes) → IsCalm (Unit {0}) reply (AskStep (Restore of place)) → IsSaid (AskStep (Restore of place)) reply
+    → IsAnswered all reply → IsAnswerOf script before (items.Restore name at) (ask_reply all reply)
 restored_by script before all of place (AcceptedRestore op uuid indices) name at calm said made =
     subst (λ (a : Option Reply). IsAnswerOf script before (items.Restore name at) (or_else a (deposed_by (has_fallen all)))) (sym (made (record { op = op; uuid = uuid; indices = indices }) refl).is) tt
-restored_by script before all of place (entry.Refused (NoSnapshot number)) name at calm said made = tt
-restored_by script before all of place (entry.Refused (BeingDeleted op)) name at calm said made = tt
-restored_by script before all of place (entry.Refused (TooMany limit)) name at calm said made = tt
-restored_by script before all of place (entry.Refused refusal) name at calm said made = absurd calm
+restored_by script before all of place (entry.Refused refusal) name at calm said made =
+    subst (λ (r : Reply). IsAnswerOf script before (items.Restore name at) (Some r)) (sym (ruled_reply (Restore of place) refusal calm)) calm
 restored_by script before all of place reply name at calm said made = absurd said
 
 looked_by : (script before : List ScriptLine) (reply : entry.Reply) → IsSaid LookStep reply → IsAnswerOf script before items.List (look_reply reply)
@@ -189,7 +199,8 @@ elects_by true ElectStep e = refl
 elects_by true step e = absurd (true≢false (sym e))
 elects_by false step e = absurd (true≢false (sym e))
 
-fact_by : (script : List ScriptLine) (all : List Entry) (e : Entry) → IsCalm (Unit {0}) e.reply e.step → IsSaid e.step e.reply → ((front back : List Entry) → all ≡ front ++ e ∷ back → IsAskedIn front e.reply) → AsksAll script all → AreEnded all e.step e.reply → AreDeleted all e.step e.reply → IsAnswered all e.reply
+fact_by : (script : List ScriptLine) (all : List Entry) (e : Entry) → IsCalm (Unit {0}) e.reply e.step → IsSaid e.step e.reply → ((front back : List Entry) → all ≡ front ++ e ∷ back → IsAskedIn front e.reply) → AsksAll script all
+    → AreEnded all e.step e.reply → AreDeleted all e.step e.reply → IsAnswered all e.reply
     → Fact script all e
 fact_by script all e calm said asks_before asks ended deleted answered =
     record {
@@ -231,11 +242,11 @@ module _ (w : World) (all : List Entry) (h : FollowsIn w all) (calm : AreCalmIn 
       (λ e has of pruned.
       let is = pruned_is e.step e.reply pruned in
       let (d, op, nameless) = h.prunes e has is.0 is.1 in
-      apart_name all w.next_op (is_cleanup_ticket all e.who) o d name nameless (some_same o d (sym of ∙ op)))
+      apart_name all w.next_op (is_cleanup_ticket all e.who) o d name nameless (same_Some o d (sym of ∙ op)))
       (λ e has of dropped.
       let is = dropped_is e.step e.reply dropped in
       let (d, op, nameless) = h.leaves e has is.0 is.1 in
-      untrue (is_cleanup_ticket all e.who) (λ cleans. apart_name all w.next_op true o d name (nameless cleans) (some_same o d (sym of ∙ op))))
+      untrue (is_cleanup_ticket all e.who) (λ cleans. apart_name all w.next_op true o d name (nameless cleans) (same_Some o d (sym of ∙ op))))
       ends
 
   ended : (e : Entry) → Has all e → AreEnded all e.step e.reply
@@ -260,15 +271,15 @@ module _ (w : World) (all : List Entry) (h : FollowsIn w all) (calm : AreCalmIn 
         unsettled = λ of settled.
             let is = settled_is e.step e.reply settled in
             let (o, op, name) = h.settles e has is.0 is.1 in
-            apart_name all w.next_op cleans o d name nameless (some_same o d (sym op ∙ of));
+            apart_name all w.next_op cleans o d name nameless (same_Some o d (sym op ∙ of));
         pruned = λ of pruned.
             let is = pruned_is e.step e.reply pruned in
             let (o, op, other) = h.prunes e has is.0 is.1 in
-            sym other.kind ∙ ap (is_cleanup_op all) (some_same o d (sym op ∙ of)) ∙ nameless.kind;
+            sym other.kind ∙ ap (is_cleanup_op all) (same_Some o d (sym op ∙ of)) ∙ nameless.kind;
         dropped = λ of dropped is_cleanup.
             let is = dropped_is e.step e.reply dropped in
             let (o, op, other) = h.leaves e has is.0 is.1 in
-            sym nameless.kind ∙ ap (is_cleanup_op all) (some_same d o (sym of ∙ op)) ∙ (other is_cleanup).kind;
+            sym nameless.kind ∙ ap (is_cleanup_op all) (same_Some d o (sym of ∙ op)) ∙ (other is_cleanup).kind;
       }
 
   over_in : (cleans : Bool) (d : ℕ) → IsNameless all w.next_op cleans d → IsOverIn all cleans d → IsOverBy cleans (end_of_op all d [] all)
@@ -298,7 +309,8 @@ asked_in front (entry.Refused (CleanupRunning op)) by_rule = let (m, has, who, s
 asked_in front (entry.Refused refusal) by_rule = tt
 asked_in front reply by_rule = tt
 
-pub facts : Laws → (script : List ScriptLine) (s : Start) (log : List Moment) → IsSmooth s log → NoneFailed log → NoneUndeleted s log → NoneUnrestored log → AreByRule s log → IsIdle s log → AsksAll script (entries_of log) → (e : Entry) → Has (entries_of log) e → Fact script (entries_of log) e
+pub facts : Laws → (script : List ScriptLine) (s : Start) (log : List Moment) → IsSmooth s log → NoneFailed log → NoneUndeleted s log → NoneUnrestored log → AreByRule s log → IsIdle s log → AsksAll script (entries_of log)
+    → (e : Entry) → Has (entries_of log) e → Fact script (entries_of log) e
 facts laws script s log smooth none undeleted unrestored by_rule idle asks e has =
     fact_by script (entries_of log) e calm (h.said e has) asks_before asks (ended (world_of s log) (entries_of log) h told closed e has) (deleted (world_of s log) (entries_of log) h told closed e has)
     (λ a opened. restored_reply (entries_of log) a.op a.uuid a.indices (all_restored laws s log smooth none undeleted unrestored by_rule idle e a has opened))

@@ -2,6 +2,7 @@
 use Rattle.std.proofs.Common.{◌≡◌, ◌⊎◌, ℕ, suc, ◌<◌, ◌≤◌, Bool, true, false, true≢false, ◌&&◌, ◌==◌, List, [], ◌∷◌, ◌++◌, append_assoc, Option, Some, None, if◌then◌else◌, refl, sym, ap, ◌∙◌, subst, inl, inr, arith}
 use Rattle.std.proofs.lemmas.Bool.Decides.{eqb_tells}
 use Rattle.std.specs.FinMap as fin
+use Rattle.esr_core.specs.Laws.NumberMaps.{was_in, same_in, other_in, split_at}
 use Rattle.esr_model.specs.Values.{Bytes, Has, SnapInfo, ShardResult}
 use Rattle.esr_model.specs.Shelf.{Command}
 use Rattle.esr_core.specs.World.{World, Op, Deletion, Work, Finalize, Deleting, Drop, Swap, Ticket}
@@ -9,9 +10,10 @@ use Rattle.esr_core.specs.Entry.{Snapshot, Clone, DeleteSnapshots, Restore, Clea
 use Rattle.esr_report.specs.Cleaned.{is_cleanup, cleanup_by, is_cleanup_ticket}
 use Rattle.esr_report.specs.Replies as report
 use Rattle.esr_report.specs.Replies.{op_by, op_of_ticket, is_op, uuid_of_unit, uuid_by, uuid_of_ticket, name_by, name_of_op, is_over, final_out, aborts_at}
-use Rattle.esr_core.proofs.Besides.{Aside}
-use Rattle.esr_core.proofs.Reading.{Has-left, Has-append}
-use Rattle.esr_core.proofs.Queues.{Ops, Deletes, Tickets, was_in, same_in, other_in, split_at}
+use Rattle.esr_report.specs.Aborts.{accepted_by}
+use Rattle.esr_core.specs.Laws.Asides.{Aside}
+use Rattle.esr_model.specs.Lists.{Has-left, Has-append}
+use Rattle.esr_core.specs.Laws.Maps.{Ops, Deletes, Tickets}
 use Rattle.esr_complete.proofs.Tickets.{op_stays, uuid_stays, op_given, uuid_given, cleanup_given, cleanup_stays, cleanup_same, cleanup_other, cleanup_of, is_cleanup_op, cleans_stays, name_stays, name_given, IsGiftless, IsFinalGiven, final_on, final_was, final_gave}
 
 -- what may be answered to a command, a look or an election
@@ -38,12 +40,7 @@ IsSaid ElectStep (Refused refusal) = Unit {0}
 IsSaid ElectStep reply = ⊥
 IsSaid step reply = Unit {0}
 
--- the op as which a snapshot or a clone was accepted, and the one by which a delete or, where this is true, a cleanup is answered
-abbrev pub snapshot_of : Step → Reply → Option ℕ
-snapshot_of (AskStep (Snapshot name indices moment)) (Accepted op) = Some op
-snapshot_of (AskStep (Clone source name indices moment (Some taken))) (Accepted op) = Some op
-snapshot_of step reply = None
-
+-- the op by which a delete or, where this is true, a cleanup is answered
 abbrev pub delete_of : Step → Reply → Option (Bool × ℕ)
 delete_of (AskStep (DeleteSnapshots names)) (Accepted op) = Some (false, op)
 delete_of (AskStep Cleanup) (Accepted op) = Some (true, op)
@@ -178,7 +175,7 @@ pub record Follows (deposed : Bool) (open_ops : Ops) (open_deletes : Deletes) (t
   pub settles : (e : Entry) → Has es e → SettlesNamed es e
   pub prunes : (e : Entry) → Has es e → PrunesNameless es next_op e
   pub leaves : (e : Entry) → Has es e → CleansNameless es next_op e
-  pub ended : (e : Entry) (o : ℕ) → Has es e → snapshot_of e.step e.reply ≡ Some o → IsNamedBy es o e × IsEndedOr open_ops es o
+  pub ended : (e : Entry) (o : ℕ) → Has es e → accepted_by e.step e.reply ≡ Some o → IsNamedBy es o e × IsEndedOr open_ops es o
   pub deleted : (e : Entry) (cleans : Bool) (d : ℕ) → Has es e → delete_of e.step e.reply ≡ Some (cleans, d) → IsNameless es next_op cleans d × IsDeletedOr open_deletes es cleans d
 
 abbrev pub FollowsIn : World → List Entry → Type 0
@@ -307,9 +304,9 @@ module _ (es : List Entry) (x : Entry) where
     ]
 
     -- what was told before, and what one more entry tells
-    ended_on : (ops now : Ops) → ((e : Entry) (o : ℕ) → Has es e → snapshot_of e.step e.reply ≡ Some o → IsNamedBy es o e × IsEndedOr ops es o)
-        → ((o : ℕ) → HasName es o → IsOpenIn ops o → IsEndedOr now (es ++ x ∷ []) o) → ((o : ℕ) → snapshot_of x.step x.reply ≡ Some o → IsNamedBy (es ++ x ∷ []) o x × IsOpenIn now o)
-        → (e : Entry) (o : ℕ) → Has (es ++ x ∷ []) e → snapshot_of e.step e.reply ≡ Some o → IsNamedBy (es ++ x ∷ []) o e × IsEndedOr now (es ++ x ∷ []) o
+    ended_on : (ops now : Ops) → ((e : Entry) (o : ℕ) → Has es e → accepted_by e.step e.reply ≡ Some o → IsNamedBy es o e × IsEndedOr ops es o)
+        → ((o : ℕ) → HasName es o → IsOpenIn ops o → IsEndedOr now (es ++ x ∷ []) o) → ((o : ℕ) → accepted_by x.step x.reply ≡ Some o → IsNamedBy (es ++ x ∷ []) o x × IsOpenIn now o)
+        → (e : Entry) (o : ℕ) → Has (es ++ x ∷ []) e → accepted_by e.step e.reply ≡ Some o → IsNamedBy (es ++ x ∷ []) o e × IsEndedOr now (es ++ x ∷ []) o
     ended_on ops now was kept new e o has accepted = elim (Has-append es x e has) [
       | inl before ↦
           let (name, how) = was e o before accepted in (
@@ -319,7 +316,7 @@ module _ (es : List Entry) (x : Entry) where
               | inr over ↦ inr (elim over [ inl settled ↦ inl (settled_on o settled) | inr aborted ↦ inr (aborted_on o aborted) ])
             ],
           )
-      | inr is ↦ let (name, stands) = new o (ap (λ (y : Entry). snapshot_of y.step y.reply) is ∙ accepted) in (subst (IsNamedBy (es ++ x ∷ []) o) is name, inl stands)
+      | inr is ↦ let (name, stands) = new o (ap (λ (y : Entry). accepted_by y.step y.reply) is ∙ accepted) in (subst (IsNamedBy (es ++ x ∷ []) o) is name, inl stands)
     ]
 
     deleted_on : SameTickets → (deletes left : Deletes) → ((e : Entry) (cleans : Bool) (d : ℕ) → Has es e → delete_of e.step e.reply ≡ Some (cleans, d) → IsNameless es next cleans d × IsDeletedOr deletes es cleans d)
@@ -351,7 +348,8 @@ pub record IsKin (tickets : Tickets) (k : ℕ) (t : Ticket) : Type 0 where
 pub kin_same : (tickets : Tickets) (k : ℕ) (t : Ticket) → fin.get tickets k ≡ Some t → IsKin tickets k t
 kin_same tickets k t e = record { was = t; there = e; op_is = refl; clean_is = refl; drops = λ is. is; finals = λ info results made is. is; deletes = λ uuids plan is. (plan, is) }
 
-pub kin_on : (tickets : Tickets) (key : ℕ) (old new : Ticket) → fin.get tickets key ≡ Some old → new.op ≡ old.op → new.clean ≡ old.clean → new.work ≡ old.work → (k : ℕ) (t : Ticket) → fin.get (fin.insert tickets key new) k ≡ Some t → IsKin tickets k t
+pub kin_on : (tickets : Tickets) (key : ℕ) (old new : Ticket) → fin.get tickets key ≡ Some old → new.op ≡ old.op → new.clean ≡ old.clean → new.work ≡ old.work → (k : ℕ) (t : Ticket)
+    → fin.get (fin.insert tickets key new) k ≡ Some t → IsKin tickets k t
 kin_on tickets key old new there op clean work k t e = elim (was_in tickets key new k t e) [
   | inl is ↦
       let same : old.work ≡ t.work = sym work ∙ ap (λ (y : Ticket). y.work) is.1 in
@@ -375,7 +373,8 @@ pub out_same : (tickets : Tickets) (x : Entry) → StaysOut tickets tickets x
 out_same tickets x k t e is = inl (t, e, refl, is)
 
 -- one ticket is given anew
-pub out_on : (tickets : Tickets) (key : ℕ) (old new : Ticket) (x : Entry) → fin.get tickets key ≡ Some old → new.op ≡ old.op → (IsOutFinal old → IsOutFinal new ⊎ ((is_over x.step x.reply ≡ true) × (key ≡ x.who))) → StaysOut tickets (fin.insert tickets key new) x
+pub out_on : (tickets : Tickets) (key : ℕ) (old new : Ticket) (x : Entry) → fin.get tickets key ≡ Some old → new.op ≡ old.op → (IsOutFinal old → IsOutFinal new ⊎ ((is_over x.step x.reply ≡ true) × (key ≡ x.who)))
+    → StaysOut tickets (fin.insert tickets key new) x
 out_on tickets key old new x there op goes k t e is = elim (split_at k key) [
   | inl same ↦
       let one : t ≡ old = some_is t old (sym e ∙ ap (fin.get tickets) same ∙ there) in
@@ -395,7 +394,8 @@ both_true b k who over same e = elim (eqb_tells k who) [
   | inr h ↦ h.1 same
 ]
 
-final_stays : (tickets later : Tickets) (es : List Entry) (x : Entry) → IsGiftless x.reply → ((o k : ℕ) → final_out es o ≡ Some k → IsFinalOut tickets o k) → StaysOut tickets later x → (o k : ℕ) → final_out (es ++ x ∷ []) o ≡ Some k → IsFinalOut later o k
+final_stays : (tickets later : Tickets) (es : List Entry) (x : Entry) → IsGiftless x.reply → ((o k : ℕ) → final_out es o ≡ Some k → IsFinalOut tickets o k) → StaysOut tickets later x → (o k : ℕ)
+    → final_out (es ++ x ∷ []) o ≡ Some k → IsFinalOut later o k
 final_stays tickets later es x giftless was stays o k e =
     let (before, goes) = final_was o (final_out es o) x x.reply k giftless (sym (final_on o es x) ∙ e) in
     let h = was o k before in
@@ -422,7 +422,7 @@ pub goes_on : (deposed : Bool) (ops now : Ops) (deletes left : Deletes) (tickets
     → StaysOut tickets later x
     → ((o : ℕ) → HasName es o → IsOpenIn ops o → IsEndedOr now (es ++ x ∷ []) o)
     → ((cleans : Bool) (d : ℕ) → IsNameless es next_op cleans d → IsDeleteIn deletes d → IsDeletedOr left (es ++ x ∷ []) cleans d)
-    → ((o : ℕ) → snapshot_of x.step x.reply ≡ Some o → IsNamedBy (es ++ x ∷ []) o x × IsOpenIn now o)
+    → ((o : ℕ) → accepted_by x.step x.reply ≡ Some o → IsNamedBy (es ++ x ∷ []) o x × IsOpenIn now o)
     → ((cleans : Bool) (d : ℕ) → delete_of x.step x.reply ≡ Some (cleans, d) → IsNameless (es ++ x ∷ []) more cleans d × IsDeleteIn left d)
     → Follows deposed now left later next more (es ++ x ∷ [])
 goes_on deposed ops now deletes left tickets later next next_op more es x h one told_ops told_deletes kin out kept kept_deletes new new_delete =
@@ -508,7 +508,8 @@ module _ (deposed : Bool) (ops now : Ops) (open_deletes : Deletes) (tickets : Ti
   known : SameTickets es (gave next op unit)
   known = untaken es next op unit (h.fresh next (omega arith)).0
 
-  pub given_on : (t : Ticket) → t.op ≡ op → t.clean ≡ is_cleanup unit → (t.work ≡ Drop → IsAbortedIn es op × (t.clean ≡ false)) → ((info : SnapInfo) (results : List ShardResult) (made : Command) → t.work ≡ Finalize info results made → HasName es op)
+  pub given_on : (t : Ticket) → t.op ≡ op → t.clean ≡ is_cleanup unit → (t.work ≡ Drop → IsAbortedIn es op × (t.clean ≡ false))
+      → ((info : SnapInfo) (results : List ShardResult) (made : Command) → t.work ≡ Finalize info results made → HasName es op)
       → ((uuids : List ℕ) (plan : Option Swap) → t.work ≡ Deleting uuids plan → IsNameless es next_op t.clean op) → (IsFinalGiven unit → IsOutFinal t)
       → ((info : SnapInfo) (results : List ShardResult) (made : Command) → t.work ≡ Finalize info results made → uuid_of_unit unit ≡ Some info.uuid)
       → Follows deposed now open_deletes (fin.insert tickets next t) (suc next) next_op (es ++ gave next op unit ∷ [])

@@ -2,6 +2,8 @@
 use Rattle.std.proofs.Common.{◌≡◌, ◌⊎◌, ℕ, suc, ◌<◌, ◌≤◌, Bool, true, false, true≢false, List, [], ◌∷◌, ◌++◌, Option, Some, None, map, refl, sym, ap, ◌∙◌, subst, inl, inr, arith, nat_cmp}
 use Rattle.std.specs.FinMap.{FinMap}
 use Rattle.std.specs.FinMap as fin
+use Rattle.std.proofs.lemmas.Option.{same_Some}
+use Rattle.esr_core.specs.Laws.NumberMaps.{was_in, same_in, other_in, split_at}
 use Rattle.esr_model.specs.Values.{Bytes, Has, IndexRef}
 use Rattle.esr_model.specs.Places.{places}
 use Rattle.esr_core.specs.World.{World, ReadState, Unread, BeingRead, Restored, NotRestored, RestoreShard, Restoring, Reader}
@@ -9,9 +11,8 @@ use Rattle.esr_core.specs.Restores.{restore_of, unread, waits, any_waits, put_re
 use Rattle.esr_core.specs.ReadTracked.{RestoresTracked}
 use Rattle.esr_core.specs.Entry.{Restore, GivenRestore, RestoredShard, Step, AskStep, ReadStep, Reply, HasEnded, AcceptedRestore, Entry}
 use Rattle.esr_report.specs.Replies.{ReadShard, same_shard, shard_ticket_by, shard_ticket, shard_end_by, shard_end_at, ticket_end, read_shard}
-use Rattle.esr_core.proofs.Reading.{some_same, Has-map, Has-append, Has-mapped}
-use Rattle.esr_core.proofs.Queues.{was_in, same_in, other_in, split_at}
-use Rattle.esr_core.proofs.Restoring.{LeavesPlace, handed_is, ended_is, handed_place, ended_place, some_waits, begun_unread, put_was, put_other, put_same}
+use Rattle.esr_model.specs.Lists.{Has-map, Has-append, Has-mapped}
+use Rattle.esr_core.specs.Laws.RestoreMaps.{LeavesPlace, handed_is, ended_is, handed_place, ended_place, some_waits, begun_unread, put_was, put_other, put_same}
 use Rattle.esr_complete.proofs.Tickets.{none_some}
 use Rattle.esr_complete.proofs.Following.{gave, told}
 use Rattle.esr_complete.proofs.RestoreTickets.{ticket_stays, ticket_given, end_given, ends_none, other_end, own_end, other_op, other_place, ticket_same, ticket_other, IsRestored, restored_stays}
@@ -96,10 +97,11 @@ open_same : (restores now : Restores) (o uuid : ℕ) (p : IndexRef × ℕ) → f
 open_same restores now o uuid p same h = record { r = h.r; there = same ∙ h.there; uuid_is = h.uuid_is; s = h.s; s_there = h.s_there; ref_is = h.ref_is; number_is = h.number_is }
 
 -- one of the restores goes on with its shards
-open_on : (restores now : Restores) (o : ℕ) (r : Restoring) (g : RestoreShard → RestoreShard) → LeavesPlace g → fin.get restores o ≡ Some r → fin.get now o ≡ Some (record r { shards = map g r.shards }) → (uuid : ℕ) (p : IndexRef × ℕ)
+open_on : (restores now : Restores) (o : ℕ) (r : Restoring) (g : RestoreShard → RestoreShard) → LeavesPlace g → fin.get restores o ≡ Some r → fin.get now o ≡ Some (record r { shards = map g r.shards })
+    → (uuid : ℕ) (p : IndexRef × ℕ)
     → IsOpenAt restores o uuid p → IsOpenAt now o uuid p
 open_on restores now o r g places there now_there uuid p h =
-    let one : h.r ≡ r = some_same h.r r (sym h.there ∙ there) in
+    let one : h.r ≡ r = same_Some h.r r (sym h.there ∙ there) in
     record {
       r = record r { shards = map g r.shards };
       there = now_there;
@@ -171,8 +173,8 @@ module _ (restores : Restores) (readers : Readers) (next_op next_ticket : ℕ) (
         ];
         asked = restored_on restores now es x h.asked
             (λ o u p was. inl (open_same restores now o u p (put_other restores next_op r o (λ e. let below : o < next_op = t.numbers o was.r was.there in let same : o ≡ next_op = e in omega (arith, below, same))) was))
-            (λ a e p m. subst (λ (b : AskedRestore). IsOpenAt now b.op b.uuid p) (some_same (record { op = next_op; uuid = uuid; indices = indices }) a e)
-            (begun p (subst (λ (b : AskedRestore). Has (places b.indices) p) (sym (some_same (record { op = next_op; uuid = uuid; indices = indices }) a e)) m)));
+            (λ a e p m. subst (λ (b : AskedRestore). IsOpenAt now b.op b.uuid p) (same_Some (record { op = next_op; uuid = uuid; indices = indices }) a e)
+            (begun p (subst (λ (b : AskedRestore). Has (places b.indices) p) (sym (same_Some (record { op = next_op; uuid = uuid; indices = indices }) a e)) m)));
       }
     where
       begun : (p : IndexRef × ℕ) → Has (places indices) p → IsOpenAt (put_restore restores next_op (restore_of uuid place indices)) next_op uuid p
@@ -271,7 +273,7 @@ module _ (restores : Restores) (readers : Readers) (next_op next_ticket : ℕ) (
         let new : Restoring = record r { shards = map (ended k (Restored files bytes)) r.shards } in
         inl (open_on restores (put_restore restores q.op new) q.op r (ended k (Restored files bytes)) (ended_place k (Restored files bytes)) there (put_same restores q.op new some) u p was)
     end_open false none u p was =
-        let one : was.r ≡ r = some_same was.r r (sym was.there ∙ there) in
+        let one : was.r ≡ r = same_Some was.r r (sym was.there ∙ there) in
         let z : RestoreShard = ended k (Restored files bytes) was.s in
         let m : Has (map (ended k (Restored files bytes)) r.shards) z = Has-map (ended k (Restored files bytes)) r.shards was.s (subst (λ (b : Restoring). Has b.shards was.s) one was.s_there) in
         let uuid : r.uuid ≡ u = ap (λ (b : Restoring). b.uuid) (sym one) ∙ was.uuid_is in

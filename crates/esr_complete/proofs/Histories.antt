@@ -2,6 +2,7 @@
 use Rattle.std.proofs.Common.{◌≡◌, ◌⊎◌, ℕ, zero, suc, ◌+◌, ◌<◌, true, false, true≢false, List, [], ◌∷◌, ◌++◌, Option, Some, append_assoc, append-nil, refl, sym, ap, ◌∙◌, subst, inl, inr, arith}
 use Rattle.std.specs.Prelude.{length}
 use Rattle.std.specs.FinMap as fin
+use Rattle.esr_core.specs.Laws.NumberMaps.{was_in}
 use Rattle.esr_model.specs.Names.{BlobName}
 use Rattle.esr_model.specs.Values.{Bytes, Has, RootIndex, RootData, ClusterRecord, Formats}
 use Rattle.esr_model.specs.Shelf.{Shelved, shelf_after}
@@ -16,16 +17,14 @@ use Rattle.esr_core.specs.ReadLaw.{ReadLaw}
 use Rattle.esr_core.specs.Entry.{Why, Step, AskStep, FailedStep, PruneStep, DeleteFails, Refusal, StaleTerm, Reply, HasEnded, Refused, Entry, Moment}
 use Rattle.esr_core.specs.After.{after}
 use Rattle.esr_core.specs.History.{world_from, IsLegal, AreTold, committed}
-use Rattle.esr_core.proofs.Opening.{nothing}
-use Rattle.esr_core.proofs.Queues.{was_in}
+use Rattle.esr_core.specs.Laws.Maps.{nothing}
 use Rattle.esr_desk.specs.Start.{Start, formats_of, world_of, or_no_ticket}
 use Rattle.esr_desk.specs.Own.{or_no_reader}
 use Rattle.esr_quiet.specs.Refusals.{IsSwapStep, IsOfRule, IsOfTerm, AreByRule}
 use Rattle.esr_report.specs.Replies.{is_stale}
 use Rattle.esr_quiet.specs.Smooth.{IsSmooth, IsStaleTicket, NoneFailed, NoneUndeleted}
-use Rattle.esr_quiet.proofs.Prefixes.{place_of, has_at}
-use Rattle.esr_quiet.proofs.Passing.{smooth_front}
-use Rattle.esr_quiet.proofs.Rooted.{root_named}
+use Rattle.esr_quiet.specs.PrefixLaws.{place_of, has_at, smooth_front}
+use Rattle.esr_quiet.specs.RootNames.{root_named}
 use Rattle.esr_complete.specs.Lines.{entries_of}
 use Rattle.esr_complete.specs.Answers.{IsIdle}
 use Rattle.esr_complete.proofs.Tickets.{none_some}
@@ -121,7 +120,8 @@ stale_in s front who stale t there same = stale.apart (ap (λ (o : Option Ticket
 
 module _ (s : Start) (log : List Moment) (none : NoneFailed log) (by_rule : AreByRule s log) where
   -- a step where nothing fails, where a delete or cleanup fails only so
-  calm_where : (stale : Type 0) (front back : List Moment) (m : Moment) → log ≡ front ++ m ∷ back → ((why : Why) → m.entry.step ≡ PruneStep (DeleteFails why) → m.entry.reply ≡ HasEnded → stale) → IsCalm stale m.entry.reply m.entry.step
+  calm_where : (stale : Type 0) (front back : List Moment) (m : Moment) → log ≡ front ++ m ∷ back → ((why : Why) → m.entry.step ≡ PruneStep (DeleteFails why) → m.entry.reply ≡ HasEnded → stale)
+      → IsCalm stale m.entry.reply m.entry.step
   calm_where stale front back m is undeleted =
       calm_by stale m.entry.reply m.entry.step (λ why. none m why (subst (λ (l : List Moment). Has l m) (sym is) (has_at front back m))) undeleted (λ refusal reply. refusal_calm stale s front m refusal (by_rule front back m refusal is reply))
 

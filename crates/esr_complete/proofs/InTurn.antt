@@ -1,6 +1,6 @@
 -- Where no verification and no check fails each draw, and each look of a check, is followed by the end of what it began, before a line
 -- asks for more.
-use Rattle.std.proofs.Common.{◌≡◌, ◌≢◌, ◌⊎◌, ℕ, Bool, true, false, ◌==◌, ◌&&◌, if◌then◌else◌, List, [], ◌∷◌, ◌++◌, append-nil, append_assoc, Option, Some, None, refl, sym, ap, ◌∙◌, subst, inl, inr}
+use Rattle.std.proofs.Common.{◌≡◌, ◌≢◌, ◌⊎◌, ℕ, Bool, true, false, ◌==◌, ◌&&◌, if◌then◌else◌, List, [], ◌∷◌, ◌++◌, append-nil, append_assoc, Option, Some, None, option_to_list, refl, sym, ap, ◌∙◌, subst, inl, inr}
 use Rattle.std.proofs.lemmas.Bool.Decides.{eqb_tells}
 use Rattle.esr_model.specs.Names.{BlobName}
 use Rattle.esr_model.specs.Values.{Bytes, Has, Formats}
@@ -13,6 +13,7 @@ use Rattle.esr_core.specs.Allowed.{ReadAllows, ReadFound, ReadMissing, ReadFault
 use Rattle.esr_script.specs.declared.item.Item.{Item}
 use Rattle.esr_script.specs.declared.item.Item.TheVariants as items
 use Rattle.esr_script.specs.declared.item.ScriptLine.{ScriptLine}
+use Rattle.esr_script.specs.Kinds.{is_check, asks_step}
 use Rattle.esr_report.specs.Replies.{is_line_step, is_of_line}
 use Rattle.esr_desk.specs.Check.Shown.{AllFetches}
 use Rattle.esr_desk.specs.Start.{Start, formats_of, world_of}
@@ -20,11 +21,11 @@ use Rattle.esr_desk.specs.Own.{caller_of}
 use Rattle.esr_quiet.specs.Asked.{is_line_ask, is_asked, as_asked, asked_steps}
 use Rattle.esr_quiet.specs.Smooth.{IsSmooth, NoneFailed, NoneUnverified, NoneChecked}
 use Rattle.esr_quiet.specs.Refusals.{AreByRule}
-use Rattle.esr_quiet.proofs.Prefixes.{has_at}
-use Rattle.esr_quiet.proofs.Passing.{quiet_at, legal_at}
-use Rattle.esr_quiet.proofs.Callers.{caller_one, caller_left}
+use Rattle.esr_quiet.specs.PrefixLaws.{has_at, quiet_at, legal_at}
+use Rattle.esr_quiet.specs.CallerSteps.{caller_one, caller_left}
 use Rattle.esr_complete.specs.InTurn.{IsInTurn, IsEndOfCheck, IsCheckPart, IsPart, AreParts, NoneAsksCheck, AreChecksInTurn}
-use Rattle.esr_complete.specs.Lines.{steps_of_item, steps_of, entries_of}
+use Rattle.esr_complete.specs.Lines.{step_of_item, steps_of_item, steps_of, entries_of}
+use Rattle.esr_complete.specs.ItemSteps.{only_step, delete_item, cleanup_item}
 use Rattle.esr_complete.proofs.OpEnds.{IsCalm, calm_unblocked}
 use Rattle.esr_complete.proofs.Histories.{calm_of}
 
@@ -49,15 +50,7 @@ falses [] = []
 falses (step ∷ steps) = false ∷ falses steps
 
 abbrev pub kinds_of_item : Item → List Bool
-kinds_of_item (items.Snapshot name indices) = false ∷ []
-kinds_of_item (items.Clone source name indices) = false ∷ []
-kinds_of_item (items.Delete names) = false ∷ []
-kinds_of_item (items.Restore name place) = false ∷ []
-kinds_of_item items.Cleanup = false ∷ []
-kinds_of_item items.List = false ∷ []
-kinds_of_item items.Check = true ∷ []
-kinds_of_item items.Verify = false ∷ []
-kinds_of_item item = []
+kinds_of_item item = if asks_step item then is_check item ∷ [] else []
 
 abbrev pub kinds_of : List ScriptLine → List Bool
 kinds_of [] = []
@@ -72,7 +65,8 @@ pub data InTurn : Turn → List Bool → List Entry → Type 0 where
   IsDraw : (kinds : List Bool) (e : Entry) (es : List Entry) → is_asked e ≡ true → is_of_line e ≡ false → e.step ≡ ReadStep DrawTest → InTurn InVerification kinds es → InTurn Idle (false ∷ kinds) (e ∷ es)
   IsEnd : (kinds : List Bool) (e : Entry) (es : List Entry) → is_asked e ≡ false → is_of_line e ≡ true → e.step ≡ ReadStep VerifiedAll → e.reply ≡ HasEnded → InTurn Idle kinds es → InTurn InVerification kinds (e ∷ es)
   IsLook : (kinds : List Bool) (e : Entry) (es : List Entry) → is_asked e ≡ true → is_of_line e ≡ true → e.step ≡ LookStep → InTurn InCheck kinds es → InTurn Idle (true ∷ kinds) (e ∷ es)
-  IsCheckEnd : (kinds : List Bool) (e : Entry) (es : List Entry) (snapshots blobs : ℕ) → is_asked e ≡ false → is_of_line e ≡ true → e.step ≡ ReadStep (CheckedAll snapshots blobs) → e.reply ≡ HasEnded → InTurn Idle kinds es → InTurn InCheck kinds (e ∷ es)
+  IsCheckEnd : (kinds : List Bool) (e : Entry) (es : List Entry) (snapshots blobs : ℕ) → is_asked e ≡ false → is_of_line e ≡ true → e.step ≡ ReadStep (CheckedAll snapshots blobs) → e.reply ≡ HasEnded → InTurn Idle kinds es
+      → InTurn InCheck kinds (e ∷ es)
   IsAside : (turn : Turn) (kinds : List Bool) (e : Entry) (es : List Entry) → is_asked e ≡ false → is_of_line e ≡ false → InTurn turn kinds es → InTurn turn kinds (e ∷ es)
 
 -- ---- what is asked for is what lines ask for
@@ -99,82 +93,40 @@ either_list [] b step h = inr h
 either_list (x ∷ a) b step (inl e) = inl (inl e)
 either_list (x ∷ a) b step (inr h) = elim (either_list a b step h) [ inl own ↦ inl (inr own) | inr later ↦ inr later ]
 
-item_step : (moment : ℕ) (item : Item) (step : Step) → Has (steps_of_item moment item) step → IsLineStep step
-item_step moment (items.Snapshot name indices) step (inl e) = subst IsLineStep e tt
-item_step moment (items.Snapshot name indices) step (inr h) = absurd h
-item_step moment (items.Clone source name indices) step (inl e) = subst IsLineStep e tt
-item_step moment (items.Clone source name indices) step (inr h) = absurd h
-item_step moment (items.Delete names) step (inl e) = subst IsLineStep e tt
-item_step moment (items.Delete names) step (inr h) = absurd h
-item_step moment (items.Restore name place) step (inl e) = subst IsLineStep e tt
-item_step moment (items.Restore name place) step (inr h) = absurd h
-item_step moment items.Cleanup step (inl e) = subst IsLineStep e tt
-item_step moment items.Cleanup step (inr h) = absurd h
-item_step moment items.List step (inl e) = subst IsLineStep e tt
-item_step moment items.List step (inr h) = absurd h
-item_step moment items.Check step (inl e) = subst IsLineStep e tt
-item_step moment items.Check step (inr h) = absurd h
-item_step moment items.Verify step (inl e) = subst IsLineStep e tt
-item_step moment items.Verify step (inr h) = absurd h
-item_step moment item step h = absurd h
+-- where there is a step, a line asks for such a one
+abbrev IsLineOf : Option Step → Type 0
+IsLineOf None = Unit {0}
+IsLineOf (Some step) = IsLineStep step
+
+item_step : (moment : ℕ) (item : Item) → IsLineOf (step_of_item moment item)
+item_step moment items.Wait = tt
+item_step moment item = tt
+
+one_step : (o : Option Step) (step : Step) → IsLineOf o → Has (option_to_list o) step → IsLineStep step
+one_step None step line h = absurd h
+one_step (Some x) step line (inl same) = subst IsLineStep same line
+one_step (Some x) step line (inr h) = absurd h
 
 lines_step : (moment : ℕ) (lines : List ScriptLine) (step : Step) → Has (steps_of moment lines) step → IsLineStep step
 lines_step moment [] step h = absurd h
 lines_step moment (line ∷ lines) step h = elim (either_list (steps_of_item moment line.item) (steps_of moment lines) step h) [
-  | inl own ↦ item_step moment line.item step own
+  | inl own ↦ one_step (step_of_item moment line.item) step (item_step moment line.item) own
   | inr later ↦ lines_step moment lines step later
 ]
 
 -- a delete that is asked for is that of a line
-item_delete : (moment : ℕ) (item : Item) (names : List Bytes) → Has (steps_of_item moment item) (AskStep (DeleteSnapshots names)) → item ≡ items.Delete names
-item_delete moment (items.Snapshot name indices) names (inl e) = absurd cc
-item_delete moment (items.Snapshot name indices) names (inr h) = absurd h
-item_delete moment (items.Clone source name indices) names (inl e) = absurd cc
-item_delete moment (items.Clone source name indices) names (inr h) = absurd h
-item_delete moment (items.Delete called) names (inl e) = let same : called ≡ names = cc in ap (λ (l : List Bytes). items.Delete l) same
-item_delete moment (items.Delete called) names (inr h) = absurd h
-item_delete moment (items.Restore name place) names (inl e) = absurd cc
-item_delete moment (items.Restore name place) names (inr h) = absurd h
-item_delete moment items.Cleanup names (inl e) = absurd cc
-item_delete moment items.Cleanup names (inr h) = absurd h
-item_delete moment items.List names (inl e) = absurd cc
-item_delete moment items.List names (inr h) = absurd h
-item_delete moment items.Check names (inl e) = absurd cc
-item_delete moment items.Check names (inr h) = absurd h
-item_delete moment items.Verify names (inl e) = absurd cc
-item_delete moment items.Verify names (inr h) = absurd h
-item_delete moment item names h = absurd h
-
 pub lines_delete : (moment : ℕ) (lines : List ScriptLine) (names : List Bytes) → Has (steps_of moment lines) (AskStep (DeleteSnapshots names)) → (line : ScriptLine) × Has lines line × (line.item ≡ items.Delete names)
 lines_delete moment [] names h = absurd h
 lines_delete moment (line ∷ lines) names h = elim (either_list (steps_of_item moment line.item) (steps_of moment lines) (AskStep (DeleteSnapshots names)) h) [
-  | inl own ↦ (line, inl refl, item_delete moment line.item names own)
+  | inl own ↦ (line, inl refl, delete_item moment line.item names (only_step moment line.item (AskStep (DeleteSnapshots names)) own))
   | inr later ↦ let (found, there, is) = lines_delete moment lines names later in (found, inr there, is)
 ]
 
 -- so is a cleanup
-item_cleanup : (moment : ℕ) (item : Item) → Has (steps_of_item moment item) (AskStep Cleanup) → item ≡ items.Cleanup
-item_cleanup moment (items.Snapshot name indices) (inl e) = absurd cc
-item_cleanup moment (items.Snapshot name indices) (inr h) = absurd h
-item_cleanup moment (items.Clone source name indices) (inl e) = absurd cc
-item_cleanup moment (items.Clone source name indices) (inr h) = absurd h
-item_cleanup moment (items.Delete names) (inl e) = absurd cc
-item_cleanup moment (items.Delete names) (inr h) = absurd h
-item_cleanup moment (items.Restore name place) (inl e) = absurd cc
-item_cleanup moment (items.Restore name place) (inr h) = absurd h
-item_cleanup moment items.Cleanup has = refl
-item_cleanup moment items.List (inl e) = absurd cc
-item_cleanup moment items.List (inr h) = absurd h
-item_cleanup moment items.Check (inl e) = absurd cc
-item_cleanup moment items.Check (inr h) = absurd h
-item_cleanup moment items.Verify (inl e) = absurd cc
-item_cleanup moment items.Verify (inr h) = absurd h
-item_cleanup moment item h = absurd h
-
 pub lines_cleanup : (moment : ℕ) (lines : List ScriptLine) → Has (steps_of moment lines) (AskStep Cleanup) → (line : ScriptLine) × Has lines line × (line.item ≡ items.Cleanup)
 lines_cleanup moment [] h = absurd h
 lines_cleanup moment (line ∷ lines) h = elim (either_list (steps_of_item moment line.item) (steps_of moment lines) (AskStep Cleanup) h) [
-  | inl own ↦ (line, inl refl, item_cleanup moment line.item own)
+  | inl own ↦ (line, inl refl, cleanup_item moment line.item (only_step moment line.item (AskStep Cleanup) own))
   | inr later ↦ let (found, there, is) = lines_cleanup moment lines later in (found, inr there, is)
 ]
 
@@ -232,7 +184,8 @@ module _ (f : Formats) (size : ℕ) (w : World) where
   wrote_drawn name None = refl
   wrote_drawn name (Some b) = refl
 
-  reads : (read : Read) (reply : Reply) (image : Option Image) → IsCalm (Unit {0}) reply (ReadStep read) → GoesWell (ReadStep read) reply → ReadAllows f w 0 read reply image → OneTurn c.drawn (caller_read f c read reply image).drawn (by_nobody (ReadStep read) reply)
+  reads : (read : Read) (reply : Reply) (image : Option Image) → IsCalm (Unit {0}) reply (ReadStep read) → GoesWell (ReadStep read) reply → ReadAllows f w 0 read reply image
+      → OneTurn c.drawn (caller_read f c read reply image).drawn (by_nobody (ReadStep read) reply)
   reads read reply image calm well (ReadFound k name im stored by there) = AsideTurn refl refl (told_drawn name (told_blob f im name))
   reads read reply image calm well (ReadMissing k name im stored by none) = AsideTurn refl refl refl
   reads read reply image calm well (ReadFault k name im stored by) = absurd calm
@@ -241,7 +194,8 @@ module _ (f : Formats) (size : ℕ) (w : World) where
   reads read reply image calm well (CheckingAll snapshots blobs im checks) = absurd (well.1 snapshots blobs refl)
   reads read reply image calm well (CheckFailing why im looked) = absurd (well.0 why refl refl)
 
-  verifies : (read : Read) (reply : Reply) (image : Option Image) → IsCalm (Unit {0}) reply (ReadStep read) → GoesWell (ReadStep read) reply → VerifyAllows f w read reply image → OneTurn c.drawn (caller_read f c read reply image).drawn (by_nobody (ReadStep read) reply)
+  verifies : (read : Read) (reply : Reply) (image : Option Image) → IsCalm (Unit {0}) reply (ReadStep read) → GoesWell (ReadStep read) reply → VerifyAllows f w read reply image
+      → OneTurn c.drawn (caller_read f c read reply image).drawn (by_nobody (ReadStep read) reply)
   verifies read reply image calm well (DrawingTest im idle fits same) = DrawTurn w.next_id refl refl refl idle.undrawn refl
   verifies read reply image calm well (TestSpent im idle spent same) = absurd calm
   verifies read reply image calm well (BeginningTest name im own same) = AsideTurn refl refl refl
@@ -254,7 +208,8 @@ module _ (f : Formats) (size : ℕ) (w : World) where
   verifies read reply image calm well (VerifyingAll im done same) = EndTurn done.id refl refl refl refl done.drawn refl
   verifies read reply image calm well (VerifyFailing why im begun same) = absurd (well.0 why refl refl)
 
-  by_read : (read : Read) (reply : Reply) (image : Option Image) → IsCalm (Unit {0}) reply (ReadStep read) → GoesWell (ReadStep read) reply → Allows f size w 0 (ReadStep read) reply image → OneTurn c.drawn (caller_read f c read reply image).drawn (by_nobody (ReadStep read) reply)
+  by_read : (read : Read) (reply : Reply) (image : Option Image) → IsCalm (Unit {0}) reply (ReadStep read) → GoesWell (ReadStep read) reply → Allows f size w 0 (ReadStep read) reply image
+      → OneTurn c.drawn (caller_read f c read reply image).drawn (by_nobody (ReadStep read) reply)
   by_read read reply image calm well (allowed.Reading k r rep im a same) = reads r rep im calm well a
   by_read read reply image calm well (allowed.Verifying r rep im a) = verifies r rep im calm well a
 
@@ -266,7 +221,8 @@ module _ (f : Formats) (size : ℕ) (w : World) where
   looked_none true none = refl
   looked_none false none = none
 
-  one_turn : (step : Step) (reply : Reply) (image : Option Image) → (is_line_ask step ≡ true → IsLineStep step) → (is_line_ask step ≡ true → c.drawn ≡ None) → IsCalm (Unit {0}) reply step → GoesWell step reply → Allows f size w 0 step reply image
+  one_turn : (step : Step) (reply : Reply) (image : Option Image) → (is_line_ask step ≡ true → IsLineStep step) → (is_line_ask step ≡ true → c.drawn ≡ None) → IsCalm (Unit {0}) reply step → GoesWell step reply
+      → Allows f size w 0 step reply image
       → OneTurn c.drawn (caller_after f c 0 step reply image).drawn (by_nobody step reply)
   one_turn (AskStep command) reply image lined closed calm well a = LineTurn refl refl (λ read e. cc) (closed refl) (asked_none (is_heard reply) (closed refl))
   one_turn LookStep reply image lined closed calm well a = LineTurn refl refl (λ read e. cc) (closed refl) (looked_none (is_heard reply) (closed refl))
@@ -276,7 +232,8 @@ module _ (f : Formats) (size : ℕ) (w : World) where
   one_turn step reply image lined closed calm well a = absurd (lined refl)
 
 -- of who 0
-turn_of : (f : Formats) (size : ℕ) (w : World) (m : Moment) → m.entry.who ≡ 0 → (is_line_ask m.entry.step ≡ true → IsLineStep m.entry.step) → (is_line_ask m.entry.step ≡ true → w.caller.drawn ≡ None) → IsCalm (Unit {0}) m.entry.reply m.entry.step → GoesWell m.entry.step m.entry.reply
+turn_of : (f : Formats) (size : ℕ) (w : World) (m : Moment) → m.entry.who ≡ 0 → (is_line_ask m.entry.step ≡ true → IsLineStep m.entry.step) → (is_line_ask m.entry.step ≡ true → w.caller.drawn ≡ None)
+    → IsCalm (Unit {0}) m.entry.reply m.entry.step → GoesWell m.entry.step m.entry.reply
     → Allows f size w m.entry.who m.entry.step m.entry.reply m.image → OneTurn w.caller.drawn (caller_after f w.caller m.entry.who m.entry.step m.entry.reply m.image).drawn m.entry
 turn_of f size w m nobody lined closed calm well a =
     subst (λ (k : ℕ). Allows f size w k m.entry.step m.entry.reply m.image → OneTurn w.caller.drawn (caller_after f w.caller k m.entry.step m.entry.reply m.image).drawn (record { who = k; step = m.entry.step; reply = m.entry.reply })) (sym nobody)
@@ -338,7 +295,8 @@ module _ (s : Start) (log : List Moment) (lines : List ScriptLine) (moment : ℕ
       (lines_step moment lines (as_asked m.entry.step) (subst (λ (l : List Step). Has l (as_asked m.entry.step)) asked (in_asked log m has (ap (λ (k : ℕ). (k == 0) && is_line_ask m.entry.step) who ∙ ask))))
 
   -- a step by which no check ends well
-  turn_at : (front back : List Moment) (m : Moment) → log ≡ front ++ m ∷ back → ((snapshots blobs : ℕ) → m.entry.who ≡ 0 → m.entry.step ≢ ReadStep (CheckedAll snapshots blobs)) → OneTurn (caller_of s front).drawn (caller_of s (front ++ m ∷ [])).drawn m.entry
+  turn_at : (front back : List Moment) (m : Moment) → log ≡ front ++ m ∷ back → ((snapshots blobs : ℕ) → m.entry.who ≡ 0 → m.entry.step ≢ ReadStep (CheckedAll snapshots blobs))
+      → OneTurn (caller_of s front).drawn (caller_of s (front ++ m ∷ [])).drawn m.entry
   turn_at front back m is unchecked =
       let has : Has log m = subst (λ (l : List Moment). Has l m) (sym is) (has_at front back m) in
       let a : Allowed (formats_of s) s.part_size (world_of s front) m = legal_at s log smooth front back m is in
@@ -361,7 +319,8 @@ module _ (s : Start) (log : List Moment) (lines : List ScriptLine) (moment : ℕ
   turn_after done = turn_by (caller_of s done).drawn
 
   -- a part in which no check ends
-  part_turn : (done part back : List Moment) (kinds : List Bool) → log ≡ done ++ (part ++ back) → NoneChecked part → InTurn (turn_after (done ++ part)) kinds (entries_of back) → InTurn (turn_after done) (falses (asked_steps part) ++ kinds) (entries_of (part ++ back))
+  part_turn : (done part back : List Moment) (kinds : List Bool) → log ≡ done ++ (part ++ back) → NoneChecked part → InTurn (turn_after (done ++ part)) kinds (entries_of back)
+      → InTurn (turn_after done) (falses (asked_steps part) ++ kinds) (entries_of (part ++ back))
   part_turn done [] back kinds is unchecked turn = subst (λ (l : List Moment). InTurn (turn_after l) kinds (entries_of back)) (append-nil done) turn
   part_turn done (m ∷ part) back kinds is unchecked turn =
       go_on (caller_of s done).drawn (caller_of s (done ++ m ∷ [])).drawn m.entry (entries_of (part ++ back)) (asked_steps part) kinds
@@ -370,13 +329,15 @@ module _ (s : Start) (log : List Moment) (lines : List ScriptLine) (moment : ℕ
       (subst (λ (l : List Moment). InTurn (turn_after l) kinds (entries_of back)) (sym (append_assoc done (m ∷ []) part)) turn))
 
   -- the end of a check isn't that it failed
-  ends_well : (m : Moment) → Has log m → m.entry.who ≡ 0 → (read : Read) → IsEndOfCheck read → m.entry.step ≡ ReadStep read → m.entry.reply ≡ HasEnded → (snapshots : ℕ) × (blobs : ℕ) × (m.entry.step ≡ ReadStep (CheckedAll snapshots blobs))
+  ends_well : (m : Moment) → Has log m → m.entry.who ≡ 0 → (read : Read) → IsEndOfCheck read → m.entry.step ≡ ReadStep read → m.entry.reply ≡ HasEnded
+      → (snapshots : ℕ) × (blobs : ℕ) × (m.entry.step ≡ ReadStep (CheckedAll snapshots blobs))
   ends_well m has who (CheckedAll snapshots blobs) is_end step ended = (snapshots, blobs, step)
   ends_well m has who (ReadFails why) is_end step ended = absurd (unverified m why has who step ended)
   ends_well m has who read is_end step ended = absurd is_end
 
   -- the part of a check
-  check_turn : (done part back : List Moment) (kinds : List Bool) → IsCheckPart part → log ≡ done ++ (part ++ back) → InTurn (turn_after (done ++ part)) kinds (entries_of back) → InTurn (turn_after done) (true ∷ kinds) (entries_of (part ++ back))
+  check_turn : (done part back : List Moment) (kinds : List Bool) → IsCheckPart part → log ≡ done ++ (part ++ back) → InTurn (turn_after (done ++ part)) kinds (entries_of back)
+      → InTurn (turn_after done) (true ∷ kinds) (entries_of (part ++ back))
   check_turn done part back kinds h is turn =
       let front : List Moment = done ++ h.look ∷ h.fetches in
       let whole : part ++ back ≡ h.look ∷ (h.fetches ++ h.end ∷ back) = ap (λ (l : List Moment). l ++ back) h.is ∙ append_assoc (h.look ∷ h.fetches) (h.end ∷ []) back in

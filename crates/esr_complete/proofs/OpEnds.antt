@@ -1,15 +1,13 @@
 -- How the op of a snapshot and that of a delete or a cleanup end where nothing fails.
 use Rattle.std.proofs.Common.{◌≡◌, ◌⊎◌, ℕ, Bool, true, false, true≢false, List, [], ◌∷◌, ◌++◌, append-nil, append_assoc, Option, Some, None, option_map, if◌then◌else◌, refl, sym, ap, ◌∙◌, subst, inl, inr}
-use Rattle.std.proofs.lemmas.Bool.{eqb-true}
+use Rattle.std.proofs.lemmas.Bool.{eqb-true, cond-true, cond-false, cases_Bool}
 use Rattle.esr_model.specs.Values.{Bytes, Has}
 use Rattle.esr_core.specs.Entry.{DeleteSnapshots, DeleteFails, SettlePruned, Step, AskStep, SettleStep, FailedStep, DroppedStep, PruneStep, Refusal, StaleTerm, Reply, Accepted, WasSettled, HasEnded, Refused, Entry}
 use Rattle.esr_core.specs.World.{World}
 use Rattle.esr_core.specs.Allowed.{Blocks, ByFailedSwap, ByDelete}
 use Rattle.esr_core.specs.After.{or_else}
-use Rattle.esr_core.proofs.Results.{choose_true, choose_false}
-use Rattle.esr_core.proofs.Deleting.{bool_told}
 use Rattle.esr_quiet.specs.Refusals.{IsByRule, IsSwapStep}
-use Rattle.esr_quiet.proofs.Rules.{no_abort_rule}
+use Rattle.esr_quiet.specs.Askers.{no_abort_rule}
 use Rattle.esr_report.specs.Cleaned.{is_cleanup_ticket, blobs_gone, bytes_gone}
 use Rattle.esr_report.specs.Replies as report
 use Rattle.esr_report.specs.Replies.{Made, Deleted, Cleaned, Aborted, op_of_ticket, uuid_of_ticket, is_op, is_stale, fails_by, delete_of_ticket, cleaned_by, ends_by, ends_at, name_of_op, final_out, has_name, abort_of, aborts_at, end_of_op}
@@ -92,7 +90,8 @@ of_drop all who true true cleans_is = tt
 of_drop all who false true cleans_is = absurd (true≢false (sym (cleans_is refl)))
 of_drop all who cleans false cleans_is = tt
 
-made_by : (all : List Entry) (stale : Bool) (who : ℕ) (step : Step) (reply : Reply) → IsCalm (stale ≡ true) reply step → (IsPruned step reply → ⊥) → (IsDropped step reply → is_cleanup_ticket all who ≡ false) → MadeOrNone (ends_by all stale who step reply)
+made_by : (all : List Entry) (stale : Bool) (who : ℕ) (step : Step) (reply : Reply) → IsCalm (stale ≡ true) reply step → (IsPruned step reply → ⊥) → (IsDropped step reply → is_cleanup_ticket all who ≡ false)
+    → MadeOrNone (ends_by all stale who step reply)
 made_by all stale who SettleStep WasSettled calm other left = of_uuid (uuid_of_ticket all who)
 made_by all stale who (FailedStep why) HasEnded calm other left = absurd calm
 made_by all stale who (PruneStep SettlePruned) WasSettled calm other left = absurd (other tt)
@@ -100,7 +99,8 @@ made_by all stale who (PruneStep (DeleteFails why)) HasEnded calm other left = s
 made_by all stale who DroppedStep HasEnded calm other left = subst (λ (b : Bool). MadeOrNone (cleaned_by all who b)) (sym (left tt)) tt
 made_by all stale who step reply calm other left = tt
 
-over_by : (cleans : Bool) (all : List Entry) (stale : Bool) (who : ℕ) (step : Step) (reply : Reply) → IsCalm (stale ≡ true) reply step → (IsSettled step reply → ⊥) → (IsPruned step reply → is_cleanup_ticket all who ≡ cleans) → (IsDropped step reply → is_cleanup_ticket all who ≡ true → cleans ≡ true)
+over_by : (cleans : Bool) (all : List Entry) (stale : Bool) (who : ℕ) (step : Step) (reply : Reply) → IsCalm (stale ≡ true) reply step → (IsSettled step reply → ⊥) → (IsPruned step reply → is_cleanup_ticket all who ≡ cleans)
+    → (IsDropped step reply → is_cleanup_ticket all who ≡ true → cleans ≡ true)
     → OverOrNone cleans (ends_by all stale who step reply)
 over_by cleans all stale who SettleStep WasSettled calm other pruned left = absurd (other tt)
 over_by cleans all stale who (FailedStep why) HasEnded calm other pruned left = absurd calm
@@ -117,12 +117,13 @@ is_own o None e = absurd (no_op e)
     no_op h = cc
 is_own o (Some p) e = ap (λ (n : ℕ). Some n) (eqb-true p o e)
 
-made_at : (all before : List Entry) (o : ℕ) (e : Entry) → IsCalm (is_stale before e.who ≡ true) e.reply e.step → (op_of_ticket all e.who ≡ Some o → IsPruned e.step e.reply → ⊥) → (op_of_ticket all e.who ≡ Some o → IsDropped e.step e.reply → is_cleanup_ticket all e.who ≡ false) → MadeOrNone (ends_at all before o e)
-made_at all before o e calm other left = elim (bool_told (is_op o (op_of_ticket all e.who))) [
+made_at : (all before : List Entry) (o : ℕ) (e : Entry) → IsCalm (is_stale before e.who ≡ true) e.reply e.step → (op_of_ticket all e.who ≡ Some o → IsPruned e.step e.reply → ⊥)
+    → (op_of_ticket all e.who ≡ Some o → IsDropped e.step e.reply → is_cleanup_ticket all e.who ≡ false) → MadeOrNone (ends_at all before o e)
+made_at all before o e calm other left = elim (cases_Bool (is_op o (op_of_ticket all e.who))) [
   | inl own ↦
       let of : op_of_ticket all e.who ≡ Some o = is_own o (op_of_ticket all e.who) own in
-      subst MadeOrNone (sym (choose_true _ _ _ own)) (made_by all (is_stale before e.who) e.who e.step e.reply calm (other of) (left of))
-  | inr none ↦ subst MadeOrNone (sym (choose_false _ _ _ none)) tt
+      subst MadeOrNone (sym (cond-true _ _ _ own)) (made_by all (is_stale before e.who) e.who e.step e.reply calm (other of) (left of))
+  | inr none ↦ subst MadeOrNone (sym (cond-false _ _ _ none)) tt
 ]
 
 -- what the entries of a delete's or a cleanup's ticket are
@@ -132,11 +133,11 @@ pub record IsOfKind (cleans : Bool) (all : List Entry) (o : ℕ) (e : Entry) : T
   pub dropped : op_of_ticket all e.who ≡ Some o → IsDropped e.step e.reply → is_cleanup_ticket all e.who ≡ true → cleans ≡ true
 
 over_at : (cleans : Bool) (all before : List Entry) (o : ℕ) (e : Entry) → IsCalm (is_stale before e.who ≡ true) e.reply e.step → IsOfKind cleans all o e → OverOrNone cleans (ends_at all before o e)
-over_at cleans all before o e calm h = elim (bool_told (is_op o (op_of_ticket all e.who))) [
+over_at cleans all before o e calm h = elim (cases_Bool (is_op o (op_of_ticket all e.who))) [
   | inl own ↦
       let of : op_of_ticket all e.who ≡ Some o = is_own o (op_of_ticket all e.who) own in
-      subst (OverOrNone cleans) (sym (choose_true _ _ _ own)) (over_by cleans all (is_stale before e.who) e.who e.step e.reply calm (h.unsettled of) (h.pruned of) (h.dropped of))
-  | inr none ↦ subst (OverOrNone cleans) (sym (choose_false _ _ _ none)) tt
+      subst (OverOrNone cleans) (sym (cond-true _ _ _ own)) (over_by cleans all (is_stale before e.who) e.who e.step e.reply calm (h.unsettled of) (h.pruned of) (h.dropped of))
+  | inr none ↦ subst (OverOrNone cleans) (sym (cond-false _ _ _ none)) tt
 ]
 
 -- ---- aborts
@@ -158,9 +159,9 @@ one_reply a b e = cc
 abort_told : (name : Option Bytes) (k : Option ℕ) (step : Step) (reply : Reply) (answer : report.Reply) → abort_of name k step reply ≡ Some answer → IsAbort name step reply answer
 abort_told None k step reply answer e = absurd (none_some answer e)
 abort_told (Some name) (Some k) step reply answer e = absurd (none_some answer e)
-abort_told (Some name) None (AskStep (DeleteSnapshots names)) (Accepted d) answer e = elim (bool_told (has_name names name)) [
-  | inl t ↦ record { by = d; of = name; names = names; name_is = refl; step_is = refl; reply_is = refl; named = t; answer_is = sym (one_reply (Aborted d) answer (sym (choose_true _ _ _ t) ∙ e)) }
-  | inr t ↦ absurd (none_some answer (sym (choose_false _ _ _ t) ∙ e))
+abort_told (Some name) None (AskStep (DeleteSnapshots names)) (Accepted d) answer e = elim (cases_Bool (has_name names name)) [
+  | inl t ↦ record { by = d; of = name; names = names; name_is = refl; step_is = refl; reply_is = refl; named = t; answer_is = sym (one_reply (Aborted d) answer (sym (cond-true _ _ _ t) ∙ e)) }
+  | inr t ↦ absurd (none_some answer (sym (cond-false _ _ _ t) ∙ e))
 ]
 abort_told (Some name) None step reply answer e = absurd (none_some answer e)
 
@@ -281,7 +282,8 @@ over_found cleans all o before (x ∷ es) is calm unnamed kinds e has over =
       | inr behind ↦ on behind
     ]
 
-    by_end : (Has es e → IsOverBy cleans (end_of_op all o (before ++ x ∷ []) es)) → (a : Option report.Reply) → ends_at all before o x ≡ a → OverOrNone cleans a → IsOverBy cleans (or_else a (or_else (aborts_at before o x) (end_of_op all o (before ++ x ∷ []) es)))
+    by_end : (Has es e → IsOverBy cleans (end_of_op all o (before ++ x ∷ []) es)) → (a : Option report.Reply) → ends_at all before o x ≡ a → OverOrNone cleans a
+        → IsOverBy cleans (or_else a (or_else (aborts_at before o x) (end_of_op all o (before ++ x ∷ []) es)))
     by_end on None none ok = subst (λ (a : Option report.Reply). IsOverBy cleans (or_else a (end_of_op all o (before ++ x ∷ []) es))) (sym unaborted) (later on none)
     by_end on (Some answer) ends ok = record { reply = answer; is = refl; over = ok }
 
@@ -291,7 +293,8 @@ own_end all o e b op_is =
     ap (λ (a : Option ℕ). if is_op o a then ends_by all (is_stale b e.who) e.who e.step e.reply else None) op_is ∙ ap (λ (own : Bool). if own then ends_by all (is_stale b e.who) e.who e.step e.reply else None) (same_op o)
 
 -- the settle of its ticket carries a delete out
-pub prune_deleted : (all : List Entry) (o : ℕ) (e : Entry) → op_of_ticket all e.who ≡ Some o → is_cleanup_ticket all e.who ≡ false → e.step ≡ PruneStep SettlePruned → e.reply ≡ WasSettled → (b : List Entry) → IsOverBy false (ends_at all b o e)
+pub prune_deleted : (all : List Entry) (o : ℕ) (e : Entry) → op_of_ticket all e.who ≡ Some o → is_cleanup_ticket all e.who ≡ false → e.step ≡ PruneStep SettlePruned → e.reply ≡ WasSettled → (b : List Entry)
+    → IsOverBy false (ends_at all b o e)
 prune_deleted all o e op_is deletes step reply b =
     record {
       reply = Deleted o;

@@ -13,9 +13,9 @@ use Rattle.esr_core.specs.Ready.{AnyReady, ARestore}
 use Rattle.esr_core.specs.Entry.{Entry, Moment}
 use Rattle.esr_core.specs.After.{after}
 use Rattle.esr_core.specs.History.{world_from, IsLegal, AreTold}
-use Rattle.esr_core.proofs.Histories.{legal_parts, told_parts}
-use Rattle.esr_core.proofs.Opening.{nothing}
-use Rattle.esr_core.proofs.Restoring.{one_waits}
+use Rattle.esr_core.specs.Laws.Histories.{legal_parts, told_parts}
+use Rattle.esr_core.specs.Laws.Maps.{nothing}
+use Rattle.esr_core.specs.Laws.RestoreMaps.{one_waits}
 use Rattle.esr_desk.specs.Start.{Start, formats_of, world_of}
 use Rattle.esr_report.specs.Replies.{read_shard}
 use Rattle.esr_quiet.specs.Refusals.{AreByRule}
@@ -65,7 +65,8 @@ restores_start : (f : Formats) (image : Image) (w : World) → Opened f image w 
 restores_start f image w (OpenedEmpty none) = restores_opened image.blobs no_record no_root
 restores_start f image w (OpenedRecord cluster text root is reads root_is) = restores_opened image.blobs cluster root
 
-restores_history : (f : Formats) (size : ℕ) (log : List Moment) (w : World) (es : List Entry) → FollowsIn w es → RestoresIn w es → IsLegal f size w log → AreCalm f w log → AreSafe f w es log → NoneUnrestored log → AreOrdered f w log → RestoresIn (world_from f w log) (es ++ entries_of log)
+restores_history : (f : Formats) (size : ℕ) (log : List Moment) (w : World) (es : List Entry) → FollowsIn w es → RestoresIn w es → IsLegal f size w log → AreCalm f w log → AreSafe f w es log → NoneUnrestored log → AreOrdered f w log
+    → RestoresIn (world_from f w log) (es ++ entries_of log)
 restores_history f size [] w es h r legal calm safe none ordered = subst (RestoresIn w) (sym (append-nil es)) r
 restores_history f size (m ∷ log) w es h r legal calm safe none ordered =
     subst (RestoresIn (world_from f (after f w m) log)) (append_assoc es (m.entry ∷ []) (entries_of log))
@@ -85,7 +86,8 @@ restores_all laws s log smooth none undeleted unrestored by_rule =
 -- ---- no restore is open at the end
 
 -- a restore with no ticket out has a shard that is ready
-restore_ready : (w : World) (o : ℕ) (r : Restoring) → RestoresTracked w.next_op w.next_ticket w.restores w.readers → fin.get w.restores o ≡ Some r → ((k : ℕ) (q : Reader) → fin.get w.readers k ≡ Some q → q.out ≡ true → ⊥) → AnyReady w
+restore_ready : (w : World) (o : ℕ) (r : Restoring) → RestoresTracked w.next_op w.next_ticket w.restores w.readers → fin.get w.restores o ≡ Some r → ((k : ℕ) (q : Reader) → fin.get w.readers k ≡ Some q → q.out ≡ true → ⊥)
+    → AnyReady w
 restore_ready w o r t there none_out =
     let (s, m, waiting) = one_waits r.shards (t.waiting o r there) in
     ready s m s.state refl waiting
@@ -103,7 +105,8 @@ none_open_at laws s log smooth idle o r there =
     (λ k q e out. reader_out (fin.get (world_of s log).readers k) q (idle.no_reader k) e out))
 
 -- so each shard of each restore that was accepted was restored
-pub all_restored : Laws → (s : Start) (log : List Moment) → IsSmooth s log → NoneFailed log → NoneUndeleted s log → NoneUnrestored log → AreByRule s log → IsIdle s log → (e : Entry) (a : AskedRestore) → Has (entries_of log) e → opens e.reply ≡ Some a
+pub all_restored : Laws → (s : Start) (log : List Moment) → IsSmooth s log → NoneFailed log → NoneUndeleted s log → NoneUnrestored log → AreByRule s log → IsIdle s log → (e : Entry) (a : AskedRestore) → Has (entries_of log) e
+    → opens e.reply ≡ Some a
     → (p : IndexRef × ℕ) → Has (places a.indices) p → IsRestored (entries_of log) (read_shard a.op a.uuid p)
 all_restored laws s log smooth none undeleted unrestored by_rule idle e a has opened p m = elim ((restores_all laws s log smooth none undeleted unrestored by_rule).asked e a has opened p m) [
   | inl stands ↦ absurd (none_open_at laws s log smooth idle a.op stands.r stands.there)

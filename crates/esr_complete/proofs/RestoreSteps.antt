@@ -14,9 +14,9 @@ use Rattle.esr_core.specs.Deletes.{delete_number}
 use Rattle.esr_core.specs.After.{told_blob, taken_restore, taken_restore_shard, read_told, shard_over, read_over, read_by, test_left, answered, after}
 use Rattle.esr_core.specs.Allowed as allowed
 use Rattle.esr_core.specs.Allowed.{Gives, GivesRestore, CloneAllows, OpeningClone, CloneUsed, SourceNotListed, SourceDeleted, IndexMissing, FullOfClones, CloneSpent, CloneFault, DeleteAllows, GoingInto, NotNamed, CloneStands, RestoreStands, FullOfOps, DeleteFault, CleanupAllows, OpeningCleanup, OpStands, TicketStands, CleanupFault, RestoreAllows, OpeningRestore, NotListed, NamedByDelete, FullOfRestores, ReadAllows, ReadFound, ReadMissing, ReadFault, RestoringShard, ReaderFailing, CheckingAll, CheckFailing, VerifyAllows, CommitTestFails, SettlingDelete, PruneAllows, Allows, Allowed}
-use Rattle.esr_core.specs.RestoreShards.{shard_is}
+use Rattle.esr_core.specs.Laws.RestoreShards.{shard_is}
 use Rattle.esr_report.specs.Replies.{ReadShard, shard_ticket_by, shard_end_by}
-use Rattle.esr_core.proofs.Going.{IsOld, goes_answered}
+use Rattle.esr_core.specs.Laws.RestoreFrames.{IsOld, goes_answered}
 use Rattle.esr_complete.proofs.OpEnds.{IsCalm, calm_unblocked}
 use Rattle.esr_complete.proofs.Following.{gave, told}
 use Rattle.esr_complete.proofs.FollowingRestores.{Restores, Readers, opens, FollowsRestores, RestoresIn, IsSilent, silent, silent_caller, WereOut, were_same, were_again, restores_stay, restore_begins, shard_given, shard_ends}
@@ -52,7 +52,8 @@ module _ (f : Formats) (size : ℕ) (w : World) (es : List Entry) (h : RestoresI
 
   -- ---- ask and take
 
-  begins : (name place : Bytes) (o uuid : ℕ) (indices : List IndexRef) (image : Option Image) → o ≡ w.next_op → RestoresIn (answered f w 0 (AskStep (Restore name place)) (AcceptedRestore o uuid indices) image) (es ++ told 0 (AskStep (Restore name place)) (AcceptedRestore o uuid indices) ∷ [])
+  begins : (name place : Bytes) (o uuid : ℕ) (indices : List IndexRef) (image : Option Image) → o ≡ w.next_op
+      → RestoresIn (answered f w 0 (AskStep (Restore name place)) (AcceptedRestore o uuid indices) image) (es ++ told 0 (AskStep (Restore name place)) (AcceptedRestore o uuid indices) ∷ [])
   begins name place o uuid indices image is =
       subst (λ (n : ℕ). RestoresIn (answered f w 0 (AskStep (Restore name place)) (AcceptedRestore o uuid indices) image) (es ++ told 0 (AskStep (Restore name place)) (AcceptedRestore n uuid indices) ∷ [])) (sym is)
       (restore_begins w.restores w.readers w.next_op w.next_ticket es h t.tracked name place uuid indices)
@@ -135,7 +136,8 @@ module _ (f : Formats) (size : ℕ) (w : World) (es : List Entry) (h : RestoresI
       (subst (λ (o : Option Restoring). RestoresIn (shard_over w (suc k) (Restored files bytes) q o) (es ++ x ∷ [])) (sym of.there)
       (shard_ends w.restores w.readers w.next_op w.next_ticket es h t.tracked (suc k) q files bytes reading.there reading.out of.r of.there))
 
-  reads : (k : ℕ) (read : Read) (reply : Reply) (image : Option Image) → ReadAllows f w k read reply image → IsUnfailed k (ReadStep read) reply → RestoresIn (answered f w k (ReadStep read) reply image) (es ++ told k (ReadStep read) reply ∷ [])
+  reads : (k : ℕ) (read : Read) (reply : Reply) (image : Option Image) → ReadAllows f w k read reply image → IsUnfailed k (ReadStep read) reply
+      → RestoresIn (answered f w k (ReadStep read) reply image) (es ++ told k (ReadStep read) reply ∷ [])
   reads k read reply image (ReadFound j name im stored by there) un = found j name im
   reads k read reply image (ReadMissing j name im stored by none) un = missed j name im
   reads k read reply image (ReadFault j name im stored by) un = same (told j (ReadStep (ReadBlob name)) (Refused DepotFault)) (silent j (ReadStep (ReadBlob name)) (Refused DepotFault) (λ y. refl) refl refl)
@@ -177,7 +179,8 @@ module _ (f : Formats) (size : ℕ) (w : World) (es : List Entry) (h : RestoresI
   restores_by who step reply image (allowed.Pruning k prune rep im p) un = prunes k prune rep im p
   restores_by who step reply image other un = aside who step reply image tt (λ y. refl) refl refl
 
-pub restores_step : (stale : Type 0) (f : Formats) (size : ℕ) (w : World) (es : List Entry) → RestoresIn w es → IsOrdered w → w.deposed ≡ false → (m : Moment) → Allowed f size w m → IsCalm stale m.entry.reply m.entry.step → IsUnfailed m.entry.who m.entry.step m.entry.reply
+pub restores_step : (stale : Type 0) (f : Formats) (size : ℕ) (w : World) (es : List Entry) → RestoresIn w es → IsOrdered w → w.deposed ≡ false → (m : Moment) → Allowed f size w m → IsCalm stale m.entry.reply m.entry.step
+    → IsUnfailed m.entry.who m.entry.step m.entry.reply
     → RestoresIn (after f w m) (es ++ m.entry ∷ [])
 restores_step stale f size w es h t live m a calm un = elim a.answered [
   | inl alive ↦ restores_by f size w es h t m.entry.who m.entry.step m.entry.reply m.image alive.1 un

@@ -1,12 +1,12 @@
 -- What a longer history tells of the tickets of restores and of their ends, and how a restore is answered whose shards ended well.
 use Rattle.std.proofs.Common.{◌≡◌, ◌≢◌, ℕ, Bool, true, false, ◌&&◌, ◌==◌, List, [], ◌∷◌, ◌++◌, Option, Some, None, option_map, option_and_then, if◌then◌else◌, refl, ap, ◌∙◌, subst, inl, inr}
 use Rattle.std.proofs.lemmas.Bool.Decides.{eqb_tells}
+use Rattle.std.proofs.lemmas.Bool.{cond-true, cond-false}
 use Rattle.esr_model.specs.Values.{Has, IndexRef}
 use Rattle.esr_model.specs.Places.{places}
 use Rattle.esr_core.specs.Entry.{GivenRestore, Gave, Entry}
 use Rattle.esr_core.specs.After.{or_else}
-use Rattle.esr_core.proofs.Reading.{Has-mapped}
-use Rattle.esr_core.proofs.Results.{choose_true, choose_false}
+use Rattle.esr_model.specs.Lists.{Has-mapped}
 use Rattle.esr_report.specs.Replies as report
 use Rattle.esr_report.specs.Replies.{ReadShard, ShardEnd, ShardRestored, first_by, same_shard, shard_ticket_by, shard_ticket, shard_end_by, shard_end_at, ticket_end, shard_end, and_ends, ends_of, failure_of, reply_by, reply_of_ends, read_shard, restore_shards, restore_reply}
 use Rattle.esr_complete.proofs.Tickets.{or_none, or_assoc, same_op}
@@ -53,10 +53,10 @@ ends_none k x e = ap (λ (a : Option ShardEnd). if x.who == k then a else None) 
 
 -- the end of another ticket
 pub other_end : (k : ℕ) (x : Entry) → x.who ≢ k → shard_end_at k x ≡ None
-other_end k x apart = elim (eqb_tells x.who k) [ inl h ↦ absurd (apart h.1) | inr h ↦ choose_false _ _ _ h.0 ]
+other_end k x apart = elim (eqb_tells x.who k) [ inl h ↦ absurd (apart h.1) | inr h ↦ cond-false _ _ _ h.0 ]
 
 pub own_end : (k : ℕ) (x : Entry) → x.who ≡ k → shard_end_at k x ≡ shard_end_by x.step x.reply
-own_end k x same = elim (eqb_tells x.who k) [ inl h ↦ choose_true _ _ _ h.0 | inr h ↦ absurd (h.1 same) ]
+own_end k x same = elim (eqb_tells x.who k) [ inl h ↦ cond-true _ _ _ h.0 | inr h ↦ absurd (h.1 same) ]
 
 all_four : (a b c d : Bool) → a ≡ true → b ≡ true → c ≡ true → d ≡ true → (a && b && c && d) ≡ true
 all_four a b c d p q r s = ap (λ (x : Bool). x && b && c && d) p ∙ ap (λ (x : Bool). true && x && c && d) q ∙ ap (λ (x : Bool). true && true && x && d) r ∙ s
@@ -88,10 +88,10 @@ other_place a b apart = elim (eqb_tells a.index b.index) [
 
 -- the shard to which a take gives the ticket
 pub ticket_same : (k : ℕ) (y : ReadShard) → shard_ticket_by (Gave k y.op (GivenRestore y.index y.number y.uuid)) y ≡ Some k
-ticket_same k y = choose_true _ _ _ (same_true y)
+ticket_same k y = cond-true _ _ _ (same_true y)
 
 pub ticket_other : (k : ℕ) (a b : ReadShard) → same_shard a b ≡ false → shard_ticket_by (Gave k a.op (GivenRestore a.index a.number a.uuid)) b ≡ None
-ticket_other k a b apart = choose_false _ _ _ apart
+ticket_other k a b apart = cond-false _ _ _ apart
 
 -- ---- a shard that was restored
 

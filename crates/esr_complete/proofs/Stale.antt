@@ -1,6 +1,7 @@
 -- A ticket that isn't stale by the history is of the present term, and so is that of a finalization that is out.
 use Rattle.std.proofs.Common.{◌≡◌, ◌≢◌, ◌⊎◌, ℕ, suc, Bool, true, false, true≢false, ◌||◌, ◌&&◌, if◌then◌else◌, List, [], ◌∷◌, ◌++◌, append-nil, append_assoc, Option, Some, None, refl, sym, ap, ◌∙◌, subst, inl, inr}
 use Rattle.std.specs.FinMap as fin
+use Rattle.esr_core.specs.Laws.NumberMaps.{was_in}
 use Rattle.esr_model.specs.Values.{RootData, ClusterRecord, Formats}
 use Rattle.esr_model.specs.Image.{Blobs, Image}
 use Rattle.esr_core.specs.World.{World, Op, ShardWork, RestoreShard, Restoring, Work, Shard, Finalize, Deleting, Drop, Ticket, opened, Opened, OpenedEmpty, OpenedRecord, no_record, no_root}
@@ -12,16 +13,15 @@ use Rattle.esr_core.specs.Allowed as allowed
 use Rattle.esr_core.specs.Allowed.{Gives, GivesShard, Allows, Allowed}
 use Rattle.esr_core.specs.Changes.{SameUnit, StepChange, NewTicket, OwnTicket, Settlement, UnitEnd, DeletionFailure, OpDrop, SwapFault}
 use Rattle.esr_core.specs.History.{world_from, IsLegal}
-use Rattle.esr_core.proofs.Blocked.{blocked_stays}
-use Rattle.esr_core.proofs.Causes.{take_gave}
-use Rattle.esr_core.proofs.Changes.{same_unit, over_unit, settled_unit, change_of}
-use Rattle.esr_core.proofs.Opening.{nothing}
-use Rattle.esr_core.proofs.Queues.{Tickets, was_in}
-use Rattle.esr_core.proofs.StepFrames.{step_frame}
+use Rattle.esr_core.specs.Laws.Asides.{blocked_stays}
+use Rattle.esr_core.specs.Laws.TakeAnswers.{take_gave}
+use Rattle.esr_core.specs.Laws.ChangeLaws.{same_unit, over_unit, settled_unit, change_of}
+use Rattle.esr_core.specs.Laws.Maps.{nothing, Tickets}
+use Rattle.esr_core.specs.Laws.StepFrames.{step_frame}
 use Rattle.esr_desk.specs.Start.{Start, formats_of, world_of}
 use Rattle.esr_quiet.specs.Smooth.{AreCalm, IsSmooth}
-use Rattle.esr_quiet.proofs.Passing.{quiet_at, legal_at, smooth_front}
-use Rattle.esr_quiet.proofs.Undeleted.{fails_at}
+use Rattle.esr_quiet.specs.PrefixLaws.{quiet_at, legal_at, smooth_front}
+use Rattle.esr_quiet.specs.DeleteTells.{fails_at}
 use Rattle.esr_report.specs.Replies.{is_of_term, takes_of_term, begins_term, has_term, is_stale, final_step, final_out}
 use Rattle.esr_complete.specs.Lines.{entries_of}
 use Rattle.esr_complete.proofs.Tickets.{none_some, same_op, IsGiftless, final_on, final_was, final_gave}
@@ -214,7 +214,8 @@ module _ (f : Formats) (w : World) (es : List Entry) (h : TellsTermsIn w es) whe
   came who step new (SwapFault is up change) none k v e = came who step up change none k v e
   came who step new other none k v e = (v, e, same_unit v)
 
-  gives_shard : (x : Entry) (o index number : ℕ) (source base : Option ℕ) (unit : Given) → x.reply ≡ Gave w.next_ticket o unit → (g : GivesShard w o index number source base) → TellsTermsIn (taken_shard w o g.op base (Some g.s)) (es ++ x ∷ [])
+  gives_shard : (x : Entry) (o index number : ℕ) (source base : Option ℕ) (unit : Given) → x.reply ≡ Gave w.next_ticket o unit → (g : GivesShard w o index number source base)
+      → TellsTermsIn (taken_shard w o g.op base (Some g.s)) (es ++ x ∷ [])
   gives_shard x o index number source base unit gives g = comes w.tickets w.term w.next_ticket es h x o unit gives (shard_ticket w o g.op g.s base) refl (λ of. absurd of)
 
   gives_by : (x : Entry) (o : ℕ) (unit : Given) → x.reply ≡ Gave w.next_ticket o unit → Gives f w o unit → TellsTermsIn (taken_by f w o unit (fin.get w.ops o)) (es ++ x ∷ [])
@@ -238,7 +239,8 @@ module _ (f : Formats) (w : World) (es : List Entry) (h : TellsTermsIn w es) whe
   still : (x : Entry) → IsGiftless x.reply → TellsTermsIn w (es ++ x ∷ [])
   still x giftless = goes_on w.tickets w.term es h x w.tickets (came_same w.tickets) giftless
 
-  take : (who : ℕ) (reply : Reply) (image : Option Image) → ((k o : ℕ) (unit : Given) → reply ≡ Gave k o unit → (k ≡ w.next_ticket) × Gives f w o unit) → TellsTermsIn (answered f w who TakeStep reply image) (es ++ record { who = who; step = TakeStep; reply = reply } ∷ [])
+  take : (who : ℕ) (reply : Reply) (image : Option Image) → ((k o : ℕ) (unit : Given) → reply ≡ Gave k o unit → (k ≡ w.next_ticket) × Gives f w o unit)
+      → TellsTermsIn (answered f w who TakeStep reply image) (es ++ record { who = who; step = TakeStep; reply = reply } ∷ [])
   take who (Gave k o unit) image given =
       let g = given k o unit refl in gives_by (record { who = who; step = TakeStep; reply = Gave k o unit }) o unit (ap (λ (j : ℕ). Gave j o unit) g.0) g.1
   take who (Refused DepotFault) image given = still (record { who = who; step = TakeStep; reply = Refused DepotFault }) tt
@@ -248,14 +250,16 @@ module _ (f : Formats) (w : World) (es : List Entry) (h : TellsTermsIn w es) whe
   none_out : (who : ℕ) (term o k : ℕ) → final_out (es ++ record { who = who; step = ElectStep; reply = ElectedTerm term } ∷ []) o ≡ Some k → ⊥
   none_out who term o k out = none_some k (sym (final_on o es (record { who = who; step = ElectStep; reply = ElectedTerm term })) ∙ out)
 
-  elect : (who : ℕ) (reply : Reply) (image : Option Image) → IsElectReply ElectStep reply → reply ≢ Refused DepotFault → TellsTermsIn (answered f w who ElectStep reply image) (es ++ record { who = who; step = ElectStep; reply = reply } ∷ [])
+  elect : (who : ℕ) (reply : Reply) (image : Option Image) → IsElectReply ElectStep reply → reply ≢ Refused DepotFault
+      → TellsTermsIn (answered f w who ElectStep reply image) (es ++ record { who = who; step = ElectStep; reply = reply } ∷ [])
   elect who (ElectedTerm term) image told calm = begins w.tickets w.term es h (record { who = who; step = ElectStep; reply = ElectedTerm term }) (suc w.term) refl (none_out who term)
   elect who (Refused DepotFault) image told calm = absurd (calm refl)
   elect who (Refused refusal) image told calm = still (record { who = who; step = ElectStep; reply = Refused refusal }) tt
   elect who reply image told calm = absurd told
 
   -- neither a take nor an election
-  other : (who : ℕ) (step : Step) (reply : Reply) (image : Option Image) → (IsTake step → ⊥) → IsGiftless reply → (answered f w who step reply image).term ≡ w.term → TellsTermsIn (answered f w who step reply image) (es ++ record { who = who; step = step; reply = reply } ∷ [])
+  other : (who : ℕ) (step : Step) (reply : Reply) (image : Option Image) → (IsTake step → ⊥) → IsGiftless reply → (answered f w who step reply image).term ≡ w.term
+      → TellsTermsIn (answered f w who step reply image) (es ++ record { who = who; step = step; reply = reply } ∷ [])
   other who step reply image no_take giftless same =
       subst (λ (term : ℕ). TellsTerms (answered f w who step reply image).tickets term (es ++ record { who = who; step = step; reply = reply } ∷ [])) (sym same)
       (goes_on w.tickets w.term es h (record { who = who; step = step; reply = reply }) (answered f w who step reply image).tickets (came who step (answered f w who step reply image) (change_of f w who step reply image) no_take) giftless)
@@ -299,7 +303,8 @@ terms_at s log smooth front back is =
     terms_history (formats_of s) s.part_size front s.world [] (terms_start (formats_of s) h.image s.world h.opened) h.legal h.calm
 
 -- a ticket that tells that a delete or cleanup failed is stale by the history where it is of an older term
-pub stale_told : (s : Start) (log : List Moment) → IsSmooth s log → (front back : List Moment) (m : Moment) (why : Why) → log ≡ front ++ m ∷ back → m.entry.step ≡ PruneStep (DeleteFails why) → m.entry.reply ≡ HasEnded → IsStaleIn (world_of s front) m.entry.who → is_stale (entries_of front) m.entry.who ≡ true
+pub stale_told : (s : Start) (log : List Moment) → IsSmooth s log → (front back : List Moment) (m : Moment) (why : Why) → log ≡ front ++ m ∷ back → m.entry.step ≡ PruneStep (DeleteFails why) → m.entry.reply ≡ HasEnded
+    → IsStaleIn (world_of s front) m.entry.who → is_stale (entries_of front) m.entry.who ≡ true
 stale_told s log smooth front back m why is step reply stale = by (is_stale (entries_of front) m.entry.who) refl
   where
     by : (b : Bool) → is_stale (entries_of front) m.entry.who ≡ b → is_stale (entries_of front) m.entry.who ≡ true

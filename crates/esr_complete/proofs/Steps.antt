@@ -2,6 +2,8 @@
 use Rattle.std.proofs.Common.{◌≡◌, ◌⊎◌, ℕ, suc, ◌+◌, ◌<◌, ◌≤◌, Bool, true, false, true≢false, ◌==◌, List, [], ◌∷◌, ◌++◌, Option, Some, None, map, refl, sym, ap, ◌∙◌, subst, inl, inr, arith}
 use Rattle.std.proofs.lemmas.Bool.Decides.{eqb_tells}
 use Rattle.std.specs.FinMap as fin
+use Rattle.std.proofs.lemmas.Bool.{cases_Bool, cond-true, cond-false}
+use Rattle.esr_core.specs.Laws.NumberMaps.{was_in, same_in, left_in, stays_in, split_at}
 use Rattle.esr_model.specs.Names.{BlobName, Latest}
 use Rattle.esr_model.specs.Values.{Bytes, Has, SnapInfo, ShardResult, Formats}
 use Rattle.esr_model.specs.Shelf.{Shelved, Command}
@@ -18,21 +20,19 @@ use Rattle.esr_core.specs.Entry.{AskedIndex, Asked, Snapshot, Clone, CloneOf, De
 use Rattle.esr_core.specs.After.{asked, cleanup_opened, asked_op, cloned_op, taken_by, taken_shard, taken_restore, taken_restore_shard, read_by, with_given, change, committing, fetching, told_blob, settled_of, done_of, done_by, is_stale, dropped_of, delete_settled, delete_failed_by, delete_failed, after}
 use Rattle.esr_core.specs.Allowed as allowed
 use Rattle.esr_core.specs.Allowed.{NoCleanup, Accepts, Gives, GivesShard, GivesFinalize, GivesRestore, Settles, Dones, HasCleaned, Drops, MayPlan, SettlesDeletion, FailsDeletion, CloneAllows, OpeningClone, CloneUsed, SourceNotListed, SourceDeleted, IndexMissing, FullOfClones, CloneSpent, CloneFault, DeleteAllows, GoingInto, NotNamed, CloneStands, RestoreStands, FullOfOps, CleanupAllows, OpeningCleanup, OpStands, TicketStands, CleanupFault, RestoreAllows, OpeningRestore, NotListed, NamedByDelete, FullOfRestores, ReadAllows, ReadFound, ReadMissing, ReadFault, RestoringShard, ReaderFailing, CheckingAll, CheckFailing, VerifyAllows, DrawingTest, BeginningTest, CommittingTest, RemovingTests, VerifyingAll, VerifyFailing, PruneAllows, FetchingShard, ShardMissing, Planning, SettlingDelete, SettleDeleteStale, RemovingDoomed, EndingDelete, FailingDelete, Allows, Allowed}
-use Rattle.esr_core.proofs.AskedDeletes.{Waits, waits}
-use Rattle.esr_core.proofs.Besides.{IsNoTest, aside_by}
-use Rattle.esr_core.proofs.Deleting.{bool_told}
-use Rattle.esr_core.proofs.Moments.{moment, settled_plain, delete_settled_plain}
-use Rattle.esr_core.proofs.Queues.{Deletes, was_in, same_in, left_in, stays_in, split_at}
-use Rattle.esr_core.proofs.Reading.{Has-right}
-use Rattle.esr_core.proofs.Recorded.{entry_got}
-use Rattle.esr_core.proofs.Results.{choose_true, choose_false}
+use Rattle.esr_core.specs.Laws.DeleteAsks.{Waits, waits}
+use Rattle.esr_core.specs.Laws.Asides.{IsNoTest, aside_by}
+use Rattle.esr_core.specs.Laws.Moments.{moment, settled_plain, delete_settled_plain}
+use Rattle.esr_core.specs.Laws.Maps.{Deletes, entry_got}
+use Rattle.esr_model.specs.Lists.{Has-right}
 use Rattle.esr_report.specs.Cleaned.{cleanup_by, is_cleanup_ticket}
 use Rattle.esr_report.specs.Replies as report
 use Rattle.esr_report.specs.Replies.{op_by, is_op, uuid_by, name_by, name_of_op, final_out, has_name, abort_of, aborts_at, is_over}
+use Rattle.esr_report.specs.Aborts.{accepted_by}
 use Rattle.esr_complete.proofs.Tickets.{none_some, op_stays, uuid_stays, cleanup_stays, cleanup_of, is_cleanup_op, cleans_stays, cleans_given, name_stays, name_given, IsGiftless, same_op}
 use Rattle.esr_complete.proofs.OpEnds.{IsCalm, calm_unblocked, abort_names}
 use Rattle.esr_complete.proofs.Stale.{IsStaleIn}
-use Rattle.esr_complete.proofs.Following.{IsSaid, snapshot_of, delete_of, IsOpenIn, IsDeleteIn, IsSettledIn, IsPrunedIn, IsCleanedIn, IsAbortedIn, HasName, IsNamedBy, IsNameless, IsToldOp, IsToldDelete, IsFinal, IsOutFinal, IsEndedOr, IsDeletedOr, Follows, FollowsIn, stands_at, stands_on, delete_on, aborted_on, named_on, nameless_on, op_on, delete_told_on, IsKin, kin_same, kin_on, out_same, out_on, IsOne, goes_on, told, gave, given_on, handed_on, follows_aside}
+use Rattle.esr_complete.proofs.Following.{IsSaid, delete_of, IsOpenIn, IsDeleteIn, IsSettledIn, IsPrunedIn, IsCleanedIn, IsAbortedIn, HasName, IsNamedBy, IsNameless, IsToldOp, IsToldDelete, IsFinal, IsOutFinal, IsEndedOr, IsDeletedOr, Follows, FollowsIn, stands_at, stands_on, delete_on, aborted_on, named_on, nameless_on, op_on, delete_told_on, IsKin, kin_same, kin_on, out_same, out_on, IsOne, goes_on, told, gave, given_on, handed_on, follows_aside}
 use Rattle.esr_complete.proofs.AbortedOps as aborts
 use Rattle.esr_complete.proofs.AbortedOps.{was_op, not_out, names_it}
 
@@ -70,7 +70,7 @@ plain_cleanup : (o : ℕ) (step : Step) (reply : Reply) → IsPlain reply step �
 plain_cleanup o (AskStep Cleanup) (Accepted op) plain = absurd plain
 plain_cleanup o step reply plain = refl
 
-plain_snapshot : (step : Step) (reply : Reply) → IsPlain reply step → snapshot_of step reply ≡ None
+plain_snapshot : (step : Step) (reply : Reply) → IsPlain reply step → accepted_by step reply ≡ None
 plain_snapshot (AskStep (Snapshot name indices time)) (Accepted op) plain = absurd plain
 plain_snapshot (AskStep (Clone source name names time (Some taken))) (Accepted op) plain = absurd plain
 plain_snapshot step reply plain = refl
@@ -170,9 +170,9 @@ prune_settle e = cc
 -- the running delete is open
 running_there : (test : ℕ × Deletion → Bool) (deletes : List (ℕ × Deletion)) (d : ℕ) → first_delete test deletes ≡ Some d → (x : Deletion) × Has deletes (d, x)
 running_there test [] d e = absurd (none_some d e)
-running_there test (p ∷ deletes) d e = elim (bool_told (test p)) [
-  | inl b ↦ let same : p.0 ≡ d = some_one p.0 d (sym (choose_true _ _ _ b) ∙ e) in (p.1, inl (λ i. (same i, p.1)))
-  | inr b ↦ let (x, m) = running_there test deletes d (sym (choose_false _ _ _ b) ∙ e) in (x, inr m)
+running_there test (p ∷ deletes) d e = elim (cases_Bool (test p)) [
+  | inl b ↦ let same : p.0 ≡ d = some_one p.0 d (sym (cond-true _ _ _ b) ∙ e) in (p.1, inl (λ i. (same i, p.1)))
+  | inr b ↦ let (x, m) = running_there test deletes d (sym (cond-false _ _ _ b) ∙ e) in (x, inr m)
 ]
 
 -- where an op was aborted it has a name
@@ -200,14 +200,16 @@ below_up n = omega arith
 module _ (f : Formats) (size : ℕ) (w : World) (es : List Entry) (h : FollowsIn w es) where
   -- ---- ops and deletes that stay
 
-  ops_stay : (more : ℕ) (x : Entry) → w.next_op ≤ more → ((o : ℕ) → (o < w.next_op) ⊎ (more ≤ o) → (name_by o x.step x.reply ≡ None) × (is_op o (cleanup_of x.step x.reply) ≡ false)) → (o : ℕ) (op : Op) → fin.get w.ops o ≡ Some op → IsToldOp (es ++ x ∷ []) more o op
+  ops_stay : (more : ℕ) (x : Entry) → w.next_op ≤ more → ((o : ℕ) → (o < w.next_op) ⊎ (more ≤ o) → (name_by o x.step x.reply ≡ None) × (is_op o (cleanup_of x.step x.reply) ≡ false)) → (o : ℕ) (op : Op)
+      → fin.get w.ops o ≡ Some op → IsToldOp (es ++ x ∷ []) more o op
   ops_stay more x up none o op e = op_on es x w.next_op more up none o op op (h.ops o op e) refl refl refl
 
   deletes_stay : (more : ℕ) (x : Entry) → IsOne es w.next_op more x → (d : ℕ) (y : Deletion) → fin.get w.deletes d ≡ Some y → IsToldDelete (es ++ x ∷ []) more d y
   deletes_stay more x one d y e = delete_told_on es x w.next_op more one.up one.no_name d y y (h.deletes d y e) refl refl
 
   -- an op goes on with other shards
-  shards_on : (more : ℕ) (x : Entry) → w.next_op ≤ more → ((o : ℕ) → (o < w.next_op) ⊎ (more ≤ o) → (name_by o x.step x.reply ≡ None) × (is_op o (cleanup_of x.step x.reply) ≡ false)) → (key : ℕ) (old : Op) → fin.get w.ops key ≡ Some old → (shards : List ShardWork)
+  shards_on : (more : ℕ) (x : Entry) → w.next_op ≤ more → ((o : ℕ) → (o < w.next_op) ⊎ (more ≤ o) → (name_by o x.step x.reply ≡ None) × (is_op o (cleanup_of x.step x.reply) ≡ false)) → (key : ℕ) (old : Op)
+      → fin.get w.ops key ≡ Some old → (shards : List ShardWork)
       → (o : ℕ) (op : Op) → fin.get (fin.insert w.ops key (record old { shards = shards })) o ≡ Some op → IsToldOp (es ++ x ∷ []) more o op
   shards_on more x up none key old there shards o op e = elim (was_in w.ops key (record old { shards = shards }) o op e) [
     | inl is ↦ subst (λ (p : ℕ × Op). IsToldOp (es ++ x ∷ []) more p.0 p.1) (λ i. (sym is.0 i, is.1 i)) (op_on es x w.next_op more up none key old (record old { shards = shards }) (h.ops key old there) refl refl refl)
@@ -246,14 +248,16 @@ module _ (f : Formats) (size : ℕ) (w : World) (es : List Entry) (h : FollowsIn
   stays x plain said = stays_to w.next_op (same_up w.next_op) x plain said
 
   -- one ticket goes on
-  ticket_on : (k : ℕ) (t v : Ticket) → fin.get w.tickets k ≡ Some t → ((j : ℕ) (u : Ticket) → fin.get (fin.insert w.tickets k v) j ≡ Some u → IsKin w.tickets j u) → v.op ≡ t.op → (x : Entry) → (IsOutFinal t → IsOutFinal v ⊎ ((is_over x.step x.reply ≡ true) × (k ≡ x.who)))
+  ticket_on : (k : ℕ) (t v : Ticket) → fin.get w.tickets k ≡ Some t → ((j : ℕ) (u : Ticket) → fin.get (fin.insert w.tickets k v) j ≡ Some u → IsKin w.tickets j u) → v.op ≡ t.op → (x : Entry)
+      → (IsOutFinal t → IsOutFinal v ⊎ ((is_over x.step x.reply ≡ true) × (k ≡ x.who)))
       → IsPlain x.reply x.step → IsSaid x.step x.reply → Follows w.deposed w.ops w.deletes (fin.insert w.tickets k v) w.next_ticket w.next_op (es ++ x ∷ [])
   ticket_on k t v there kin op x outs plain said =
       let one : IsOne es w.next_op w.next_op x = plain_one es w.next_op w.next_op x (same_up w.next_op) plain said in
       goes_on w.deposed w.ops w.ops w.deletes w.deletes w.tickets (fin.insert w.tickets k v) w.next_ticket w.next_op w.next_op es x h one (ops_stay w.next_op x one.up one.no_name) (deletes_stay w.next_op x one) kin (out_on w.tickets k t v x there op outs) (λ o name was. inl was)
       (λ cleans d nameless was. inl was) (λ o e. absurd (none_is o _ (plain_snapshot x.step x.reply plain) e)) (λ cleans d e. absurd (none_delete (cleans, d) _ (plain_delete x.step x.reply plain) e))
 
-  changed : (k : ℕ) (t : Ticket) → fin.get w.tickets k ≡ Some t → (g : Ticket → Ticket) → (g t).op ≡ t.op → (g t).clean ≡ t.clean → (g t).work ≡ t.work → (x : Entry) → (IsOutFinal t → IsOutFinal (g t) ⊎ ((is_over x.step x.reply ≡ true) × (k ≡ x.who))) → IsPlain x.reply x.step → IsSaid x.step x.reply
+  changed : (k : ℕ) (t : Ticket) → fin.get w.tickets k ≡ Some t → (g : Ticket → Ticket) → (g t).op ≡ t.op → (g t).clean ≡ t.clean → (g t).work ≡ t.work → (x : Entry)
+      → (IsOutFinal t → IsOutFinal (g t) ⊎ ((is_over x.step x.reply ≡ true) × (k ≡ x.who))) → IsPlain x.reply x.step → IsSaid x.step x.reply
       → FollowsIn (change w k g) (es ++ x ∷ [])
   changed k t there g op clean work x outs plain said =
       subst (λ (o : Option Ticket). FollowsIn (with_given w k g o) (es ++ x ∷ [])) (sym there) (ticket_on k t (g t) there (kin_on w.tickets k t (g t) there op clean work) op x outs plain said)
@@ -263,7 +267,7 @@ module _ (f : Formats) (size : ℕ) (w : World) (es : List Entry) (h : FollowsIn
   asks_next : (name : Bytes) (indices : List AskedIndex) (time : ℕ) → FollowsIn (asked w (Snapshot name indices time)) (es ++ told 0 (AskStep (Snapshot name indices time)) (Accepted w.next_op) ∷ [])
   asks_next name indices time =
       goes_on w.deposed w.ops (fin.insert w.ops w.next_op op) w.deletes w.deletes w.tickets w.tickets w.next_ticket w.next_op (suc w.next_op) es x h one told_ops (deletes_stay (suc w.next_op) x one) (kin_same w.tickets) (out_same w.tickets x) (λ o named was. inl (stands_on w.ops w.next_op op o was))
-      (λ cleans d nameless was. inl was) (λ o e. subst (λ (n : ℕ). IsNamedBy (es ++ x ∷ []) n x × IsOpenIn (fin.insert w.ops w.next_op op) n) (some_one w.next_op o e) ((name, choose_true _ _ _ (same_op w.next_op), named), stands_at w.ops w.next_op op)) (λ cleans d e. absurd (none_delete (cleans, d) None refl e))
+      (λ cleans d nameless was. inl was) (λ o e. subst (λ (n : ℕ). IsNamedBy (es ++ x ∷ []) n x × IsOpenIn (fin.insert w.ops w.next_op op) n) (some_one w.next_op o e) ((name, cond-true _ _ _ (same_op w.next_op), named), stands_at w.ops w.next_op op)) (λ cleans d e. absurd (none_delete (cleans, d) None refl e))
     where
       op : Op
       op = asked_op w name indices time
@@ -281,7 +285,7 @@ module _ (f : Formats) (size : ℕ) (w : World) (es : List Entry) (h : FollowsIn
             up = one_up w.next_op;
             giftless = tt;
             no_ticket = λ k. (refl, refl, refl);
-            no_name = λ o any. (elim (eqb_tells w.next_op o) [ inl t ↦ absurd (other o any t.1) | inr t ↦ choose_false _ _ _ t.0 ], refl);
+            no_name = λ o any. (elim (eqb_tells w.next_op o) [ inl t ↦ absurd (other o any t.1) | inr t ↦ cond-false _ _ _ t.0 ], refl);
             said = tt;
             settles = λ step. absurd (ask_settle (Snapshot name indices time) step);
             prunes = λ step. absurd (ask_prune (Snapshot name indices time) step);
@@ -289,7 +293,7 @@ module _ (f : Formats) (size : ℕ) (w : World) (es : List Entry) (h : FollowsIn
           }
 
       named : name_of_op (es ++ told 0 (AskStep (Snapshot name indices time)) (Accepted w.next_op) ∷ []) w.next_op ≡ Some name
-      named = name_given es x w.next_op (h.coming w.next_op (same_up w.next_op)).0 ∙ choose_true _ _ _ (same_op w.next_op)
+      named = name_given es x w.next_op (h.coming w.next_op (same_up w.next_op)).0 ∙ cond-true _ _ _ (same_op w.next_op)
 
       mine : IsToldOp (es ++ told 0 (AskStep (Snapshot name indices time)) (Accepted w.next_op) ∷ []) (suc w.next_op) w.next_op (asked_op w name indices time)
       mine = record { unfailed = refl; aborted = λ by e. absurd (none_some by e); named = named; below = below_up w.next_op }
@@ -306,10 +310,11 @@ module _ (f : Formats) (size : ℕ) (w : World) (es : List Entry) (h : FollowsIn
   -- ---- a clone is asked for
 
   -- an op that copies comes as one of a snapshot does
-  clones_next : (source name : Bytes) (names : List Bytes) (time : ℕ) (taken : CloneOf) → FollowsIn (asked w (Clone source name names time (Some taken))) (es ++ told 0 (AskStep (Clone source name names time (Some taken))) (Accepted w.next_op) ∷ [])
+  clones_next : (source name : Bytes) (names : List Bytes) (time : ℕ) (taken : CloneOf)
+      → FollowsIn (asked w (Clone source name names time (Some taken))) (es ++ told 0 (AskStep (Clone source name names time (Some taken))) (Accepted w.next_op) ∷ [])
   clones_next source name names time taken =
       goes_on w.deposed w.ops (fin.insert w.ops w.next_op op) w.deletes w.deletes w.tickets w.tickets w.next_ticket w.next_op (suc w.next_op) es x h one told_ops (deletes_stay (suc w.next_op) x one) (kin_same w.tickets) (out_same w.tickets x) (λ o named was. inl (stands_on w.ops w.next_op op o was))
-      (λ cleans d nameless was. inl was) (λ o e. subst (λ (n : ℕ). IsNamedBy (es ++ x ∷ []) n x × IsOpenIn (fin.insert w.ops w.next_op op) n) (some_one w.next_op o e) ((name, choose_true _ _ _ (same_op w.next_op), named), stands_at w.ops w.next_op op)) (λ cleans d e. absurd (none_delete (cleans, d) None refl e))
+      (λ cleans d nameless was. inl was) (λ o e. subst (λ (n : ℕ). IsNamedBy (es ++ x ∷ []) n x × IsOpenIn (fin.insert w.ops w.next_op op) n) (some_one w.next_op o e) ((name, cond-true _ _ _ (same_op w.next_op), named), stands_at w.ops w.next_op op)) (λ cleans d e. absurd (none_delete (cleans, d) None refl e))
     where
       op : Op
       op = cloned_op w name time taken
@@ -327,7 +332,7 @@ module _ (f : Formats) (size : ℕ) (w : World) (es : List Entry) (h : FollowsIn
             up = one_up w.next_op;
             giftless = tt;
             no_ticket = λ k. (refl, refl, refl);
-            no_name = λ o any. (elim (eqb_tells w.next_op o) [ inl t ↦ absurd (other o any t.1) | inr t ↦ choose_false _ _ _ t.0 ], refl);
+            no_name = λ o any. (elim (eqb_tells w.next_op o) [ inl t ↦ absurd (other o any t.1) | inr t ↦ cond-false _ _ _ t.0 ], refl);
             said = tt;
             settles = λ step. absurd (ask_settle (Clone source name names time (Some taken)) step);
             prunes = λ step. absurd (ask_prune (Clone source name names time (Some taken)) step);
@@ -335,7 +340,7 @@ module _ (f : Formats) (size : ℕ) (w : World) (es : List Entry) (h : FollowsIn
           }
 
       named : name_of_op (es ++ told 0 (AskStep (Clone source name names time (Some taken))) (Accepted w.next_op) ∷ []) w.next_op ≡ Some name
-      named = name_given es x w.next_op (h.coming w.next_op (same_up w.next_op)).0 ∙ choose_true _ _ _ (same_op w.next_op)
+      named = name_given es x w.next_op (h.coming w.next_op (same_up w.next_op)).0 ∙ cond-true _ _ _ (same_op w.next_op)
 
       mine : IsToldOp (es ++ told 0 (AskStep (Clone source name names time (Some taken))) (Accepted w.next_op) ∷ []) (suc w.next_op) w.next_op (cloned_op w name time taken)
       mine = record { unfailed = refl; aborted = λ by e. absurd (none_some by e); named = named; below = below_up w.next_op }
@@ -346,10 +351,12 @@ module _ (f : Formats) (size : ℕ) (w : World) (es : List Entry) (h : FollowsIn
         | inr is ↦ ops_stay (suc w.next_op) x one.up one.no_name o q is.1
       ]
 
-  clones : (source name : Bytes) (names : List Bytes) (time o : ℕ) (taken : CloneOf) → o ≡ w.next_op → FollowsIn (asked w (Clone source name names time (Some taken))) (es ++ told 0 (AskStep (Clone source name names time (Some taken))) (Accepted o) ∷ [])
+  clones : (source name : Bytes) (names : List Bytes) (time o : ℕ) (taken : CloneOf) → o ≡ w.next_op
+      → FollowsIn (asked w (Clone source name names time (Some taken))) (es ++ told 0 (AskStep (Clone source name names time (Some taken))) (Accepted o) ∷ [])
   clones source name names time o taken is = subst (λ (n : ℕ). FollowsIn (asked w (Clone source name names time (Some taken))) (es ++ told 0 (AskStep (Clone source name names time (Some taken))) (Accepted n) ∷ [])) (sym is) (clones_next source name names time taken)
 
-  asks_clone : (stale : Type 0) (source name : Bytes) (names : List Bytes) (time : ℕ) (taken : Option CloneOf) (reply : Reply) (image : Option Image) → CloneAllows f w source name names time taken reply image → IsCalm stale reply (AskStep (Clone source name names time taken))
+  asks_clone : (stale : Type 0) (source name : Bytes) (names : List Bytes) (time : ℕ) (taken : Option CloneOf) (reply : Reply) (image : Option Image) → CloneAllows f w source name names time taken reply image
+      → IsCalm stale reply (AskStep (Clone source name names time taken))
       → FollowsIn (after f w (moment 0 (AskStep (Clone source name names time taken)) reply image)) (es ++ told 0 (AskStep (Clone source name names time taken)) reply ∷ [])
   asks_clone stale source name names time taken reply image (OpeningClone t o im a) calm = clones source name names time o t a.number
   asks_clone stale source name names time taken reply image (CloneUsed uuid im clear is) calm = stays (told 0 (AskStep (Clone source name names time None)) (Refused (NameInUse uuid))) tt tt
@@ -391,7 +398,7 @@ module _ (f : Formats) (size : ℕ) (w : World) (es : List Entry) (h : FollowsIn
     abort_is : (o : ℕ) (old : Op) → fin.get w.ops o ≡ Some old → aborts_op w (named_uuids w names) (o, old) ≡ true → aborts_at es o (told 0 (AskStep (DeleteSnapshots names)) (Accepted d)) ≡ Some (report.Aborted d)
     abort_is o old there aborts =
         (λ i. abort_of ((h.ops o old there).named i) (none_out o old aborts i) (AskStep (DeleteSnapshots names)) (Accepted d))
-        ∙ choose_true (has_name names old.name) (Some (report.Aborted d)) None (names_it f w safe.shelf safe.law names o old there aborts)
+        ∙ cond-true (has_name names old.name) (Some (report.Aborted d)) None (names_it f w safe.shelf safe.law names o old there aborts)
 
     asked_ops : (o : ℕ) (op : Op) → fin.get (aborted_ops w (named_uuids w names) d) o ≡ Some op → IsToldOp (es ++ told 0 (AskStep (DeleteSnapshots names)) (Accepted d) ∷ []) more o op
     asked_ops o op e =
@@ -407,7 +414,8 @@ module _ (f : Formats) (size : ℕ) (w : World) (es : List Entry) (h : FollowsIn
           })
         ]
 
-    asked_on : (left : Deletes) → ((e : ℕ) (y : Deletion) → fin.get left e ≡ Some y → IsToldDelete (es ++ told 0 (AskStep (DeleteSnapshots names)) (Accepted d) ∷ []) more e y) → ((e : ℕ) → IsDeleteIn w.deletes e → IsDeleteIn left e)
+    asked_on : (left : Deletes) → ((e : ℕ) (y : Deletion) → fin.get left e ≡ Some y → IsToldDelete (es ++ told 0 (AskStep (DeleteSnapshots names)) (Accepted d) ∷ []) more e y)
+        → ((e : ℕ) → IsDeleteIn w.deletes e → IsDeleteIn left e)
         → IsNameless (es ++ told 0 (AskStep (DeleteSnapshots names)) (Accepted d) ∷ []) more false d → IsDeleteIn left d
         → Follows w.deposed (aborted_ops w (named_uuids w names) d) left w.tickets w.next_ticket more (es ++ told 0 (AskStep (DeleteSnapshots names)) (Accepted d) ∷ [])
     asked_on left told_deletes kept nameless stands =
@@ -461,7 +469,8 @@ module _ (f : Formats) (size : ℕ) (w : World) (es : List Entry) (h : FollowsIn
   goes_into safe clear names None (Some d) is runs = let (x, m) = running_there (runs_for w (named_uuids w names)) (fin.entries w.deletes) d runs in joins clear names d (x, entry_got w.deletes d x m)
   goes_into safe clear names None None is runs = opens safe names
 
-  asks_delete : (stale : Type 0) → IsSafe f w es → (names : List Bytes) (reply : Reply) (image : Option Image) → DeleteAllows w names reply → IsCalm stale reply (AskStep (DeleteSnapshots names)) → FollowsIn (after f w (moment 0 (AskStep (DeleteSnapshots names)) reply image)) (es ++ told 0 (AskStep (DeleteSnapshots names)) reply ∷ [])
+  asks_delete : (stale : Type 0) → IsSafe f w es → (names : List Bytes) (reply : Reply) (image : Option Image) → DeleteAllows w names reply → IsCalm stale reply (AskStep (DeleteSnapshots names))
+      → FollowsIn (after f w (moment 0 (AskStep (DeleteSnapshots names)) reply image)) (es ++ told 0 (AskStep (DeleteSnapshots names)) reply ∷ [])
   asks_delete stale safe names reply image (GoingInto acc) calm = goes_into safe acc.may.no_cleanup names (waiting_delete w) (running_delete w (named_uuids w names)) refl refl
   asks_delete stale safe names reply image (NotNamed place clear first) calm = stays (told 0 (AskStep (DeleteSnapshots names)) (Refused (NoSnapshot place))) tt tt
   asks_delete stale safe names reply image (CloneStands o clear named lowest) calm = stays (told 0 (AskStep (DeleteSnapshots names)) (Refused (CloneRunning o))) tt tt
@@ -503,13 +512,15 @@ module _ (f : Formats) (size : ℕ) (w : World) (es : List Entry) (h : FollowsIn
       mine : IsNameless (es ++ told 0 (AskStep Cleanup) (Accepted w.next_op) ∷ []) (suc w.next_op) true w.next_op
       mine = record { unnamed = name_given es x w.next_op (h.coming w.next_op (same_up w.next_op)).0; below = below_up w.next_op; kind = cleans_given es x w.next_op (same_op w.next_op) }
 
-      told_deletes : (d : ℕ) (z : Deletion) → fin.get (fin.insert w.deletes w.next_op (record { uuids = []; clean = true; failed = false })) d ≡ Some z → IsToldDelete (es ++ told 0 (AskStep Cleanup) (Accepted w.next_op) ∷ []) (suc w.next_op) d z
+      told_deletes : (d : ℕ) (z : Deletion) → fin.get (fin.insert w.deletes w.next_op (record { uuids = []; clean = true; failed = false })) d ≡ Some z
+          → IsToldDelete (es ++ told 0 (AskStep Cleanup) (Accepted w.next_op) ∷ []) (suc w.next_op) d z
       told_deletes d z e = elim (was_in w.deletes w.next_op y d z e) [
         | inl is ↦ subst (λ (p : ℕ × Deletion). IsToldDelete (es ++ x ∷ []) (suc w.next_op) p.0 p.1) (λ i. (sym is.0 i, is.1 i)) (record { unfailed = refl; nameless = mine })
         | inr is ↦ deletes_stay (suc w.next_op) x one d z is.1
       ]
 
-  asks_cleanup : (stale : Type 0) (reply : Reply) (image : Option Image) → CleanupAllows w reply → IsCalm stale reply (AskStep Cleanup) → FollowsIn (after f w (moment 0 (AskStep Cleanup) reply image)) (es ++ told 0 (AskStep Cleanup) reply ∷ [])
+  asks_cleanup : (stale : Type 0) (reply : Reply) (image : Option Image) → CleanupAllows w reply → IsCalm stale reply (AskStep Cleanup)
+      → FollowsIn (after f w (moment 0 (AskStep Cleanup) reply image)) (es ++ told 0 (AskStep Cleanup) reply ∷ [])
   asks_cleanup stale reply image (OpeningCleanup acc) calm = opens_cleanup
   asks_cleanup stale reply image (OpStands o clear lowest) calm = stays (told 0 (AskStep Cleanup) (Refused (BusyOp o))) tt tt
   asks_cleanup stale reply image (TicketStands k none lowest) calm = absurd calm
@@ -538,7 +549,8 @@ module _ (f : Formats) (size : ℕ) (w : World) (es : List Entry) (h : FollowsIn
       (λ info results made e. absurd (shard_final g.s.ref.id g.s.number info results made e))))
 
   -- a shard of a clone is given as another
-  gives_clone : (o index number source : ℕ) (base : Option ℕ) → GivesShard w o index number (Some source) base → FollowsIn (taken_by f w o (GivenClone index number source base) (fin.get w.ops o)) (es ++ gave w.next_ticket o (GivenClone index number source base) ∷ [])
+  gives_clone : (o index number source : ℕ) (base : Option ℕ) → GivesShard w o index number (Some source) base
+      → FollowsIn (taken_by f w o (GivenClone index number source base) (fin.get w.ops o)) (es ++ gave w.next_ticket o (GivenClone index number source base) ∷ [])
   gives_clone o index number source base g =
       let x : Entry = gave w.next_ticket o (GivenClone index number source base) in
       let shards : List ShardWork = map (given w.next_ticket g.s.ref.id g.s.number) g.op.shards in
@@ -553,7 +565,8 @@ module _ (f : Formats) (size : ℕ) (w : World) (es : List Entry) (h : FollowsIn
   ops_given : (k o : ℕ) (unit : Given) (q : ℕ) (op : Op) → fin.get w.ops q ≡ Some op → IsToldOp (es ++ gave k o unit ∷ []) w.next_op q op
   ops_given k o unit q op e = ops_stay w.next_op (gave k o unit) (same_up w.next_op) (λ p any. (refl, refl)) q op e
 
-  gives_final : (o : ℕ) (info : SnapInfo) (results : List ShardResult) → GivesFinalize f w o info results → FollowsIn (taken_by f w o (GivenFinalize info results) (fin.get w.ops o)) (es ++ gave w.next_ticket o (GivenFinalize info results) ∷ [])
+  gives_final : (o : ℕ) (info : SnapInfo) (results : List ShardResult) → GivesFinalize f w o info results
+      → FollowsIn (taken_by f w o (GivenFinalize info results) (fin.get w.ops o)) (es ++ gave w.next_ticket o (GivenFinalize info results) ∷ [])
   gives_final o info results g =
       let all : List Entry = es ++ gave w.next_ticket o (GivenFinalize info results) ∷ [] in
       subst (λ (x : Option Op). FollowsIn (taken_by f w o (GivenFinalize info results) x) all) (sym g.ready.op_there)
@@ -786,10 +799,10 @@ module _ (f : Formats) (size : ℕ) (w : World) (es : List Entry) (h : FollowsIn
   settles_delete : (k : ℕ) → SettlesDeletion f w k → FollowsIn (delete_settled f w k (fin.get w.tickets k)) (es ++ told k (PruneStep SettlePruned) WasSettled ∷ [])
   settles_delete k s =
       subst (λ (v : World). FollowsIn v (es ++ told k (PruneStep SettlePruned) WasSettled ∷ [])) (sym (delete_settled_plain f w k s.n s.t s.s s.may))
-      (elim (bool_told s.t.clean) [
-        | inl clean ↦ subst (λ (left : Deletes). Follows w.deposed (fin.remove w.ops s.t.op) left (fin.insert w.tickets k (record s.t { settled = true })) w.next_ticket w.next_op (es ++ x ∷ [])) (sym (choose_true s.t.clean w.deletes (fin.remove w.deletes s.t.op) clean))
+      (elim (cases_Bool s.t.clean) [
+        | inl clean ↦ subst (λ (left : Deletes). Follows w.deposed (fin.remove w.ops s.t.op) left (fin.insert w.tickets k (record s.t { settled = true })) w.next_ticket w.next_op (es ++ x ∷ [])) (sym (cond-true s.t.clean w.deletes (fin.remove w.deletes s.t.op) clean))
             (leaves_with w.deletes (deletes_stay w.next_op x one) (λ cleans d none was. inl was))
-        | inr deletes ↦ subst (λ (left : Deletes). Follows w.deposed (fin.remove w.ops s.t.op) left (fin.insert w.tickets k (record s.t { settled = true })) w.next_ticket w.next_op (es ++ x ∷ [])) (sym (choose_false s.t.clean w.deletes (fin.remove w.deletes s.t.op) deletes))
+        | inr deletes ↦ subst (λ (left : Deletes). Follows w.deposed (fin.remove w.ops s.t.op) left (fin.insert w.tickets k (record s.t { settled = true })) w.next_ticket w.next_op (es ++ x ∷ [])) (sym (cond-false s.t.clean w.deletes (fin.remove w.deletes s.t.op) deletes))
             (leaves_with (fin.remove w.deletes s.t.op) (deletes_less w.next_op x one s.t.op) (leaves deletes))
       ])
     where
@@ -852,7 +865,7 @@ module _ (f : Formats) (size : ℕ) (w : World) (es : List Entry) (h : FollowsIn
   fails_delete : (k : ℕ) (why : Why) → FailsDeletion w k → IsStaleIn w k → FollowsIn (delete_failed w k (fin.get w.tickets k)) (es ++ told k (PruneStep (DeleteFails why)) HasEnded ∷ [])
   fails_delete k why c stale =
       subst (λ (o : Option Ticket). FollowsIn (delete_failed w k o) (es ++ x ∷ [])) (sym there)
-      (subst (λ (v : World). FollowsIn v (es ++ x ∷ [])) (sym (choose_true (is_stale w c.t c.t.work) (with_ticket w k (record c.t { out = false })) (delete_failed_by w k c.t (fin.get w.deletes c.t.op)) older))
+      (subst (λ (v : World). FollowsIn v (es ++ x ∷ [])) (sym (cond-true (is_stale w c.t c.t.work) (with_ticket w k (record c.t { out = false })) (delete_failed_by w k c.t (fin.get w.deletes c.t.op)) older))
       (ticket_on k c.t (record c.t { out = false }) there (kin_on w.tickets k c.t (record c.t { out = false }) there refl refl refl) refl x (λ out. absurd (subst IsFinal c.deleting.work out.final)) tt tt))
     where
       x : Entry
@@ -865,9 +878,10 @@ module _ (f : Formats) (size : ℕ) (w : World) (es : List Entry) (h : FollowsIn
       apart = elim (eqb_tells c.t.term w.term) [ inl same ↦ absurd (stale c.t there same.1) | inr different ↦ different.0 ]
 
       older : is_stale w c.t c.t.work ≡ true
-      older = ap (is_stale w c.t) c.deleting.work ∙ choose_false (c.t.term == w.term) false true apart
+      older = ap (is_stale w c.t) c.deleting.work ∙ cond-false (c.t.term == w.term) false true apart
 
-  prunes : (k : ℕ) (prune : Prune) (reply : Reply) (image : Option Image) → PruneAllows f w k prune reply image → IsCalm (IsStaleIn w k) reply (PruneStep prune) → FollowsIn (after f w (moment k (PruneStep prune) reply image)) (es ++ told k (PruneStep prune) reply ∷ [])
+  prunes : (k : ℕ) (prune : Prune) (reply : Reply) (image : Option Image) → PruneAllows f w k prune reply image → IsCalm (IsStaleIn w k) reply (PruneStep prune)
+      → FollowsIn (after f w (moment k (PruneStep prune) reply image)) (es ++ told k (PruneStep prune) reply ∷ [])
   prunes k prune reply image (FetchingShard j name im g found) calm = fetches j g.t g.deleting.out.there name (told_blob f im name) (told j (PruneStep (FetchShard name)) WasFetched) tt tt
   prunes k prune reply image (ShardMissing j name im g found) calm = stays (told j (PruneStep (FetchShard name)) WasAbsent) tt tt
   prunes k prune reply image (Planning j shards im p fits back same) calm = plans j shards im p
@@ -880,7 +894,8 @@ module _ (f : Formats) (size : ℕ) (w : World) (es : List Entry) (h : FollowsIn
 
   -- ---- restores, and what is read
 
-  asks_restore : (name place : Bytes) (reply : Reply) (image : Option Image) → RestoreAllows f w name reply image → FollowsIn (after f w (moment 0 (AskStep (Restore name place)) reply image)) (es ++ told 0 (AskStep (Restore name place)) reply ∷ [])
+  asks_restore : (name place : Bytes) (reply : Reply) (image : Option Image) → RestoreAllows f w name reply image
+      → FollowsIn (after f w (moment 0 (AskStep (Restore name place)) reply image)) (es ++ told 0 (AskStep (Restore name place)) reply ∷ [])
   asks_restore name place reply image (OpeningRestore o uuid indices im acc) = stays_to (suc w.next_op) (one_up w.next_op) (told 0 (AskStep (Restore name place)) (AcceptedRestore o uuid indices)) tt tt
   asks_restore name place reply image (NotListed im none) = stays (told 0 (AskStep (Restore name place)) (Refused (NoSnapshot 0))) tt tt
   asks_restore name place reply image (NamedByDelete uuid d im listed named) = stays (told 0 (AskStep (Restore name place)) (Refused (BeingDeleted d))) tt tt
@@ -889,7 +904,8 @@ module _ (f : Formats) (size : ℕ) (w : World) (es : List Entry) (h : FollowsIn
   reads_on : (k : ℕ) (read : Read) (reply : Reply) (image : Option Image) → IsNoTest read → IsPlain reply (ReadStep read) → FollowsIn (read_by f w k read reply image) (es ++ told k (ReadStep read) reply ∷ [])
   reads_on k read reply image no_test plain = follows_aside w (read_by f w k read reply image) (es ++ told k (ReadStep read) reply ∷ []) (aside_by f w k read reply image no_test) (stays (told k (ReadStep read) reply) plain tt)
 
-  reads : (stale : Type 0) (k : ℕ) (read : Read) (reply : Reply) (image : Option Image) → ReadAllows f w k read reply image → IsCalm stale reply (ReadStep read) → FollowsIn (after f w (moment k (ReadStep read) reply image)) (es ++ told k (ReadStep read) reply ∷ [])
+  reads : (stale : Type 0) (k : ℕ) (read : Read) (reply : Reply) (image : Option Image) → ReadAllows f w k read reply image → IsCalm stale reply (ReadStep read)
+      → FollowsIn (after f w (moment k (ReadStep read) reply image)) (es ++ told k (ReadStep read) reply ∷ [])
   reads stale k read reply image (ReadFound j name im stored by found) calm = reads_on j (ReadBlob name) WasFetched im tt tt
   reads stale k read reply image (ReadMissing j name im stored by none) calm = reads_on j (ReadBlob name) WasAbsent im tt tt
   reads stale k read reply image (ReadFault j name im stored by) calm = absurd calm
@@ -898,7 +914,8 @@ module _ (f : Formats) (size : ℕ) (w : World) (es : List Entry) (h : FollowsIn
   reads stale k read reply image (CheckingAll snapshots blobs im checks) calm = reads_on 0 (CheckedAll snapshots blobs) HasEnded im tt tt
   reads stale k read reply image (CheckFailing why im looked) calm = reads_on 0 (ReadFails why) HasEnded im tt tt
 
-  verifies : (stale : Type 0) (read : Read) (reply : Reply) (image : Option Image) → VerifyAllows f w read reply image → IsCalm stale reply (ReadStep read) → FollowsIn (after f w (moment 0 (ReadStep read) reply image)) (es ++ told 0 (ReadStep read) reply ∷ [])
+  verifies : (stale : Type 0) (read : Read) (reply : Reply) (image : Option Image) → VerifyAllows f w read reply image → IsCalm stale reply (ReadStep read)
+      → FollowsIn (after f w (moment 0 (ReadStep read) reply image)) (es ++ told 0 (ReadStep read) reply ∷ [])
   verifies stale read reply image (DrawingTest im idle fits same) calm = stays (told 0 (ReadStep DrawTest) (DrawnFrom w.next_id)) tt tt
   verifies stale read reply image (BeginningTest name im own same) calm = stays (told 0 (ReadStep (BeginTest name)) WasBegun) tt tt
   verifies stale read reply image (CommittingTest name bytes im own new adds) calm = stays (told 0 (ReadStep (CommitTest name)) WasDone) tt tt
@@ -909,7 +926,8 @@ module _ (f : Formats) (size : ℕ) (w : World) (es : List Entry) (h : FollowsIn
 
   -- ---- each answer
 
-  follows_by : (who : ℕ) (step : Step) (reply : Reply) (image : Option Image) → Allows f size w who step reply image → IsCalm (IsStaleIn w who) reply step → IsSafe f w es → FollowsIn (after f w (moment who step reply image)) (es ++ told who step reply ∷ [])
+  follows_by : (who : ℕ) (step : Step) (reply : Reply) (image : Option Image) → Allows f size w who step reply image → IsCalm (IsStaleIn w who) reply step → IsSafe f w es
+      → FollowsIn (after f w (moment who step reply image)) (es ++ told who step reply ∷ [])
   follows_by who step reply image (allowed.Accepting name indices time o im acc same) calm safe = asks name indices time o acc
   follows_by who step reply image (allowed.GivingNothing im none same) calm safe = stays (told 0 TakeStep NothingReady) tt tt
   follows_by who step reply image (allowed.Giving k o unit im is lowest g same) calm safe = gives_as k o unit is g
@@ -948,7 +966,8 @@ module _ (f : Formats) (size : ℕ) (w : World) (es : List Entry) (h : FollowsIn
   follows_by who step reply image (allowed.DropStale k im may apart same) calm safe = stays (told k DroppedStep (Refused (StaleTerm may.t.term w.term))) tt tt
   follows_by who step reply image other calm safe = absurd calm
 
-pub follows_step : (f : Formats) (size : ℕ) (w : World) (es : List Entry) → FollowsIn w es → (m : Moment) → Allowed f size w m → IsCalm (IsStaleIn w m.entry.who) m.entry.reply m.entry.step → IsSafe f w es → FollowsIn (after f w m) (es ++ m.entry ∷ [])
+pub follows_step : (f : Formats) (size : ℕ) (w : World) (es : List Entry) → FollowsIn w es → (m : Moment) → Allowed f size w m → IsCalm (IsStaleIn w m.entry.who) m.entry.reply m.entry.step → IsSafe f w es
+    → FollowsIn (after f w m) (es ++ m.entry ∷ [])
 follows_step f size w es h m a calm safe = elim a.answered [
   | inl alive ↦ follows_by f size w es h m.entry.who m.entry.step m.entry.reply m.image alive.1 calm safe
   | inr dead ↦

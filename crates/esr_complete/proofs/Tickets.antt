@@ -1,10 +1,10 @@
 -- What a longer history tells of tickets, of the names of ops and of the finalizations that are out.
 use Rattle.std.proofs.Common.{◌≡◌, ℕ, Bool, true, false, true≢false, ◌||◌, List, [], ◌∷◌, ◌++◌, Option, Some, None, if◌then◌else◌, ◌==◌, ◌&&◌, ◌⊎◌, refl, sym, ap, ◌∙◌, inl, inr}
 use Rattle.std.proofs.lemmas.Bool.Decides.{eqb_tells}
+use Rattle.std.proofs.lemmas.Bool.{cond-true, cond-false}
 use Rattle.esr_model.specs.Values.{Bytes}
 use Rattle.esr_core.specs.Entry.{Cleanup, Given, GivenFinalize, Step, AskStep, Reply, Accepted, Gave, ElectedTerm, Entry}
 use Rattle.esr_core.specs.After.{or_else}
-use Rattle.esr_core.proofs.Results.{choose_true, choose_false}
 use Rattle.esr_report.specs.Cleaned.{is_cleanup, cleanup_by, is_cleanup_ticket}
 use Rattle.esr_report.specs.Replies.{op_by, op_of_ticket, is_op, uuid_by, uuid_of_ticket, name_by, name_of_op, is_over, final_given, final_kept, final_step, final_from, final_out}
 
@@ -156,8 +156,8 @@ IsFinalGiven unit = ⊥
 -- after an entry that gives a ticket it is that one, or was out
 pub final_gave : (op : ℕ) (k : Option ℕ) (o : ℕ) (unit : Given) (ticket j : ℕ) → final_given op k o unit ticket ≡ Some j → (k ≡ Some j) ⊎ ((o ≡ op) × (ticket ≡ j) × IsFinalGiven unit)
 final_gave op k o (GivenFinalize info results) ticket j is = elim (eqb_tells o op) [
-  | inl h ↦ inr (h.1, one ticket j (sym (choose_true _ _ _ h.0) ∙ is), tt)
-  | inr h ↦ inl (sym (choose_false _ _ _ h.0) ∙ is)
+  | inl h ↦ inr (h.1, one ticket j (sym (cond-true _ _ _ h.0) ∙ is), tt)
+  | inr h ↦ inl (sym (cond-false _ _ _ h.0) ∙ is)
 ]
   where
     one : (a b : ℕ) → Some a ≡ Some b → a ≡ b

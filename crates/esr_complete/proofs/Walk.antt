@@ -1,14 +1,14 @@
 -- The replies along the lines.
 use Rattle.std.proofs.Common.{◌≡◌, ℕ, zero, suc, ◌+◌, ◌-◌, Bool, true, false, not, ◌==◌, ◌&&◌, ◌||◌, if◌then◌else◌, List, [], ◌∷◌, ◌++◌, append_assoc, length, length-append, take, Option, Some, None, map, option_map, refl, sym, ap, ◌∙◌, subst, inl, inr, arith}
+use Rattle.std.proofs.lemmas.Bool.{cases_Bool, cond-true, cond-false}
 use Rattle.esr_model.specs.Values.{Bytes, Has}
 use Rattle.esr_core.specs.Entry as entry
 use Rattle.esr_core.specs.Entry.{Asked, CloneOf, Clone, DeleteSnapshots, AsksNoClone, Restore, Cleanup, CheckedAll, DrawTest, VerifiedAll, Step, AskStep, LookStep, ReadStep, CleanupRunning, Entry, Moment}
-use Rattle.esr_core.proofs.Deleting.{bool_told}
-use Rattle.esr_core.proofs.Results.{choose_true, choose_false}
 use Rattle.esr_script.specs.declared.item.Item.{Item}
 use Rattle.esr_script.specs.declared.item.Item.TheVariants as items
 use Rattle.esr_script.specs.declared.item.ScriptLine.{ScriptLine}
-use Rattle.esr_report.specs.Replies.{Reply, fails_swap, answer_at, is_of_line, from_line, falls_before, before_election, falls_first, is_check, is_looked, is_look_answered, look_reply, past_look, from_item, check_answer, line_answer, line_reply, is_short, has_none, is_cut, wait_answer, is_wait, is_failover, has_fallen, is_election, election_reply, failover_reply, from_election, past_first, and_those, and_more, replies_from, replies}
+use Rattle.esr_script.specs.Kinds.{is_check, is_failover, is_wait}
+use Rattle.esr_report.specs.Replies.{Reply, fails_swap, answer_at, is_of_line, from_line, falls_before, before_election, falls_first, is_looked, is_look_answered, look_reply, past_look, from_item, check_answer, line_answer, line_reply, is_short, has_none, is_cut, wait_answer, has_fallen, is_election, election_reply, failover_reply, from_election, past_first, and_those, and_more, replies_from, replies}
 use Rattle.esr_quiet.specs.Asked.{is_line_ask, is_asked, as_asked, asked_steps}
 use Rattle.esr_complete.specs.Lines.{index_of_line, command_of_line, steps_of_item, steps_of, failovers_in, failovers_of, entries_of, elections_of}
 use Rattle.esr_complete.specs.Answers.{IsAnswer, AreAnsweredIn, AreAnswered}
@@ -107,7 +107,8 @@ module _ (script : List ScriptLine) where
     pub facts : (x : Entry) → Has es x → Fact script all x
 
   -- it is this one
-  next_is : (all : List Entry) (P : Entry → Type 0) (more here : List Step) (kinds : List Bool) (x : Entry) (es : List Entry) → ((y : Entry) → Has (x ∷ es) y → Fact script all y) → is_of_line x ≡ true → P x → steps_asked es ≡ more → steps_asked (x ∷ es) ≡ here → InTurn Idle kinds es → Next all (x ∷ es) P more here kinds
+  next_is : (all : List Entry) (P : Entry → Type 0) (more here : List Step) (kinds : List Bool) (x : Entry) (es : List Entry) → ((y : Entry) → Has (x ∷ es) y → Fact script all y) → is_of_line x ≡ true → P x
+      → steps_asked es ≡ more → steps_asked (x ∷ es) ≡ here → InTurn Idle kinds es → Next all (x ∷ es) P more here kinds
   next_is all P more here kinds x es facts line own same all_same turn =
       record {
         e = x;
@@ -154,7 +155,8 @@ module _ (script : List ScriptLine) where
   look_no_read read e = cc
 
   -- a line that asks for a step which reads nothing is answered by it
-  next_line : (all : List Entry) (P : Entry → Type 0) (step : Step) (more : List Step) (kinds : List Bool) (rest : List Entry) → ((x : Entry) → Has rest x → Fact script all x) → IsNoRead step → ((x : Entry) → as_asked x.step ≡ step → P x) → InTurn Idle (false ∷ kinds) rest → steps_asked rest ≡ step ∷ more
+  next_line : (all : List Entry) (P : Entry → Type 0) (step : Step) (more : List Step) (kinds : List Bool) (rest : List Entry) → ((x : Entry) → Has rest x → Fact script all x) → IsNoRead step
+      → ((x : Entry) → as_asked x.step ≡ step → P x) → InTurn Idle (false ∷ kinds) rest → steps_asked rest ≡ step ∷ more
       → Next all rest P more (step ∷ more) kinds
   next_line all P step more kinds rest facts aside own_is (IsLine own x es asked line read turn) e =
       let both = asked_first x es step more asked e in
@@ -164,7 +166,8 @@ module _ (script : List ScriptLine) where
       next_later all P more (step ∷ more) kinds x es line (next_line all P step more kinds es (λ y has. facts y (inr has)) aside own_is turn (asked_later x es (step ∷ more) asked e))
 
   -- by this step, where it is no clone's
-  next_same : (all : List Entry) (step : Step) (more : List Step) (kinds : List Bool) (rest : List Entry) → ((x : Entry) → Has rest x → Fact script all x) → IsNoRead step → AsksNoClone step → InTurn Idle (false ∷ kinds) rest → steps_asked rest ≡ step ∷ more → Next all rest (λ e. e.step ≡ step) more (step ∷ more) kinds
+  next_same : (all : List Entry) (step : Step) (more : List Step) (kinds : List Bool) (rest : List Entry) → ((x : Entry) → Has rest x → Fact script all x) → IsNoRead step → AsksNoClone step → InTurn Idle (false ∷ kinds) rest
+      → steps_asked rest ≡ step ∷ more → Next all rest (λ e. e.step ≡ step) more (step ∷ more) kinds
   next_same all step more kinds rest facts aside plain turn e = next_line all (λ y. y.step ≡ step) step more kinds rest facts aside (λ x same. asked_as x.step step plain same) turn e
 
   -- a verification has ended well
@@ -172,12 +175,14 @@ module _ (script : List ScriptLine) where
   IsVerified e = (e.step ≡ ReadStep VerifiedAll) × (e.reply ≡ entry.HasEnded)
 
   -- one that is open is answered by its end
-  next_end : (all : List Entry) (more : List Step) (kinds : List Bool) (rest : List Entry) → ((x : Entry) → Has rest x → Fact script all x) → InTurn InVerification kinds rest → steps_asked rest ≡ more → Next all rest IsVerified more more kinds
+  next_end : (all : List Entry) (more : List Step) (kinds : List Bool) (rest : List Entry) → ((x : Entry) → Has rest x → Fact script all x) → InTurn InVerification kinds rest → steps_asked rest ≡ more
+      → Next all rest IsVerified more more kinds
   next_end all more kinds rest facts (IsEnd own x es asked line step reply turn) e = next_is all IsVerified more more kinds x es facts line (step, reply) (asked_later x es more asked e) e turn
   next_end all more kinds rest facts (IsAside now own x es asked line turn) e = next_later all IsVerified more more kinds x es line (next_end all more kinds es (λ y has. facts y (inr has)) turn (asked_later x es more asked e))
 
   -- so is the line that asks for its draw
-  next_verified : (all : List Entry) (more : List Step) (kinds : List Bool) (rest : List Entry) → ((x : Entry) → Has rest x → Fact script all x) → InTurn Idle (false ∷ kinds) rest → steps_asked rest ≡ ReadStep DrawTest ∷ more → Next all rest IsVerified more more kinds
+  next_verified : (all : List Entry) (more : List Step) (kinds : List Bool) (rest : List Entry) → ((x : Entry) → Has rest x → Fact script all x) → InTurn Idle (false ∷ kinds) rest → steps_asked rest ≡ ReadStep DrawTest ∷ more
+      → Next all rest IsVerified more more kinds
   next_verified all more kinds rest facts (IsLine own x es asked line read turn) e = absurd (read DrawTest (asked_as x.step (ReadStep DrawTest) (λ source name names when taken same. cc) (asked_first x es (ReadStep DrawTest) more asked e).0))
   next_verified all more kinds rest facts (IsDraw own x es asked line draw turn) e =
       next_later all IsVerified more more kinds x es line (next_end all more kinds es (λ y has. facts y (inr has)) turn (asked_first x es (ReadStep DrawTest) more asked e).1)
@@ -189,7 +194,8 @@ module _ (script : List ScriptLine) where
   IsChecked e = (snapshots : ℕ) × (blobs : ℕ) × (e.step ≡ ReadStep (CheckedAll snapshots blobs)) × (e.reply ≡ entry.HasEnded)
 
   -- one that is open is answered by its end
-  next_checked : (all : List Entry) (more : List Step) (kinds : List Bool) (rest : List Entry) → ((x : Entry) → Has rest x → Fact script all x) → InTurn InCheck kinds rest → steps_asked rest ≡ more → Next all rest IsChecked more more kinds
+  next_checked : (all : List Entry) (more : List Step) (kinds : List Bool) (rest : List Entry) → ((x : Entry) → Has rest x → Fact script all x) → InTurn InCheck kinds rest → steps_asked rest ≡ more
+      → Next all rest IsChecked more more kinds
   next_checked all more kinds rest facts (IsCheckEnd own x es snapshots blobs asked line step reply turn) e = next_is all IsChecked more more kinds x es facts line (snapshots, blobs, step, reply) (asked_later x es more asked e) e turn
   next_checked all more kinds rest facts (IsAside now own x es asked line turn) e = next_later all IsChecked more more kinds x es line (next_checked all more kinds es (λ y has. facts y (inr has)) turn (asked_later x es more asked e))
 
@@ -204,7 +210,8 @@ module _ (script : List ScriptLine) where
     fact : Fact script all look
     next : Next all behind IsChecked more more kinds
 
-  next_check : (all : List Entry) (more : List Step) (kinds : List Bool) (rest : List Entry) → ((x : Entry) → Has rest x → Fact script all x) → InTurn Idle (true ∷ kinds) rest → steps_asked rest ≡ LookStep ∷ more → NextCheck all rest more kinds
+  next_check : (all : List Entry) (more : List Step) (kinds : List Bool) (rest : List Entry) → ((x : Entry) → Has rest x → Fact script all x) → InTurn Idle (true ∷ kinds) rest → steps_asked rest ≡ LookStep ∷ more
+      → NextCheck all rest more kinds
   next_check all more kinds rest facts (IsLook own x es asked line looks turn) e =
       record {
         look = x;
@@ -266,7 +273,8 @@ module _ (script : List ScriptLine) where
   abbrev CleansBefore : List Entry → ℕ → List ScriptLine → Item → List ScriptLine → Type 0
   CleansBefore all moment before item lines = (e : Entry) (back : List Entry) → IsRest all (e ∷ back) → Fact script all e → steps_asked (e ∷ back) ≡ steps_of_item moment item ++ steps_of moment lines → IsCleaningIn before e.reply
 
-  cleans_before : (all : List Entry) (moment : ℕ) → steps_asked all ≡ steps_of moment script → (before : List ScriptLine) (line : ScriptLine) (lines : List ScriptLine) → script ≡ before ++ line ∷ lines → CleansBefore all moment before line.item lines
+  cleans_before : (all : List Entry) (moment : ℕ) → steps_asked all ≡ steps_of moment script → (before : List ScriptLine) (line : ScriptLine) (lines : List ScriptLine) → script ≡ before ++ line ∷ lines
+      → CleansBefore all moment before line.item lines
   cleans_before all moment whole before line lines is e back (front, place) fact here =
       let after : List Step = steps_of moment (line ∷ lines) in
       let asked : steps_asked front ++ after ≡ steps_of moment before ++ after =
@@ -292,23 +300,23 @@ module _ (script : List ScriptLine) where
 
   next_election : (later : List Entry) (count : ℕ) → elections_of later ≡ 1 + count → NextElection later count
   next_election [] count e = absurd (none_less count e)
-  next_election (x ∷ later) count e = elim (bool_told (is_election x)) [
+  next_election (x ∷ later) count e = elim (cases_Bool (is_election x)) [
     | inl own ↦
         record {
           e = x;
           es = later;
-          is = choose_true (is_election x) (x ∷ later) (from_election later) own;
+          is = cond-true (is_election x) (x ∷ later) (from_election later) own;
           has = inl refl;
           elects = own;
-          more = one_less (elections_of later) count (sym (choose_true (is_election x) (suc (elections_of later)) (elections_of later) own) ∙ e);
+          more = one_less (elections_of later) count (sym (cond-true (is_election x) (suc (elections_of later)) (elections_of later) own) ∙ e);
           behind = λ y has. inr has;
         }
     | inr other ↦
-        let n = next_election later count (sym (choose_false (is_election x) (suc (elections_of later)) (elections_of later) other) ∙ e) in
+        let n = next_election later count (sym (cond-false (is_election x) (suc (elections_of later)) (elections_of later) other) ∙ e) in
         record {
           e = n.e;
           es = n.es;
-          is = choose_false (is_election x) (x ∷ later) (from_election later) other ∙ n.is;
+          is = cond-false (is_election x) (x ∷ later) (from_election later) other ∙ n.is;
           has = inr n.has;
           elects = n.elects;
           more = n.more;
@@ -345,7 +353,8 @@ module _ (script : List ScriptLine) where
     answer_other true one two none = absurd cc
 
     -- an entry of the line, with the answer that it tells
-    by_entry : (all later rest : List Entry) (item : Item) (lines : List ScriptLine) (P : Entry → Type 0) (more here : List Step) (kinds : List Bool) → is_check item ≡ false → ((x : Entry) → Has rest x → Fact script all x) → (n : Next all rest P more here kinds) → IsAnswerOf script before item (answer_at all n.e.step n.e.reply)
+    by_entry : (all later rest : List Entry) (item : Item) (lines : List ScriptLine) (P : Entry → Type 0) (more here : List Step) (kinds : List Bool) → is_check item ≡ false → ((x : Entry) → Has rest x → Fact script all x)
+        → (n : Next all rest P more here kinds) → IsAnswerOf script before item (answer_at all n.e.step n.e.reply)
         → AreAnsweredIn script now lines (replies_from all lines false later n.es)
         → IsFirst item lines (and_more (line_reply item all (from_item item rest)) (replies_from all lines (false || (falls_before rest || falls_first (from_item item rest))) later))
     by_entry all later rest item lines P more here kinds other facts n answer after =
@@ -362,7 +371,8 @@ module _ (script : List ScriptLine) where
     looked_is reply answered = absurd answered
 
     -- a check is answered by its end
-    by_check : (all later rest : List Entry) (lines : List ScriptLine) (more : List Step) (kinds : List Bool) → ((x : Entry) → Has rest x → Fact script all x) → (n : NextCheck all rest more kinds) → AreAnsweredIn script now lines (replies_from all lines false later n.next.es)
+    by_check : (all later rest : List Entry) (lines : List ScriptLine) (more : List Step) (kinds : List Bool) → ((x : Entry) → Has rest x → Fact script all x) → (n : NextCheck all rest more kinds)
+        → AreAnsweredIn script now lines (replies_from all lines false later n.next.es)
         → IsFirst items.Check lines (and_more (line_reply items.Check all (from_item items.Check rest)) (replies_from all lines (false || (falls_before rest || falls_first (from_item items.Check rest))) later))
     by_check all later rest lines more kinds facts n after =
         let answered : is_look_answered n.look.step n.look.reply ≡ true = ap (λ (step : Step). is_look_answered step n.look.reply) n.looks ∙ looked_is n.look.reply (n.fact.looked before n.looks) in
@@ -387,59 +397,67 @@ module _ (script : List ScriptLine) where
     uncut : (all rest : List Entry) → is_short all ≡ true → is_cut all rest ≡ false
     uncut all rest short = ap (λ (b : Bool). not b && has_none (from_line rest)) short
 
-    walk_item : (all later rest : List Entry) (moment : ℕ) (item : Item) (lines : List ScriptLine) → is_short all ≡ true → IsRest all rest → CleansBefore all moment before item lines → ((x : Entry) → Has later x → Fact script all x) → ((x : Entry) → Has rest x → Fact script all x) → elections_of later ≡ failovers_in item + failovers_of lines → InTurn Idle (kinds_of_item item ++ kinds_of lines) rest → steps_asked rest ≡ steps_of_item moment item ++ steps_of moment lines
+    -- a line that is answered by this entry, and those after it
+    by_next : (all later rest : List Entry) (moment : ℕ) (item : Item) (lines : List ScriptLine) (P : Entry → Type 0) (here : List Step) → is_check item ≡ false → IsRest all rest → elections_of later ≡ 0 + failovers_of lines
+        → ((x : Entry) → Has later x → Fact script all x) → ((x : Entry) → Has rest x → Fact script all x) → (n : Next all rest P (steps_of moment lines) here (kinds_of lines))
+        → IsAnswerOf script before item (answer_at all n.e.step n.e.reply) → GoesOn all moment now lines
+        → IsFirst item lines (and_more (line_reply item all (from_item item rest)) (replies_from all lines (false || (falls_before rest || falls_first (from_item item rest))) later))
+    by_next all later rest moment item lines P here other place few elections facts n answer on =
+        by_entry all later rest item lines P (steps_of moment lines) here (kinds_of lines) other facts n answer
+        (on later n.es (rest_then all n.e n.es (rest_at all rest n.front n.e n.es place n.split)) (none_more (elections_of later) (failovers_of lines) few) elections n.facts n.turn n.more_is)
+
+    -- by that of the step for which it asks
+    by_step : (all later rest : List Entry) (moment : ℕ) (item : Item) (lines : List ScriptLine) (step : Step) → is_check item ≡ false → IsNoRead step → AsksNoClone step → IsRest all rest → elections_of later ≡ 0 + failovers_of lines
+        → ((x : Entry) → Has later x → Fact script all x) → ((x : Entry) → Has rest x → Fact script all x) → InTurn Idle (false ∷ kinds_of lines) rest → steps_asked rest ≡ step ∷ steps_of moment lines
+        → ((x : Entry) (back : List Entry) → IsRest all (x ∷ back) → Fact script all x → steps_asked (x ∷ back) ≡ step ∷ steps_of moment lines → x.step ≡ step → IsAnswerOf script before item (answer_at all step x.reply))
+        → GoesOn all moment now lines
+        → IsFirst item lines (and_more (line_reply item all (from_item item rest)) (replies_from all lines (false || (falls_before rest || falls_first (from_item item rest))) later))
+    by_step all later rest moment item lines step other aside plain place few elections facts turn e tells on =
+        let n = next_same all step (steps_of moment lines) (kinds_of lines) rest facts aside plain turn e in
+        by_next all later rest moment item lines (λ x. x.step ≡ step) (step ∷ steps_of moment lines) other place few elections facts n
+        (subst (λ (x : Step). IsAnswerOf script before item (answer_at all x n.e.reply)) (sym n.own) (tells n.e n.es (rest_at all rest n.front n.e n.es place n.split) n.fact n.here_is n.own)) on
+
+    walk_item : (all later rest : List Entry) (moment : ℕ) (item : Item) (lines : List ScriptLine) → is_short all ≡ true → IsRest all rest → CleansBefore all moment before item lines → ((x : Entry) → Has later x → Fact script all x)
+        → ((x : Entry) → Has rest x → Fact script all x) → elections_of later ≡ failovers_in item + failovers_of lines → InTurn Idle (kinds_of_item item ++ kinds_of lines) rest
+        → steps_asked rest ≡ steps_of_item moment item ++ steps_of moment lines
         → GoesOn all moment now lines
         → IsFirst item lines
         (if is_wait item then and_those (wait_answer (false || falls_before (before_election later rest)) (is_cut all rest)) (replies_from all lines false later rest)
         else if is_failover item then and_those (failover_reply (has_fallen all) (from_election later)) (replies_from all lines false (past_first (from_election later)) rest)
         else and_more (line_reply item all (from_item item rest)) (replies_from all lines (false || (falls_before rest || falls_first (from_item item rest))) later))
     walk_item all later rest moment (items.Snapshot name indices) lines short place cleans elections facts few turn e on =
-        let step : Step = AskStep (command_of_line name indices moment) in
-        let n = next_same all step (steps_of moment lines) (kinds_of lines) rest facts (ask_no_read (command_of_line name indices moment)) (λ source called names when taken same. cc) turn e in
-        by_entry all later rest (items.Snapshot name indices) lines (λ x. x.step ≡ step) (steps_of moment lines) (step ∷ steps_of moment lines) (kinds_of lines) refl facts n
-        (subst (λ (x : Step). IsAnswerOf script before (items.Snapshot name indices) (answer_at all x n.e.reply)) (sym n.own) (n.fact.asked before (cleans n.e n.es (rest_at all rest n.front n.e n.es place n.split) n.fact n.here_is) name (map index_of_line indices) moment n.own indices))
-        (on later n.es (rest_then all n.e n.es (rest_at all rest n.front n.e n.es place n.split)) (none_more (elections_of later) (failovers_of lines) few) elections n.facts n.turn n.more_is)
+        by_step all later rest moment (items.Snapshot name indices) lines (AskStep (command_of_line name indices moment)) refl (ask_no_read (command_of_line name indices moment))
+        (λ source called names when taken same. cc) place few elections facts turn e
+        (λ x back at fact here is. fact.asked before (cleans x back at fact here) name (map index_of_line indices) moment is indices) on
     walk_item all later rest moment (items.Clone source name indices) lines short place cleans elections facts few turn e on =
         let step : Step = AskStep (Clone source name indices moment None) in
         let n = next_line all (AsksClone source name indices moment) step (steps_of moment lines) (kinds_of lines) rest facts (ask_no_read (Clone source name indices moment None)) (λ x same. asked_clone source name indices moment x.step same) turn e in
-        by_entry all later rest (items.Clone source name indices) lines (AsksClone source name indices moment) (steps_of moment lines) (step ∷ steps_of moment lines) (kinds_of lines) refl facts n
-        (subst (λ (x : Step). IsAnswerOf script before (items.Clone source name indices) (answer_at all x n.e.reply)) (sym n.own.1) (n.fact.cloned before (cleans n.e n.es (rest_at all rest n.front n.e n.es place n.split) n.fact n.here_is) source name indices moment n.own.0 n.own.1 source indices))
-        (on later n.es (rest_then all n.e n.es (rest_at all rest n.front n.e n.es place n.split)) (none_more (elections_of later) (failovers_of lines) few) elections n.facts n.turn n.more_is)
+        by_next all later rest moment (items.Clone source name indices) lines (AsksClone source name indices moment) (step ∷ steps_of moment lines) refl place few elections facts n
+        (subst (λ (x : Step). IsAnswerOf script before (items.Clone source name indices) (answer_at all x n.e.reply)) (sym n.own.1)
+        (n.fact.cloned before (cleans n.e n.es (rest_at all rest n.front n.e n.es place n.split) n.fact n.here_is) source name indices moment n.own.0 n.own.1 source indices)) on
     walk_item all later rest moment (items.Delete names) lines short place cleans elections facts few turn e on =
-        let step : Step = AskStep (DeleteSnapshots names) in
-        let n = next_same all step (steps_of moment lines) (kinds_of lines) rest facts (ask_no_read (DeleteSnapshots names)) (λ source called indices when taken same. cc) turn e in
-        by_entry all later rest (items.Delete names) lines (λ x. x.step ≡ step) (steps_of moment lines) (step ∷ steps_of moment lines) (kinds_of lines) refl facts n
-        (subst (λ (x : Step). IsAnswerOf script before (items.Delete names) (answer_at all x n.e.reply)) (sym n.own) (n.fact.deleted before (cleans n.e n.es (rest_at all rest n.front n.e n.es place n.split) n.fact n.here_is) names n.own))
-        (on later n.es (rest_then all n.e n.es (rest_at all rest n.front n.e n.es place n.split)) (none_more (elections_of later) (failovers_of lines) few) elections n.facts n.turn n.more_is)
+        by_step all later rest moment (items.Delete names) lines (AskStep (DeleteSnapshots names)) refl (ask_no_read (DeleteSnapshots names)) (λ source called indices when taken same. cc) place few elections facts turn e
+        (λ x back at fact here is. fact.deleted before (cleans x back at fact here) names is) on
     walk_item all later rest moment (items.Restore name at) lines short place cleans elections facts few turn e on =
-        let step : Step = AskStep (Restore name at) in
-        let n = next_same all step (steps_of moment lines) (kinds_of lines) rest facts (ask_no_read (Restore name at)) (λ source called names when taken same. cc) turn e in
-        by_entry all later rest (items.Restore name at) lines (λ x. x.step ≡ step) (steps_of moment lines) (step ∷ steps_of moment lines) (kinds_of lines) refl facts n
-        (subst (λ (x : Step). IsAnswerOf script before (items.Restore name at) (answer_at all x n.e.reply)) (sym n.own) (n.fact.restored before name at n.own name at))
-        (on later n.es (rest_then all n.e n.es (rest_at all rest n.front n.e n.es place n.split)) (none_more (elections_of later) (failovers_of lines) few) elections n.facts n.turn n.more_is)
+        by_step all later rest moment (items.Restore name at) lines (AskStep (Restore name at)) refl (ask_no_read (Restore name at)) (λ source called names when taken same. cc) place few elections facts turn e
+        (λ x back there fact here is. fact.restored before name at is name at) on
     walk_item all later rest moment items.Cleanup lines short place cleans elections facts few turn e on =
-        let step : Step = AskStep Cleanup in
-        let n = next_same all step (steps_of moment lines) (kinds_of lines) rest facts (ask_no_read Cleanup) (λ source called names when taken same. cc) turn e in
-        by_entry all later rest items.Cleanup lines (λ x. x.step ≡ step) (steps_of moment lines) (step ∷ steps_of moment lines) (kinds_of lines) refl facts n
-        (subst (λ (x : Step). IsAnswerOf script before items.Cleanup (answer_at all x n.e.reply)) (sym n.own) (n.fact.cleaned before (cleans n.e n.es (rest_at all rest n.front n.e n.es place n.split) n.fact n.here_is) n.own))
-        (on later n.es (rest_then all n.e n.es (rest_at all rest n.front n.e n.es place n.split)) (none_more (elections_of later) (failovers_of lines) few) elections n.facts n.turn n.more_is)
+        by_step all later rest moment items.Cleanup lines (AskStep Cleanup) refl (ask_no_read Cleanup) (λ source called names when taken same. cc) place few elections facts turn e
+        (λ x back at fact here is. fact.cleaned before (cleans x back at fact here) is) on
     walk_item all later rest moment items.Wait lines short place cleans elections facts few turn e on =
         subst (λ (c : Bool). IsFirst items.Wait lines (and_those (wait_answer (false || falls_before (before_election later rest)) c) (replies_from all lines false later rest))) (sym (uncut all rest short))
         (subst (λ (b : Bool). IsFirst items.Wait lines (and_those (wait_answer (false || b) false) (replies_from all lines false later rest))) (sym (unfallen_then all later rest facts))
         (tt, on later rest place (none_more (elections_of later) (failovers_of lines) few) elections facts turn e))
     walk_item all later rest moment items.List lines short place cleans elections facts few turn e on =
-        let n = next_same all LookStep (steps_of moment lines) (kinds_of lines) rest facts look_no_read (λ source called names when taken same. cc) turn e in
-        by_entry all later rest items.List lines (λ x. x.step ≡ LookStep) (steps_of moment lines) (LookStep ∷ steps_of moment lines) (kinds_of lines) refl facts n
-        (subst (λ (x : Step). IsAnswerOf script before items.List (answer_at all x n.e.reply)) (sym n.own) (n.fact.looked before n.own))
-        (on later n.es (rest_then all n.e n.es (rest_at all rest n.front n.e n.es place n.split)) (none_more (elections_of later) (failovers_of lines) few) elections n.facts n.turn n.more_is)
+        by_step all later rest moment items.List lines LookStep refl look_no_read (λ source called names when taken same. cc) place few elections facts turn e
+        (λ x back at fact here is. fact.looked before is) on
     walk_item all later rest moment items.Check lines short place cleans elections facts few turn e on =
         let n = next_check all (steps_of moment lines) (kinds_of lines) rest facts turn e in
         by_check all later rest lines (steps_of moment lines) (kinds_of lines) facts n (on later n.next.es (rest_then all n.next.e n.next.es (rest_at all n.behind n.next.front n.next.e n.next.es (rest_then all n.look n.behind (rest_at all rest n.front n.look n.behind place n.split)) n.next.split)) (none_more (elections_of later) (failovers_of lines) few) elections n.next.facts n.next.turn n.next.more_is)
     walk_item all later rest moment items.Verify lines short place cleans elections facts few turn e on =
         let n = next_verified all (steps_of moment lines) (kinds_of lines) rest facts turn e in
-        by_entry all later rest items.Verify lines IsVerified (steps_of moment lines) (steps_of moment lines) (kinds_of lines) refl facts n
-        (subst (λ (x : Step). IsAnswerOf script before items.Verify (answer_at all x n.e.reply)) (sym n.own.0) (subst (λ (r : entry.Reply). IsAnswerOf script before items.Verify (answer_at all (ReadStep VerifiedAll) r)) (sym n.own.1) tt))
-        (on later n.es (rest_then all n.e n.es (rest_at all rest n.front n.e n.es place n.split)) (none_more (elections_of later) (failovers_of lines) few) elections n.facts n.turn n.more_is)
+        by_next all later rest moment items.Verify lines IsVerified (steps_of moment lines) refl place few elections facts n
+        (subst (λ (x : Step). IsAnswerOf script before items.Verify (answer_at all x n.e.reply)) (sym n.own.0) (subst (λ (r : entry.Reply). IsAnswerOf script before items.Verify (answer_at all (ReadStep VerifiedAll) r)) (sym n.own.1) tt)) on
     walk_item all later rest moment items.Failover lines short place cleans elections facts few turn e on =
         let n = next_election later (failovers_of lines) few in
         subst (λ (l : List Entry). IsFirst items.Failover lines (and_those (failover_reply (has_fallen all) l) (replies_from all lines false (past_first l) rest))) (sym n.is)
@@ -456,7 +474,8 @@ module _ (script : List ScriptLine) where
       (walk_item before (before ++ line ∷ []) all later rest moment line.item lines short place (cleans_before all moment whole before line lines is) elections facts few turn e
       (λ more es last count tells known after same. walk all moment short whole (before ++ line ∷ []) lines (is ∙ sym (append_assoc before (line ∷ []) lines)) more es last count tells known after same))
 
-pub answered_lines : (log : List Moment) (lines : List ScriptLine) (moment : ℕ) → elections_of (entries_of log) ≡ failovers_of lines → ((x : Entry) → Has (entries_of log) x → Fact lines (entries_of log) x) → InTurn Idle (kinds_of lines) (entries_of log) → asked_steps log ≡ steps_of moment lines
+pub answered_lines : (log : List Moment) (lines : List ScriptLine) (moment : ℕ) → elections_of (entries_of log) ≡ failovers_of lines → ((x : Entry) → Has (entries_of log) x → Fact lines (entries_of log) x)
+    → InTurn Idle (kinds_of lines) (entries_of log) → asked_steps log ≡ steps_of moment lines
     → is_short (entries_of log) ≡ true → AreAnswered lines (replies lines (entries_of log))
 unfolding replies
 answered_lines log lines moment few facts turn e short =

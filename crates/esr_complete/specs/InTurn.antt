@@ -4,7 +4,9 @@ use Rattle.esr_model.specs.Values.{Has}
 use Rattle.esr_core.specs.Entry.{Read, CheckedAll, ReadFails, LookStep, ReadStep, HasEnded, Moment}
 use Rattle.esr_script.specs.declared.item.Item.{Item}
 use Rattle.esr_script.specs.declared.item.Item.TheVariants as items
+use Rattle.esr_script.specs.declared.item.Kind.TheVariants as kinds
 use Rattle.esr_script.specs.declared.item.ScriptLine.{ScriptLine}
+use Rattle.esr_script.specs.Kinds.{kind_of}
 use Rattle.esr_desk.specs.Start.{Start}
 use Rattle.esr_desk.specs.Own.{caller_of}
 use Rattle.esr_desk.specs.Check.Shown.{AllFetches}
@@ -40,8 +42,7 @@ pub record IsCheckPart (part : List Moment) : Type 0 where
 
 -- what a line adds: in that of another line no check ends well
 abbrev pub IsPart : Item → List Moment → Type 0
-IsPart items.Check part = IsCheckPart part
-IsPart item part = NoneChecked part
+IsPart item part = elim (kind_of item) [ kinds.Check ↦ IsCheckPart part | kind ↦ NoneChecked part ]
 
 -- each line has a part of the history of its own, in which what it asks for is asked, one part after another; in what comes after them
 -- nothing is asked

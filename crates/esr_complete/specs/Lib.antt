@@ -1,4 +1,5 @@
 pub mod Lines
+pub mod ItemSteps
 pub mod InTurn
 pub mod Answers
 pub mod FaultFree

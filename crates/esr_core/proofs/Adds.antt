@@ -1,36 +1,26 @@
 -- A blob more, under a name that was absent.
-use Rattle.std.proofs.Common.{◌≡◌, ◌⊎◌, ℕ, ◌<◌, ◌≤◌, List, None, sym, ap, ◌∙◌, inl, inr}
+use Rattle.std.proofs.Common.{◌≡◌, ◌⊎◌, ℕ, ◌<◌, ◌≤◌, List, None, sym, inl, inr}
 use Rattle.std.specs.Cmp.Lexicographic.{nat_list_cmp_total}
 use Rattle.std.specs.FinMap as fin
 use Rattle.esr_model.specs.Names.{BlobName, Root}
-use Rattle.esr_model.specs.Values.{Bytes, Ledger, ReadsBack, Formats}
+use Rattle.esr_model.specs.Values.{Bytes, Ledger, Formats}
 use Rattle.esr_model.specs.Shelf.{Shelved}
 use Rattle.esr_model.specs.Image.{IsStored, Blobs, At, Whole, KeptBy}
 use Rattle.esr_core.specs.World.{Ticket, Swap, Safely}
 use Rattle.esr_core.specs.Swaps.{SwapLaw, TicketLaw}
-use Rattle.esr_core.proofs.Maps.{get_was, get_same, get_kept, texts_same}
-use Rattle.esr_core.proofs.Reading.{some_same}
-use Rattle.esr_core.proofs.Frames.{picked_kept, stands_kept, swap_kept, ticket_kept}
-
--- a text is that of one name
-pub text_one : (f : Formats) (a b : BlobName) → ReadsBack f.names a → ReadsBack f.names b → f.names.text a ≡ f.names.text b → a ≡ b
-text_one f a b p q same = some_same a b (sym p ∙ ap f.names.read same ∙ q)
+use Rattle.esr_core.specs.Laws.Maps.{get_was, texts_same}
+use Rattle.esr_core.specs.Laws.BlobFrames.{stands_kept, added as law-added, at_kept as law-at_kept, at_was as law-at_was}
+use Rattle.esr_core.proofs.Frames.{picked_kept, swap_kept, ticket_kept}
 
 module _ (f : Formats) (blobs : Blobs) (name : BlobName) (bytes : Bytes) (named : IsStored f name) (absent : fin.get blobs (f.names.text name) ≡ None) (doomed : List BlobName) where
-  abbrev pub added : Blobs
-  added = fin.insert blobs (f.names.text name) bytes
+  abbrev added : Blobs
+  added = law-added f blobs name bytes named absent doomed
 
-  pub at_kept : (m : BlobName) (b : Bytes) → At f blobs m b → At f added m b
-  at_kept m b h = (get_kept nat_list_cmp_total texts_same blobs (f.names.text name) bytes (f.names.text m) b absent h.0, h.1)
+  at_kept : (m : BlobName) (b : Bytes) → At f blobs m b → At f added m b
+  at_kept = law-at_kept f blobs name bytes named absent doomed
 
-  pub at_new : At f added name bytes
-  at_new = (get_same nat_list_cmp_total texts_same blobs (f.names.text name) bytes, named)
-
-  pub at_was : (m : BlobName) (b : Bytes) → At f added m b → ((m ≡ name) × (bytes ≡ b)) ⊎ At f blobs m b
-  at_was m b h = elim (get_was nat_list_cmp_total texts_same blobs (f.names.text name) bytes (f.names.text m) b h.0) [
-    | inl e ↦ inl (text_one f m name h.1.0 named.0 e.0, e.1)
-    | inr e ↦ inr (e.1, h.1)
-  ]
+  at_was : (m : BlobName) (b : Bytes) → At f added m b → ((m ≡ name) × (bytes ≡ b)) ⊎ At f blobs m b
+  at_was = law-at_was f blobs name bytes named absent doomed
 
   abbrev was : BlobName → Bytes → Type 0
   was = Safely f blobs doomed

@@ -1,11 +1,14 @@
 -- The op of a clone that is accepted: its indices are those of its source, and it draws its uuid alone.
-use Rattle.std.proofs.Common.{◌≡◌, ◌⊎◌, ℕ, suc, ◌+◌, ◌<◌, List, [], ◌∷◌, Option, Some, None, map, refl, sym, ap, ◌∙◌, subst, inl, inr, arith}
+use Rattle.std.proofs.Common.{◌≡◌, ℕ, suc, ◌+◌, ◌<◌, List, [], ◌∷◌, Option, Some, map, refl, sym, ap, ◌∙◌, subst, inl, inr, arith}
+use Rattle.std.proofs.lemmas.Option.{same_Some, none-some}
+use Rattle.std.proofs.lemmas.Bool.{cond-true, cond-false}
+use Rattle.esr_core.specs.Laws.Tests.{told, same_one}
 use Rattle.esr_model.specs.Values.{Bytes, Has, IndexRef, RootIndex, Formats}
 use Rattle.esr_model.specs.Shelf.{Shelved}
 use Rattle.esr_model.specs.Kept.{first_id}
 use Rattle.esr_model.specs.Places.{places}
 use Rattle.esr_model.specs.Image.{Image, At}
-use Rattle.esr_core.specs.World.{World, ShardWork, Pending}
+use Rattle.esr_core.specs.World.{World, ShardWork}
 use Rattle.esr_core.specs.Generations.{AreNamedOnce, AreIndicesBy}
 use Rattle.esr_core.specs.Restores.{AreOnce, AreApart}
 use Rattle.esr_core.specs.Queue.{Lists}
@@ -14,22 +17,17 @@ use Rattle.esr_core.specs.Turns.{AskCreate}
 use Rattle.esr_core.specs.Entry.{CloneOf}
 use Rattle.esr_core.specs.After.{ref_by_name, and_ref, named_refs, chosen_refs, copied_shard, cloned_op, clone_opened}
 use Rattle.esr_core.specs.Allowed.{IsSpared, IsInInfo, AcceptsClone}
-use Rattle.esr_core.proofs.Reading.{some_same, none_some, Has-mapped}
-use Rattle.esr_core.proofs.Results.{choose_true, choose_false}
-use Rattle.esr_core.proofs.Accepting.{same_one}
+use Rattle.esr_model.specs.Lists.{Has-mapped}
+use Rattle.esr_core.specs.Laws.CloneOps.{copied_pending}
 use Rattle.esr_core.proofs.Chosen.{apart-once}
-
-told : {A : Type 0} (o : Option A) → (o ≡ None) ⊎ ((x : A) × (o ≡ Some x))
-told None = inl refl
-told (Some x) = inr (x, refl)
 
 -- ---- the indices that a clone takes
 
 by_name : (all : List IndexRef) (name : Bytes) (r : IndexRef) → ref_by_name all name ≡ Some r → Has all r × (r.name ≡ name)
-by_name [] name r is = absurd (none_some r is)
+by_name [] name r is = absurd (none-some r is)
 by_name (q ∷ all) name r is = elim (same_one q.name name) [
-  | inl h ↦ let same : q ≡ r = some_same q r (sym (choose_true _ _ _ h.0) ∙ is) in (inl same, ap (λ (x : IndexRef). x.name) (sym same) ∙ h.1)
-  | inr h ↦ let (m, e) = by_name all name r (sym (choose_false _ _ _ h) ∙ is) in (inr m, e)
+  | inl h ↦ let same : q ≡ r = same_Some q r (sym (cond-true _ _ _ h.0) ∙ is) in (inl same, ap (λ (x : IndexRef). x.name) (sym same) ∙ h.1)
+  | inr h ↦ let (m, e) = by_name all name r (sym (cond-false _ _ _ h) ∙ is) in (inr m, e)
 ]
 
 -- each is one of all, and of one of the names
@@ -69,9 +67,6 @@ pub copied_places : (ps : List (IndexRef × ℕ)) → map place_of (map copied_s
 copied_places [] = refl
 copied_places (p ∷ ps) = ap (λ (qs : List (IndexRef × ℕ)). p ∷ qs) (copied_places ps)
 
-pub copied_pending : (ps : List (IndexRef × ℕ)) (s : ShardWork) → Has (map copied_shard ps) s → s.state ≡ Pending
-copied_pending ps s m = let (p, there, e) = Has-mapped copied_shard ps s m in ap (λ (x : ShardWork). x.state) (sym e)
-
 pub copied_one : (ps : List (IndexRef × ℕ)) (s z : ShardWork) → Has (map copied_shard ps) s → Has (map copied_shard ps) z → s.ref ≡ z.ref → s.number ≡ z.number → s ≡ z
 copied_one ps s z sm zm ref number =
     let (p, p_there, p_is) = Has-mapped copied_shard ps s sm in
@@ -106,8 +101,8 @@ module _ (f : Formats) (w : World) (source name : Bytes) (names : List Bytes) (m
         one_name = clone_named;
         one_new = λ r q m n new e. absurd (let b : r.id < w.next_id = below r m in omega (arith, b, new));
         distinct = copied_one (places taken.indices);
-        source = λ u e. subst (λ x. Lists w.root x × IsSpared w x) (some_same _ _ e) ((a.may.copies.listed.0, a.may.copies.listed.1, a.may.copies.listed.3), a.may.copies.spared);
-        copies = λ u e. subst (λ x. AreIndicesBy f (At f w.blobs) x taken.indices) (some_same _ _ e) (record {
+        source = λ u e. subst (λ x. Lists w.root x × IsSpared w x) (same_Some _ _ e) ((a.may.copies.listed.0, a.may.copies.listed.1, a.may.copies.listed.3), a.may.copies.spared);
+        copies = λ u e. subst (λ x. AreIndicesBy f (At f w.blobs) x taken.indices) (same_Some _ _ e) (record {
           info = info.0;
           info_reads = info.1;
           apart = subst AreApart (sym info.2) a.all_of.within.apart;

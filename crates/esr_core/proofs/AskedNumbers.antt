@@ -1,6 +1,7 @@
 -- What an asked command draws.
 use Rattle.std.proofs.Common.{◌≡◌, ℕ, suc, ◌+◌, ◌≤◌, List, [], ◌∷◌, length, Option, Some, None, refl, arith}
 use Rattle.std.specs.FinMap as fin
+use Rattle.esr_core.proofs.Numbers.{one_more}
 use Rattle.esr_model.specs.Values.{Bytes, Formats}
 use Rattle.esr_model.specs.Image.{Image}
 use Rattle.esr_core.specs.World.{World, Deletion}
@@ -20,9 +21,6 @@ none_few a = omega arith
 
 pub same_few : (a : ℕ) → a ≤ a
 same_few a = omega arith
-
-next_one : (a : ℕ) → suc a ≡ a + 1
-next_one a = omega arith
 
 -- an asked snapshot draws its own id, and one for each new name
 next_few : (known : Option ℕ) (n l : ℕ) → n ≤ l → next_by known n ≤ suc l
@@ -56,7 +54,7 @@ delete_draws w step names None None = draws_none w step (delete_by w names None 
 pub asks_draw : (f : Formats) (w : World) (k : ℕ) (command : Asked) (reply : Reply) (image : Option Image) → DrawsFew w (AskStep command) (done_step f w k (AskStep command) reply image)
 asks_draw f w k (Snapshot name indices moment) reply image = record { term = refl; pending = refl; count = suc (new_names w indices); next = refl; few = snapshot_few w indices }
 asks_draw f w k (Clone source name indices moment None) reply image = draws_none w (AskStep (Clone source name indices moment None)) w refl refl refl
-asks_draw f w k (Clone source name indices moment (Some taken)) reply image = record { term = refl; pending = refl; count = 1; next = next_one w.next_id; few = same_few 1 }
+asks_draw f w k (Clone source name indices moment (Some taken)) reply image = record { term = refl; pending = refl; count = 1; next = one_more w.next_id; few = same_few 1 }
 asks_draw f w k (DeleteSnapshots names) reply image = delete_draws w (AskStep (DeleteSnapshots names)) names (waiting_delete w) (running_delete w (named_uuids w names))
 asks_draw f w k (Restore name place) (AcceptedRestore o uuid indices) image = draws_none w (AskStep (Restore name place)) (restore_opened w uuid place indices) refl refl refl
 asks_draw f w k (Restore name place) reply image = draws_none w (AskStep (Restore name place)) w refl refl refl

@@ -2,6 +2,7 @@
 use Rattle.std.proofs.Common.{◌≡◌, ℕ, suc, List, [], ◌∷◌, ◌++◌, false, true≢false, Option, Some, None, map, refl, sym, ap, ◌∙◌, subst, inl, inr, arith, nat_cmp}
 use Rattle.std.specs.FinMap.{FinMap}
 use Rattle.std.specs.FinMap as fin
+use Rattle.std.proofs.lemmas.Option.{same_Some, none-some}
 use Rattle.esr_model.specs.Values.{Bytes, Has, IndexRef, RootSnap, SnapInfo, FileEntry, Formats}
 use Rattle.esr_model.specs.Shelf.{Shelved, ShelfShard, shelf_after}
 use Rattle.esr_model.specs.Places.{shelf_places}
@@ -17,9 +18,8 @@ use Rattle.esr_core.specs.Allowed.{Told, RestoredBy, RestoreAllows, OpeningResto
 use Rattle.esr_core.specs.History.{world_from, IsLegal, AreTold, commands_at, committed}
 use Rattle.esr_core.specs.ReadLaw.{ReadLaw, ReadsShelved, IsOnShelf}
 use Rattle.esr_core.specs.Restored.{IsServed, IsShelvedAs}
-use Rattle.esr_core.proofs.Reading.{some_same, none_some}
-use Rattle.esr_core.proofs.Restoring.{put_was}
-use Rattle.esr_core.proofs.Frames.{AllPairs-map}
+use Rattle.esr_core.specs.Laws.RestoreMaps.{put_was}
+use Rattle.esr_model.specs.Lists.{AllPairs-map}
 use Rattle.esr_core.proofs.ListedInfo.{IsListedAs, listed_as, listed_snap, listed_info, made_info}
 use Rattle.esr_core.proofs.Shelving.{shelved_one, reads_on}
 use Rattle.esr_core.proofs.OnShelf.{on_shelf}
@@ -56,7 +56,7 @@ module _ (f : Formats) (w : World) (shelf : List Shelved) (l : Law f w shelf) (r
 -- ---- what is asked
 
 told_of : (image : Option Image) (i : Image) (P : Type 0) → image ≡ Some i → Told image (λ blobs. P) → P
-told_of None i P is h = absurd (none_some i is)
+told_of None i P is h = absurd (none-some i is)
 told_of (Some x) i P is h = h
 
 -- a restore that was accepted
@@ -105,8 +105,8 @@ module _ (f : Formats) (w : World) (shelf : List Shelved) (l : Law f w shelf) (m
   same_info : info.0 ≡ x.stands.info
   same_info =
       let reads = listed_info f w shelf uuid x in
-      let bytes : info.1.bytes ≡ reads.bytes = some_same _ _ (sym info.1.there.0 ∙ reads.there.0.0) in
-      some_same _ _ (sym info.1.reads ∙ ap f.info.read bytes ∙ reads.reads)
+      let bytes : info.1.bytes ≡ reads.bytes = same_Some _ _ (sym info.1.there.0 ∙ reads.there.0.0) in
+      same_Some _ _ (sym info.1.reads ∙ ap f.info.read bytes ∙ reads.reads)
 
   shards : AllPairs (λ (p : IndexRef × ℕ) (s : ShelfShard). (s.index ≡ p.0.name) × (s.number ≡ p.1)) (shelf_places indices) x.shelved.shards
   shards =

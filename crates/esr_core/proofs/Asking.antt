@@ -1,6 +1,9 @@
 -- A command that is accepted keeps the law.
 use Rattle.std.proofs.Common.{◌≡◌, ◌⊎◌, ℕ, ◌<◌, List, [], true, false, true≢false, Option, Some, None, refl, sym, ap, ◌∙◌, subst, inl, inr, arith}
 use Rattle.std.specs.FinMap as fin
+use Rattle.std.proofs.lemmas.Option.{same_Some}
+use Rattle.esr_core.specs.Laws.NumberMaps.{was_in, other_in}
+use Rattle.esr_core.specs.Laws.ShardStates.{pending_out, pending_done}
 use Rattle.esr_model.specs.Names.{BlobName, Snap, ShardIndex}
 use Rattle.esr_model.specs.Values.{Bytes, IndexRef, RootData, SnapList, ShardFiles, Formats}
 use Rattle.esr_model.specs.Shelf.{Shelved}
@@ -13,13 +16,14 @@ use Rattle.esr_core.specs.Generations.{DoneAt, IsLive, HasShard, ListsOwn, IsOwn
 use Rattle.esr_core.specs.Ids.{IdsIn}
 use Rattle.esr_core.specs.Queue.{Queue, Lawful, Lists}
 use Rattle.esr_core.proofs.DeletesHold.{none_both}
-use Rattle.esr_core.proofs.Reading.{some_same, held_one, reads_one, safe_root_stands}
-use Rattle.esr_core.proofs.Grows.{info_there}
+use Rattle.esr_core.specs.Laws.OneValue.{held_one, reads_one, safe_root_stands}
+use Rattle.esr_core.specs.Laws.BlobFrames.{info_there}
 use Rattle.esr_core.proofs.Ops.{shard_law_on}
 use Rattle.esr_core.proofs.Owning.{OnWith, own_on, plan_on}
-use Rattle.esr_core.proofs.Ordered.{shard_ref}
-use Rattle.esr_core.proofs.Queues.{Ops, was_in, other_in, Evolves, queue_ops, queued_back, queue_add, queue_add_delete, queue_delete}
-use Rattle.esr_core.proofs.Evolving.{pending_out, pending_done, completing_has, completing_more, completing_was, results_of}
+use Rattle.esr_core.specs.Laws.SortedLists.{shard_ref}
+use Rattle.esr_core.specs.Laws.Maps.{Ops}
+use Rattle.esr_core.proofs.Queues.{Evolves, queue_ops, queued_back, queue_add, queue_add_delete, queue_delete}
+use Rattle.esr_core.proofs.Evolving.{completing_has, completing_more, completing_was, results_of}
 
 -- ops of which each is as one that was, in all that shards read, and no more is done
 module _ (f : Formats) (has : BlobName → Bytes → Type 0) (root : RootData) (ops now : Ops)
@@ -280,7 +284,7 @@ merge_lawful f w shelf l uuids n new d = subst (λ x. Lawful f x shelf) (sym d.n
     fresh = l.sound.fresh;
   };
   queue = queue_delete w.term w.root d.ops w.deletes w.completed w.next_op w.tickets (queue_aborts f w shelf l d.ops n d.aborts) n d.x _ d.there refl (λ e. e)
-      (λ k h t e same. let one : h.t ≡ t = some_same _ _ (sym h.there ∙ e) in d.waiting k h.t h.there h.out h.present (ap (λ (x : Ticket). x.op) one ∙ same))
+      (λ k h t e same. let one : h.t ≡ t = same_Some _ _ (sym h.there ∙ e) in d.waiting k h.t h.there h.out h.present (ap (λ (x : Ticket). x.op) one ∙ same))
       (λ o op u e is. let (old, there, how) = d.aborts.was o op e in let from = source_of n old op how ∙ is in none_both d.x.uuids d.more u ((l.queue.sources o old u there from).1 n d.x d.there) (d.spares o old u there from));
 })
 

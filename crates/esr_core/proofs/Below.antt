@@ -1,6 +1,8 @@
 -- Ids stay below the counter.
 use Rattle.std.proofs.Common.{◌≡◌, ◌⊎◌, ℕ, ◌+◌, ◌<◌, ◌≤◌, List, ◌++◌, true, Option, Some, None, refl, sym, ap, ◌∙◌, subst, inl, inr, arith}
 use Rattle.std.specs.FinMap as fin
+use Rattle.std.proofs.lemmas.Option.{same_Some}
+use Rattle.esr_core.specs.Laws.NumberMaps.{was_in, split_at}
 use Rattle.esr_model.specs.Names.{BlobName, Root, Latest, Snap, Meta, IndexMeta, ShardSnap, ShardIndex, File, Part, TestMaster, TestNode}
 use Rattle.esr_model.specs.Values.{Bytes, IndexRef, RootIndex, RootData, ShardResult, Formats}
 use Rattle.esr_model.specs.Shelf.{Shelved}
@@ -12,12 +14,9 @@ use Rattle.esr_core.specs.Turns.{IsApart, AskCreate}
 use Rattle.esr_core.specs.Generations.{BaseBelow, Carried}
 use Rattle.esr_core.specs.Ids.{OfUuid, OfId, TicketIds, OpIds, DoomedIds, Ids, Law}
 use Rattle.esr_model.specs.Kept.{IdsBelow, RootIds}
-use Rattle.esr_core.proofs.Reading.{some_same}
-use Rattle.esr_core.proofs.Take.{Kinds, IsSnap, IsMeta, IsIndex, kinds}
-use Rattle.esr_core.proofs.Queues.{Ops, Tickets, was_in, split_at}
-
-up : (x c d : ℕ) → c ≤ d → x < c → x < d
-up x c d le h = omega (arith, le, h)
+use Rattle.esr_core.specs.Laws.Metadata.{Kinds, IsSnap, IsMeta, IsIndex, kinds}
+use Rattle.esr_core.specs.Laws.Maps.{Ops, Tickets}
+use Rattle.esr_core.specs.Laws.IdBounds.{up, root_up}
 
 pub below_up : (name : BlobName) (c d : ℕ) → c ≤ d → IdsBelow name c → IdsBelow name d
 below_up (Root n) c d le h = tt
@@ -31,10 +30,6 @@ below_up (File i s x) c d le h = (up i c d le h.0, up x c d le h.1)
 below_up (Part i s x p) c d le h = (up i c d le h.0, up x c d le h.1)
 below_up (TestMaster v) c d le h = up v c d le h
 below_up (TestNode v n) c d le h = up v c d le h
-
-pub root_up : (root : RootData) (c d : ℕ) → c ≤ d → RootIds root c → RootIds root d
-root_up root c d le h =
-    record { generations = λ i k g e. up g c d le (h.generations i k g e); snapshots = λ s m. up s.uuid c d le (h.snapshots s m); ids = λ x m. up x.id c d le (h.ids x m); uuids = λ x u m has. up u c d le (h.uuids x u m has); one_name = h.one_name }
 
 pub ticket_up : (f : Formats) (t : Ticket) (c d : ℕ) → c ≤ d → TicketIds f c t → TicketIds f d t
 ticket_up f t c d le h =
@@ -194,7 +189,7 @@ module _ (f : Formats) (w : World) (shelf : List Shelved) (l : Law f w shelf) wh
     two : (p : ℕ) (q : Op) → fin.get w.ops p ≡ Some q → (z : IndexRef) → Has q.indices z → (o : ℕ) (x : Op) → fin.get w.ops o ≡ Some x → (y : IndexRef) → Has x.indices y → z.id ≡ y.id → z.name ≡ y.name
     two p q there z zm o x x_there y ym e = elim (split_at p o) [
       | inl same ↦
-          let one : q ≡ x = some_same _ _ (sym there ∙ ap (fin.get w.ops) same ∙ x_there) in
+          let one : q ≡ x = same_Some _ _ (sym there ∙ ap (fin.get w.ops) same ∙ x_there) in
           ap (λ (r : IndexRef). r.name) ((c.ops o x x_there).one_id z y (subst (λ (v : Op). Has v.indices z) one zm) ym e)
       | inr apart ↦ (c.together p o q x apart there x_there).same_name z y zm ym e
     ]

@@ -1,35 +1,20 @@
 -- What a step that reads leaves: all that the law of snapshots, deletes and swaps speaks of.
-use Rattle.std.proofs.Common.{◌≡◌, ℕ, zero, suc, ◌<◌, ◌≤◌, List, Bool, Option, Some, None, refl, sym, subst, arith, nat_cmp}
+use Rattle.std.proofs.Common.{◌≡◌, ℕ, suc, ◌<◌, ◌≤◌, List, Bool, Option, Some, None, refl, sym, subst, arith, nat_cmp}
 use Rattle.std.specs.FinMap.{FinMap}
-use Rattle.std.specs.FinMap as fin
 use Rattle.esr_model.specs.Names.{BlobName}
 use Rattle.esr_model.specs.Values.{Bytes, IndexRef, Formats}
 use Rattle.esr_model.specs.Shelf.{Shelved}
-use Rattle.esr_model.specs.Image.{Blobs, Image}
-use Rattle.esr_core.specs.World.{World, ReadState, Restored, NotRestored, RestoreShard, Restoring, Reader, Caller}
-use Rattle.esr_core.specs.Restores.{restore_shard, restore_opened, shard_handed, more_read, shard_ended}
-use Rattle.esr_core.specs.Entry.{Read, ReadBlob, RestoredShard, CheckedAll, DrawTest, BeginTest, CommitTest, RemoveTests, VerifiedAll, ReadFails, Reply, WasFetched, Entry}
-use Rattle.esr_core.specs.After.{told_blob, taken_restore_shard, taken_restore, read_told, shard_over, read_over, read_step, read_by}
+use Rattle.esr_model.specs.Image.{Blobs}
+use Rattle.esr_core.specs.World.{World, RestoreShard, Restoring, Reader, Caller}
+use Rattle.esr_core.specs.Restores.{restore_shard, restore_opened, shard_handed}
+use Rattle.esr_core.specs.Entry.{Entry}
+use Rattle.esr_core.specs.After.{taken_restore_shard, taken_restore}
 use Rattle.esr_core.specs.Turns.{ReadTurn, OpensRestore, HandsShard, ReadsMore, EndsShard, Calls}
 use Rattle.esr_core.specs.Sound.{Sound}
 use Rattle.esr_core.specs.Queue.{QueueIn, Lawful}
 use Rattle.esr_core.specs.Ids.{InTerm}
 use Rattle.esr_core.specs.Tracked.{Tracked}
-
--- restores, their tickets, what who 0 has done and what was done so far may change, and more numbers of ops and tickets be given
-pub record Aside (w new : World) : Type 0 where
-  pub restores : FinMap nat_cmp Restoring
-  pub readers : FinMap nat_cmp Reader
-  pub caller : Caller
-  pub entries : List Entry
-  pub next_op : ℕ
-  pub next_ticket : ℕ
-  pub ops : w.next_op ≤ next_op
-  pub tickets : w.next_ticket ≤ next_ticket
-  pub new_is : new ≡ record w { restores = restores; readers = readers; caller = caller; entries = entries; next_op = next_op; next_ticket = next_ticket }
-
-pub aside_same : (w : World) → Aside w w
-aside_same w = record { restores = w.restores; readers = w.readers; caller = w.caller; entries = w.entries; next_op = w.next_op; next_ticket = w.next_ticket; ops = omega arith; tickets = omega arith; new_is = refl }
+use Rattle.esr_core.specs.Laws.Asides.{Aside, aside_same, aside_read, aside_ended}
 
 pub aside_opened : (w new : World) (uuid : ℕ) (place : Bytes) (indices : List IndexRef) → new ≡ restore_opened w uuid place indices → Aside w new
 aside_opened w new uuid place indices e =
@@ -38,14 +23,6 @@ aside_opened w new uuid place indices e =
 pub aside_handed : (w new : World) (o : ℕ) (r : Restoring) (s : RestoreShard) → new ≡ shard_handed w o r s → Aside w new
 aside_handed w new o r s e =
     record { restores = (shard_handed w o r s).restores; readers = (shard_handed w o r s).readers; caller = w.caller; entries = w.entries; next_op = w.next_op; next_ticket = suc w.next_ticket; ops = omega arith; tickets = omega arith; new_is = e }
-
-pub aside_read : (w new : World) (k : ℕ) (q : Reader) (name : BlobName) (bytes : Bytes) → new ≡ more_read w k q name bytes → Aside w new
-aside_read w new k q name bytes e =
-    record { restores = w.restores; readers = (more_read w k q name bytes).readers; caller = w.caller; entries = w.entries; next_op = w.next_op; next_ticket = w.next_ticket; ops = omega arith; tickets = omega arith; new_is = e }
-
-pub aside_ended : (w new : World) (k : ℕ) (q : Reader) (r : Restoring) (state : ReadState) → new ≡ shard_ended w k q r state → Aside w new
-aside_ended w new k q r state e =
-    record { restores = (shard_ended w k q r state).restores; readers = (shard_ended w k q r state).readers; caller = w.caller; entries = w.entries; next_op = w.next_op; next_ticket = w.next_ticket; ops = omega arith; tickets = omega arith; new_is = e }
 
 pub aside_called : (w new : World) (caller : Caller) (entries : List Entry) → new ≡ record w { caller = caller; entries = entries } → Aside w new
 aside_called w new caller entries e =
@@ -67,50 +44,6 @@ aside_taken_shard w o r (Some s) = aside_handed w _ o r s refl
 pub aside_taken : (w : World) (o index number : ℕ) (r : Option Restoring) → Aside w (taken_restore w o index number r)
 aside_taken w o index number None = aside_same w
 aside_taken w o index number (Some r) = aside_taken_shard w o r (restore_shard r.shards index number)
-
-aside_told : (w : World) (k : ℕ) (name : BlobName) (bytes : Option Bytes) (q : Option Reader) → Aside w (read_told w k name bytes q)
-aside_told w k name bytes None = aside_same w
-aside_told w k name None (Some q) = aside_same w
-aside_told w k name (Some bytes) (Some q) = aside_read w _ k q name bytes refl
-
-aside_shard : (w : World) (k : ℕ) (state : ReadState) (q : Reader) (r : Option Restoring) → Aside w (shard_over w k state q r)
-aside_shard w k state q None = aside_same w
-aside_shard w k state q (Some r) = aside_ended w _ k q r state refl
-
-aside_over : (w : World) (k : ℕ) (state : ReadState) (q : Option Reader) → Aside w (read_over w k state q)
-aside_over w k state None = aside_same w
-aside_over w k state (Some q) = aside_shard w k state q (fin.get w.restores q.op)
-
-pub aside_step : (f : Formats) (w : World) (k : ℕ) (read : Read) (reply : Reply) (image : Option Image) → Aside w (read_step f w k read reply image)
-aside_step f w k (ReadBlob name) WasFetched image = aside_told w k name (told_blob f image name) (fin.get w.readers k)
-aside_step f w k (ReadBlob name) reply image = aside_same w
-aside_step f w k (RestoredShard files bytes) reply image = aside_over w k (Restored files bytes) (fin.get w.readers k)
-aside_step f w k (CheckedAll snapshots blobs) reply image = aside_same w
-aside_step f w k (ReadFails why) reply image = aside_over w k (NotRestored why) (fin.get w.readers k)
-aside_step f w k read reply image = aside_same w
-
--- a step that isn't one of a verification
-abbrev pub IsNoTest : Read → Type 0
-IsNoTest (ReadBlob name) = Unit {0}
-IsNoTest (RestoredShard files bytes) = Unit {0}
-IsNoTest (CheckedAll snapshots blobs) = Unit {0}
-IsNoTest (ReadFails why) = Unit {0}
-IsNoTest read = ⊥
-
-aside_zero : (f : Formats) (w : World) (read : Read) (reply : Reply) (image : Option Image) → IsNoTest read → Aside w (read_by f w 0 read reply image)
-aside_zero f w (ReadBlob name) reply image h = aside_same w
-aside_zero f w (RestoredShard files bytes) reply image h = aside_same w
-aside_zero f w (CheckedAll snapshots blobs) reply image h = aside_same w
-aside_zero f w (ReadFails why) reply image h = aside_same w
-aside_zero f w DrawTest reply image h = absurd h
-aside_zero f w (BeginTest name) reply image h = absurd h
-aside_zero f w (CommitTest name) reply image h = absurd h
-aside_zero f w (RemoveTests names) reply image h = absurd h
-aside_zero f w VerifiedAll reply image h = absurd h
-
-pub aside_by : (f : Formats) (w : World) (k : ℕ) (read : Read) (reply : Reply) (image : Option Image) → IsNoTest read → Aside w (read_by f w k read reply image)
-aside_by f w zero read reply image h = aside_zero f w read reply image h
-aside_by f w (suc k) read reply image h = aside_step f w (suc k) read reply image
 
 -- ---- what of the law reads the numbers
 

@@ -1,15 +1,16 @@
 -- Each refusal has its cause, and what was given or settled was so by its step.
 use Rattle.std.proofs.Common.{◌≡◌, ◌⊎◌, ℕ, suc, ◌+◌, ◌≤◌, List, Option, None, refl, sym, subst, inl, inr, arith, ◌∙◌}
+use Rattle.esr_core.proofs.Refusing.{same_refusal}
 use Rattle.esr_model.specs.Values.{Bytes, Formats, IndexRef}
 use Rattle.esr_model.specs.Kept.{first_id}
 use Rattle.esr_model.specs.Delete.{kept_count}
 use Rattle.esr_model.specs.Image.{Image}
 use Rattle.esr_core.specs.World.{World}
-use Rattle.esr_core.specs.Entry.{CloneOf, Snapshot, Clone, DeleteSnapshots, Restore, Cleanup, Given, Read, ReadStep, Prune, PruneStep, Step, AskStep, Refusal, Reply, Gave, AcceptedRestore, WasSettled, Refused, Moment}
+use Rattle.esr_core.specs.Entry.{CloneOf, Snapshot, Clone, DeleteSnapshots, Restore, Cleanup, Read, ReadStep, Prune, PruneStep, Step, AskStep, Refusal, Reply, AcceptedRestore, WasSettled, Refused, Moment}
 use Rattle.esr_core.specs.After.{new_names}
 use Rattle.esr_core.specs.Allowed as allowed
 use Rattle.esr_core.specs.Allowed.{RestoreAllows, AcceptsRestore, CloneAllows, DeleteAllows, CleanupAllows, ReadAllows, VerifyAllows, PruneAllows, Allows, Blocks, Allowed}
-use Rattle.esr_core.specs.Causes.{RefusalCause, OfRule, OfCleanup, OfName, OfTestName, OfTerm, OfIds, OfGenerations, OfTerms, OfCall, TakeGave, SettleDid, RestoreBegan}
+use Rattle.esr_core.specs.Causes.{RefusalCause, OfRule, OfCleanup, OfName, OfTestName, OfTerm, OfIds, OfGenerations, OfTerms, OfCall, SettleDid, RestoreBegan}
 use Rattle.esr_core.proofs.AskedNumbers.{same_few, snapshot_few}
 
 module _ (f : Formats) (size : ℕ) (w : World) where
@@ -91,9 +92,6 @@ module _ (f : Formats) (size : ℕ) (w : World) where
   cause_by who step refusal image (allowed.DropFails k im d same) = OfCall
   cause_by who step refusal image (allowed.ElectFails im room same) = OfCall
 
-same_refusal : (a b : Refusal) → Refused a ≡ Refused b → a ≡ b
-same_refusal a b e = cc
-
 pub refusal_cause : (f : Formats) (size : ℕ) (w : World) (m : Moment) (refusal : Refusal) → Allowed f size w m → m.entry.reply ≡ Refused refusal → Blocks w m.entry.who m.entry.step refusal ⊎ RefusalCause f size w m.entry.who m.entry.step m.image refusal
 refusal_cause f size w m refusal a is = elim a.answered [
   | inl alive ↦ inr (cause_by f size w m.entry.who m.entry.step refusal m.image (subst (λ reply. Allows f size w m.entry.who m.entry.step reply m.image) is alive.1))
@@ -102,12 +100,6 @@ refusal_cause f size w m refusal a is = elim a.answered [
 
 -- ---- what an answer tells
 
-restore_gives : {f : Formats} {w : World} {name : Bytes} {k o : ℕ} {unit : Given} {reply : Reply} {image : Option Image} → RestoreAllows f w name reply image → reply ≡ Gave k o unit → ⊥
-restore_gives (allowed.OpeningRestore o uuid indices im acc) e = cc
-restore_gives (allowed.NotListed im none) e = cc
-restore_gives (allowed.NamedByDelete uuid d im listed named) e = cc
-restore_gives (allowed.FullOfRestores uuid im listed spared full) e = cc
-
 restore_settles : {f : Formats} {w : World} {name : Bytes} {reply : Reply} {image : Option Image} → RestoreAllows f w name reply image → reply ≡ WasSettled → ⊥
 restore_settles (allowed.OpeningRestore o uuid indices im acc) e = cc
 restore_settles (allowed.NotListed im none) e = cc
@@ -115,16 +107,6 @@ restore_settles (allowed.NamedByDelete uuid d im listed named) e = cc
 restore_settles (allowed.FullOfRestores uuid im listed spared full) e = cc
 
 module _ (f : Formats) (size : ℕ) (w : World) where
-  gave_by : (who : ℕ) (step : Step) (k o : ℕ) (unit : Given) (image : Option Image) → Allows f size w who step (Gave k o unit) image → TakeGave f w who step k o unit
-  gave_by who step k o unit image (allowed.Giving j p u im is lowest g same) = record { who_is = refl; step_is = refl; number = is; lowest = lowest; gives = g }
-  gave_by who step k o unit image (allowed.AskingRestore name place rep im h same) = absurd (restore_gives h refl)
-  gave_by who step k o unit image (allowed.AskingClone source name names moment taken rep im h same) = elim h [ ]
-  gave_by who step k o unit image (allowed.AskingDelete names rep im h same) = elim h [ ]
-  gave_by who step k o unit image (allowed.AskingCleanup rep im h same) = elim h [ ]
-  gave_by who step k o unit image (allowed.Verifying read rep im h) = elim h [ ]
-  gave_by who step k o unit image (allowed.Pruning j prune rep im h) = elim h [ ]
-  gave_by who step k o unit image (allowed.Reading j read rep im h same) = elim h [ ]
-
   pruned_by : (who : ℕ) (prune : Prune) (image : Option Image) → PruneAllows f w who prune WasSettled image → SettleDid f w who (PruneStep prune)
   pruned_by who prune image (allowed.SettlingDelete k im s present same) = inr (refl, (s, present))
 
@@ -154,17 +136,8 @@ module _ (f : Formats) (size : ℕ) (w : World) where
 no_restore : (o uuid : ℕ) (indices : List IndexRef) (refusal : Refusal) → AcceptedRestore o uuid indices ≡ Refused refusal → ⊥
 no_restore o uuid indices refusal e = cc
 
-no_gift : (k o : ℕ) (unit : Given) (refusal : Refusal) → Gave k o unit ≡ Refused refusal → ⊥
-no_gift k o unit refusal e = cc
-
 no_settle : (refusal : Refusal) → WasSettled ≡ Refused refusal → ⊥
 no_settle refusal e = cc
-
-pub take_gave : (f : Formats) (size : ℕ) (w : World) (m : Moment) (k o : ℕ) (unit : Given) → Allowed f size w m → m.entry.reply ≡ Gave k o unit → TakeGave f w m.entry.who m.entry.step k o unit
-take_gave f size w m k o unit a is = elim a.answered [
-  | inl alive ↦ gave_by f size w m.entry.who m.entry.step k o unit m.image (subst (λ reply. Allows f size w m.entry.who m.entry.step reply m.image) is alive.1)
-  | inr blocked ↦ absurd (no_gift k o unit blocked.refusal (sym is ∙ blocked.refused))
-]
 
 pub settle_did : (f : Formats) (size : ℕ) (w : World) (m : Moment) → Allowed f size w m → m.entry.reply ≡ WasSettled → SettleDid f w m.entry.who m.entry.step
 settle_did f size w m a is = elim a.answered [

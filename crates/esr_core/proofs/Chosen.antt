@@ -4,47 +4,38 @@ use Rattle.std.specs.Prelude.{leb}
 use Rattle.std.specs.Ordering.{ordering_reverse}
 use Rattle.std.specs.List.{list_any}
 use Rattle.std.specs.Cmp.Lexicographic.{slice_cmp, nat_list_cmp_total}
+use Rattle.std.proofs.lemmas.Bool.{cases_Bool, cond-true, cond-false, or_right}
 use Rattle.esr_model.specs.Values.{Bytes, Has, IndexRef}
 use Rattle.esr_model.specs.Places.{numbered, places, by_order, comes_first, put_by, sorted_by, shelf_places}
 use Rattle.esr_model.specs.Image.{AllPairs}
 use Rattle.esr_model.specs.Uploads.{same_bytes}
 use Rattle.esr_core.specs.Restores.{AreOnce, AreApart}
-use Rattle.esr_core.proofs.Maps.{texts_same}
-use Rattle.esr_core.proofs.Reading.{Has-either, Has-map, Has-mapped}
-use Rattle.esr_core.proofs.Results.{choose_true, choose_false}
-use Rattle.esr_core.proofs.Ordered.{Has-put_by, Has-sorted, in_places, in_shelf_places, to_shelf_places}
-use Rattle.esr_core.proofs.Agreeing.{places_has}
-use Rattle.esr_core.proofs.Accepting.{same_one, same_true}
-
-bool_told : (b : Bool) → (b ≡ true) ⊎ (b ≡ false)
-bool_told true = inl refl
-bool_told false = inr refl
-
-cond_true : {A : Type 0} (b : Bool) (x y : A) → b ≡ true → cond b x y ≡ x
-cond_true b x y e = ap (λ c. cond c x y) e
-
-cond_false : {A : Type 0} (b : Bool) (x y : A) → b ≡ false → cond b x y ≡ y
-cond_false b x y e = ap (λ c. cond c x y) e
+use Rattle.esr_core.specs.Laws.Maps.{texts_same}
+use Rattle.esr_model.specs.Lists.{Has-either, Has-map, Has-mapped}
+use Rattle.esr_core.specs.Laws.SortedLists.{Has-put_by, Has-sorted, in_places, to_shelf_places}
+use Rattle.esr_core.proofs.Ordered.{in_shelf_places}
+use Rattle.esr_core.specs.Laws.RootAgreement.{places_has}
+use Rattle.esr_core.specs.Laws.Tests.{same_one, same_true}
 
 -- ---- what a filter leaves
 
 Has-filter : {A : Type 0} (p : A → Bool) (xs : List A) (y : A) → Has (filter p xs) y → Has xs y × (p y ≡ true)
 Has-filter p [] y h = absurd h
-Has-filter {A} p (x ∷ xs) y h = elim (bool_told (p x)) [
-  | inl t ↦ first t (subst (λ (l : List A). Has l y) (cond_true (p x) (x ∷ filter p xs) (filter p xs) t) h) (Has-filter p xs y)
-  | inr t ↦ let g = Has-filter p xs y (subst (λ (l : List A). Has l y) (cond_false (p x) (x ∷ filter p xs) (filter p xs) t) h) in (inr g.0, g.1)
+Has-filter {A} p (x ∷ xs) y h = elim (cases_Bool (p x)) [
+  | inl t ↦ first t (subst (λ (l : List A). Has l y) (cond-true (p x) (x ∷ filter p xs) (filter p xs) t) h) (Has-filter p xs y)
+  | inr t ↦ let g = Has-filter p xs y (subst (λ (l : List A). Has l y) (cond-false (p x) (x ∷ filter p xs) (filter p xs) t) h) in (inr g.0, g.1)
 ]
   where
     first : p x ≡ true → Has (x ∷ filter p xs) y → (Has (filter p xs) y → Has xs y × (p y ≡ true)) → Has (x ∷ xs) y × (p y ≡ true)
     first t (inl e) rest = (inl e, subst (λ (z : A). p z ≡ true) e t)
     first t (inr m) rest = let g = rest m in (inr g.0, g.1)
 
-filter-Has : {A : Type 0} (p : A → Bool) (xs : List A) (y : A) → Has xs y → p y ≡ true → Has (filter p xs) y
+pub filter-Has : {A : Type 0} (p : A → Bool) (xs : List A) (y : A) → Has xs y → p y ≡ true → Has (filter p xs) y
 filter-Has p [] y h e = absurd h
-filter-Has {A} p (x ∷ xs) y (inl s) e = subst (λ (l : List A). Has l y) (sym (cond_true (p x) (x ∷ filter p xs) (filter p xs) (subst (λ (z : A). p z ≡ true) (sym s) e))) (inl s)
-filter-Has {A} p (x ∷ xs) y (inr m) e = elim (bool_told (p x)) [
-  | inl t ↦ subst (λ (l : List A). Has l y) (sym (cond_true (p x) (x ∷ filter p xs) (filter p xs) t)) (inr (filter-Has p xs y m e))
-  | inr t ↦ subst (λ (l : List A). Has l y) (sym (cond_false (p x) (x ∷ filter p xs) (filter p xs) t)) (filter-Has p xs y m e)
+filter-Has {A} p (x ∷ xs) y (inl s) e = subst (λ (l : List A). Has l y) (sym (cond-true (p x) (x ∷ filter p xs) (filter p xs) (subst (λ (z : A). p z ≡ true) (sym s) e))) (inl s)
+filter-Has {A} p (x ∷ xs) y (inr m) e = elim (cases_Bool (p x)) [
+  | inl t ↦ subst (λ (l : List A). Has l y) (sym (cond-true (p x) (x ∷ filter p xs) (filter p xs) t)) (inr (filter-Has p xs y m e))
+  | inr t ↦ subst (λ (l : List A). Has l y) (sym (cond-false (p x) (x ∷ filter p xs) (filter p xs) t)) (filter-Has p xs y m e)
 ]
 
 -- of two lists in pairs, pair by pair
@@ -73,10 +64,10 @@ module _ {A : Type 0} (first : A → A → Bool) where
 
   rises-filter : (p : A → Bool) (xs : List A) → Rises xs → Rises (filter p xs)
   rises-filter p [] h = h
-  rises-filter p (x ∷ xs) h = elim (bool_told (p x)) [
-    | inl t ↦ subst Rises (sym (cond_true (p x) (x ∷ filter p xs) (filter p xs) t))
+  rises-filter p (x ∷ xs) h = elim (cases_Bool (p x)) [
+    | inl t ↦ subst Rises (sym (cond-true (p x) (x ∷ filter p xs) (filter p xs) t))
         (record { each = λ y m. h.0.each y (Has-filter p xs y m).0; apart = λ m. h.0.apart (Has-filter p xs x m).0 }, rises-filter p xs h.1)
-    | inr t ↦ subst Rises (sym (cond_false (p x) (x ∷ filter p xs) (filter p xs) t)) (rises-filter p xs h.1)
+    | inr t ↦ subst Rises (sym (cond-false (p x) (x ∷ filter p xs) (filter p xs) t)) (rises-filter p xs h.1)
   ]
 
   -- two that rise and have the same are one
@@ -100,10 +91,10 @@ module _ {A : Type 0} (first : A → A → Bool) where
   module _ (trans : (a b c : A) → first a b ≡ true → first b c ≡ true → first a c ≡ true) (turned : (a b : A) → first a b ≡ false → first b a ≡ true) where
     rises-put : (x : A) (ys : List A) → Rises ys → (Has ys x → ⊥) → Rises (put_by first x ys)
     rises-put x [] h new = (record { each = λ y m. absurd m; apart = λ m. m }, tt)
-    rises-put x (y ∷ ys) h new = elim (bool_told (first x y)) [
-      | inl t ↦ subst Rises (sym (choose_true (first x y) (x ∷ y ∷ ys) (y ∷ put_by first x ys) t))
+    rises-put x (y ∷ ys) h new = elim (cases_Bool (first x y)) [
+      | inl t ↦ subst Rises (sym (cond-true (first x y) (x ∷ y ∷ ys) (y ∷ put_by first x ys) t))
           (record { each = λ z m. elim m [ inl e ↦ subst (λ (q : A). first x q ≡ true) e t | inr n ↦ trans x y z t (h.0.each z n) ]; apart = new }, h)
-      | inr t ↦ subst Rises (sym (choose_false (first x y) (x ∷ y ∷ ys) (y ∷ put_by first x ys) t)) (
+      | inr t ↦ subst Rises (sym (cond-false (first x y) (x ∷ y ∷ ys) (y ∷ put_by first x ys) t)) (
         record {
           each = λ z m. elim (Has-put_by first x z ys m) [ inl e ↦ subst (λ (q : A). first y q ≡ true) e (turned x y t) | inr n ↦ h.0.each z n ];
           apart = λ m. elim (Has-put_by first x y ys m) [ inl e ↦ new (inl (sym e)) | inr n ↦ h.0.apart n ];
@@ -210,10 +201,6 @@ once-places (r ∷ refs) h = once-append (numbered r 0 r.shards) (places refs) (
 
 -- ---- the test by names
 
-or_true : (a b : Bool) → b ≡ true → (a || b) ≡ true
-or_true true b e = refl
-or_true false b e = e
-
 any_of : (names : List Bytes) (name : Bytes) → list_any (same_bytes name) names ≡ true → Has names name
 any_of [] name e = absurd (true≢false (sym e))
 any_of (x ∷ names) name e = elim (same_one name x) [
@@ -224,7 +211,7 @@ any_of (x ∷ names) name e = elim (same_one name x) [
 of_any : (names : List Bytes) (name : Bytes) → Has names name → list_any (same_bytes name) names ≡ true
 of_any [] name h = absurd h
 of_any (x ∷ names) name (inl e) = ap (λ (b : Bool). b || list_any (same_bytes name) names) (same_true name x (sym e))
-of_any (x ∷ names) name (inr m) = or_true (same_bytes name x) (list_any (same_bytes name) names) (of_any names name m)
+of_any (x ∷ names) name (inr m) = or_right (same_bytes name x) (list_any (same_bytes name) names) (of_any names name m)
 
 abbrev name_of : IndexRef → Bytes
 name_of r = r.name

@@ -1,6 +1,8 @@
 -- The indices of shards that a cleanup leaves list listed snapshots alone.
-use Rattle.std.proofs.Common.{◌≡◌, ℕ, Bool, true, false, List, [], ◌∷◌, Option, Some, None, refl, sym, ap, ◌∙◌, subst, inl, inr}
+use Rattle.std.proofs.Common.{◌≡◌, ℕ, Bool, true, false, List, Option, Some, None, refl, sym, ap, ◌∙◌, subst, inl, inr}
 use Rattle.std.specs.List.{list_any}
+use Rattle.std.proofs.lemmas.Bool.{cond-false, cases_Bool}
+use Rattle.esr_core.proofs.Drawing.{left_stays}
 use Rattle.esr_model.specs.Names.{BlobName, ShardIndex}
 use Rattle.esr_model.specs.Values.{Bytes, Has, RootSnap, RootIndex, RootData, SnapList, ShardFiles, IsOneEach, Formats}
 use Rattle.esr_model.specs.Shelf.{Shelved, names_uuid}
@@ -10,23 +12,17 @@ use Rattle.esr_core.specs.Pruning.{is_left, is_victim, has_none, is_touched, bar
 use Rattle.esr_core.specs.World.{World, HeldIn}
 use Rattle.esr_core.specs.Ids.{Law}
 use Rattle.esr_core.specs.Allowed.{SettlesDeletion}
-use Rattle.esr_core.proofs.Reading.{reads_one, held_one, generation_index, Has-mapped}
-use Rattle.esr_core.proofs.Results.{choose_true, choose_false}
-use Rattle.esr_core.proofs.Deleting.{bool_told}
-use Rattle.esr_core.proofs.DeletedRoots.{AreApart, one_found, deleted_snapshots, deleted_generations}
-use Rattle.esr_core.proofs.DeletesHold.{clash, has_names, names_has, any_of, bytes_same, fresh_is, fresh_has, not_none}
+use Rattle.esr_model.specs.Lists.{Has-mapped}
+use Rattle.esr_core.specs.Laws.OneValue.{reads_one, held_one, generation_index}
+use Rattle.esr_core.specs.Laws.DeleteRoots.{AreApart, one_found, deleted_snapshots, deleted_generations, uuid_was, has_names, names_has, bytes_same}
+use Rattle.esr_core.specs.Laws.Tests.{clash, any_of}
+use Rattle.esr_core.proofs.DeletesHold.{fresh_is, fresh_has, not_none}
 use Rattle.esr_core.proofs.DoomedNames.{passed}
-use Rattle.esr_core.proofs.DoomsAll.{IsLeftOf, deleted_used, none_fresh, snap_left}
+use Rattle.esr_core.proofs.DoomsAll.{IsLeftOf, deleted_used, none_fresh}
 use Rattle.esr_core.proofs.PruneTurns.{plan, root_is, once, pruned, written}
-use Rattle.esr_core.proofs.Plans.{shard_reads, in_root, of_root_apart}
+use Rattle.esr_core.specs.Laws.DeletePlans.{in_root, of_root_apart}
+use Rattle.esr_core.proofs.Plans.{shard_reads}
 use Rattle.esr_core.proofs.PrunedShards.{has_of_indices}
-
-left_among : (uuids us : List ℕ) (u : ℕ) → Has (left_uuids uuids us) u → Has us u
-left_among uuids [] u m = absurd m
-left_among uuids (x ∷ us) u m = elim (bool_told (names_uuid uuids x)) [
-  | inl b ↦ inr (left_among uuids us u (subst (λ (l : List ℕ). Has l u) (choose_true _ _ _ b) m))
-  | inr b ↦ elim (subst (λ (l : List ℕ). Has l u) (choose_false _ _ _ b) m) [ inl same ↦ inl same | inr later ↦ inr (left_among uuids us u later) ]
-]
 
 module _ (f : Formats) (has : BlobName → Bytes → Type 0) (func : IsOne has) (root : RootData) (one : IsOneEach root.indices) (uuids : List ℕ) (read : List (BlobName × Bytes)) (first : ℕ) (clean : Bool) (cleans : clean ≡ true)
     (held : (name : BlobName) (bytes : Bytes) → Has read (name, bytes) → has name bytes) (are_read : AreRead f clean root uuids read) (of_root : AreOfRoot root (pruned_shards f clean root uuids read))
@@ -55,15 +51,15 @@ module _ (f : Formats) (has : BlobName → Bytes → Type 0) (func : IsOne has) 
 
   -- where no list goes each is of a listed snapshot
   listed_of : (l : SnapList) (lists : List SnapList) → list_any (is_victim clean uuids (uuids_of root)) lists ≡ false → Has lists l → names_uuid (uuids_of root) l.uuid ≡ true
-  listed_of l lists none m = elim (bool_told (names_uuid (uuids_of root) l.uuid)) [
+  listed_of l lists none m = elim (cases_Bool (names_uuid (uuids_of root) l.uuid)) [
     | inl listed ↦ listed
-    | inr not ↦ absurd (clash (list_any (is_victim clean uuids (uuids_of root)) lists) (any_of (is_victim clean uuids (uuids_of root)) lists l m (ap (λ (c : Bool). is_victim c uuids (uuids_of root) l) cleans ∙ choose_false _ _ _ not)) none)
+    | inr not ↦ absurd (clash (list_any (is_victim clean uuids (uuids_of root)) lists) (any_of (is_victim clean uuids (uuids_of root)) lists l m (ap (λ (c : Bool). is_victim c uuids (uuids_of root) l) cleans ∙ cond-false _ _ _ not)) none)
   ]
 
   -- a shard of which a list goes has another generation
   victim_goes : (x : RootIndex) → Has root.indices x → (i k g : ℕ) → x.id ≡ i → Generation root i k g → (was : ShardFiles) → files_read f read (bare_shard i k g) ≡ Some was → list_any (is_victim clean uuids (uuids_of root)) was.snapshots ≡ true
       → Generation (deleted_root root uuids shards first) i k g → fresh_from first shards i k ≡ None → ⊥
-  victim_goes x there i k g id gen was e any stays old = elim (bool_told (has_none (left_uuids uuids x.snapshots))) [
+  victim_goes x there i k g id gen was e any stays old = elim (cases_Bool (has_none (left_uuids uuids x.snapshots))) [
     | inl leaves ↦
         let (y, y_there, y_id) = generation_index new i k g stays in
         let z : IsLeftOf root uuids y = deleted_used root uuids shards first y y_there in
@@ -85,7 +81,7 @@ module _ (f : Formats) (has : BlobName → Bytes → Type 0) (func : IsOne has) 
         let (x, there, id) = generation_index root i k g old.1 in
         let (was, e) = was_read x there i k g id old.1 in
         let is : h ≡ was = reads_one has func (ShardIndex i k g) f.shard_index h was reads (shard_reads f has read held (bare_shard i k g) was e) in
-        elim (bool_told (list_any (is_victim clean uuids (uuids_of root)) was.snapshots)) [
+        elim (cases_Bool (list_any (is_victim clean uuids (uuids_of root)) was.snapshots)) [
           | inl any ↦ absurd (victim_goes x there i k g id old.1 was e any gen old.0)
           | inr none ↦ listed_of l was.snapshots none (subst (λ (z : ShardFiles). Has z.snapshots l) is m)
         ]
@@ -100,7 +96,7 @@ module _ (f : Formats) (has : BlobName → Bytes → Type 0) (func : IsOne has) 
         let now : Reads has (ShardIndex i k g) f.shard_index (surviving left was) = record { bytes = f.shard_index.text (surviving left was); there = written (ShardIndex i k g) (f.shard_index.text (surviving left was)) text; reads = writable r.p was r.there its } in
         let is : h ≡ surviving left was = reads_one has func (ShardIndex i k g) f.shard_index h (surviving left was) reads now in
         let l_left : names_uuid left l.uuid ≡ true = passed (λ (z : SnapList). names_uuid left z.uuid) was.snapshots l (subst (λ (z : ShardFiles). Has z.snapshots l) is m) in
-        has_names (uuids_of root) l.uuid (left_among uuids (uuids_of root) l.uuid (names_has left l.uuid l_left))
+        has_names (uuids_of root) l.uuid (uuid_was uuids (uuids_of root) l.uuid (names_has left l.uuid l_left))
   ]
 
 -- each index of the root of a cleanup that may settle lists listed snapshots alone
@@ -113,5 +109,5 @@ lists_now f w shelf l k s present clean i j g gen h reads x m =
     let (z, there, same) = Has-mapped (λ (y : RootSnap). y.uuid) s.t.root.snapshots x.uuid (names_has (uuids_of s.t.root) x.uuid named) in
     let all : (deleted_root s.t.root s.uuids (pruned_shards f s.t.clean s.t.root s.uuids s.t.read) s.t.first).snapshots ≡ left_snaps s.uuids s.t.root.snapshots =
     deleted_snapshots s.t.root (once f w shelf l k s present) s.uuids (pruned_shards f s.t.clean s.t.root s.uuids s.t.read) s.t.first (of_root_apart s.t.root (pruned_shards f s.t.clean s.t.root s.uuids s.t.read) p.of_root) in
-    let stays : Has (left_snaps s.uuids s.t.root.snapshots) z = snap_left s.uuids s.t.root.snapshots z there (ap (λ (us : List ℕ). names_uuid us z.uuid) (s.deleting.bare clean)) in
+    let stays : Has (left_snaps s.uuids s.t.root.snapshots) z = left_stays s.uuids s.t.root.snapshots z there (ap (λ (us : List ℕ). names_uuid us z.uuid) (s.deleting.bare clean)) in
     (z, subst (λ (r : RootData). Has r.snapshots z) (sym at) (subst (λ (ss : List RootSnap). Has ss z) (sym all) stays), same)

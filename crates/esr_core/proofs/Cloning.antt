@@ -1,6 +1,7 @@
 -- What a clone's ticket wrote is the shard: the files that its source has of it, which its base has, too.
 use Rattle.std.proofs.Common.{◌≡◌, ◌⊎◌, ℕ, suc, ◌+◌, false, List, Some, map, refl, sym, ap, ◌∙◌, subst, inl, inr, arith}
 use Rattle.std.specs.FinMap as fin
+use Rattle.std.proofs.lemmas.Option.{same_Some}
 use Rattle.esr_model.specs.Names.{BlobName, ShardSnap, ShardIndex}
 use Rattle.esr_model.specs.Values.{Bytes, Has, FileEntry, ShardSnapshot, ShardFiles, ShardResult, Formats}
 use Rattle.esr_model.specs.Shelf.{Shelved}
@@ -14,9 +15,9 @@ use Rattle.esr_core.specs.Turns.{InBase, DoneFound}
 use Rattle.esr_core.specs.Ids.{Law}
 use Rattle.esr_core.specs.Written.{WroteLaw}
 use Rattle.esr_core.specs.Allowed.{Based, ClonedBy}
-use Rattle.esr_core.proofs.Reading.{some_same}
 use Rattle.esr_core.proofs.Storing.{extended_old}
-use Rattle.esr_core.proofs.Copying.{SourceStands, source_stands, source_in_base, source_found}
+use Rattle.esr_core.specs.Laws.CloneSources.{SourceStands, source_stands}
+use Rattle.esr_core.proofs.Copying.{source_in_base, source_found}
 
 module _ (f : Formats) (w : World) (shelf : List Shelved) (l : Law f w shelf) (k : ℕ) (t : Ticket) (out : IsOut w k t) (r : ShardResult) (is : t.work ≡ Shard r.index r.shard) (source : ℕ) (copies : t.source ≡ Some source) (b : ClonedBy f t source r) where
   law : WroteLaw f w.blobs t
@@ -41,7 +42,7 @@ module _ (f : Formats) (w : World) (shelf : List Shelved) (l : Law f w shelf) (k
       record { bytes = based.0; there = law.base r.index r.shard stands.base based.0 is stands.base_is based.1; reads = based.2 }
 
   base_is : b.base ≡ stands.stands.held
-  base_is = some_same _ _ (sym base_read.reads ∙ ap f.shard_index.read (some_same _ _ (sym base_read.there.0 ∙ stands.stands.held_reads.there.0.0)) ∙ stands.stands.held_reads.reads)
+  base_is = same_Some _ _ (sym base_read.reads ∙ ap f.shard_index.read (same_Some _ _ (sym base_read.there.0 ∙ stands.stands.held_reads.there.0.0)) ∙ stands.stands.held_reads.reads)
 
   -- each file is one of the base
   pub in_base : (e : FileEntry) → Has b.was.files e → Has b.base.files e

@@ -1,6 +1,8 @@
 -- A commit keeps the law, whether it is answered Done or fails.
 use Rattle.std.proofs.Common.{◌≡◌, ℕ, ◌<◌, ◌≤◌, List, ◌∷◌, true, Some, None, sym, ap, ◌∙◌, subst, inl, inr, arith}
 use Rattle.std.specs.FinMap as fin
+use Rattle.std.proofs.lemmas.Option.{same_Some}
+use Rattle.esr_core.specs.Laws.NumberMaps.{some_none}
 use Rattle.esr_model.specs.Names.{BlobName, Root}
 use Rattle.esr_model.specs.Values.{Bytes, Ledger, Formats}
 use Rattle.esr_model.specs.Shelf.{Shelved, shelf_after}
@@ -8,15 +10,9 @@ use Rattle.esr_model.specs.Image.{IsStored, Blobs, Has, At, Whole, RootStands}
 use Rattle.esr_core.specs.World.{World, Ticket, Swap, swap, ledger_of, HeldIn, Safely}
 use Rattle.esr_core.specs.Steps.{CommitDone, CommitFault, MayCommit, ShardCommits, with_ticket, with_blob, writing}
 use Rattle.esr_core.specs.Swaps.{Rooted, SwapLaw, TicketLaw, IsUnsettled, Counts, OrOwn}
-use Rattle.esr_core.proofs.Frames.{root_kept}
-use Rattle.esr_core.proofs.Adds.{added, now, safe_kept, at_new, kept_added, swap_added, ticket_added}
+use Rattle.esr_core.specs.Laws.BlobFrames.{root_kept, added, at_new}
+use Rattle.esr_core.proofs.Adds.{now, safe_kept, kept_added, swap_added, ticket_added}
 use Rattle.esr_core.proofs.Tickets.{each_ticket, swapping_was}
-
-some_same : {A : Type 0} (x y : A) → Some x ≡ Some y → x ≡ y
-some_same x y e = cc
-
-some_none : {A : Type 0} (x : A) → Some x ≡ None → ⊥
-some_none x e = cc
 
 -- with its own blobs there, all that the root of a swap reaches is there
 pub written : (f : Formats) (has : BlobName → Bytes → Type 0) (shelf : List Shelved) (names : List BlobName) (s : Swap) → SwapLaw f has shelf names s
@@ -71,7 +67,7 @@ mine f blobs ledger shelf t name bytes valid absent doomed l may =
     there : (s : Swap) → swap f t ≡ Some s → (m : BlobName) (b : Bytes) → Has s.own (m, b) → name ≡ m → At f (added f blobs name bytes valid absent doomed) m b
     there s is m b own e = elim may [
       | inl h ↦
-          let same : h.0 ≡ s = some_same _ _ (sym h.1 ∙ is) in
+          let same : h.0 ≡ s = same_Some _ _ (sym h.1 ∙ is) in
           elim h.2 [
             | inl mine ↦
                 let text : bytes ≡ b = (l.shape s is).one_text m bytes b (subst (λ x. Has x (m, bytes)) (ap (λ (x : Swap). x.own) same) (subst (λ x. Has h.0.own (x, bytes)) e mine)) own in
@@ -84,7 +80,7 @@ mine f blobs ledger shelf t name bytes valid absent doomed l may =
     root_there : (s : Swap) → swap f t ≡ Some s → (n : ℕ) → name ≡ Root n → At f (added f blobs name bytes valid absent doomed) (Root n) (f.root.text s.root)
     root_there s is n e = elim may [
       | inl h ↦
-          let same : h.0 ≡ s = some_same _ _ (sym h.1 ∙ is) in
+          let same : h.0 ≡ s = same_Some _ _ (sym h.1 ∙ is) in
           elim h.2 [
             | inl mine ↦ absurd ((l.shape s is).no_root n bytes (subst (λ x. Has x (Root n, bytes)) (ap (λ (x : Swap). x.own) same) (subst (λ x. Has h.0.own (x, bytes)) e mine)))
             | inr root ↦
@@ -97,7 +93,7 @@ mine f blobs ledger shelf t name bytes valid absent doomed l may =
     root_clean : (s : Swap) → swap f t ≡ Some s → ((n : ℕ) → t.raised ≡ Some n → ledger.safe ≤ n) → (n : ℕ) → name ≡ Root n → Has doomed (Root n) → ⊥
     root_clean s is above n e = elim may [
       | inl h ↦
-          let same : h.0 ≡ s = some_same _ _ (sym h.1 ∙ is) in
+          let same : h.0 ≡ s = same_Some _ _ (sym h.1 ∙ is) in
           elim h.2 [
             | inl mine ↦ absurd ((l.shape s is).no_root n bytes (subst (λ x. Has x (Root n, bytes)) (ap (λ (x : Swap). x.own) same) (subst (λ x. Has h.0.own (x, bytes)) e mine)))
             | inr root ↦ let one : root.0 ≡ n = root_same (sym root.1 ∙ e) in let r : t.raised ≡ Some n = root.2.raised ∙ ap Some one in l.clean_root n r (above n r)
@@ -110,7 +106,7 @@ mine f blobs ledger shelf t name bytes valid absent doomed l may =
 
     above : (s : Swap) → IsUnsettled f t s → Counts ledger t → (n : ℕ) → t.raised ≡ Some n → ledger.safe ≤ n
     above s i (inl p) n e = (l.last s i p n e).1
-    above s i (inr (m, e', le)) n e = let one : m ≡ n = some_same _ _ (sym e' ∙ e) in omega arith
+    above s i (inr (m, e', le)) n e = let one : m ≡ n = same_Some _ _ (sym e' ∙ e) in omega arith
 
     noted_more : (s : Swap) → swap f t ≡ Some s → ((m : BlobName) (b : Bytes) → Has s.own (m, b) → Has doomed m → ⊥) → ((n : ℕ) → t.raised ≡ Some n → ledger.safe ≤ n) → SwapLaw f (now f blobs name bytes valid absent doomed) shelf t.noted s → SwapLaw f (now f blobs name bytes valid absent doomed) shelf (name ∷ t.noted) s
     noted_more s is clean above h = record {

@@ -3,15 +3,16 @@ use Rattle.std.proofs.Common.{◌≡◌, ◌⊎◌, ℕ, zero, suc, ◌<◌, Lis
 use Rattle.std.proofs.lemmas.Bool.{cases_order}
 use Rattle.std.specs.FinMap.{FinMap}
 use Rattle.std.specs.FinMap as fin
+use Rattle.std.proofs.lemmas.Option.{same_Some, none-some}
+use Rattle.esr_core.proofs.TrackingOps.{goes_not_stopped}
 use Rattle.esr_model.specs.Values.{ShardResult, Formats}
 use Rattle.esr_model.specs.Shelf.{Shelved}
 use Rattle.esr_model.specs.Image.{Has}
 use Rattle.esr_core.specs.World.{World, Op, ShardWork, ShardState, Pending, Out, Done, GivenUp, Ticket, Restoring, AllDone}
 use Rattle.esr_core.specs.Ready.{Barrier, Goes, Stopped, Before, SwapIsOut, UnitIsOut, AnyReady, AShard, AFinalize, ADrop, ADelete, ACleanup, IsOpen, HasRestore, NoTicketOut}
 use Rattle.esr_core.specs.Queue.{Lawful}
-use Rattle.esr_core.proofs.Reading.{some_same, none_some}
 use Rattle.esr_core.specs.ReadTracked.{ReadTracked}
-use Rattle.esr_core.proofs.Queues.{Deletes}
+use Rattle.esr_core.specs.Laws.Maps.{Deletes}
 use Rattle.esr_core.proofs.ReadSteps.{restore_ready}
 
 -- whether a map has a key
@@ -20,7 +21,7 @@ has_key m k = go (fin.get m k) refl
   where
     go : (r : Option _) → fin.get m k ≡ r → ((x : _) × (fin.get m k ≡ Some x)) ⊎ ((x : _) → fin.get m k ≡ Some x → ⊥)
     go (Some x) e = inl (x, e)
-    go None e = inr (λ x h. none_some x (sym e ∙ h))
+    go None e = inr (λ x h. none-some x (sym e ∙ h))
 
 -- whether a delete stands before
 barred : (deletes : Deletes) (o : ℕ) → Barrier deletes o ⊎ (Barrier deletes o → ⊥)
@@ -44,10 +45,6 @@ goes_or_not op = go op.failed refl op.aborted refl
     go true e a h = inr (inl e)
     go false e None h = inl (record { unfailed = e; unaborted = h })
     go false e (Some by) h = inr (inr (by, h))
-
-not_both : (op : Op) → Goes op → Stopped op → ⊥
-not_both op g (inl e) = true≢false (sym e ∙ g.unfailed)
-not_both op g (inr (by, e)) = none_some by (sym g.unaborted ∙ e)
 
 module _ (f : Formats) (w : World) (shelf : List Shelved) (l : Lawful f w shelf) (idle : (k : ℕ) (t : Ticket) → fin.get w.tickets k ≡ Some t → t.out ≡ true → ⊥) (no_restore : (o : ℕ) (r : Restoring) → fin.get w.restores o ≡ Some r → ⊥) where
   no_swap : (k : ℕ) → SwapIsOut w.tickets w.term k → ⊥
@@ -91,7 +88,7 @@ module _ (f : Formats) (w : World) (shelf : List Shelved) (l : Lawful f w shelf)
   could_or_not o = elim (has_key w.ops o) [
     | inr none ↦ inr (λ h. none h.op h.there)
     | inl h ↦ elim (goes_or_not h.0) [
-      | inr st ↦ inr (λ c. not_both c.op c.goes (subst Stopped (some_same _ _ (sym h.1 ∙ c.there)) st))
+      | inr st ↦ inr (λ c. goes_not_stopped c.op c.goes (subst Stopped (same_Some _ _ (sym h.1 ∙ c.there)) st))
       | inl g ↦ elim (barred w.deletes o) [
         | inl b ↦ inr (λ c. c.no_barrier b)
         | inr nb ↦ inl (record { op = h.0; there = h.1; goes = g; no_barrier = nb })

@@ -1,83 +1,21 @@
 -- What stands of the shard that a clone's ticket copies: its base lists it, with the files that the source has of the shard.
-use Rattle.std.proofs.Common.{◌≡◌, ◌⊎◌, ℕ, ◌<◌, List, [], ◌∷◌, Option, Some, None, refl, sym, ap, ◌∙◌, subst, inl, inr}
+use Rattle.std.proofs.Common.{◌≡◌, ℕ, ◌<◌, List, [], ◌∷◌, Some, sym, ap, ◌∙◌, subst, inl, inr}
 use Rattle.std.specs.FinMap as fin
+use Rattle.std.proofs.lemmas.Option.{same_Some}
 use Rattle.esr_model.specs.Names.{Snap, ShardSnap, ShardIndex}
 use Rattle.esr_model.specs.Values.{Bytes, Has, IndexRef, SnapInfo, FileEntry, ShardSnapshot, ShardFiles, Formats}
 use Rattle.esr_model.specs.Shelf.{ShelfShard, Shelved, shelved_at}
 use Rattle.esr_model.specs.Places.{shelf_places}
-use Rattle.esr_model.specs.Image.{AllPairs, At, Reads, Generation, ListsAs, FileStands, ShardStands, IndexStands, RootStands}
-use Rattle.esr_core.specs.World.{World, Op, ShardWork, Shard, Ticket, HeldIn}
-use Rattle.esr_core.specs.Steps.{IsOut}
-use Rattle.esr_core.specs.Generations.{IsOfShard, CopiesFrom, OpLaw, Base, ShardLaw}
+use Rattle.esr_model.specs.Image.{AllPairs, At, Reads, FileStands, ShardStands, RootStands}
+use Rattle.esr_core.specs.World.{World, Op, Ticket, HeldIn}
+use Rattle.esr_core.specs.Generations.{CopiesFrom}
 use Rattle.esr_core.specs.Ids.{Law}
-use Rattle.esr_core.proofs.Reading.{some_same, reads_one, held_one, safe_root_stands, Has-map}
-use Rattle.esr_core.proofs.Ordered.{in_places, to_shelf_places}
-use Rattle.esr_core.proofs.Agreeing.{places_has}
-use Rattle.esr_core.proofs.Grows.{info_there}
+use Rattle.esr_core.specs.Laws.OneValue.{reads_one, held_one, safe_root_stands}
+use Rattle.esr_core.specs.Laws.SortedLists.{to_shelf_places}
+use Rattle.esr_core.specs.Laws.RootAgreement.{places_has}
+use Rattle.esr_core.specs.Laws.CloneSources.{SourceStands}
 use Rattle.esr_core.proofs.Staging.{IsShelved, listed_shelved}
 use Rattle.esr_core.proofs.ListedInfo.{pairs_both}
-use Rattle.esr_core.proofs.DoneShard.{place_has}
-
--- the base is there, stands, and lists the snapshot
-pub record SourceStands (f : Formats) (w : World) (t : Ticket) (index shard source : ℕ) : Type 0 where
-  pub base : ℕ
-  pub base_is : t.base ≡ Some base
-  pub stands : IndexStands f (HeldIn f w) w.root index shard base
-  pub lists : ListsAs f (HeldIn f w) index shard base source
-
-told : {A : Type 0} (o : Option A) → (o ≡ None) ⊎ ((x : A) × (o ≡ Some x))
-told None = inl refl
-told (Some x) = inr (x, refl)
-
-module _ (f : Formats) (w : World) (shelf : List Shelved) (l : Law f w shelf) (k : ℕ) (t : Ticket) (out : IsOut w k t) (index shard : ℕ) (is : t.work ≡ Shard index shard) (source : ℕ) (copies : t.source ≡ Some source) where
-  law : ShardLaw f (HeldIn f w) w.root w.ops k t index shard
-  law = l.lawful.sound.carried.shards k t out.there out.out index shard is
-
-  op_law : OpLaw f (HeldIn f w) w.root law.op
-  op_law = l.lawful.sound.carried.ops t.op law.op law.op_there
-
-  from : CopiesFrom f (HeldIn f w) w.root source law.op.indices
-  from = op_law.copies source (sym law.source_is ∙ copies)
-
-  stands : RootStands f (HeldIn f w) w.root shelf
-  stands = safe_root_stands f (HeldIn f w) (held_one f w) w.safe w.root shelf l.lawful.sound.rooted.kept.picked l.lawful.sound.carried.root_is
-
-  -- the source has the shard
-  of_shard : IsOfShard f (HeldIn f w) from.listed.0.uuid index shard
-  of_shard =
-      let s : ShardWork = law.s in
-      let place = in_places law.op.indices (s.ref, s.number) (subst (λ (list : List (IndexRef × ℕ)). Has list (s.ref, s.number)) op_law.places (Has-map (λ (z : ShardWork). (z.ref, z.number)) law.op.shards s law.s_there)) in
-      record {
-        info = from.by_info.info;
-        info_reads = subst (λ u. Reads (HeldIn f w) (Snap u) f.info from.by_info.info) (sym from.listed.2) from.by_info.info_reads;
-        place = (s.ref, s.number);
-        there = to_shelf_places from.by_info.info.indices (s.ref, s.number) (places_has from.by_info.info.indices s.ref s.number (from.by_info.among s.ref place.0) place.1);
-        index_is = law.index_is;
-        shard_is = law.shard_is;
-      }
-
-  -- so the root has a generation of it
-  in_root : (g : ℕ) × Generation w.root index shard g
-  in_root =
-      let (shelved, s) = info_there f (HeldIn f w) w.root w.root.snapshots shelf stands.snapshots from.listed.0 from.listed.1 in
-      let same : of_shard.info ≡ s.info = reads_one (HeldIn f w) (held_one f w) (Snap from.listed.0.uuid) f.info of_shard.info s.info of_shard.info_reads s.info_reads in
-      let (g, gen) = place_has f (HeldIn f w) w.root from.listed.0.uuid (shelf_places s.info.indices) shelved.shards s.shards of_shard.place (subst (λ (x : SnapInfo). Has (shelf_places x.indices) of_shard.place) same of_shard.there) in
-      (g, subst (λ i. Generation w.root i shard g) of_shard.index_is (subst (λ n. Generation w.root of_shard.place.0.id n g) of_shard.shard_is gen))
-
-  pub source_stands : SourceStands f w t index shard source
-  source_stands = elim (told t.base) [
-    | inl none ↦
-        let base : Base f (HeldIn f w) w.root w.ops index shard None = subst (Base f (HeldIn f w) w.root w.ops index shard) none law.base in
-        absurd (base in_root.0 (inl in_root.1))
-    | inr some ↦
-        let base : Base f (HeldIn f w) w.root w.ops index shard (Some some.0) = subst (Base f (HeldIn f w) w.root w.ops index shard) some.1 law.base in
-        record {
-          base = some.0;
-          base_is = some.1;
-          stands = base.1.stands;
-          lists = subst (ListsAs f (HeldIn f w) index shard some.0) from.listed.2 (base.1.listed (λ g gen. base.0 g (inl gen)) from.listed.0 from.listed.1 of_shard);
-        }
-  ]
 
 entry_in : (files : List FileEntry) (ids : List ℕ) (es : List FileEntry) → AllPairs (λ (id : ℕ) (e : FileEntry). (e.name ≡ id) × Has files e) ids es → (e : FileEntry) → Has es e → Has files e
 entry_in files [] [] h e m = absurd m
@@ -95,7 +33,7 @@ module _ (f : Formats) (w : World) (t : Ticket) (index shard source : ℕ) (s : 
 
   -- what is there of it is that
   pub source_found : (was : ShardSnapshot) → Reads (At f w.blobs) (ShardSnap index shard source) f.shard_snap was → was ≡ s.lists.snap
-  source_found was reads = some_same _ _ (sym reads.reads ∙ ap f.shard_snap.read (some_same _ _ (sym reads.there.0 ∙ s.lists.snap_reads.there.0.0)) ∙ s.lists.snap_reads.reads)
+  source_found was reads = same_Some _ _ (sym reads.reads ∙ ap f.shard_snap.read (same_Some _ _ (sym reads.there.0 ∙ s.lists.snap_reads.there.0.0)) ∙ s.lists.snap_reads.reads)
 
   -- which nobody may remove
   pub source_held : (was : ShardSnapshot) → Reads (At f w.blobs) (ShardSnap index shard source) f.shard_snap was → Reads (HeldIn f w) (ShardSnap index shard source) f.shard_snap was

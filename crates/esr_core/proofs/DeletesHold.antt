@@ -3,50 +3,37 @@ use Rattle.std.proofs.Common.{◌≡◌, ◌⊎◌, ℕ, suc, ◌+◌, ◌<◌, 
 use Rattle.std.specs.Prelude.{filter, ◌==◌, ◌&&◌, if◌then◌else◌}
 use Rattle.std.specs.List.{list_any}
 use Rattle.std.proofs.lemmas.Bool.Decides.{eqb_tells}
+use Rattle.std.proofs.lemmas.Option.{same_Some, none-some}
+use Rattle.std.proofs.lemmas.Bool.{cond-true, cond-false, cases_Bool}
+use Rattle.esr_core.specs.Laws.DeleteRoots.{has_names, names_has, bytes_same, one_found, uuid_left, AreApart, deleted_snapshots, deleted_generations}
+use Rattle.esr_core.specs.Laws.Tests.{clash, any_of, pair_tells}
+use Rattle.esr_core.proofs.Chosen.{filter-Has}
 use Rattle.esr_model.specs.Names.{BlobName, ShardIndex}
 use Rattle.esr_model.specs.Values.{Bytes, Has, RootSnap, RootIndex, RootData, FileEntry, SnapList, ShardFiles, ReadsBack, IsOneEach, Formats}
 use Rattle.esr_model.specs.Shelf.{names_uuid}
 use Rattle.esr_model.specs.Image.{IsOne, AllPairs, Reads, Lists, Generation, at_shard, at_shard_of}
-use Rattle.esr_model.specs.Delete.{left_snaps, Prunes, Deletes, PrunedShard, next_after, own_id, fresh_from, left_uuids, uuids_of, lists_file, listed_lists, surviving, is_index, index_bytes, files_by, files_read, left_text, pruned_blobs, deleted_root}
+use Rattle.esr_model.specs.Delete.{left_snaps, Prunes, Deletes, PrunedShard, next_after, own_id, fresh_from, left_uuids, uuids_of, lists_file, listed_lists, surviving, is_index, files_by, files_read, left_text, pruned_blobs, deleted_root}
 use Rattle.esr_core.specs.Pruning.{is_left, is_victim, has_none, is_touched, bare_shard, pruned_shards, IsToRead}
-use Rattle.esr_core.proofs.Reading.{some_same, none_some, reads_one}
-use Rattle.esr_core.proofs.Results.{choose_true, choose_false}
-use Rattle.esr_core.proofs.Deleting.{bool_told}
-use Rattle.esr_core.proofs.DeletedRoots.{one_found, uuid_left, AreApart, pair_tells, deleted_snapshots, deleted_from, deleted_kept, deleted_generations, deleted_stays, deleted_now}
-use Rattle.esr_core.proofs.PrunedShards.{IsOfRoot, of_indices, has_of_indices}
+use Rattle.esr_core.specs.Laws.OneValue.{reads_one}
+use Rattle.esr_core.proofs.DeletedRoots.{deleted_from, deleted_kept, deleted_stays, deleted_now}
+use Rattle.esr_core.specs.Laws.PruneShards.{IsOfRoot, of_indices}
+use Rattle.esr_core.proofs.PrunedShards.{has_of_indices}
 
 -- ---- uuids
-
-pub clash : (b : Bool) → b ≡ true → b ≡ false → ⊥
-clash b p q = cc
-
-pub has_names : (us : List ℕ) (u : ℕ) → Has us u → names_uuid us u ≡ true
-has_names [] u m = absurd m
-has_names (x ∷ us) u m = elim (eqb_tells x u) [
-  | inl t ↦ choose_true _ _ _ t.0
-  | inr t ↦ choose_false _ _ _ t.0 ∙ elim m [ inl e ↦ absurd (t.1 e) | inr rest ↦ has_names us u rest ]
-]
-
-pub names_has : (us : List ℕ) (u : ℕ) → names_uuid us u ≡ true → Has us u
-names_has [] u e = absurd (clash false e refl)
-names_has (x ∷ us) u e = elim (eqb_tells x u) [
-  | inl t ↦ inl t.1
-  | inr t ↦ inr (names_has us u (sym (choose_false _ _ _ t.0) ∙ e))
-]
 
 -- those of one list or of another
 names_first : (us vs : List ℕ) (u : ℕ) → names_uuid (us ++ vs) u ≡ false → (names_uuid us u ≡ false) × (names_uuid vs u ≡ false)
 names_first [] vs u e = (refl, e)
 names_first (x ∷ us) vs u e = elim (eqb_tells x u) [
-  | inl t ↦ absurd (clash _ (choose_true _ _ _ t.0) e)
-  | inr t ↦ let rest = names_first us vs u (sym (choose_false _ _ _ t.0) ∙ e) in (choose_false _ _ _ t.0 ∙ rest.0, rest.1)
+  | inl t ↦ absurd (clash _ (cond-true _ _ _ t.0) e)
+  | inr t ↦ let rest = names_first us vs u (sym (cond-false _ _ _ t.0) ∙ e) in (cond-false _ _ _ t.0 ∙ rest.0, rest.1)
 ]
 
 pub names_same : (us vs : List ℕ) (u : ℕ) → names_uuid vs u ≡ false → names_uuid (us ++ vs) u ≡ names_uuid us u
 names_same [] vs u e = e
 names_same (x ∷ us) vs u e = elim (eqb_tells x u) [
-  | inl t ↦ choose_true _ _ _ t.0 ∙ sym (choose_true _ _ _ t.0)
-  | inr t ↦ choose_false _ _ _ t.0 ∙ names_same us vs u e ∙ sym (choose_false _ _ _ t.0)
+  | inl t ↦ cond-true _ _ _ t.0 ∙ sym (cond-true _ _ _ t.0)
+  | inr t ↦ cond-false _ _ _ t.0 ∙ names_same us vs u e ∙ sym (cond-false _ _ _ t.0)
 ]
 
 -- ---- the snapshots that were read and aren't listed
@@ -65,11 +52,11 @@ unlisted_read f listed (blob ∷ read) = unlisted_by listed (f.shard_index.read 
 
 none_of : (listed : List ℕ) (lists : List SnapList) (u : ℕ) → names_uuid listed u ≡ true → names_uuid (unlisted_of listed lists) u ≡ false
 none_of listed [] u e = refl
-none_of listed (l ∷ lists) u e = elim (bool_told (names_uuid listed l.uuid)) [
-  | inl b ↦ ap (λ (us : List ℕ). names_uuid us u) (choose_true _ _ _ b) ∙ none_of listed lists u e
-  | inr b ↦ ap (λ (us : List ℕ). names_uuid us u) (choose_false _ _ _ b) ∙ elim (eqb_tells l.uuid u) [
+none_of listed (l ∷ lists) u e = elim (cases_Bool (names_uuid listed l.uuid)) [
+  | inl b ↦ ap (λ (us : List ℕ). names_uuid us u) (cond-true _ _ _ b) ∙ none_of listed lists u e
+  | inr b ↦ ap (λ (us : List ℕ). names_uuid us u) (cond-false _ _ _ b) ∙ elim (eqb_tells l.uuid u) [
     | inl t ↦ absurd (clash (names_uuid listed u) e (ap (names_uuid listed) (sym t.1) ∙ b))
-    | inr t ↦ choose_false _ _ _ t.0 ∙ none_of listed lists u e
+    | inr t ↦ cond-false _ _ _ t.0 ∙ none_of listed lists u e
   ]
 ]
 
@@ -86,13 +73,13 @@ none_listed f listed (blob ∷ read) u e = none_both (unlisted_by listed (f.shar
 
 some_of : (listed : List ℕ) (lists : List SnapList) (l : SnapList) → Has lists l → names_uuid (unlisted_of listed lists) l.uuid ≡ false → names_uuid listed l.uuid ≡ true
 some_of listed [] l m e = absurd m
-some_of listed (x ∷ lists) l m e = elim (bool_told (names_uuid listed x.uuid)) [
+some_of listed (x ∷ lists) l m e = elim (cases_Bool (names_uuid listed x.uuid)) [
   | inl b ↦ elim m [
     | inl same ↦ ap (λ (y : SnapList). names_uuid listed y.uuid) (sym same) ∙ b
-    | inr rest ↦ some_of listed lists l rest (ap (λ (us : List ℕ). names_uuid us l.uuid) (sym (choose_true _ _ _ b)) ∙ e)
+    | inr rest ↦ some_of listed lists l rest (ap (λ (us : List ℕ). names_uuid us l.uuid) (sym (cond-true _ _ _ b)) ∙ e)
   ]
   | inr b ↦
-      let here : names_uuid (x.uuid ∷ unlisted_of listed lists) l.uuid ≡ false = ap (λ (us : List ℕ). names_uuid us l.uuid) (sym (choose_false _ _ _ b)) ∙ e in
+      let here : names_uuid (x.uuid ∷ unlisted_of listed lists) l.uuid ≡ false = ap (λ (us : List ℕ). names_uuid us l.uuid) (sym (cond-false _ _ _ b)) ∙ e in
       elim m [
         | inl same ↦ absurd (clash (names_uuid (x.uuid ∷ unlisted_of listed lists) l.uuid) (has_names (x.uuid ∷ unlisted_of listed lists) l.uuid (inl (ap (λ (y : SnapList). y.uuid) same))) here)
         | inr rest ↦ some_of listed lists l rest (names_first (x.uuid ∷ []) (unlisted_of listed lists) l.uuid here).1
@@ -101,25 +88,17 @@ some_of listed (x ∷ lists) l m e = elim (bool_told (names_uuid listed x.uuid))
 
 -- a list that was read is of a listed snapshot, or its uuid is among these
 list_read : (f : Formats) (listed : List ℕ) (read : List (BlobName × Bytes)) (p : PrunedShard) (was : ShardFiles) (l : SnapList) → files_read f read p ≡ Some was → Has was.snapshots l → names_uuid (unlisted_read f listed read) l.uuid ≡ false → names_uuid listed l.uuid ≡ true
-list_read f listed [] p was l e m none = absurd (none_some was e)
+list_read f listed [] p was l e m none = absurd (none-some was e)
 list_read f listed (blob ∷ read) p was l e m none =
     let split = names_first (unlisted_by listed (f.shard_index.read blob.1)) (unlisted_read f listed read) l.uuid none in
-    elim (bool_told (is_index p.index p.number p.base blob.0)) [
+    elim (cases_Bool (is_index p.index p.number p.base blob.0)) [
       | inl b ↦
-          let here : f.shard_index.read blob.1 ≡ Some was = sym (ap (files_by f) (choose_true _ _ _ b)) ∙ e in
+          let here : f.shard_index.read blob.1 ≡ Some was = sym (ap (files_by f) (cond-true _ _ _ b)) ∙ e in
           some_of listed was.snapshots l m (ap (λ (o : Option ShardFiles). names_uuid (unlisted_by listed o) l.uuid) (sym here) ∙ split.0)
-      | inr b ↦ list_read f listed read p was l (sym (ap (files_by f) (choose_false _ _ _ b)) ∙ e) m split.1
+      | inr b ↦ list_read f listed read p was l (sym (ap (files_by f) (cond-false _ _ _ b)) ∙ e) m split.1
     ]
 
 -- ---- members
-
-pub has_filtered : {A : Type 0} (test : A → Bool) (xs : List A) (x : A) → Has xs x → test x ≡ true → Has (filter test xs) x
-has_filtered test [] x m e = absurd m
-has_filtered test (y ∷ ys) x (inl same) e = let own : test y ≡ true = ap test same ∙ e in rw own (inl same)
-has_filtered test (y ∷ ys) x (inr m) e = elim (bool_told (test y)) [
-  | inl b ↦ rw b (inr (has_filtered test ys x m e))
-  | inr b ↦ rw b (has_filtered test ys x m e)
-]
 
 was_filtered : {A : Type 0} (b : Bool) (y x : A) (ys rest : List A) → (Has rest x → Has ys x) → Has (if b then y ∷ rest else rest) x → Has (y ∷ ys) x
 was_filtered true y x ys rest h (inl e) = inl e
@@ -129,13 +108,6 @@ was_filtered false y x ys rest h m = inr (h m)
 pub of_filtered : {A : Type 0} (test : A → Bool) (xs : List A) (x : A) → Has (filter test xs) x → Has xs x
 of_filtered test [] x m = absurd m
 of_filtered test (y ∷ ys) x m = was_filtered (test y) y x ys (filter test ys) (of_filtered test ys x) m
-
-pub any_of : {A : Type 0} (test : A → Bool) (xs : List A) (x : A) → Has xs x → test x ≡ true → list_any test xs ≡ true
-any_of test [] x m e = absurd m
-any_of test (y ∷ ys) x m e = elim (bool_told (test y)) [
-  | inl b ↦ rw b refl
-  | inr b ↦ elim m [ inl same ↦ absurd (clash (test y) (ap test same ∙ e) b) | inr rest ↦ rw b (any_of test ys x rest e) ]
-]
 
 -- ---- what is left of a shard
 
@@ -155,10 +127,10 @@ module _ (listed uuids unlisted : List ℕ) (was : ShardFiles) (known : (l : Sna
   entries_left l m mine [] (e ∷ fs) within h = h
   entries_left l m mine (id ∷ ids) [] within h = h
   entries_left l m mine (id ∷ ids) (e ∷ fs) within h =
-      let there : Has (listed_lists left was.snapshots) l = has_filtered (λ (x : SnapList). names_uuid left x.uuid) was.snapshots l m mine in
+      let there : Has (listed_lists left was.snapshots) l = filter-Has (λ (x : SnapList). names_uuid left x.uuid) was.snapshots l m mine in
       let file : Has l.files e.name = subst (Has l.files) (sym h.0.0) (within id (inl refl)) in
       let test : lists_file (listed_lists left was.snapshots) e ≡ true = any_of (λ (x : SnapList). names_uuid x.files e.name) (listed_lists left was.snapshots) l there (has_names l.files e.name file) in
-      ((h.0.0, has_filtered (lists_file (listed_lists left was.snapshots)) was.files e h.0.1 test), entries_left l m mine ids fs (λ x n. within x (inr n)) h.1)
+      ((h.0.0, filter-Has (lists_file (listed_lists left was.snapshots)) was.files e h.0.1 test), entries_left l m mine ids fs (λ x n. within x (inr n)) h.1)
 
   pub prunes_left : Prunes was (surviving left was) (uuids ++ unlisted)
   prunes_left = record {
@@ -167,7 +139,7 @@ module _ (listed uuids unlisted : List ℕ) (was : ShardFiles) (known : (l : Sna
         let mine = list_left lists.list lists.there same in
         record {
           list = lists.list;
-          there = has_filtered (λ (x : SnapList). names_uuid left x.uuid) was.snapshots lists.list lists.there mine;
+          there = filter-Has (λ (x : SnapList). names_uuid left x.uuid) was.snapshots lists.list lists.there mine;
           uuid_is = lists.uuid_is;
           entries = entries_left lists.list lists.there mine lists.list.files fs (λ id n. n) lists.entries;
         };
@@ -182,7 +154,7 @@ pub fresh_has : (shards : List PrunedShard) (next : ℕ) (p : PrunedShard) → A
 fresh_has [] next p apart m = absurd m
 fresh_has (q ∷ shards) next p apart (inl same) =
     let mine = pair_is q p same in
-    (next, choose_true _ _ _ mine ∙ ap (λ (x : PrunedShard). Some (own_id next x)) same)
+    (next, cond-true _ _ _ mine ∙ ap (λ (x : PrunedShard). Some (own_id next x)) same)
   where
     pair_is : (a b : PrunedShard) → a ≡ b → ((a.index == b.index) && (a.number == b.number)) ≡ true
     pair_is a b e = elim (pair_tells a.index b.index a.number b.number) [ inl t ↦ t.0 | inr t ↦ absurd (t.1 (ap (λ (x : PrunedShard). x.index) e) (ap (λ (x : PrunedShard). x.number) e)) ]
@@ -190,7 +162,7 @@ fresh_has (q ∷ shards) next p apart (inr m) =
     let rest = fresh_has shards (next_after next q) p apart.1 m in
     elim (pair_tells q.index p.index q.number p.number) [
       | inl t ↦ absurd (apart.0 p m t.1.0 t.1.1)
-      | inr t ↦ (rest.0, choose_false _ _ _ t.0 ∙ rest.1)
+      | inr t ↦ (rest.0, cond-false _ _ _ t.0 ∙ rest.1)
     ]
 
 -- a fresh generation is that of a shard of which something is left, and its blob is among the unit's
@@ -215,10 +187,10 @@ fresh_is f read left [] next i k now e = absurd (never e)
     never e = cc
 fresh_is f read left (p ∷ shards) next i k now e = elim (pair_tells p.index i p.number k) [
   | inl t ↦
-      let mine : own_id next p ≡ Some now = some_same (own_id next p) (Some now) (sym (choose_true _ _ _ t.0) ∙ e) in
-      elim (bool_told p.kept) [
+      let mine : own_id next p ≡ Some now = same_Some (own_id next p) (Some now) (sym (cond-true _ _ _ t.0) ∙ e) in
+      elim (cases_Bool p.kept) [
         | inl b ↦
-            let is : next ≡ now = some_same next now (sym (choose_true _ _ _ b) ∙ mine) in
+            let is : next ≡ now = same_Some next now (sym (cond-true _ _ _ b) ∙ mine) in
             record {
               p = p;
               there = inl refl;
@@ -226,23 +198,23 @@ fresh_is f read left (p ∷ shards) next i k now e = elim (pair_tells p.index i 
               number_is = t.1.1;
               kept = b;
               above = omega (arith, is);
-              own = subst (λ (l : List (BlobName × Bytes)). Has l (ShardIndex i k now, left_text f left (files_read f read p))) (sym (choose_true _ _ _ b))
+              own = subst (λ (l : List (BlobName × Bytes)). Has l (ShardIndex i k now, left_text f left (files_read f read p))) (sym (cond-true _ _ _ b))
                   (inl (λ j. (ShardIndex (t.1.0 j) (t.1.1 j) (is j), left_text f left (files_read f read p))));
             }
-        | inr b ↦ absurd (none_some now (sym (choose_false _ _ _ b) ∙ mine))
+        | inr b ↦ absurd (none-some now (sym (cond-false _ _ _ b) ∙ mine))
       ]
   | inr t ↦
-      let rest = fresh_is f read left shards (next_after next p) i k now (sym (choose_false _ _ _ t.0) ∙ e) in
-      elim (bool_told p.kept) [
+      let rest = fresh_is f read left shards (next_after next p) i k now (sym (cond-false _ _ _ t.0) ∙ e) in
+      elim (cases_Bool p.kept) [
         | inl b ↦
-            let step : next_after next p ≡ suc next = choose_true _ _ _ b in
+            let step : next_after next p ≡ suc next = cond-true _ _ _ b in
             fresh_later f read left p shards (next_after next p) next i k now rest (let le = rest.above in omega (arith, le, step))
-            (subst (λ (l : List (BlobName × Bytes)). Has l (ShardIndex i k now, left_text f left (files_read f read rest.p))) (sym (choose_true _ _ _ b))
+            (subst (λ (l : List (BlobName × Bytes)). Has l (ShardIndex i k now, left_text f left (files_read f read rest.p))) (sym (cond-true _ _ _ b))
             (inr (subst (λ (n : ℕ). Has (pruned_blobs f read left n shards) (ShardIndex i k now, left_text f left (files_read f read rest.p))) step rest.own)))
         | inr b ↦
-            let step : next_after next p ≡ next = choose_false _ _ _ b in
+            let step : next_after next p ≡ next = cond-false _ _ _ b in
             fresh_later f read left p shards (next_after next p) next i k now rest (let le = rest.above in omega (arith, le, step))
-            (subst (λ (l : List (BlobName × Bytes)). Has l (ShardIndex i k now, left_text f left (files_read f read rest.p))) (sym (choose_false _ _ _ b))
+            (subst (λ (l : List (BlobName × Bytes)). Has l (ShardIndex i k now, left_text f left (files_read f read rest.p))) (sym (cond-false _ _ _ b))
             (subst (λ (n : ℕ). Has (pruned_blobs f read left n shards) (ShardIndex i k now, left_text f left (files_read f read rest.p))) step rest.own))
       ]
 ]
@@ -252,10 +224,6 @@ fresh_is f read left (p ∷ shards) next i k now e = elim (pair_tells p.index i 
 pub not_none : (us : List ℕ) (u : ℕ) → Has us u → has_none us ≡ false
 not_none [] u m = absurd m
 not_none (x ∷ us) u m = refl
-
-pub bytes_same : (read : List (BlobName × Bytes)) (p q : PrunedShard) → p.index ≡ q.index → p.number ≡ q.number → p.base ≡ q.base → index_bytes read p ≡ index_bytes read q
-bytes_same [] p q a b c = refl
-bytes_same (blob ∷ read) p q a b c = λ j. if is_index (a j) (b j) (c j) blob.0 then Some blob.1 else bytes_same read p q a b c j
 
 pub uuid_listed : (ss : List RootSnap) (s : RootSnap) → Has ss s → Has (map (λ (x : RootSnap). x.uuid) ss) s.uuid
 uuid_listed [] s m = absurd m
@@ -315,8 +283,8 @@ module _ (f : Formats) (has : BlobName → Bytes → Type 0) (func : IsOne has) 
       let same : r.x ≡ x = same_index r.x x r.there there i q.index h.index_is a id in
       let first_place : 0 + h.place ≡ h.place = omega arith in
       let place : h.place ≡ k = sym first_place ∙ sym h.number_is ∙ sym b in
-      let base : q.base ≡ g = some_same q.base g (sym h.at ∙ (λ j. at_shard (same j).generations (place j)) ∙ generation_in x there i k g id gen) in
-      let mine : h.was ≡ was = some_same h.was was (sym h.reads ∙ (λ j. files_read f read (bare_shard ((ap (λ (z : RootIndex). z.id) same ∙ id) j) ((first_place ∙ place) j) (base j))) ∙ was_read) in
+      let base : q.base ≡ g = same_Some q.base g (sym h.at ∙ (λ j. at_shard (same j).generations (place j)) ∙ generation_in x there i k g id gen) in
+      let mine : h.was ≡ was = same_Some h.was was (sym h.reads ∙ (λ j. files_read f read (bare_shard ((ap (λ (z : RootIndex). z.id) same ∙ id) j) ((first_place ∙ place) j) (base j))) ∙ was_read) in
       elim h.pruned [
         | inl leaves ↦ clash (has_none (left_uuids uuids x.snapshots)) (ap (λ (z : RootIndex). has_none (left_uuids uuids z.snapshots)) (sym same) ∙ leaves.0) stays
         | inr victim ↦ clash (list_any (is_victim clean uuids (uuids_of root)) was.snapshots) (ap (λ (z : ShardFiles). list_any (is_victim clean uuids (uuids_of root)) z.snapshots) (sym mine) ∙ victim.1) none
@@ -327,7 +295,7 @@ module _ (f : Formats) (has : BlobName → Bytes → Type 0) (func : IsOne has) 
       → ((fresh_from first shards i k ≡ None) × Generation (deleted_root root uuids shards first) i k g) ⊎ ((now : ℕ) × (fresh_from first shards i k ≡ Some (Some now)) × Generation (deleted_root root uuids shards first) i k now)
   left_stands i k g u gen x there id mine h h_reads fs lists e =
       let named = (names_first uuids unlisted u e).0 in
-      elim (bool_told (is_touched clean uuids x.snapshots)) [
+      elim (cases_Bool (is_touched clean uuids x.snapshots)) [
         | inr none ↦
             inl (deleted_stays root one uuids shards first apart i k g gen x u there id mine named (λ q m a b.
             let r = of_root q m in
@@ -338,7 +306,7 @@ module _ (f : Formats) (has : BlobName → Bytes → Type 0) (func : IsOne has) 
             let (was, was_read, was_has) = held i k g (record { x = x; there = there; id = id; victim = some; at = generation_in x there i k g id gen }) in
             let same : h ≡ was = reads_one has func (ShardIndex i k g) f.shard_index h was h_reads was_has in
             let listed_there : Has was.snapshots lists.list = subst (λ (z : ShardFiles). Has z.snapshots lists.list) same lists.there in
-            elim (bool_told (list_any (is_victim clean uuids (uuids_of root)) was.snapshots)) [
+            elim (cases_Bool (list_any (is_victim clean uuids (uuids_of root)) was.snapshots)) [
               | inr none ↦ inl (deleted_stays root one uuids shards first apart i k g gen x u there id mine named (no_other i k g x there id gen stays was was_read none))
               | inl victim ↦
                   let p : PrunedShard = record { index = x.id; number = k; base = g; kept = list_any (is_left kept_ones) was.snapshots } in
@@ -348,7 +316,7 @@ module _ (f : Formats) (has : BlobName → Bytes → Type 0) (func : IsOne has) 
                   let stays_listed : list_any (is_left kept_ones) was.snapshots ≡ true =
                   any_of (is_left kept_ones) was.snapshots lists.list listed_there (list_left (uuids_of root) uuids unlisted was (known_of i k g was was_read) lists.list listed_there unnamed) in
                   let (now, fresh) = fresh_has shards first p apart p_there in
-                  let own : fresh_from first shards i k ≡ Some (Some now) = ap (λ (n : ℕ). fresh_from first shards n k) (sym id) ∙ fresh ∙ ap (λ (o : Option ℕ). Some o) (choose_true _ _ _ stays_listed) in
+                  let own : fresh_from first shards i k ≡ Some (Some now) = ap (λ (n : ℕ). fresh_from first shards n k) (sym id) ∙ fresh ∙ ap (λ (o : Option ℕ). Some o) (cond-true _ _ _ stays_listed) in
                   inr (now, own, deleted_now root one uuids shards first apart i k g now gen x u there id mine named own)
             ]
       ]

@@ -1,5 +1,7 @@
 -- What a delete stages: with its new shard indices added, the new root stands for what is left of the shelf.
-use Rattle.std.proofs.Common.{◌≡◌, ◌⊎◌, ℕ, List, [], ◌∷◌, Bool, true, false, Option, refl, sym, ap, ◌∙◌, subst, inl, inr, arith}
+use Rattle.std.proofs.Common.{◌≡◌, ℕ, List, [], ◌∷◌, false, Option, sym, ap, ◌∙◌, subst, inl, inr, arith}
+use Rattle.std.proofs.lemmas.Bool.{cases_Bool, cond-true, cond-false}
+use Rattle.std.proofs.lemmas.Option.{same_Some}
 use Rattle.esr_model.specs.Places.{places, comes_first, shelf_places}
 use Rattle.esr_model.specs.Names.{BlobName, ShardIndex}
 use Rattle.esr_model.specs.Values.{Bytes, IndexRef, RootSnap, RootIndex, RootData, ShardFiles, ReadsBack, Formats}
@@ -7,22 +9,12 @@ use Rattle.esr_model.specs.Shelf.{Shelved, ShelfShard}
 use Rattle.esr_model.specs.Image.{Has, AllPairs, IsOne, Reads, Lists, FileStands, ShardStands, SnapStands, RootStands}
 use Rattle.esr_core.specs.Swaps.{OrOwn}
 use Rattle.esr_model.specs.Delete.{names_uuid, left_snaps, left_shelf, Deletes}
-use Rattle.esr_core.proofs.Frames.{reads_kept, file_kept, snap_in, index_less, index_kept, AllPairs-map}
-use Rattle.esr_core.proofs.Reading.{some_same, reads_one, AllPairs-with}
-use Rattle.esr_core.proofs.Results.{choose_true, choose_false}
-use Rattle.esr_core.proofs.Ordered.{Has-sorted, in_places}
-
-pub bool_told : (b : Bool) → (b ≡ true) ⊎ (b ≡ false)
-bool_told true = inl refl
-bool_told false = inr refl
-
--- what is left is of what was
-pub left_has : (uuids : List ℕ) (ss : List RootSnap) (s : RootSnap) → Has (left_snaps uuids ss) s → Has ss s
-left_has uuids [] s h = h
-left_has uuids (x ∷ xs) s h = elim (bool_told (names_uuid uuids x.uuid)) [
-  | inl b ↦ inr (left_has uuids xs s (subst (λ l. Has l s) (choose_true _ _ _ b) h))
-  | inr b ↦ elim (subst (λ l. Has l s) (choose_false _ _ _ b) h) [ inl e ↦ inl e | inr m ↦ inr (left_has uuids xs s m) ]
-]
+use Rattle.esr_model.specs.Lists.{AllPairs-map, AllPairs-with}
+use Rattle.esr_core.specs.Laws.BlobFrames.{reads_kept, file_kept, snap_in, index_kept}
+use Rattle.esr_core.specs.Laws.DeleteRoots.{left_has}
+use Rattle.esr_core.proofs.Frames.{index_less}
+use Rattle.esr_core.specs.Laws.OneValue.{reads_one}
+use Rattle.esr_core.specs.Laws.SortedLists.{Has-sorted, in_places}
 
 -- pair by pair over what is left
 left_pairs : (R S : RootSnap → Shelved → Type 0) (uuids : List ℕ) → ((s : RootSnap) (x : Shelved) → R s x → x.uuid ≡ s.uuid)
@@ -33,9 +25,9 @@ left_pairs R S uuids same (s ∷ ss) [] to h = absurd h
 left_pairs R S uuids same (s ∷ ss) (x ∷ xs) to h =
     let rest : AllPairs S (left_snaps uuids ss) (left_shelf uuids xs) = left_pairs R S uuids same ss xs to h.1 in
     let e : x.uuid ≡ s.uuid = same s x h.0 in
-    elim (bool_told (names_uuid uuids s.uuid)) [
-      | inl b ↦ subst (λ l. AllPairs S l (left_shelf uuids (x ∷ xs))) (sym (choose_true _ _ _ b)) (subst (AllPairs S (left_snaps uuids ss)) (sym (choose_true _ _ _ (ap (names_uuid uuids) e ∙ b))) rest)
-      | inr b ↦ subst (λ l. AllPairs S l (left_shelf uuids (x ∷ xs))) (sym (choose_false _ _ _ b)) (subst (AllPairs S (s ∷ left_snaps uuids ss)) (sym (choose_false _ _ _ (ap (names_uuid uuids) e ∙ b))) (to s x b h.0, rest))
+    elim (cases_Bool (names_uuid uuids s.uuid)) [
+      | inl b ↦ subst (λ l. AllPairs S l (left_shelf uuids (x ∷ xs))) (sym (cond-true _ _ _ b)) (subst (AllPairs S (left_snaps uuids ss)) (sym (cond-true _ _ _ (ap (names_uuid uuids) e ∙ b))) rest)
+      | inr b ↦ subst (λ l. AllPairs S l (left_shelf uuids (x ∷ xs))) (sym (cond-false _ _ _ b)) (subst (AllPairs S (s ∷ left_snaps uuids ss)) (sym (cond-false _ _ _ (ap (names_uuid uuids) e ∙ b))) (to s x b h.0, rest))
     ]
 
 module _ (f : Formats) (has : BlobName → Bytes → Type 0) (func : IsOne has) (root new : RootData) (uuids : List ℕ) (fresh : ℕ → ℕ → Option (Option ℕ)) (own : List (BlobName × Bytes))
@@ -66,7 +58,7 @@ module _ (f : Formats) (has : BlobName → Bytes → Type 0) (func : IsOne has) 
     }
     | inr now ↦
         let (g, was, held, gen, was_reads, mine, back, prunes, above) = d.pruned place.0.id place.1 now.0 now.1 in
-        let same_g : s.generation ≡ g = some_same _ _ (sym s.in_root ∙ gen) in
+        let same_g : s.generation ≡ g = same_Some _ _ (sym s.in_root ∙ gen) in
         let same : s.index ≡ was = reads_one has func (ShardIndex place.0.id place.1 g) f.shard_index s.index was (subst (λ x. Reads has (ShardIndex place.0.id place.1 x) f.shard_index s.index) same_g s.index_reads) was_reads in
         record {
           name_is = s.name_is;

@@ -1,6 +1,8 @@
 -- Each turn keeps what the tickets of deletes and cleanups have read, their plans, and what they doomed.
 use Rattle.std.proofs.Common.{◌≡◌, ℕ, suc, ◌≤◌, List, [], ◌∷◌, ◌++◌, Bool, true, false, true≢false, Option, Some, None, refl, sym, ap, ◌∙◌, subst, inl, inr, arith}
 use Rattle.std.specs.FinMap as fin
+use Rattle.std.proofs.lemmas.Option.{same_Some, none-some}
+use Rattle.esr_core.specs.Laws.NumberMaps.{was_in}
 use Rattle.esr_model.specs.Names.{BlobName}
 use Rattle.esr_model.specs.Values.{Bytes, Has, SnapInfo, ShardResult, Formats}
 use Rattle.esr_model.specs.Shelf.{Shelved, Command}
@@ -13,16 +15,13 @@ use Rattle.esr_core.specs.Steps.{Removes, MaySettle, FetchFound, reading, listin
 use Rattle.esr_core.specs.Pruning.{IsPlanned, doomed_as, doomed_by, dooms, PruneLaw, PruneLaws}
 use Rattle.esr_core.specs.Ids.{Law}
 use Rattle.esr_core.specs.Turns.{DrawPlan, AddTest, cleaning_ticket, Turn, Stays, Commits, CommitFails, Finds, Raises, Latests, Fetches, SettlesFinal, SettlesDelete, Elects, TakesShard, TakesFinal, TakesDrop, TakesDelete, TakesCleanup, AsksCleanup, CleanDrops, DrawsShard, DrawsPlan, Dones, Ending, Fails, FailsDelete, Drops, AsksCreate, AsksDelete, Merges, Removing, Pages, Deposes, Besides, Tests, TestTurn, DrawsTest, AddsTest, RemovesTests}
-use Rattle.esr_core.proofs.Adds.{at_kept, safe_kept}
+use Rattle.esr_core.specs.Laws.BlobFrames.{at_kept}
+use Rattle.esr_core.proofs.Adds.{safe_kept}
 use Rattle.esr_core.proofs.Besides.{aside_of, kept_aside}
 use Rattle.esr_core.proofs.LatestPut.{put_law}
-use Rattle.esr_core.proofs.Queues.{Tickets, was_in}
-use Rattle.esr_core.proofs.Reading.{some_same, none_some, Has-left, Has-right}
+use Rattle.esr_core.specs.Laws.Maps.{Tickets}
+use Rattle.esr_model.specs.Lists.{Has-left, Has-right}
 use Rattle.esr_core.proofs.Settling.{swap_master}
-
--- what a delete with a plan dooms
-pub dooms_is : (f : Formats) (t : Ticket) (uuids : List ℕ) (s : Swap) → t.work ≡ Deleting uuids (Some s) → t.clean ≡ false → dooms f t ≡ doomed_names f t.safe t.root s.root uuids t.read
-dooms_is f t uuids s work deletes = ap (doomed_by f t) work ∙ ap (doomed_as f t uuids s) deletes
 
 -- what a cleanup with a plan dooms
 pub cleans_is : (f : Formats) (t : Ticket) (uuids : List ℕ) (s : Swap) → t.work ≡ Deleting uuids (Some s) → t.clean ≡ true → dooms f t ≡ cleaned_names f t.raised s.root (s.own ++ t.read) t.listed
@@ -77,7 +76,7 @@ module _ (f : Formats) (blobs : Blobs) (doomed : List BlobName) (safe term : ℕ
       (λ uuids plan o uns pres is. let x = fresh uuids plan is in record {
         held = λ name b m. absurd (subst (λ (xs : List (BlobName × Bytes)). Has xs (name, b)) x.0 m);
         safe_is = x.1;
-        follows = λ s e. absurd (none_some s (sym x.2 ∙ e));
+        follows = λ s e. absurd (none-some s (sym x.2 ∙ e));
       })
       (λ uuids s done is. absurd (true≢false (sym done ∙ unsettled)))
 
@@ -122,7 +121,7 @@ module _ (f : Formats) (w : World) (shelf : List Shelved) (l : Law f w shelf) wh
           | inr was ↦ old.held m b was
         ];
         safe_is = old.safe_is;
-        follows = λ s e. absurd (none_some s (sym aside.0 ∙ e));
+        follows = λ s e. absurd (none-some s (sym aside.0 ∙ e));
       })
       (λ uuids s done is name m. absurd (some_none s (c.aside uuids (Some s) is).0))
     where
@@ -159,7 +158,7 @@ module _ (f : Formats) (w : World) (shelf : List Shelved) (l : Law f w shelf) wh
         held = old.held;
         safe_is = old.safe_is;
         follows = λ s e.
-            let swap : its ≡ s = some_same its s (same.1 ∙ e) in
+            let swap : its ≡ s = same_Some its s (same.1 ∙ e) in
             subst (λ (x : List ℕ × Swap). IsPlanned f d.t.clean d.t.root d.t.read w.next_id x.0 x.1) (λ j. (same.0 j, swap j)) d.planned;
       })
       (λ uuids s done is. absurd (true≢false (sym done ∙ d.unsettled)))

@@ -1,5 +1,6 @@
 -- An image determines its shelf.
 use Rattle.std.proofs.Common.{◌≡◌, ℕ, zero, suc, List, [], ◌∷◌, refl, sym, ap, ◌∙◌, subst, inl, inr}
+use Rattle.std.proofs.lemmas.Option.{same_Some, none-some}
 use Rattle.esr_model.specs.Places.{shelf_places}
 use Rattle.esr_model.specs.Parts.{part_names}
 use Rattle.esr_model.specs.Names.{BlobName, Root, Snap, ShardSnap}
@@ -7,7 +8,7 @@ use Rattle.esr_model.specs.Values.{Bytes, IndexRef, RootSnap, RootData, SnapInfo
 use Rattle.esr_model.specs.Shelf.{Shelved, ShelfShard}
 use Rattle.esr_model.specs.Image.{Image, AllPairs, At, IsOne, concat, FileStands, ShardStands, SnapStands, Stands, Picked}
 use Rattle.esr_model.specs.Kept.{Kept}
-use Rattle.esr_core.proofs.Reading.{reads_one, some_same, none_some}
+use Rattle.esr_core.specs.Laws.OneValue.{reads_one}
 
 -- pair by pair, what stands beside a list is one list
 pub pairs_one : {A B : Type 0} (R S : A → B → Type 0) → ((x : A) (y z : B) → R x y → S x z → y ≡ z) → (xs : List A) (ys zs : List B) → AllPairs R xs ys → AllPairs S xs zs → ys ≡ zs
@@ -48,9 +49,9 @@ module _ (f : Formats) (has : BlobName → Bytes → Type 0) (func : IsOne has) 
 
 pub kept_one : (f : Formats) (image : Image) (a b : List Shelved) → Kept f image a → Kept f image b → a ≡ b
 kept_one f image a b (inl p) (inl q) = p.no_snapshot ∙ sym q.no_snapshot
-kept_one f image a b (inl p) (inr q) = absurd (none_some q.text (sym p.no_record ∙ q.there))
-kept_one f image a b (inr p) (inl q) = absurd (none_some p.text (sym q.no_record ∙ p.there))
+kept_one f image a b (inl p) (inr q) = absurd (none-some q.text (sym p.no_record ∙ q.there))
+kept_one f image a b (inr p) (inl q) = absurd (none-some p.text (sym q.no_record ∙ p.there))
 kept_one f image a b (inr p) (inr q) =
-    let text : p.text ≡ q.text = some_same _ _ (sym p.there ∙ q.there) in
-    let cluster : p.cluster ≡ q.cluster = some_same _ _ (sym p.reads ∙ ap f.cluster.read text ∙ q.reads) in
-    picked_one f (At f image.blobs) (λ n x y h k. some_same x y (sym h.0 ∙ k.0)) q.cluster.ledger.safe a b (subst (λ (r : ClusterRecord). Picked f (At f image.blobs) r.ledger.safe a) cluster p.kept.picked) q.kept.picked
+    let text : p.text ≡ q.text = same_Some _ _ (sym p.there ∙ q.there) in
+    let cluster : p.cluster ≡ q.cluster = same_Some _ _ (sym p.reads ∙ ap f.cluster.read text ∙ q.reads) in
+    picked_one f (At f image.blobs) (λ n x y h k. same_Some x y (sym h.0 ∙ k.0)) q.cluster.ledger.safe a b (subst (λ (r : ClusterRecord). Picked f (At f image.blobs) r.ledger.safe a) cluster p.kept.picked) q.kept.picked

@@ -1,31 +1,27 @@
 -- A shard that is done keeps what holds of shards and ops.
-use Rattle.std.proofs.Common.{◌≡◌, ◌≢◌, ◌⊎◌, ℕ, ◌<◌, ◌≤◌, List, [], ◌∷◌, true, false, true≢false, Option, Some, None, map, refl, sym, ap, ◌∙◌, subst, inl, inr, arith, nat_cmp}
+use Rattle.std.proofs.Common.{◌≡◌, ◌≢◌, ◌⊎◌, ℕ, ◌<◌, ◌≤◌, List, true, false, true≢false, Option, Some, None, map, refl, sym, ap, ◌∙◌, subst, inl, inr, arith, nat_cmp}
 use Rattle.std.specs.Cmp.{nat_cmp_total}
 use Rattle.std.specs.FinMap.{FinMap, nat_cmp-IsAntisymmetric}
 use Rattle.std.specs.FinMap as fin
+use Rattle.std.proofs.lemmas.Option.{same_Some}
 use Rattle.esr_model.specs.Places.{shelf_places}
-use Rattle.esr_model.specs.Names.{BlobName, Snap, ShardSnap, ShardIndex}
-use Rattle.esr_model.specs.Values.{Bytes, IndexRef, RootSnap, RootData, SnapInfo, ShardSnapshot, ShardFiles, ShardResult, Formats}
-use Rattle.esr_model.specs.Shelf.{Shelved, ShelfShard}
-use Rattle.esr_model.specs.Image.{Has, AllPairs, Reads, Generation, Lists, ListsAs, IndexStands, ShardStands, RootStands}
+use Rattle.esr_model.specs.Names.{Snap, ShardSnap, ShardIndex}
+use Rattle.esr_model.specs.Values.{IndexRef, RootSnap, SnapInfo, ShardSnapshot, ShardFiles, ShardResult, Formats}
+use Rattle.esr_model.specs.Shelf.{Shelved}
+use Rattle.esr_model.specs.Image.{Has, Reads, Generation, Lists, ListsAs, IndexStands, RootStands}
 use Rattle.esr_core.specs.World.{World, Op, ShardWork, Shard, Ticket, Done, Out, marked, HeldIn}
 use Rattle.esr_core.specs.Steps.{DoneShard, Extends, ExtendsBase}
 use Rattle.esr_core.specs.Generations.{DoneAt, IsLive, IsOfShard, HasShard, IsOwn, Carries, AreFilesOf, DoneStands, OpLaw, Together, Base, BaseBelow, ShardLaw, Carried}
-use Rattle.esr_core.proofs.Maps.{get_was, get_other}
-use Rattle.esr_core.proofs.Reading.{some_same, held_one as func_of, reads_one, Has-map, Has-mapped}
-use Rattle.esr_core.proofs.Results.{done_same, done_out, done_of}
-use Rattle.esr_core.proofs.Marked.{marked_is, marked_ref, marked_number}
-use Rattle.esr_core.proofs.Grows.{info_there}
+use Rattle.esr_core.specs.Laws.Maps.{get_was, get_other}
+use Rattle.esr_model.specs.Lists.{Has-map, Has-mapped}
+use Rattle.esr_core.specs.Laws.OneValue.{held_one as func_of, reads_one}
+use Rattle.esr_core.specs.Laws.DoneShards.{done_same, done_of}
+use Rattle.esr_core.specs.Laws.ShardStates.{place_has, marked_is}
+use Rattle.esr_core.proofs.Results.{done_out}
+use Rattle.esr_core.proofs.Marked.{marked_ref, marked_number}
+use Rattle.esr_core.specs.Laws.BlobFrames.{info_there}
 use Rattle.esr_core.proofs.Ops.{shard_law_given, op_law_given}
 use Rattle.esr_core.proofs.Owning.{OnWith, own_on, plan_on}
-
--- a place of a listed snapshot has a generation in the root
-pub place_has : (f : Formats) (has : BlobName → Bytes → Type 0) (root : RootData) (uuid : ℕ) (places : List (IndexRef × ℕ)) (shards : List ShelfShard) → AllPairs (ShardStands f has root uuid) places shards
-    → (place : IndexRef × ℕ) → Has places place → (g : ℕ) × Generation root place.0.id place.1 g
-place_has f has root uuid [] shards h place m = absurd m
-place_has f has root uuid (x ∷ xs) [] h place m = absurd h
-place_has f has root uuid (x ∷ xs) (y ∷ ys) h place (inl e) = (h.0.generation, subst (λ (p : IndexRef × ℕ). Generation root p.0.id p.1 h.0.generation) e h.0.in_root)
-place_has f has root uuid (x ∷ xs) (y ∷ ys) h place (inr m) = place_has f has root uuid xs ys h.1 place m
 
 module _ (f : Formats) (w : World) (k : ℕ) (r : ShardResult) (new : World) (d : DoneShard f w k r new)
     (c : Carried f (HeldIn f w) w.safe w.term w.root w.ops w.tickets) (law : ShardLaw f (HeldIn f w) w.root w.ops k d.t r.index r.shard)
@@ -41,7 +37,7 @@ module _ (f : Formats) (w : World) (k : ℕ) (r : ShardResult) (new : World) (d 
   held_one z m e =
       let place : (q : ShardWork) → Has d.op.shards q → q.state ≡ Out k → (q.ref.id ≡ r.index) × (q.number ≡ r.shard) = λ q n st.
       let h = c.held d.t.op d.op q k d.op_there n st in
-      let same : h.t ≡ d.t = some_same _ _ (sym h.there ∙ d.out.there) in
+      let same : h.t ≡ d.t = same_Some _ _ (sym h.there ∙ d.out.there) in
       places_same _ _ _ _ (sym h.work ∙ ap (λ (x : Ticket). x.work) same ∙ d.is) in
       let a = place z m e in
       let b = place d.s d.s_there d.state in
@@ -51,7 +47,7 @@ module _ (f : Formats) (w : World) (k : ℕ) (r : ShardResult) (new : World) (d 
       places_same a b x y e = (cc, cc)
 
   uuid_is : d.op.uuid ≡ d.t.uuid
-  uuid_is = ap (λ (x : Op). x.uuid) (some_same _ _ (sym d.op_there ∙ law.op_there)) ∙ law.uuid_is
+  uuid_is = ap (λ (x : Op). x.uuid) (same_Some _ _ (sym d.op_there ∙ law.op_there)) ∙ law.uuid_is
 
   pub record IsNew (uuid index shard g : ℕ) : Type 0 where
     pub uuid_new : uuid ≡ d.t.uuid
@@ -301,7 +297,7 @@ module _ (f : Formats) (w : World) (k : ℕ) (r : ShardResult) (new : World) (d 
             let (apart, was) = out_was j u e out in
             let l = c.finals j u was out uns pres info results made is in
             let not_it : u.op ≢ d.t.op = λ same.
-            let one : l.op ≡ d.op = some_same _ _ (sym l.op_there ∙ ap (fin.get w.ops) same ∙ d.op_there) in
+            let one : l.op ≡ d.op = same_Some _ _ (sym l.op_there ∙ ap (fin.get w.ops) same ∙ d.op_there) in
             let (q, state, there) = done_of l.op.shards results l.done d.s (subst (λ (x : Op). Has x.shards d.s) (sym one) d.s_there) in
             done_out q k (sym state ∙ d.state) in
             record { op = l.op; op_there = get_other nat_cmp_total nat_cmp-IsAntisymmetric w.ops d.t.op op_now u.op not_it ∙ l.op_there; done = l.done; info_is = l.info_is; made_is = l.made_is; root_is = l.root_is };
@@ -319,7 +315,7 @@ module _ (f : Formats) (w : World) (k : ℕ) (r : ShardResult) (new : World) (d 
               ]
           | inr h ↦
               let old = c.held o op z j h.1 m state in
-              let apart : j ≢ k = λ q. h.0 (sym old.op_is ∙ ap (λ (x : Ticket). x.op) (some_same _ _ (sym old.there ∙ ap (fin.get w.tickets) q ∙ d.out.there))) in
+              let apart : j ≢ k = λ q. h.0 (sym old.op_is ∙ ap (λ (x : Ticket). x.op) (same_Some _ _ (sym old.there ∙ ap (fin.get w.tickets) q ∙ d.out.there))) in
               record { t = old.t; there = get_other nat_cmp_total nat_cmp-IsAntisymmetric w.tickets k (record d.t { out = false }) j apart ∙ old.there; out = old.out; op_is = old.op_is; work = old.work }
         ];
       }

@@ -1,227 +1,50 @@
 -- What a delete dooms: names that the old root reaches, and none that the new one does.
-use Rattle.std.proofs.Common.{◌≡◌, ◌⊎◌, ℕ, zero, suc, ◌+◌, Bool, true, false, List, [], ◌∷◌, ◌++◌, map, Option, Some, None, refl, sym, ap, ◌∙◌, subst, inl, inr, arith}
-use Rattle.std.specs.Prelude.{◌&&◌, if◌then◌else◌, filter}
+use Rattle.std.proofs.Common.{◌≡◌, ◌⊎◌, ℕ, suc, ◌+◌, Bool, true, false, List, [], ◌∷◌, map, Option, Some, refl, sym, ap, ◌∙◌, subst, inl, inr, arith}
+use Rattle.std.specs.Prelude.{filter}
 use Rattle.std.specs.List.{list_any}
-use Rattle.std.proofs.lemmas.Bool.Decides.{eqb_tells}
+use Rattle.std.proofs.lemmas.Bool.{cond-true, cond-false, cases_Bool}
+use Rattle.std.proofs.lemmas.Option.{same_Some, none-some}
 use Rattle.esr_model.specs.Names.{BlobName, Root, Snap, Meta, IndexMeta, ShardSnap, ShardIndex, File, Part}
 use Rattle.esr_model.specs.Values.{Bytes, Has, RootSnap, RootIndex, RootData, FileEntry, SnapList, ShardFiles, ReadsBack, IsOneEach, Formats}
 use Rattle.esr_model.specs.Shelf.{names_uuid}
 use Rattle.esr_model.specs.Parts.{part_names}
-use Rattle.esr_model.specs.Image.{IsOne, Reads, Generation, index_at, at_shard, at_shard_of}
+use Rattle.esr_model.specs.Image.{IsOne, Reads, Generation, at_shard, at_shard_of}
 use Rattle.esr_model.specs.Reach.{Reached, ReachSnap, ReachMeta, ReachIndexMeta, ReachIndex, ReachShardSnap, ReachPart}
-use Rattle.esr_model.specs.Delete.{PrunedShard, left_snaps, left_uuids, left_root, uuids_of, lists_file, listed_lists, surviving, files_by, files_read, left_text, pruned_blobs, deleted_root, gone_by, gone_from, gone_shards, doomed_root, doomed_snaps, doomed_metas, doomed_index_metas, doomed_lists, doomed_parts, doomed_files, doomed_shards, doomed_names}
+use Rattle.esr_model.specs.Delete.{PrunedShard, left_snaps, left_uuids, left_root, uuids_of, lists_file, listed_lists, surviving, files_by, files_read, left_text, pruned_blobs, deleted_root, gone_shards, doomed_names}
 use Rattle.esr_core.specs.Pruning.{AreOfRoot}
-use Rattle.esr_core.proofs.Reading.{some_same, none_some, reads_one, Has-either, Has-map, Has-mapped}
-use Rattle.esr_core.proofs.Results.{choose_true, choose_false}
-use Rattle.esr_core.proofs.Pieces.{in_parts}
-use Rattle.esr_core.proofs.Deleting.{bool_told}
-use Rattle.esr_core.proofs.DeletedRoots.{AreApart, one_found, index_was, renewed_index_was, deleted_snapshots, deleted_generations}
-use Rattle.esr_core.proofs.DeletesHold.{clash, has_names, names_has, bytes_same, fresh_is}
-use Rattle.esr_core.proofs.Plans.{shard_reads, in_root, of_root_apart}
+use Rattle.esr_model.specs.Lists.{Has-map}
+use Rattle.esr_core.specs.Laws.OneValue.{reads_one}
+use Rattle.esr_core.specs.Laws.PartNames.{in_parts}
+use Rattle.esr_core.specs.Laws.DeleteRoots.{AreApart, one_found, index_was, renewed_index_was, deleted_snapshots, deleted_generations, has_names, names_has, bytes_same}
+use Rattle.esr_core.specs.Laws.Tests.{clash}
+use Rattle.esr_core.specs.Laws.DoomNames.{of_indices, IsDoomed, AList, AMeta, APart, ASnap, AnIndex, AnIndexMeta, TheRoot, doomed_is, uuid_of}
+use Rattle.esr_core.proofs.DeletesHold.{fresh_is}
+use Rattle.esr_core.specs.Laws.DeletePlans.{in_root, of_root_apart}
+use Rattle.esr_core.proofs.Plans.{shard_reads}
 
 -- ---- what isn't named is left, alone
 
 pub left_unnamed : (uuids : List ℕ) (ss : List RootSnap) (s : RootSnap) → Has (left_snaps uuids ss) s → names_uuid uuids s.uuid ≡ false
 left_unnamed uuids [] s m = absurd m
-left_unnamed uuids (x ∷ ss) s m = elim (bool_told (names_uuid uuids x.uuid)) [
-  | inl b ↦ left_unnamed uuids ss s (subst (λ (l : List RootSnap). Has l s) (choose_true _ _ _ b) m)
-  | inr b ↦ elim (subst (λ (l : List RootSnap). Has l s) (choose_false _ _ _ b) m) [ inl e ↦ ap (λ (y : RootSnap). names_uuid uuids y.uuid) (sym e) ∙ b | inr later ↦ left_unnamed uuids ss s later ]
+left_unnamed uuids (x ∷ ss) s m = elim (cases_Bool (names_uuid uuids x.uuid)) [
+  | inl b ↦ left_unnamed uuids ss s (subst (λ (l : List RootSnap). Has l s) (cond-true _ _ _ b) m)
+  | inr b ↦ elim (subst (λ (l : List RootSnap). Has l s) (cond-false _ _ _ b) m) [ inl e ↦ ap (λ (y : RootSnap). names_uuid uuids y.uuid) (sym e) ∙ b | inr later ↦ left_unnamed uuids ss s later ]
 ]
 
 pub uuid_unnamed : (uuids us : List ℕ) (u : ℕ) → Has (left_uuids uuids us) u → names_uuid uuids u ≡ false
 uuid_unnamed uuids [] u m = absurd m
-uuid_unnamed uuids (v ∷ us) u m = elim (bool_told (names_uuid uuids v)) [
-  | inl b ↦ uuid_unnamed uuids us u (subst (λ (l : List ℕ). Has l u) (choose_true _ _ _ b) m)
-  | inr b ↦ elim (subst (λ (l : List ℕ). Has l u) (choose_false _ _ _ b) m) [ inl e ↦ ap (names_uuid uuids) (sym e) ∙ b | inr later ↦ uuid_unnamed uuids us u later ]
+uuid_unnamed uuids (v ∷ us) u m = elim (cases_Bool (names_uuid uuids v)) [
+  | inl b ↦ uuid_unnamed uuids us u (subst (λ (l : List ℕ). Has l u) (cond-true _ _ _ b) m)
+  | inr b ↦ elim (subst (λ (l : List ℕ). Has l u) (cond-false _ _ _ b) m) [ inl e ↦ ap (names_uuid uuids) (sym e) ∙ b | inr later ↦ uuid_unnamed uuids us u later ]
 ]
 
 -- the uuids of the snapshots that are left are the uuids that are left
 pub left_listed : (uuids : List ℕ) (ss : List RootSnap) → map (λ (s : RootSnap). s.uuid) (left_snaps uuids ss) ≡ left_uuids uuids (map (λ (s : RootSnap). s.uuid) ss)
 left_listed uuids [] = refl
-left_listed uuids (x ∷ ss) = elim (bool_told (names_uuid uuids x.uuid)) [
-  | inl b ↦ ap (map (λ (s : RootSnap). s.uuid)) (choose_true _ _ _ b) ∙ left_listed uuids ss ∙ sym (choose_true _ _ _ b)
-  | inr b ↦ ap (map (λ (s : RootSnap). s.uuid)) (choose_false _ _ _ b) ∙ ap (λ (us : List ℕ). x.uuid ∷ us) (left_listed uuids ss) ∙ sym (choose_false _ _ _ b)
+left_listed uuids (x ∷ ss) = elim (cases_Bool (names_uuid uuids x.uuid)) [
+  | inl b ↦ ap (map (λ (s : RootSnap). s.uuid)) (cond-true _ _ _ b) ∙ left_listed uuids ss ∙ sym (cond-true _ _ _ b)
+  | inr b ↦ ap (map (λ (s : RootSnap). s.uuid)) (cond-false _ _ _ b) ∙ ap (λ (us : List ℕ). x.uuid ∷ us) (left_listed uuids ss) ∙ sym (cond-false _ _ _ b)
 ]
-
--- ---- the shards whose generation the new root hasn't
-
--- a shard of an index of the old root: the new one has none for it, or another
-pub record IsGone (new : RootData) (index : ℕ) (gs : List (Option ℕ)) (number : ℕ) (p : PrunedShard) : Type 0 where
-  pub index_is : p.index ≡ index
-  pub place : ℕ
-  pub number_is : p.number ≡ number + place
-  pub at : at_shard gs place ≡ Some p.base
-  pub none : p.kept ≡ false → at_shard_of (index_at new.indices p.index) p.number ≡ None
-  pub other : p.kept ≡ true → at_shard_of (index_at new.indices p.index) p.number ≡ Some p.base → ⊥
-
-no_more : (n : ℕ) → n + 0 ≡ n
-no_more n = omega arith
-
-shifted : (a b : ℕ) → a + suc b ≡ suc a + b
-shifted a b = omega arith
-
-module _ (new : RootData) where
-  by_one : (index number base : ℕ) (gs : List (Option ℕ)) (o : Option ℕ) (rest : List PrunedShard) (p : PrunedShard) → at_shard_of (index_at new.indices index) number ≡ o
-      → Has (gone_by base o index number rest) p → IsGone new index (Some base ∷ gs) number p ⊎ Has rest p
-  by_one index number base gs None rest p e (inl same) = inl (record {
-    index_is = sym (ap (λ (q : PrunedShard). q.index) same);
-    place = 0;
-    number_is = sym (ap (λ (q : PrunedShard). q.number) same) ∙ sym (no_more number);
-    at = ap (λ (q : PrunedShard). Some q.base) same;
-    none = λ kept. (λ j. at_shard_of (index_at new.indices (sym same j).index) (sym same j).number) ∙ e;
-    other = λ kept. absurd (clash false (ap (λ (q : PrunedShard). q.kept) same ∙ kept) refl);
-  })
-  by_one index number base gs None rest p e (inr m) = inr m
-  by_one index number base gs (Some now) rest p e m = elim (eqb_tells now base) [
-    | inl t ↦ inr (subst (λ (l : List PrunedShard). Has l p) (choose_true _ _ _ t.0) m)
-    | inr t ↦ elim (subst (λ (l : List PrunedShard). Has l p) (choose_false _ _ _ t.0) m) [
-      | inl same ↦ inl (record {
-        index_is = sym (ap (λ (q : PrunedShard). q.index) same);
-        place = 0;
-        number_is = sym (ap (λ (q : PrunedShard). q.number) same) ∙ sym (no_more number);
-        at = ap (λ (q : PrunedShard). Some q.base) same;
-        none = λ kept. absurd (clash true refl (ap (λ (q : PrunedShard). q.kept) same ∙ kept));
-        other = λ kept has. t.1 (some_same now base (sym e ∙ (λ j. at_shard_of (index_at new.indices (same j).index) (same j).number) ∙ has ∙ ap (λ (q : PrunedShard). Some q.base) (sym same)));
-      })
-      | inr later ↦ inr later
-    ]
-  ]
-
-  one_on : (index number : ℕ) (g : Option ℕ) (gs : List (Option ℕ)) (p : PrunedShard) → IsGone new index gs (suc number) p → IsGone new index (g ∷ gs) number p
-  one_on index number g gs p h = record { index_is = h.index_is; place = suc h.place; number_is = h.number_is ∙ sym (shifted number h.place); at = h.at; none = h.none; other = h.other }
-
-  of_index : (index number : ℕ) (gs : List (Option ℕ)) (p : PrunedShard) → Has (gone_from new index number gs) p → IsGone new index gs number p
-  of_index index number [] p m = absurd m
-  of_index index number (None ∷ gs) p m = one_on index number None gs p (of_index index (suc number) gs p m)
-  of_index index number (Some base ∷ gs) p m = elim (by_one index number base gs (at_shard_of (index_at new.indices index) number) (gone_from new index (suc number) gs) p refl m) [
-    | inl h ↦ h
-    | inr later ↦ one_on index number (Some base) gs p (of_index index (suc number) gs p later)
-  ]
-
-  pub of_indices : (xs : List RootIndex) (p : PrunedShard) → Has (gone_shards new xs) p → (x : RootIndex) × Has xs x × IsGone new x.id x.generations 0 p
-  of_indices [] p m = absurd m
-  of_indices (x ∷ xs) p m = elim (Has-either (gone_from new x.id 0 x.generations) (gone_shards new xs) p m) [
-    | inl here ↦ (x, inl refl, of_index x.id 0 x.generations p here)
-    | inr later ↦ let (y, there, h) = of_indices xs p later in (y, inr there, h)
-  ]
-
--- ---- the kinds of doomed names
-
-pub data IsDoomed (f : Formats) (safe : ℕ) (old new : RootData) (uuids : List ℕ) (read : List (BlobName × Bytes)) : BlobName → Type 0 where
-  TheRoot : (n : ℕ) → safe ≡ suc n → IsDoomed f safe old new uuids read (Root n)
-  ASnap : (s : RootSnap) → Has old.snapshots s → names_uuid uuids s.uuid ≡ true → IsDoomed f safe old new uuids read (Snap s.uuid)
-  AMeta : (s : RootSnap) → Has old.snapshots s → names_uuid uuids s.uuid ≡ true → IsDoomed f safe old new uuids read (Meta s.uuid)
-  AnIndexMeta : (x : RootIndex) (u : ℕ) → Has old.indices x → Has x.snapshots u → names_uuid uuids u ≡ true → IsDoomed f safe old new uuids read (IndexMeta x.id u)
-  AnIndex : (p : PrunedShard) → Has (gone_shards new old.indices) p → IsDoomed f safe old new uuids read (ShardIndex p.index p.number p.base)
-  AList : (p : PrunedShard) (was : ShardFiles) (l : SnapList) → Has (gone_shards new old.indices) p → files_read f read p ≡ Some was → Has was.snapshots l → names_uuid (uuids_of old) l.uuid ≡ true → (p.kept ≡ true → names_uuid (uuids_of new) l.uuid ≡ false)
-      → IsDoomed f safe old new uuids read (ShardSnap p.index p.number l.uuid)
-  APart : (p : PrunedShard) (was : ShardFiles) (e : FileEntry) (name : BlobName) → Has (gone_shards new old.indices) p → files_read f read p ≡ Some was → Has was.files e → (p.kept ≡ true → lists_file (listed_lists (uuids_of new) was.snapshots) e ≡ false)
-      → Has (part_names p.index p.number e) name → IsDoomed f safe old new uuids read name
-
-pub both_true : (a b : Bool) → (a && b) ≡ true → (a ≡ true) × (b ≡ true)
-both_true true b e = (refl, e)
-both_true false b e = absurd (clash false e refl)
-
--- what keeps a list that the new index hasn't
-not_left : (kept named : Bool) → (if kept then (if named then false else true) else true) ≡ true → kept ≡ true → named ≡ false
-not_left true true e k = absurd (clash false e refl)
-not_left true false e k = refl
-not_left false named e k = absurd (clash false k refl)
-
-not_listed : (kept listed : Bool) → (kept && listed) ≡ false → kept ≡ true → listed ≡ false
-not_listed true listed e k = e
-not_listed false listed e k = absurd (clash false k refl)
-
-module _ (f : Formats) (safe : ℕ) (old new : RootData) (uuids : List ℕ) (read : List (BlobName × Bytes)) where
-  root_doomed : (n : ℕ) → safe ≡ n → (name : BlobName) → Has (doomed_root n) name → IsDoomed f safe old new uuids read name
-  root_doomed zero e name m = absurd m
-  root_doomed (suc n) e name (inl same) = subst (IsDoomed f safe old new uuids read) same (TheRoot n e)
-  root_doomed (suc n) e name (inr m) = absurd m
-
-  snaps_doomed : (ss : List RootSnap) → ((s : RootSnap) → Has ss s → Has old.snapshots s) → (name : BlobName) → Has (doomed_snaps uuids ss) name → IsDoomed f safe old new uuids read name
-  snaps_doomed [] within name m = absurd m
-  snaps_doomed (s ∷ ss) within name m = elim (bool_told (names_uuid uuids s.uuid)) [
-    | inl b ↦ elim (subst (λ (l : List BlobName). Has l name) (choose_true _ _ _ b) m) [
-      | inl same ↦ subst (IsDoomed f safe old new uuids read) same (ASnap s (within s (inl refl)) b)
-      | inr more ↦ elim more [
-        | inl same ↦ subst (IsDoomed f safe old new uuids read) same (AMeta s (within s (inl refl)) b)
-        | inr later ↦ snaps_doomed ss (λ z n. within z (inr n)) name later
-      ]
-    ]
-    | inr b ↦ snaps_doomed ss (λ z n. within z (inr n)) name (subst (λ (l : List BlobName). Has l name) (choose_false _ _ _ b) m)
-  ]
-
-  metas_doomed : (x : RootIndex) → Has old.indices x → (us : List ℕ) → ((u : ℕ) → Has us u → Has x.snapshots u) → (name : BlobName) → Has (doomed_metas uuids x.id us) name → IsDoomed f safe old new uuids read name
-  metas_doomed x there [] within name m = absurd m
-  metas_doomed x there (u ∷ us) within name m = elim (bool_told (names_uuid uuids u)) [
-    | inl b ↦ elim (subst (λ (l : List BlobName). Has l name) (choose_true _ _ _ b) m) [
-      | inl same ↦ subst (IsDoomed f safe old new uuids read) same (AnIndexMeta x u there (within u (inl refl)) b)
-      | inr later ↦ metas_doomed x there us (λ v n. within v (inr n)) name later
-    ]
-    | inr b ↦ metas_doomed x there us (λ v n. within v (inr n)) name (subst (λ (l : List BlobName). Has l name) (choose_false _ _ _ b) m)
-  ]
-
-  index_metas_doomed : (xs : List RootIndex) → ((x : RootIndex) → Has xs x → Has old.indices x) → (name : BlobName) → Has (doomed_index_metas uuids xs) name → IsDoomed f safe old new uuids read name
-  index_metas_doomed [] within name m = absurd m
-  index_metas_doomed (x ∷ xs) within name m = elim (Has-either (doomed_metas uuids x.id x.snapshots) (doomed_index_metas uuids xs) name m) [
-    | inl here ↦ metas_doomed x (within x (inl refl)) x.snapshots (λ u n. n) name here
-    | inr later ↦ index_metas_doomed xs (λ z n. within z (inr n)) name later
-  ]
-
-  module _ (p : PrunedShard) (gone : Has (gone_shards new old.indices) p) (was : ShardFiles) (reads : files_read f read p ≡ Some was) where
-    lists_doomed : (lists : List SnapList) → ((l : SnapList) → Has lists l → Has was.snapshots l) → (name : BlobName) → Has (doomed_lists (uuids_of old) (uuids_of new) p lists) name → IsDoomed f safe old new uuids read name
-    lists_doomed [] within name m = absurd m
-    lists_doomed (l ∷ lists) within name m =
-        let left : Bool = if p.kept then (if names_uuid (uuids_of new) l.uuid then false else true) else true in
-        elim (bool_told (names_uuid (uuids_of old) l.uuid && left)) [
-          | inl b ↦ elim (subst (λ (ns : List BlobName). Has ns name) (choose_true _ _ _ b) m) [
-            | inl same ↦
-                let h = both_true (names_uuid (uuids_of old) l.uuid) left b in
-                subst (IsDoomed f safe old new uuids read) same (AList p was l gone reads (within l (inl refl)) h.0 (not_left p.kept (names_uuid (uuids_of new) l.uuid) h.1))
-            | inr later ↦ lists_doomed lists (λ z n. within z (inr n)) name later
-          ]
-          | inr b ↦ lists_doomed lists (λ z n. within z (inr n)) name (subst (λ (ns : List BlobName). Has ns name) (choose_false _ _ _ b) m)
-        ]
-
-    parts_doomed : (files : List FileEntry) → ((e : FileEntry) → Has files e → Has was.files e) → (name : BlobName) → Has (doomed_parts (listed_lists (uuids_of new) was.snapshots) p files) name → IsDoomed f safe old new uuids read name
-    parts_doomed [] within name m = absurd m
-    parts_doomed (e ∷ files) within name m = elim (bool_told (p.kept && lists_file (listed_lists (uuids_of new) was.snapshots) e)) [
-      | inl b ↦ parts_doomed files (λ z n. within z (inr n)) name (subst (λ (ns : List BlobName). Has ns name) (choose_true _ _ _ b) m)
-      | inr b ↦ elim (Has-either (part_names p.index p.number e) (doomed_parts (listed_lists (uuids_of new) was.snapshots) p files) name (subst (λ (ns : List BlobName). Has ns name) (choose_false _ _ _ b) m)) [
-        | inl here ↦ APart p was e name gone reads (within e (inl refl)) (not_listed p.kept (lists_file (listed_lists (uuids_of new) was.snapshots) e) b) here
-        | inr later ↦ parts_doomed files (λ z n. within z (inr n)) name later
-      ]
-    ]
-
-  files_doomed : (p : PrunedShard) → Has (gone_shards new old.indices) p → (o : Option ShardFiles) → files_read f read p ≡ o → (name : BlobName) → Has (doomed_files (uuids_of old) (uuids_of new) p o) name → IsDoomed f safe old new uuids read name
-  files_doomed p gone None reads name m = absurd m
-  files_doomed p gone (Some was) reads name m = elim (Has-either (doomed_lists (uuids_of old) (uuids_of new) p was.snapshots) (doomed_parts (listed_lists (uuids_of new) was.snapshots) p was.files) name m) [
-    | inl here ↦ lists_doomed p gone was reads was.snapshots (λ l n. n) name here
-    | inr there ↦ parts_doomed p gone was reads was.files (λ e n. n) name there
-  ]
-
-  shards_doomed : (shards : List PrunedShard) → ((p : PrunedShard) → Has shards p → Has (gone_shards new old.indices) p) → (name : BlobName) → Has (doomed_shards f read (uuids_of old) (uuids_of new) shards) name → IsDoomed f safe old new uuids read name
-  shards_doomed [] within name m = absurd m
-  shards_doomed (p ∷ shards) within name (inl same) = subst (IsDoomed f safe old new uuids read) same (AnIndex p (within p (inl refl)))
-  shards_doomed (p ∷ shards) within name (inr m) = elim (Has-either (doomed_files (uuids_of old) (uuids_of new) p (files_read f read p)) (doomed_shards f read (uuids_of old) (uuids_of new) shards) name m) [
-    | inl here ↦ files_doomed p (within p (inl refl)) (files_read f read p) refl name here
-    | inr later ↦ shards_doomed shards (λ q n. within q (inr n)) name later
-  ]
-
-  pub doomed_is : (name : BlobName) → Has (doomed_names f safe old new uuids read) name → IsDoomed f safe old new uuids read name
-  unfolding doomed_names
-  doomed_is name m =
-      let rest : List BlobName = doomed_shards f read (uuids_of old) (uuids_of new) (gone_shards new old.indices) in
-      elim (Has-either (doomed_root safe ++ doomed_snaps uuids old.snapshots ++ doomed_index_metas uuids old.indices) rest name m) [
-        | inl x ↦ elim (Has-either (doomed_root safe ++ doomed_snaps uuids old.snapshots) (doomed_index_metas uuids old.indices) name x) [
-          | inl y ↦ elim (Has-either (doomed_root safe) (doomed_snaps uuids old.snapshots) name y) [
-            | inl a ↦ root_doomed safe refl name a
-            | inr b ↦ snaps_doomed old.snapshots (λ s n. n) name b
-          ]
-          | inr c ↦ index_metas_doomed old.indices (λ z n. n) name c
-        ]
-        | inr d ↦ shards_doomed (gone_shards new old.indices) (λ p n. n) name d
-      ]
 
 -- ---- names of parts
 
@@ -391,17 +214,14 @@ module _ (f : Formats) (has : BlobName → Bytes → Type 0) (root : RootData) w
 -- a filter keeps what passes alone
 pub passed : {A : Type 0} (test : A → Bool) (xs : List A) (x : A) → Has (filter test xs) x → test x ≡ true
 passed {A} test [] x m = absurd m
-passed {A} test (y ∷ ys) x m = elim (bool_told (test y)) [
-  | inl b ↦ elim (subst (λ (l : List A). Has l x) (choose_true _ _ _ b) m) [ inl same ↦ ap test (sym same) ∙ b | inr later ↦ passed test ys x later ]
-  | inr b ↦ passed test ys x (subst (λ (l : List A). Has l x) (choose_false _ _ _ b) m)
+passed {A} test (y ∷ ys) x m = elim (cases_Bool (test y)) [
+  | inl b ↦ elim (subst (λ (l : List A). Has l x) (cond-true _ _ _ b) m) [ inl same ↦ ap test (sym same) ∙ b | inr later ↦ passed test ys x later ]
+  | inr b ↦ passed test ys x (subst (λ (l : List A). Has l x) (cond-false _ _ _ b) m)
 ]
 
 -- two files of one id are listed alike
 listed_alike : (lists : List SnapList) (a b : FileEntry) → a.name ≡ b.name → lists_file lists a ≡ lists_file lists b
 listed_alike lists a b e = ap (λ (n : ℕ). list_any (λ (l : SnapList). names_uuid l.files n) lists) e
-
-uuid_of : (ss : List RootSnap) (u : ℕ) → Has (map (λ (s : RootSnap). s.uuid) ss) u → (s : RootSnap) × Has ss s × (s.uuid ≡ u)
-uuid_of ss u m = Has-mapped (λ (s : RootSnap). s.uuid) ss u m
 
 module _ (f : Formats) (has : BlobName → Bytes → Type 0) (func : IsOne has) (safe : ℕ) (root : RootData) (one : IsOneEach root.indices) (uuids : List ℕ) (read : List (BlobName × Bytes)) (first : ℕ) (shards : List PrunedShard)
     (held : (name : BlobName) (bytes : Bytes) → Has read (name, bytes) → has name bytes) (of_root : AreOfRoot root shards)
@@ -436,7 +256,7 @@ module _ (f : Formats) (has : BlobName → Bytes → Type 0) (func : IsOne has) 
       ap (λ (z : Option RootIndex). at_shard_of z p.number) (one_found root.indices one x there p.index (sym h.index_is)) ∙ ap (at_shard x.generations) number ∙ h.at
 
   gone_none : (p : PrunedShard) (g : ℕ) → Has (gone_shards (deleted_root root uuids shards first) root.indices) p → p.kept ≡ false → Generation (deleted_root root uuids shards first) p.index p.number g → ⊥
-  gone_none p g gone kept gen = let (x, there, h) = of_indices (deleted_root root uuids shards first) root.indices p gone in none_some g (sym (h.none kept) ∙ gen)
+  gone_none p g gone kept gen = let (x, there, h) = of_indices (deleted_root root uuids shards first) root.indices p gone in none-some g (sym (h.none kept) ∙ gen)
 
   gone_other : (p : PrunedShard) → Has (gone_shards (deleted_root root uuids shards first) root.indices) p → p.kept ≡ true → Generation (deleted_root root uuids shards first) p.index p.number p.base → ⊥
   gone_other p gone kept gen = let (x, there, h) = of_indices (deleted_root root uuids shards first) root.indices p gone in h.other kept gen
@@ -446,12 +266,12 @@ module _ (f : Formats) (has : BlobName → Bytes → Type 0) (func : IsOne has) 
       → Reads has (ShardIndex p.index p.number g) f.shard_index (surviving (left_uuids uuids (uuids_of root)) was)
   new_index p was g gone kept reads gen = elim (deleted_generations root one uuids shards first apart p.index p.number g gen) [
     | inl old ↦
-        let same : g ≡ p.base = some_same g p.base (sym old.1 ∙ was_of p gone) in
+        let same : g ≡ p.base = same_Some g p.base (sym old.1 ∙ was_of p gone) in
         absurd (gone_other p gone kept (subst (λ (n : ℕ). Generation (deleted_root root uuids shards first) p.index p.number n) same gen))
     | inr fresh ↦
         let r = fresh_is f read (left_uuids uuids (uuids_of root)) shards first p.index p.number g fresh in
         let at : Generation root p.index p.number r.p.base = subst (λ (y : ℕ × ℕ). Generation root y.0 y.1 r.p.base) (λ j. (r.index_is j, r.number_is j)) (in_root root shards r.p of_root r.there) in
-        let base : r.p.base ≡ p.base = some_same r.p.base p.base (sym at ∙ was_of p gone) in
+        let base : r.p.base ≡ p.base = same_Some r.p.base p.base (sym at ∙ was_of p gone) in
         let its : files_read f read r.p ≡ Some was = ap (files_by f) (bytes_same read r.p p r.index_is r.number_is base) ∙ reads in
         let text : Has (pruned_blobs f read (left_uuids uuids (uuids_of root)) first shards) (ShardIndex p.index p.number g, f.shard_index.text (surviving (left_uuids uuids (uuids_of root)) was)) =
         subst (λ (o : Option ShardFiles). Has (pruned_blobs f read (left_uuids uuids (uuids_of root)) first shards) (ShardIndex p.index p.number g, left_text f (left_uuids uuids (uuids_of root)) o)) its r.own in
@@ -478,7 +298,7 @@ module _ (f : Formats) (has : BlobName → Bytes → Type 0) (func : IsOne has) 
   -- a part of a file that a shard lost is of no file that it has
   lost_part : (p : PrunedShard) (was : ShardFiles) (e : FileEntry) → Has (gone_shards (deleted_root root uuids shards first) root.indices) p → files_read f read p ≡ Some was
       → (p.kept ≡ true → lists_file (listed_lists (uuids_of (deleted_root root uuids shards first)) was.snapshots) e ≡ false) → ReachesFile f has (deleted_root root uuids shards first) p.index p.number e.name → ⊥
-  lost_part p was e gone reads lost r = elim (bool_told p.kept) [
+  lost_part p was e gone reads lost r = elim (cases_Bool p.kept) [
     | inr b ↦ gone_none p r.g gone b r.gen
     | inl b ↦
         let left : List ℕ = left_uuids uuids (uuids_of root) in
@@ -505,10 +325,10 @@ module _ (f : Formats) (has : BlobName → Bytes → Type 0) (func : IsOne has) 
       clash (names_uuid uuids u) named (index_unnamed y u y_there has_it)
   aside_of name (AnIndex p gone) r =
       let gen = reached_index f has (deleted_root root uuids shards first) p.index p.number p.base (ShardIndex p.index p.number p.base) r refl in
-      elim (bool_told p.kept) [ inl b ↦ gone_other p gone b gen | inr b ↦ gone_none p p.base gone b gen ]
+      elim (cases_Bool p.kept) [ inl b ↦ gone_other p gone b gen | inr b ↦ gone_none p p.base gone b gen ]
   aside_of name (AList p was l gone reads there listed left) r =
       let (s, s_there, same, g, gen) = reached_list f has (deleted_root root uuids shards first) p.index p.number l.uuid (ShardSnap p.index p.number l.uuid) r refl in
-      elim (bool_told p.kept) [
+      elim (cases_Bool p.kept) [
         | inr b ↦ gone_none p g gone b gen
         | inl b ↦
             let still : names_uuid (uuids_of (deleted_root root uuids shards first)) l.uuid ≡ true =

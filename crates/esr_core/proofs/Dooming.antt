@@ -3,15 +3,16 @@ use Rattle.std.proofs.Common.{◌≡◌, ℕ, zero, suc, ◌<◌, List, ◌++◌
 use Rattle.esr_model.specs.Names.{BlobName, Root, Snap}
 use Rattle.esr_model.specs.Values.{Bytes, IndexRef, RootSnap, Formats}
 use Rattle.esr_model.specs.Shelf.{Shelved}
-use Rattle.esr_model.specs.Image.{Has, RootStands, Picked}
+use Rattle.esr_model.specs.Image.{Has, RootStands, Picked, RootIs}
 use Rattle.esr_model.specs.Reach.{Reached, ReachSnap}
 use Rattle.esr_core.specs.World.{World, HeldIn, Safely}
-use Rattle.esr_model.specs.Image.{RootIs}
 use Rattle.esr_core.specs.Generations.{AreIndicesBy}
 use Rattle.esr_core.specs.Doomed.{Dooms}
 use Rattle.esr_core.specs.Sound.{Sound}
-use Rattle.esr_core.proofs.Frames.{reads_kept, root_kept}
-use Rattle.esr_core.proofs.Reading.{held_one, safely_one, safe_root_stands, Has-right, Has-either}
+use Rattle.esr_core.specs.Laws.BlobFrames.{reads_kept, root_kept}
+use Rattle.esr_model.specs.Lists.{Has-right, Has-either}
+use Rattle.esr_core.specs.Laws.OneValue.{held_one, safe_root_stands}
+use Rattle.esr_core.proofs.Reading.{safely_one}
 use Rattle.esr_core.proofs.Reaching.{root_used, Used}
 use Rattle.esr_core.proofs.Opening.{root_carries}
 

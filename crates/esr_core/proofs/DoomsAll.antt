@@ -3,6 +3,10 @@ use Rattle.std.proofs.Common.{◌≡◌, ◌⊎◌, ℕ, zero, suc, ◌+◌, Boo
 use Rattle.std.specs.Prelude.{◌&&◌, ◌==◌, if◌then◌else◌}
 use Rattle.std.specs.List.{list_any}
 use Rattle.std.proofs.lemmas.Bool.Decides.{eqb_tells}
+use Rattle.std.proofs.lemmas.Option.{same_Some, none-some}
+use Rattle.std.proofs.lemmas.Bool.{cond-true, cond-false, cases_Bool, and_parts}
+use Rattle.esr_core.proofs.Chosen.{filter-Has}
+use Rattle.esr_core.proofs.Drawing.{left_stays}
 use Rattle.esr_model.specs.Names.{BlobName, Root, Snap, Meta, IndexMeta, ShardSnap, ShardIndex}
 use Rattle.esr_model.specs.Values.{Bytes, Has, RootSnap, RootIndex, RootData, FileEntry, SnapList, ShardFiles, IsOneEach, Formats}
 use Rattle.esr_model.specs.Shelf.{Shelved, names_uuid}
@@ -15,42 +19,34 @@ use Rattle.esr_core.specs.Pruning.{is_left, is_victim, has_none, has_named, is_t
 use Rattle.esr_core.specs.Allowed.{SettlesDeletion}
 use Rattle.esr_core.specs.Ids.{Law}
 use Rattle.esr_core.specs.Tidy.{IsInIndex, TidyRoot}
-use Rattle.esr_core.proofs.Reading.{some_same, none_some, reads_one, held_one, generation_index, Has-map, Has-mapped, Has-left, Has-right}
-use Rattle.esr_core.proofs.Results.{choose_true, choose_false}
-use Rattle.esr_core.proofs.Deleting.{bool_told, left_has}
-use Rattle.esr_core.proofs.DeletedRoots.{AreApart, one_found, index_was, renewed_index_was, deleted_snapshots, deleted_kept, deleted_generations, deleted_stays}
-use Rattle.esr_core.proofs.PrunedShards.{of_indices, has_of_indices}
-use Rattle.esr_core.proofs.DeletesHold.{clash, has_names, names_has, has_filtered, of_filtered, any_of, fresh_has, fresh_is, not_none, bytes_same}
-use Rattle.esr_core.proofs.DeletionLaws.{dooms_is}
-use Rattle.esr_core.proofs.Plans.{shard_reads, in_root, of_root_apart}
-use Rattle.esr_core.proofs.DoomedNames.{left_unnamed, left_listed, uuid_unnamed, passed, both_true}
+use Rattle.esr_model.specs.Lists.{Has-map, Has-mapped, Has-left, Has-right}
+use Rattle.esr_core.specs.Laws.OneValue.{reads_one, held_one, generation_index}
+use Rattle.esr_core.specs.Laws.DeleteRoots.{left_has, AreApart, one_found, index_was, renewed_index_was, deleted_snapshots, deleted_generations, has_names, names_has, bytes_same}
+use Rattle.esr_core.proofs.DeletedRoots.{deleted_kept, deleted_stays}
+use Rattle.esr_core.specs.Laws.PruneShards.{of_indices}
+use Rattle.esr_core.proofs.PrunedShards.{has_of_indices}
+use Rattle.esr_core.specs.Laws.Tests.{clash, any_of}
+use Rattle.esr_core.proofs.DeletesHold.{of_filtered, fresh_has, fresh_is, not_none}
+use Rattle.esr_core.specs.Laws.DoomNames.{dooms_is}
+use Rattle.esr_core.specs.Laws.DeletePlans.{in_root, of_root_apart}
+use Rattle.esr_core.proofs.Plans.{shard_reads}
+use Rattle.esr_core.proofs.DoomedNames.{left_unnamed, left_listed, uuid_unnamed, passed}
 use Rattle.esr_core.proofs.PruneTurns.{law, pruned, plan, root_is, once, written}
 
 -- ---- uuids that are named
 
 none_named : (uuids us : List ℕ) (u : ℕ) → has_named uuids us ≡ false → Has us u → names_uuid uuids u ≡ false
 none_named uuids [] u e m = absurd m
-none_named uuids (v ∷ us) u e m = elim (bool_told (names_uuid uuids v)) [
-  | inl b ↦ absurd (clash _ (choose_true _ _ _ b) e)
-  | inr b ↦ elim m [ inl same ↦ ap (names_uuid uuids) (sym same) ∙ b | inr later ↦ none_named uuids us u (sym (choose_false _ _ _ b) ∙ e) later ]
+none_named uuids (v ∷ us) u e m = elim (cases_Bool (names_uuid uuids v)) [
+  | inl b ↦ absurd (clash _ (cond-true _ _ _ b) e)
+  | inr b ↦ elim m [ inl same ↦ ap (names_uuid uuids) (sym same) ∙ b | inr later ↦ none_named uuids us u (sym (cond-false _ _ _ b) ∙ e) later ]
 ]
 
 some_named : (uuids us : List ℕ) (u : ℕ) → Has us u → names_uuid uuids u ≡ true → has_named uuids us ≡ true
 some_named uuids [] u m e = absurd m
-some_named uuids (v ∷ us) u m e = elim (bool_told (names_uuid uuids v)) [
-  | inl b ↦ choose_true _ _ _ b
-  | inr b ↦ choose_false _ _ _ b ∙ elim m [ inl same ↦ absurd (clash (names_uuid uuids v) (ap (names_uuid uuids) same ∙ e) b) | inr later ↦ some_named uuids us u later e ]
-]
-
--- a snapshot that isn't named is left
-pub snap_left : (uuids : List ℕ) (ss : List RootSnap) (s : RootSnap) → Has ss s → names_uuid uuids s.uuid ≡ false → Has (left_snaps uuids ss) s
-snap_left uuids [] s m e = absurd m
-snap_left uuids (x ∷ ss) s m e = elim (bool_told (names_uuid uuids x.uuid)) [
-  | inl b ↦ subst (λ (l : List RootSnap). Has l s) (sym (choose_true _ _ _ b)) (elim m [
-    | inl same ↦ absurd (clash (names_uuid uuids x.uuid) b (ap (λ (y : RootSnap). names_uuid uuids y.uuid) same ∙ e))
-    | inr later ↦ snap_left uuids ss s later e
-  ])
-  | inr b ↦ subst (λ (l : List RootSnap). Has l s) (sym (choose_false _ _ _ b)) (elim m [ inl same ↦ inl same | inr later ↦ inr (snap_left uuids ss s later e) ])
+some_named uuids (v ∷ us) u m e = elim (cases_Bool (names_uuid uuids v)) [
+  | inl b ↦ cond-true _ _ _ b
+  | inr b ↦ cond-false _ _ _ b ∙ elim m [ inl same ↦ absurd (clash (names_uuid uuids v) (ap (names_uuid uuids) same ∙ e) b) | inr later ↦ some_named uuids us u later e ]
 ]
 
 -- ---- the new root has an index with a snapshot alone
@@ -108,23 +104,23 @@ first_gone : (base index number : ℕ) (o : Option ℕ) (kept : Bool) (rest : Li
 first_gone base index number None kept rest e = inl (λ j. shard_at index number base (sym e j))
 first_gone base index number (Some now) kept rest h = elim (eqb_tells now base) [
   | inl t ↦ absurd (h.1 t.1)
-  | inr t ↦ subst (λ (l : List PrunedShard). Has l (shard_at index number base kept)) (sym (choose_false _ _ _ t.0)) (inl (λ j. shard_at index number base (sym h.0 j)))
+  | inr t ↦ subst (λ (l : List PrunedShard). Has l (shard_at index number base kept)) (sym (cond-false _ _ _ t.0)) (inl (λ j. shard_at index number base (sym h.0 j)))
 ]
 
 later_gone : (base index number : ℕ) (o : Option ℕ) (rest : List PrunedShard) (p : PrunedShard) → Has rest p → Has (gone_by base o index number rest) p
 later_gone base index number None rest p m = inr m
-later_gone base index number (Some now) rest p m = elim (bool_told (now == base)) [
-  | inl b ↦ subst (λ (l : List PrunedShard). Has l p) (sym (choose_true _ _ _ b)) m
-  | inr b ↦ subst (λ (l : List PrunedShard). Has l p) (sym (choose_false _ _ _ b)) (inr m)
+later_gone base index number (Some now) rest p m = elim (cases_Bool (now == base)) [
+  | inl b ↦ subst (λ (l : List PrunedShard). Has l p) (sym (cond-true _ _ _ b)) m
+  | inr b ↦ subst (λ (l : List PrunedShard). Has l p) (sym (cond-false _ _ _ b)) (inr m)
 ]
 
 module _ (new : RootData) where
   gone_of_index : (index number place base : ℕ) (kept : Bool) (gs : List (Option ℕ)) → at_shard gs place ≡ Some base → IsGoneAs (at_shard_of (index_at new.indices index) (number + place)) base kept
       → Has (gone_from new index number gs) (shard_at index (number + place) base kept)
-  gone_of_index index number place base kept [] at h = absurd (none_some base at)
-  gone_of_index index number zero base kept (None ∷ gs) at h = absurd (none_some base at)
+  gone_of_index index number place base kept [] at h = absurd (none-some base at)
+  gone_of_index index number zero base kept (None ∷ gs) at h = absurd (none-some base at)
   gone_of_index index number zero base kept (Some g ∷ gs) at h =
-      let same : g ≡ base = some_same g base at in
+      let same : g ≡ base = same_Some g base at in
       let n : number ≡ number + 0 = omega arith in
       let here : IsGoneAs (at_shard_of (index_at new.indices index) number) g kept = subst (λ (x : ℕ × ℕ). IsGoneAs (at_shard_of (index_at new.indices index) x.0) x.1 kept) (λ j. (sym n j, sym same j)) h in
       subst (λ (x : ℕ × ℕ). Has (gone_from new index number (Some g ∷ gs)) (shard_at index x.0 x.1 kept)) (λ j. (n j, same j))
@@ -157,19 +153,19 @@ snap_doomed : (uuids : List ℕ) (ss : List RootSnap) (s : RootSnap) → Has ss 
 snap_doomed uuids [] s m e = absurd m
 snap_doomed uuids (x ∷ ss) s (inl same) e =
     let own : names_uuid uuids x.uuid ≡ true = ap (λ (y : RootSnap). names_uuid uuids y.uuid) same ∙ e in (
-      subst (λ (l : List BlobName). Has l (Snap s.uuid)) (sym (choose_true _ _ _ own)) (inl (ap (λ (y : RootSnap). Snap y.uuid) same)),
-      subst (λ (l : List BlobName). Has l (Meta s.uuid)) (sym (choose_true _ _ _ own)) (inr (inl (ap (λ (y : RootSnap). Meta y.uuid) same))),
+      subst (λ (l : List BlobName). Has l (Snap s.uuid)) (sym (cond-true _ _ _ own)) (inl (ap (λ (y : RootSnap). Snap y.uuid) same)),
+      subst (λ (l : List BlobName). Has l (Meta s.uuid)) (sym (cond-true _ _ _ own)) (inr (inl (ap (λ (y : RootSnap). Meta y.uuid) same))),
     )
 snap_doomed uuids (x ∷ ss) s (inr m) e =
     let rest = snap_doomed uuids ss s m e in
-    elim (bool_told (names_uuid uuids x.uuid)) [
+    elim (cases_Bool (names_uuid uuids x.uuid)) [
       | inl b ↦ (
-        subst (λ (l : List BlobName). Has l (Snap s.uuid)) (sym (choose_true _ _ _ b)) (inr (inr rest.0)),
-        subst (λ (l : List BlobName). Has l (Meta s.uuid)) (sym (choose_true _ _ _ b)) (inr (inr rest.1)),
+        subst (λ (l : List BlobName). Has l (Snap s.uuid)) (sym (cond-true _ _ _ b)) (inr (inr rest.0)),
+        subst (λ (l : List BlobName). Has l (Meta s.uuid)) (sym (cond-true _ _ _ b)) (inr (inr rest.1)),
       )
       | inr b ↦ (
-        subst (λ (l : List BlobName). Has l (Snap s.uuid)) (sym (choose_false _ _ _ b)) rest.0,
-        subst (λ (l : List BlobName). Has l (Meta s.uuid)) (sym (choose_false _ _ _ b)) rest.1,
+        subst (λ (l : List BlobName). Has l (Snap s.uuid)) (sym (cond-false _ _ _ b)) rest.0,
+        subst (λ (l : List BlobName). Has l (Meta s.uuid)) (sym (cond-false _ _ _ b)) rest.1,
       )
     ]
 
@@ -177,10 +173,10 @@ meta_doomed : (uuids : List ℕ) (id : ℕ) (us : List ℕ) (u : ℕ) → Has us
 meta_doomed uuids id [] u m e = absurd m
 meta_doomed uuids id (v ∷ us) u (inl same) e =
     let own : names_uuid uuids v ≡ true = ap (names_uuid uuids) same ∙ e in
-    subst (λ (l : List BlobName). Has l (IndexMeta id u)) (sym (choose_true _ _ _ own)) (inl (ap (λ (n : ℕ). IndexMeta id n) same))
-meta_doomed uuids id (v ∷ us) u (inr m) e = elim (bool_told (names_uuid uuids v)) [
-  | inl b ↦ subst (λ (l : List BlobName). Has l (IndexMeta id u)) (sym (choose_true _ _ _ b)) (inr (meta_doomed uuids id us u m e))
-  | inr b ↦ subst (λ (l : List BlobName). Has l (IndexMeta id u)) (sym (choose_false _ _ _ b)) (meta_doomed uuids id us u m e)
+    subst (λ (l : List BlobName). Has l (IndexMeta id u)) (sym (cond-true _ _ _ own)) (inl (ap (λ (n : ℕ). IndexMeta id n) same))
+meta_doomed uuids id (v ∷ us) u (inr m) e = elim (cases_Bool (names_uuid uuids v)) [
+  | inl b ↦ subst (λ (l : List BlobName). Has l (IndexMeta id u)) (sym (cond-true _ _ _ b)) (inr (meta_doomed uuids id us u m e))
+  | inr b ↦ subst (λ (l : List BlobName). Has l (IndexMeta id u)) (sym (cond-false _ _ _ b)) (meta_doomed uuids id us u m e)
 ]
 
 index_meta_doomed : (uuids : List ℕ) (xs : List RootIndex) (x : RootIndex) (u : ℕ) → Has xs x → Has x.snapshots u → names_uuid uuids u ≡ true → Has (doomed_index_metas uuids xs) (IndexMeta x.id u)
@@ -204,10 +200,10 @@ list_doomed listed left p [] l m a h = absurd m
 list_doomed listed left p (x ∷ lists) l (inl same) a h =
     let own : (names_uuid listed x.uuid && (if p.kept then (if names_uuid left x.uuid then false else true) else true)) ≡ true =
     list_test (names_uuid listed x.uuid) p.kept (names_uuid left x.uuid) (ap (λ (y : SnapList). names_uuid listed y.uuid) same ∙ a) (λ k. ap (λ (y : SnapList). names_uuid left y.uuid) same ∙ h k) in
-    subst (λ (ns : List BlobName). Has ns (ShardSnap p.index p.number l.uuid)) (sym (choose_true _ _ _ own)) (inl (ap (λ (y : SnapList). ShardSnap p.index p.number y.uuid) same))
-list_doomed listed left p (x ∷ lists) l (inr m) a h = elim (bool_told (names_uuid listed x.uuid && (if p.kept then (if names_uuid left x.uuid then false else true) else true))) [
-  | inl b ↦ subst (λ (ns : List BlobName). Has ns (ShardSnap p.index p.number l.uuid)) (sym (choose_true _ _ _ b)) (inr (list_doomed listed left p lists l m a h))
-  | inr b ↦ subst (λ (ns : List BlobName). Has ns (ShardSnap p.index p.number l.uuid)) (sym (choose_false _ _ _ b)) (list_doomed listed left p lists l m a h)
+    subst (λ (ns : List BlobName). Has ns (ShardSnap p.index p.number l.uuid)) (sym (cond-true _ _ _ own)) (inl (ap (λ (y : SnapList). ShardSnap p.index p.number y.uuid) same))
+list_doomed listed left p (x ∷ lists) l (inr m) a h = elim (cases_Bool (names_uuid listed x.uuid && (if p.kept then (if names_uuid left x.uuid then false else true) else true))) [
+  | inl b ↦ subst (λ (ns : List BlobName). Has ns (ShardSnap p.index p.number l.uuid)) (sym (cond-true _ _ _ b)) (inr (list_doomed listed left p lists l m a h))
+  | inr b ↦ subst (λ (ns : List BlobName). Has ns (ShardSnap p.index p.number l.uuid)) (sym (cond-false _ _ _ b)) (list_doomed listed left p lists l m a h)
 ]
 
 part_doomed : (lists : List SnapList) (p : PrunedShard) (files : List FileEntry) (e : FileEntry) → Has files e → (p.kept && lists_file lists e) ≡ false → (name : BlobName) → Has (part_names p.index p.number e) name
@@ -216,10 +212,10 @@ part_doomed lists p [] e m lost name part = absurd m
 part_doomed lists p (x ∷ files) e (inl same) lost name part =
     let own : (p.kept && lists_file lists x) ≡ false = ap (λ (y : FileEntry). p.kept && lists_file lists y) same ∙ lost in
     let mine : Has (part_names p.index p.number x) name = subst (λ (y : FileEntry). Has (part_names p.index p.number y) name) (sym same) part in
-    subst (λ (ns : List BlobName). Has ns name) (sym (choose_false _ _ _ own)) (Has-left (part_names p.index p.number x) (doomed_parts lists p files) name mine)
-part_doomed lists p (x ∷ files) e (inr m) lost name part = elim (bool_told (p.kept && lists_file lists x)) [
-  | inl b ↦ subst (λ (ns : List BlobName). Has ns name) (sym (choose_true _ _ _ b)) (part_doomed lists p files e m lost name part)
-  | inr b ↦ subst (λ (ns : List BlobName). Has ns name) (sym (choose_false _ _ _ b)) (Has-right (part_names p.index p.number x) (doomed_parts lists p files) name (part_doomed lists p files e m lost name part))
+    subst (λ (ns : List BlobName). Has ns name) (sym (cond-false _ _ _ own)) (Has-left (part_names p.index p.number x) (doomed_parts lists p files) name mine)
+part_doomed lists p (x ∷ files) e (inr m) lost name part = elim (cases_Bool (p.kept && lists_file lists x)) [
+  | inl b ↦ subst (λ (ns : List BlobName). Has ns name) (sym (cond-true _ _ _ b)) (part_doomed lists p files e m lost name part)
+  | inr b ↦ subst (λ (ns : List BlobName). Has ns name) (sym (cond-false _ _ _ b)) (Has-right (part_names p.index p.number x) (doomed_parts lists p files) name (part_doomed lists p files e m lost name part))
 ]
 
 shard_doomed : (f : Formats) (read : List (BlobName × Bytes)) (listed left : List ℕ) (shards : List PrunedShard) (p : PrunedShard) → Has shards p → (name : BlobName)
@@ -285,7 +281,7 @@ module _ (f : Formats) (has : BlobName → Bytes → Type 0) (func : IsOne has) 
   new_listed = ap (map (λ (s : RootSnap). s.uuid)) new_snapshots ∙ left_listed uuids root.snapshots
 
   snap_stays : (s : RootSnap) → Has root.snapshots s → names_uuid uuids s.uuid ≡ false → Has new.snapshots s
-  snap_stays s m e = subst (λ (ss : List RootSnap). Has ss s) (sym new_snapshots) (snap_left uuids root.snapshots s m e)
+  snap_stays s m e = subst (λ (ss : List RootSnap). Has ss s) (sym new_snapshots) (left_stays uuids root.snapshots s m e)
 
   generation_in : (x : RootIndex) → Has root.indices x → (i k g : ℕ) → x.id ≡ i → Generation root i k g → at_shard x.generations k ≡ Some g
   generation_in x there i k g id gen = sym (ap (λ (z : Option RootIndex). at_shard_of z k) (one_found root.indices one x there i id)) ∙ gen
@@ -305,7 +301,7 @@ module _ (f : Formats) (has : BlobName → Bytes → Type 0) (func : IsOne has) 
   gone_was_read : clean ≡ false → (i k g : ℕ) → Generation root i k g → (Generation new i k g → ⊥) → WasRead i k g
   gone_was_read deletes i k g gen other =
       let (x, there, id) = generation_index root i k g gen in
-      elim (bool_told (is_touched clean uuids x.snapshots)) [
+      elim (cases_Bool (is_touched clean uuids x.snapshots)) [
         | inl victim ↦ read_of x there i k g id gen victim
         | inr none ↦
             let (u, mine) = tidy.used x there in
@@ -320,7 +316,7 @@ module _ (f : Formats) (has : BlobName → Bytes → Type 0) (func : IsOne has) 
   fresh_reads i k g now gen w fresh =
       let r = fresh_is f read left shards first i k now fresh in
       let at : Generation root i k r.p.base = subst (λ (y : ℕ × ℕ). Generation root y.0 y.1 r.p.base) (λ j. (r.index_is j, r.number_is j)) (in_root root shards r.p of_root r.there) in
-      let base : r.p.base ≡ g = some_same r.p.base g (sym at ∙ gen) in
+      let base : r.p.base ≡ g = same_Some r.p.base g (sym at ∙ gen) in
       let its : files_read f read r.p ≡ Some w.was = ap (files_by f) (bytes_same read r.p (bare_shard i k g) r.index_is r.number_is base) ∙ w.read_as in
       let text : Has (pruned_blobs f read left first shards) (ShardIndex i k now, f.shard_index.text (surviving left w.was)) =
       subst (λ (o : Option ShardFiles). Has (pruned_blobs f read left first shards) (ShardIndex i k now, left_text f left o)) its r.own in
@@ -339,7 +335,7 @@ module _ (f : Formats) (has : BlobName → Bytes → Type 0) (func : IsOne has) 
       let l_listed : names_uuid (uuids_of root) l.uuid ≡ true = ap (names_uuid (uuids_of root)) same ∙ has_names (uuids_of root) s.uuid (Has-map (λ (x : RootSnap). x.uuid) root.snapshots s there) in
       let test : is_victim clean uuids (uuids_of root) l ≡ true = ap (λ (c : Bool). is_victim c uuids (uuids_of root) l) deletes ∙ ap (λ (b : Bool). b && names_uuid (uuids_of root) l.uuid) l_named ∙ l_listed in
       let any : list_any (is_victim clean uuids (uuids_of root)) w.was.snapshots ≡ true = any_of (is_victim clean uuids (uuids_of root)) w.was.snapshots l l_there test in
-      elim (bool_told (has_none (left_uuids uuids own.x.snapshots))) [
+      elim (cases_Bool (has_none (left_uuids uuids own.x.snapshots))) [
         | inl leaves ↦
             let (y, y_there, y_id) = generation_index new i k g stays in
             let z : IsLeftOf root uuids y = deleted_used root uuids shards first y y_there in
@@ -371,7 +367,7 @@ module _ (f : Formats) (has : BlobName → Bytes → Type 0) (func : IsOne has) 
   has_new i k g w kept gen as_told is_kept =
       let (now, now_gen, other) = kept_now (at_shard_of (index_at new.indices i) k) g kept as_told is_kept in
       elim (deleted_generations root one uuids shards first apart i k now now_gen) [
-        | inl old ↦ absurd (other (some_same now g (sym old.1 ∙ gen)))
+        | inl old ↦ absurd (other (same_Some now g (sym old.1 ∙ gen)))
         | inr fresh ↦ record { now = now; gen = now_gen; reads = fresh_reads i k g now gen w fresh }
       ]
 
@@ -401,12 +397,12 @@ module _ (f : Formats) (has : BlobName → Bytes → Type 0) (func : IsOne has) 
       let is : h ≡ w.was = reads_one has func (ShardIndex i k g) f.shard_index h w.was reads w.reads in
       let l_there : Has w.was.snapshots l = subst (λ (z : ShardFiles). Has z.snapshots l) is listed in
       let l_listed : names_uuid (uuids_of root) l.uuid ≡ true = ap (names_uuid (uuids_of root)) same ∙ has_names (uuids_of root) s.uuid (Has-map (λ (x : RootSnap). x.uuid) root.snapshots s there) in
-      let lost : kept ≡ true → names_uuid (uuids_of new) l.uuid ≡ false = λ is_kept. elim (bool_told (names_uuid (uuids_of new) l.uuid)) [
+      let lost : kept ≡ true → names_uuid (uuids_of new) l.uuid ≡ false = λ is_kept. elim (cases_Bool (names_uuid (uuids_of new) l.uuid)) [
         | inr b ↦ b
         | inl b ↦
             let n : HasNew i k g w = has_new i k g w kept gen as_told is_kept in
             let (z, z_there, z_is) = Has-mapped (λ (x : RootSnap). x.uuid) new.snapshots l.uuid (names_has (uuids_of new) l.uuid b) in
-            let l_left : Has (surviving left w.was).snapshots l = has_filtered (λ (x : SnapList). names_uuid left x.uuid) w.was.snapshots l l_there (ap (λ (us : List ℕ). names_uuid us l.uuid) (sym new_listed) ∙ b) in
+            let l_left : Has (surviving left w.was).snapshots l = filter-Has (λ (x : SnapList). names_uuid left x.uuid) w.was.snapshots l l_there (ap (λ (us : List ℕ). names_uuid us l.uuid) (sym new_listed) ∙ b) in
             absurd (unreached (subst (λ (u : ℕ). Reached f has new (ShardSnap i k u)) (z_is ∙ same) (ReachShardSnap i k n.now z (surviving left w.was) l n.gen n.reads l_left z_there (sym z_is))))
       ] in
       let lists : List BlobName = doomed_lists (uuids_of root) (uuids_of new) (shard_at i k g kept) w.was.snapshots in
@@ -421,13 +417,13 @@ module _ (f : Formats) (has : BlobName → Bytes → Type 0) (func : IsOne has) 
       let w : WasRead i k g = gone_was_read deletes i k g gen other in
       let is : h ≡ w.was = reads_one has func (ShardIndex i k g) f.shard_index h w.was reads w.reads in
       let e_there : Has w.was.files e = subst (λ (z : ShardFiles). Has z.files e) is listed in
-      let lost : (kept && lists_file (listed_lists (uuids_of new) w.was.snapshots) e) ≡ false = elim (bool_told (kept && lists_file (listed_lists (uuids_of new) w.was.snapshots) e)) [
+      let lost : (kept && lists_file (listed_lists (uuids_of new) w.was.snapshots) e) ≡ false = elim (cases_Bool (kept && lists_file (listed_lists (uuids_of new) w.was.snapshots) e)) [
         | inr b ↦ b
         | inl b ↦
-            let two = both_true kept (lists_file (listed_lists (uuids_of new) w.was.snapshots) e) b in
+            let two = and_parts kept (lists_file (listed_lists (uuids_of new) w.was.snapshots) e) b in
             let n : HasNew i k g w = has_new i k g w kept gen as_told two.0 in
             let test : lists_file (listed_lists left w.was.snapshots) e ≡ true = ap (λ (us : List ℕ). lists_file (listed_lists us w.was.snapshots) e) (sym new_listed) ∙ two.1 in
-            absurd (unreached (ReachPart i k n.now (surviving left w.was) e name n.gen n.reads (has_filtered (lists_file (listed_lists left w.was.snapshots)) w.was.files e e_there test) part))
+            absurd (unreached (ReachPart i k n.now (surviving left w.was) e name n.gen n.reads (filter-Has (lists_file (listed_lists left w.was.snapshots)) w.was.files e e_there test) part))
       ] in
       let lists : List BlobName = doomed_lists (uuids_of root) (uuids_of new) (shard_at i k g kept) w.was.snapshots in
       let parts : List BlobName = doomed_parts (listed_lists (uuids_of new) w.was.snapshots) (shard_at i k g kept) w.was.files in
@@ -438,19 +434,19 @@ module _ (f : Formats) (has : BlobName → Bytes → Type 0) (func : IsOne has) 
   stays_or_goes i k g = go (at_shard_of (index_at new.indices i) k)
     where
       go : (o : Option ℕ) → (o ≡ Some g) ⊎ (o ≡ Some g → ⊥)
-      go None = inr (λ e. none_some g e)
-      go (Some now) = elim (eqb_tells now g) [ inl t ↦ inl (ap (λ (n : ℕ). Some n) t.1) | inr t ↦ inr (λ e. t.1 (some_same now g e)) ]
+      go None = inr (λ e. none-some g e)
+      go (Some now) = elim (eqb_tells now g) [ inl t ↦ inl (ap (λ (n : ℕ). Some n) t.1) | inr t ↦ inr (λ e. t.1 (same_Some now g e)) ]
 
   pub all_doomed : clean ≡ false → (name : BlobName) → Reached f has root name → (Reached f has new name → ⊥) → Has (doomed_names f safe root new uuids read) name
-  all_doomed deletes name (ReachSnap s there) unreached = elim (bool_told (names_uuid uuids s.uuid)) [
+  all_doomed deletes name (ReachSnap s there) unreached = elim (cases_Bool (names_uuid uuids s.uuid)) [
     | inl named ↦ of_snaps f safe root new uuids read (Snap s.uuid) (snap_doomed uuids root.snapshots s there named).0
     | inr unnamed ↦ absurd (unreached (ReachSnap s (snap_stays s there unnamed)))
   ]
-  all_doomed deletes name (ReachMeta s there) unreached = elim (bool_told (names_uuid uuids s.uuid)) [
+  all_doomed deletes name (ReachMeta s there) unreached = elim (cases_Bool (names_uuid uuids s.uuid)) [
     | inl named ↦ of_snaps f safe root new uuids read (Meta s.uuid) (snap_doomed uuids root.snapshots s there named).1
     | inr unnamed ↦ absurd (unreached (ReachMeta s (snap_stays s there unnamed)))
   ]
-  all_doomed deletes name (ReachIndexMeta x u there mine) unreached = elim (bool_told (names_uuid uuids u)) [
+  all_doomed deletes name (ReachIndexMeta x u there mine) unreached = elim (cases_Bool (names_uuid uuids u)) [
     | inl named ↦ of_metas f safe root new uuids read (IndexMeta x.id u) (index_meta_doomed uuids root.indices x u there mine named)
     | inr unnamed ↦
         let (y, y_there, y_name, y_id, y_mine) = deleted_kept root one uuids shards first apart x u there mine unnamed in
@@ -463,7 +459,7 @@ module _ (f : Formats) (has : BlobName → Bytes → Type 0) (func : IsOne has) 
     | inr other ↦
         let (kept, as_told) = gone_as (at_shard_of (index_at new.indices i) k) g other in
         list_goes deletes i k g kept s h l gen reads listed there same unreached other as_told
-    | inl stays ↦ elim (bool_told (names_uuid uuids s.uuid)) [
+    | inl stays ↦ elim (cases_Bool (names_uuid uuids s.uuid)) [
       | inl named ↦ absurd (victim_goes deletes i k g s h l gen reads listed there same named stays)
       | inr unnamed ↦ absurd (unreached (ReachShardSnap i k g s h l stays reads listed (snap_stays s there unnamed) same))
     ]

@@ -2,6 +2,9 @@
 use Rattle.std.proofs.Common.{◌≡◌, ℕ, ◌<◌, ◌≤◌, List, [], ◌∷◌, false, Option, Some, None, refl, sym, ap, ◌∙◌, subst, inl, inr, arith}
 use Rattle.std.specs.Prelude.{if◌then◌else◌}
 use Rattle.std.specs.FinMap as fin
+use Rattle.std.proofs.lemmas.Option.{same_Some, none-some}
+use Rattle.std.proofs.lemmas.Bool.{cond-true, cond-false, cases_Bool}
+use Rattle.esr_core.specs.Laws.NumberMaps.{was_in, other_in}
 use Rattle.esr_model.specs.Names.{BlobName, Root, ShardIndex}
 use Rattle.esr_model.specs.Values.{Bytes, RootSnap, RootData, SnapInfo, ShardFiles, ShardResult, Formats}
 use Rattle.esr_model.specs.Shelf.{Shelved, Command, left_shelf, names_uuid, shelf_after}
@@ -14,22 +17,22 @@ use Rattle.esr_core.specs.Swaps.{TicketLaw, SwapLaw, SwapShape, IsSwapping, Coun
 use Rattle.esr_core.specs.Generations.{Carried, BaseBelow, PlanLaw}
 use Rattle.esr_core.specs.Sound.{Sound}
 use Rattle.esr_core.specs.Queue.{Lawful, DeleteLaw, Shrinks}
-use Rattle.esr_core.proofs.Reading.{some_same, none_some, held_one, reads_one, safe_root_stands}
-use Rattle.esr_core.proofs.Results.{choose_true, choose_false}
-use Rattle.esr_core.proofs.Deleting.{stage_delete, bool_told, left_has}
+use Rattle.esr_core.specs.Laws.OneValue.{held_one, reads_one, safe_root_stands}
+use Rattle.esr_core.specs.Laws.DeleteRoots.{left_has}
+use Rattle.esr_core.proofs.Deleting.{stage_delete}
 use Rattle.esr_core.proofs.Tickets.{each_ticket}
 use Rattle.esr_core.proofs.Same.{SameTicket, notes_same}
 use Rattle.esr_core.proofs.Law.{quiet, fresh_same}
 use Rattle.esr_core.proofs.Settling.{swap_master}
-use Rattle.esr_core.proofs.Queues.{was_in, other_in, queue_ticket}
+use Rattle.esr_core.proofs.Queues.{queue_ticket}
 
 -- what isn't named is left
 pub left_stays : (uuids : List ℕ) (ss : List RootSnap) (s : RootSnap) → Has ss s → names_uuid uuids s.uuid ≡ false → Has (left_snaps uuids ss) s
 left_stays uuids [] s h e = h
-left_stays uuids (x ∷ xs) s (inl same) e = subst (λ l. Has l s) (sym (choose_false _ _ _ (ap (λ (y : RootSnap). names_uuid uuids y.uuid) same ∙ e))) (inl same)
-left_stays uuids (x ∷ xs) s (inr m) e = elim (bool_told (names_uuid uuids x.uuid)) [
-  | inl b ↦ subst (λ l. Has l s) (sym (choose_true _ _ _ b)) (left_stays uuids xs s m e)
-  | inr b ↦ subst (λ l. Has l s) (sym (choose_false _ _ _ b)) (inr (left_stays uuids xs s m e))
+left_stays uuids (x ∷ xs) s (inl same) e = subst (λ l. Has l s) (sym (cond-false _ _ _ (ap (λ (y : RootSnap). names_uuid uuids y.uuid) same ∙ e))) (inl same)
+left_stays uuids (x ∷ xs) s (inr m) e = elim (cases_Bool (names_uuid uuids x.uuid)) [
+  | inl b ↦ subst (λ l. Has l s) (sym (cond-true _ _ _ b)) (left_stays uuids xs s m e)
+  | inr b ↦ subst (λ l. Has l s) (sym (cond-false _ _ _ b)) (inr (left_stays uuids xs s m e))
 ]
 
 pub draw_shard_lawful : (f : Formats) (w : World) (shelf : List Shelved) → Lawful f w shelf → (k n : ℕ) (new : World) (d : DrawShard w k n new) → ((id : ℕ) → w.next_id ≤ id → (d.t.uuid < id) × BaseBelow d.t.base id) → Lawful f new shelf
@@ -99,11 +102,11 @@ module _ (f : Formats) (w : World) (shelf : List Shelved) (l : Lawful f w shelf)
       all_left uuids [] [] none h = refl
       all_left uuids [] (y ∷ ys) none h = absurd h
       all_left uuids (s ∷ ss) [] none h = absurd h
-      all_left uuids (s ∷ ss) (y ∷ ys) none h = choose_false _ _ _ (ap (names_uuid uuids) h.0.uuid_is ∙ none s (inl refl)) ∙ ap (λ zs. y ∷ zs) (all_left uuids ss ys (λ z m. none z (inr m)) h.1)
+      all_left uuids (s ∷ ss) (y ∷ ys) none h = cond-false _ _ _ (ap (names_uuid uuids) h.0.uuid_is ∙ none s (inl refl)) ∙ ap (λ zs. y ∷ zs) (all_left uuids ss ys (λ z m. none z (inr m)) h.1)
 
   counts : Counts (ledger_of w) v → d.t.term ≡ w.term
   counts (inl p) = p
-  counts (inr (m, raised, above)) = absurd (none_some m (sym d.unraised ∙ raised))
+  counts (inr (m, raised, above)) = absurd (none-some m (sym d.unraised ∙ raised))
 
   old : TicketLaw f (HeldIn f w) w.doomed (ledger_of w) shelf d.t
   old = l.sound.rooted.tickets k d.t d.out.there
@@ -113,11 +116,11 @@ module _ (f : Formats) (w : World) (shelf : List Shelved) (l : Lawful f w shelf)
       record {
         term = old.term;
         raised = old.raised;
-        last = λ s i p m e. absurd (none_some m (sym d.unraised ∙ e));
-        shape = λ s e. subst (SwapShape f) (some_same _ _ e) d.shape;
-        swaps = λ s i c. subst (SwapLaw f (HeldIn f w) shelf d.t.noted) (some_same _ _ i.is)
+        last = λ s i p m e. absurd (none-some m (sym d.unraised ∙ e));
+        shape = λ s e. subst (SwapShape f) (same_Some _ _ e) d.shape;
+        swaps = λ s i c. subst (SwapLaw f (HeldIn f w) shelf d.t.noted) (same_Some _ _ i.is)
             (record { staged = subst (RootStands f (OrOwn (HeldIn f w) d.own) d.root) (after i.unsettled (counts c)) (staged i.unsettled (counts c)); noted = λ name b m h. absurd (subst (λ ns. Has ns name) d.unnoted h); root_noted = λ m h. absurd (subst (λ ns. Has ns (Root m)) d.unnoted h) });
-        clean = λ s i c name b own. clean name b (subst (λ (x : Swap). Has x.own (name, b)) (sym (some_same _ _ i.is)) own);
+        clean = λ s i c name b own. clean name b (subst (λ (x : Swap). Has x.own (name, b)) (sym (same_Some _ _ i.is)) own);
         clean_root = old.clean_root;
         listed = old.listed;
       }
@@ -181,13 +184,13 @@ module _ (f : Formats) (w : World) (shelf : List Shelved) (l : Lawful f w shelf)
         shards = λ j u e out i x is. c.shards j u (shard_was j u e i x is) out i x is;
         one_shard = λ i j t u a b ao bo x y ai bi. c.one_shard i j t u (shard_was i t a x y ai) (shard_was j u b x y bi) ao bo x y ai bi;
         held = λ p q s j e m state. let h = c.held p q s j e m state in
-            record { t = h.t; there = other_in w.tickets k v j (λ same. differ (ap (λ (y : Ticket). y.work) (some_same _ _ (sym d.out.there ∙ ap (fin.get w.tickets) (sym same) ∙ h.there)) ∙ h.work)) ∙ h.there; out = h.out; op_is = h.op_is; work = h.work };
+            record { t = h.t; there = other_in w.tickets k v j (λ same. differ (ap (λ (y : Ticket). y.work) (same_Some _ _ (sym d.out.there ∙ ap (fin.get w.tickets) (sym same) ∙ h.there)) ∙ h.work)) ∙ h.there; out = h.out; op_is = h.op_is; work = h.work };
         finals = λ j u e out uns pres info rs made is. elim (was_in w.tickets k v j u e) [
           | inl h ↦ absurd (not_final (ap (λ (y : Ticket). y.work) h.1 ∙ is))
           | inr h ↦ c.finals j u h.1 out uns pres info rs made is
         ];
         plans = λ j u e out uns pres uuids s is. elim (was_in w.tickets k v j u e) [
-          | inl h ↦ subst (PlanLaw f w.root w.ops) (some_same _ _ (plan_of (ap (λ (y : Ticket). y.work) h.1 ∙ is))) (new_plan (ap (λ (y : Ticket). y.settled) h.1 ∙ uns) (ap (λ (y : Ticket). y.term) h.1 ∙ pres))
+          | inl h ↦ subst (PlanLaw f w.root w.ops) (same_Some _ _ (plan_of (ap (λ (y : Ticket). y.work) h.1 ∙ is))) (new_plan (ap (λ (y : Ticket). y.settled) h.1 ∙ uns) (ap (λ (y : Ticket). y.term) h.1 ∙ pres))
           | inr h ↦ c.plans j u h.1 out uns pres uuids s is
         ];
       }
@@ -205,13 +208,13 @@ module _ (f : Formats) (w : World) (shelf : List Shelved) (l : Lawful f w shelf)
         unfailed = h.unfailed;
         first = h.first;
         root_is = h.root_is;
-        planned = λ s e. subst (λ (x : Swap). Shrinks w.root x.root) (some_same _ _ (plan_is is ∙ e))
+        planned = λ s e. subst (λ (x : Swap). Shrinks w.root x.root) (same_Some _ _ (plan_is is ∙ e))
             (record {
               snapshots = λ z m. left_has d.uuids w.root.snapshots z (subst (λ xs. Has xs z) dels.snapshots m);
               indices = dels.from;
             });
         named = λ c us p e. h.named c us None (d.work ∙ ap (λ (x : List ℕ). Deleting x None) (uuids_of e));
-        keeps = λ s e z m stays. subst (λ (x : Swap). Has x.root.snapshots z) (some_same _ _ (plan_is is ∙ e))
+        keeps = λ s e z m stays. subst (λ (x : Swap). Has x.root.snapshots z) (same_Some _ _ (plan_is is ∙ e))
             (subst (λ xs. Has xs z) (sym dels.snapshots) (left_stays d.uuids w.root.snapshots z m (elim d.prunes [
               | inl c ↦ c.1 z (subst (λ (r : RootData). Has r.snapshots z) (sym h.root_is) m) ∙ ap (λ xs. names_uuid xs z.uuid) (h.named c.0 d.named None d.work) ∙ stays
               | inr c ↦ c.2 z (subst (λ (r : RootData). Has r.snapshots z) (sym h.root_is) m)

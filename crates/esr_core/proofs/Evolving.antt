@@ -1,76 +1,31 @@
 -- Ops whose shards go on, for the queue's law; and no ticket has a shard that is ready.
-use Rattle.std.proofs.Common.{◌≡◌, ◌≢◌, ◌⊎◌, ℕ, List, [], ◌∷◌, ◌++◌, Bool, true, false, true≢false, ◌&&◌, Some, map, refl, sym, ap, ◌∙◌, subst, inl, inr}
+use Rattle.std.proofs.Common.{◌≡◌, ◌⊎◌, ℕ, List, [], ◌∷◌, ◌++◌, Bool, true, false, true≢false, ◌&&◌, Some, map, refl, sym, ap, ◌∙◌, subst, inl, inr}
 use Rattle.std.specs.Prelude.{if◌then◌else◌}
-use Rattle.std.proofs.lemmas.Bool.{cases_order}
-use Rattle.std.proofs.lemmas.Bool.Decides.{eqb_tells}
+use Rattle.std.proofs.lemmas.Bool.{cases_order, and_parts, cond-true}
 use Rattle.std.specs.FinMap as fin
+use Rattle.std.proofs.lemmas.Option.{same_Some}
+use Rattle.esr_core.specs.Laws.NumberMaps.{was_in, same_in, other_in, split_at}
 use Rattle.esr_model.specs.Values.{IndexRef, ShardResult, Formats}
 use Rattle.esr_model.specs.Image.{Has}
 use Rattle.esr_core.specs.World.{World, Op, ShardWork, ShardState, Pending, Out, Done, GivenUp, Shard, Ticket, AllDone, HeldIn, marked}
 use Rattle.esr_core.specs.Ready.{Idle, Waits, ReadyShard}
 use Rattle.esr_core.specs.Generations.{Carried}
 use Rattle.esr_core.specs.Steps.{given, completing, all_done, is_done}
-use Rattle.esr_core.specs.Turns.{fails, fails_by}
+use Rattle.esr_core.specs.Turns.{fails}
 use Rattle.esr_core.specs.Queue.{QueueIn}
-use Rattle.esr_core.proofs.Reading.{some_same, Has-mapped, Has-left, Has-right, Has-append}
-use Rattle.esr_core.proofs.Results.{choose_true, choose_false}
-use Rattle.esr_core.proofs.Marked.{marked_is}
-use Rattle.esr_core.proofs.TakeShard.{given_is}
-use Rattle.esr_core.proofs.Ops.{GoesOn}
-use Rattle.esr_core.proofs.Queues.{Ops, Evolves, was_in, same_in, other_in, split_at}
-
-pub out_same : {a b : ℕ} → Out a ≡ Out b → a ≡ b
-out_same e = cc
-
-pub pending_out : {a : ℕ} → Pending ≡ Out a → ⊥
-pending_out e = cc
-
-pub pending_done : {r : ShardResult} → Pending ≡ Done r → ⊥
-pending_done e = cc
-
-pub out_done : {a : ℕ} {r : ShardResult} → Out a ≡ Done r → ⊥
-out_done e = cc
-
-pub out_pending : {a : ℕ} → Out a ≡ Pending → ⊥
-out_pending e = cc
+use Rattle.esr_model.specs.Lists.{Has-mapped, Has-left, Has-right, Has-append}
+use Rattle.esr_core.specs.Laws.ShardStates.{marked_is, given_is, pending_out, out_done, done_pending, up_out, Grows, grows_same, failed_is}
+use Rattle.esr_core.specs.Laws.Maps.{Ops}
+use Rattle.esr_core.proofs.Queues.{Evolves}
 
 pub out_up : {a : ℕ} → Out a ≡ GivenUp → ⊥
 out_up e = cc
 
-pub done_pending : {r : ShardResult} → Done r ≡ Pending → ⊥
-done_pending e = cc
-
 pub done_up : {r : ShardResult} → Done r ≡ GivenUp → ⊥
 done_up e = cc
 
-pub up_pending : GivenUp ≡ Pending → ⊥
-up_pending e = cc
-
-pub up_out : {a : ℕ} → GivenUp ≡ Out a → ⊥
-up_out e = cc
-
-pub up_done : {r : ShardResult} → GivenUp ≡ Done r → ⊥
-up_done e = cc
-
 pub out_idle : {a : ℕ} (st : ShardState) → st ≡ Out a → Idle st → ⊥
 out_idle {a} st e h = subst Idle e h
-
--- what one shard becomes
-pub record Grows (failed : Bool) (s z : ShardWork) : Type 0 where
-  pub ref : z.ref ≡ s.ref
-  pub number : z.number ≡ s.number
-  pub idle : Idle s.state → Idle z.state
-  pub pending : z.state ≡ Pending → s.state ≡ Pending
-  pub given_up : z.state ≡ GivenUp → (s.state ≡ GivenUp) ⊎ (failed ≡ true)
-
-pub grows_same : (failed : Bool) (s z : ShardWork) → z ≡ s → Grows failed s z
-grows_same failed s z e = record {
-  ref = ap (λ (x : ShardWork). x.ref) e;
-  number = ap (λ (x : ShardWork). x.number) e;
-  idle = λ h. subst (λ (x : ShardWork). Idle x.state) (sym e) h;
-  pending = λ h. sym (ap (λ (x : ShardWork). x.state) e) ∙ h;
-  given_up = λ h. inl (sym (ap (λ (x : ShardWork). x.state) e) ∙ h);
-}
 
 pub evolve_map : (op : Op) (g : ShardWork → ShardWork) (failed : Bool) → ((s : ShardWork) → Grows failed s (g s)) → (op.failed ≡ true → failed ≡ true) → Evolves op (record op { shards = map g op.shards; failed = failed })
 evolve_map op g failed all up =
@@ -111,43 +66,11 @@ marked_outs k r s j e = elim (marked_is k (Done r) s) [
   | inl h ↦ absurd (out_done (sym e ∙ ap (λ (x : ShardWork). x.state) h.is))
 ]
 
--- what a shard is after a failure: as it was, or given up
-pub failed_is : (k : ℕ) (s : ShardWork) → (((s.state ≡ Pending) ⊎ (s.state ≡ Out k)) × (fails k s ≡ record s { state = GivenUp })) ⊎ ((s.state ≢ Pending) × (s.state ≢ Out k) × (fails k s ≡ s))
-failed_is k s = go s.state refl
-  where
-    go : (st : ShardState) → s.state ≡ st → (((s.state ≡ Pending) ⊎ (s.state ≡ Out k)) × (fails_by k s st ≡ record s { state = GivenUp })) ⊎ ((s.state ≢ Pending) × (s.state ≢ Out k) × (fails_by k s st ≡ s))
-    go (Out j) e = elim (eqb_tells j k) [
-      | inl h ↦ inl (inr (e ∙ ap Out h.1), choose_true _ _ _ h.0)
-      | inr h ↦ inr ((λ q. out_pending (sym e ∙ q)), (λ q. h.1 (out_same (sym e ∙ q))), choose_false _ _ _ h.0)
-    ]
-    go Pending e = inl (inl e, refl)
-    go (Done r) e = inr ((λ q. done_pending (sym e ∙ q)), (λ q. out_done (sym q ∙ e)), refl)
-    go GivenUp e = inr ((λ q. up_pending (sym e ∙ q)), (λ q. up_out (sym e ∙ q)), refl)
-
-pub failed_grows : (k : ℕ) (s : ShardWork) → Grows true s (fails k s)
-failed_grows k s = elim (failed_is k s) [
-  | inr h ↦ grows_same true s (fails k s) h.2
-  | inl h ↦ record {
-    ref = ap (λ (x : ShardWork). x.ref) h.1;
-    number = ap (λ (x : ShardWork). x.number) h.1;
-    idle = λ i. subst (λ (x : ShardWork). Idle x.state) (sym h.1) tt;
-    pending = λ p. absurd (up_pending (sym (ap (λ (x : ShardWork). x.state) h.1) ∙ p));
-    given_up = λ p. inr refl;
-  }
-]
-
 pub failed_outs : (k : ℕ) (s : ShardWork) (j : ℕ) → (fails k s).state ≡ Out j → fails k s ≡ s
 failed_outs k s j e = elim (failed_is k s) [
   | inr h ↦ h.2
   | inl h ↦ absurd (up_out (sym (ap (λ (x : ShardWork). x.state) h.1) ∙ e))
 ]
-
-pub failed_goes : (k : ℕ) → GoesOn (fails k)
-failed_goes k = record {
-  ref = λ s. (failed_grows k s).ref;
-  number = λ s. (failed_grows k s).number;
-  done = λ s r e. elim (failed_is k s) [ inr h ↦ h.2 | inl h ↦ absurd (up_done (sym (ap (λ (x : ShardWork). x.state) h.1) ∙ e)) ];
-}
 
 -- completed ops
 pub all_done_tells : (shards : List ShardWork) (results : List ShardResult) → AllDone shards results → all_done shards ≡ true
@@ -157,7 +80,7 @@ all_done_tells (s ∷ ss) (r ∷ rs) h = ap (λ st. is_done st && all_done ss) h
 
 pub completing_has : (completed : List ℕ) (o : ℕ) (shards : List ShardWork) (results : List ShardResult) → AllDone shards results → Has (completing completed o shards) o
 completing_has completed o shards results h =
-    subst (λ xs. Has xs o) (sym (choose_true (all_done shards) (completed ++ o ∷ []) completed (all_done_tells shards results h))) (Has-right completed (o ∷ []) o (inl refl))
+    subst (λ xs. Has xs o) (sym (cond-true (all_done shards) (completed ++ o ∷ []) completed (all_done_tells shards results h))) (Has-right completed (o ∷ []) o (inl refl))
 
 pub completing_more : (completed : List ℕ) (o : ℕ) (shards : List ShardWork) (x : ℕ) → Has completed x → Has (completing completed o shards) x
 completing_more completed o shards x h = go (all_done shards)
@@ -174,10 +97,6 @@ completing_was completed o shards x h = go (all_done shards) refl h
     go true e h = elim (Has-append completed o x h) [ inl m ↦ inl m | inr q ↦ inr (sym q, e) ]
     go false e h = inl h
 
-both_true : (a b : Bool) → (a && b) ≡ true → (a ≡ true) × (b ≡ true)
-both_true true b e = (refl, e)
-both_true false b e = absurd (true≢false (sym e))
-
 is_done_of : (st : ShardState) → is_done st ≡ true → (r : ShardResult) × (st ≡ Done r)
 is_done_of (Done r) e = (r, refl)
 is_done_of Pending e = absurd (true≢false (sym e))
@@ -187,7 +106,7 @@ is_done_of GivenUp e = absurd (true≢false (sym e))
 pub results_of : (shards : List ShardWork) → all_done shards ≡ true → (results : List ShardResult) × AllDone shards results
 results_of [] e = ([], tt)
 results_of (s ∷ ss) e =
-    let h = both_true (is_done s.state) (all_done ss) e in
+    let h = and_parts (is_done s.state) (all_done ss) e in
     let (r, state) = is_done_of s.state h.0 in
     let (rs, all) = results_of ss h.1 in
     (r ∷ rs, (state, all))
@@ -227,7 +146,7 @@ module _ (ops : Ops) (o : ℕ) (old op : Op) (there : fin.get ops o ≡ Some old
 
   pub one_forth : (p : ℕ) (was : Op) → fin.get ops p ≡ Some was → (q : Op) × (fin.get (fin.insert ops o op) p ≡ Some q) × Evolves was q
   one_forth p was e = elim (split_at p o) [
-    | inl h ↦ (op, ap (fin.get (fin.insert ops o op)) h ∙ same_in ops o op, subst (λ x. Evolves x op) (some_same _ _ (sym there ∙ ap (fin.get ops) (sym h) ∙ e)) ev)
+    | inl h ↦ (op, ap (fin.get (fin.insert ops o op)) h ∙ same_in ops o op, subst (λ x. Evolves x op) (same_Some _ _ (sym there ∙ ap (fin.get ops) (sym h) ∙ e)) ev)
     | inr h ↦ (was, other_in ops o op p h ∙ e, evolves_same was)
   ]
 
@@ -252,7 +171,7 @@ free_of f w o op s c q r k t there out is =
     let l = c.shards k t there out s.ref.id s.number is in
     elim (cases_order t.op o) [
       | inl same ↦
-          let one : l.op ≡ op = some_same _ _ (sym l.op_there ∙ ap (fin.get w.ops) same ∙ r.op_there) in
+          let one : l.op ≡ op = same_Some _ _ (sym l.op_there ∙ ap (fin.get w.ops) same ∙ r.op_there) in
           let it : l.s ≡ s = (c.ops o op r.op_there).distinct l.s s (subst (λ (x : Op). Has x.shards l.s) one l.s_there) r.s_there l.index_is l.shard_is in
           pending_out (sym r.pending ∙ ap (λ (x : ShardWork). x.state) (sym it) ∙ l.state)
       | inr (inl lt) ↦ r.first t.op l.op l.s lt l.op_there l.s_there l.index_is l.shard_is (subst Waits (sym l.state) tt)

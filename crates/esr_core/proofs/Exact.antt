@@ -4,11 +4,15 @@ use Rattle.std.specs.Prelude.{if◌then◌else◌}
 use Rattle.std.proofs.lemmas.Bool.Decides.{eqb_tells}
 use Rattle.std.specs.FinMap as fin
 use Rattle.std.specs.Cmp.Lexicographic.{nat_list_cmp_total}
+use Rattle.std.proofs.lemmas.Option.{same_Some, none-some}
+use Rattle.std.proofs.lemmas.Bool.{cases_Bool}
+use Rattle.esr_core.specs.Laws.NumberMaps.{same_in}
+use Rattle.esr_core.proofs.TidyHistories.{at_one}
 use Rattle.esr_model.specs.Names.{BlobName, Root, Latest, ShardIndex, File, Part}
 use Rattle.esr_model.specs.Values.{Bytes, Has, RootSnap, RootData, SnapInfo, ShardResult, SnapList, ShardFiles, ReadsBack, Formats}
 use Rattle.esr_model.specs.Shelf.{Shelved, Command}
 use Rattle.esr_model.specs.Cleanup.{BlobSize, IsAfter, last_text, is_short, IsListed, IsPageOf, reaches}
-use Rattle.esr_model.specs.Image.{Blobs, Image, IsOne, At, Present, Reads, Generation, RootIs}
+use Rattle.esr_model.specs.Image.{Blobs, Image, At, Present, Reads, Generation, RootIs}
 use Rattle.esr_model.specs.Kept.{Kept}
 use Rattle.esr_model.specs.Reach.{Reached, ReachSnap, ReachMeta, ReachIndexMeta, ReachIndex, ReachShardSnap, ReachPart}
 use Rattle.esr_core.specs.World.{World, Deletion, Deleting, Drop, Finalize, Ticket, Swap, HeldIn, record_of, no_record, no_root, Opened, OpenedEmpty, OpenedRecord}
@@ -27,28 +31,29 @@ use Rattle.esr_core.specs.Allowed as allowed
 use Rattle.esr_core.specs.Allowed.{Told, SameBlobs, Adds, IsUnlisted, IsStale, ListsPage, SettlesDeletion, PruneAllows, Allows, IsBlocked, Allowed, InReach}
 use Rattle.esr_core.specs.History.{world_from, IsLegal, AreTold, is_settle}
 use Rattle.esr_core.specs.Cleaned.{HoldsReachAlone, ListsListedAlone, IsTestCommit, ChangesBlobs, NoneOf, IsFirstPage, IsLastDrop}
-use Rattle.esr_core.specs.UnitSteps.{other_unit, settle_unit}
-use Rattle.esr_core.proofs.Reading.{some_same, none_some, reads_one, Has-left, Has-right, Has-either}
-use Rattle.esr_core.proofs.Deleting.{bool_told}
+use Rattle.esr_core.specs.Laws.UnitSteps.{other_unit, settle_unit}
+use Rattle.esr_model.specs.Lists.{Has-left, Has-right, Has-either}
+use Rattle.esr_core.specs.Laws.OneValue.{reads_one}
 use Rattle.esr_core.proofs.DeletionLaws.{cleans_is}
-use Rattle.esr_core.proofs.Queues.{same_in}
-use Rattle.esr_core.proofs.Maps.{get_was, texts_same}
-use Rattle.esr_core.proofs.Moments.{delete_settled_plain}
-use Rattle.esr_core.proofs.Cleaning.{IsHeldNow, reached_by, cleaned_has, same_number}
+use Rattle.esr_core.specs.Laws.Maps.{get_was, texts_same, nothing}
+use Rattle.esr_core.specs.Laws.Moments.{delete_settled_plain}
+use Rattle.esr_core.specs.Laws.Tests.{same_number}
+use Rattle.esr_core.specs.Laws.CleanupReach.{IsHeldNow, reached_by}
+use Rattle.esr_core.proofs.Cleaning.{cleaned_has}
 use Rattle.esr_core.proofs.Paging.{listed_has}
 use Rattle.esr_core.proofs.PruneTurns.{held_now}
 use Rattle.esr_core.proofs.CleanLists.{lists_now}
 use Rattle.esr_core.proofs.Past.{entry_or_before, entry_among}
-use Rattle.esr_core.proofs.StepFrames.{step_frame, entries_apart}
+use Rattle.esr_core.specs.Laws.StepFrames.{step_frame}
+use Rattle.esr_core.proofs.StepFrames.{entries_apart}
 use Rattle.esr_core.proofs.BlobChanges.{blobs_change}
-use Rattle.esr_core.proofs.Makers.{maker}
-use Rattle.esr_core.proofs.Blocked.{blocked_stays}
+use Rattle.esr_core.specs.Laws.Makers.{maker}
+use Rattle.esr_core.specs.Laws.Asides.{blocked_stays}
 use Rattle.esr_core.proofs.Histories.{Stepped, step_law}
-use Rattle.esr_core.proofs.Pieces.{in_parts}
+use Rattle.esr_core.specs.Laws.PartNames.{in_parts}
 use Rattle.esr_core.proofs.TrackingSteps.{tracked_step}
 use Rattle.esr_core.proofs.ReadSteps.{read_step_tracked, read_opened_tracked}
 use Rattle.esr_core.proofs.Lists.{opening_law}
-use Rattle.esr_core.proofs.Opening.{nothing}
 
 -- ---- terms rise
 
@@ -130,7 +135,7 @@ live_before f size w m s k t v there same live =
       there = there;
       out = same.out live.out;
       present = omega (arith, below, rises, now, kept);
-      alive = elim (bool_told w.deposed) [ inl dead ↦ absurd (true≢false (sym ((step_of s).alone dead).0 ∙ live.alive)) | inr alive ↦ alive ];
+      alive = elim (cases_Bool w.deposed) [ inl dead ↦ absurd (true≢false (sym ((step_of s).alone dead).0 ∙ live.alive)) | inr alive ↦ alive ];
     }
 
 live_from : (f : Formats) (size : ℕ) (log : List Moment) (w : World) → Steps1 f size w log → (k : ℕ) (t : Ticket) → fin.get w.tickets k ≡ Some t → ((v : Ticket) → fin.get (world_from f w log).tickets k ≡ Some v → IsLive (world_from f w log) k v) → IsLive w k t
@@ -182,7 +187,7 @@ module _ (f : Formats) (size : ℕ) (w : World) (i : Image) where
   module _ (who : ℕ) (c : Cleans who) where
     -- it is this ticket
     same_out : (u : Ticket) → IsOut w who u → u ≡ c.t
-    same_out u out = some_same u c.t (sym out.there ∙ c.live.there)
+    same_out u out = same_Some u c.t (sym out.there ∙ c.live.there)
 
     no_shard : IsShard c.t.work → ⊥
     no_shard h = subst IsShard c.work h
@@ -199,9 +204,9 @@ module _ (f : Formats) (size : ℕ) (w : World) (i : Image) where
 
     -- its ticket given anew before its settle
     kept_by : (g : Ticket → Ticket) → c.t.settled ≡ false → (g c.t).listed ≡ c.t.listed → (g c.t).whole ≡ c.t.whole → ((g c.t).raised ≡ c.t.raised) ⊎ (c.t.raised ≡ None) → (g c.t).settled ≡ c.t.settled → (o : Option Ticket) → o ≡ Some c.t → KeptOn w who c.t (with_given w who g o)
-    kept_by g uns listed whole raised settled None is = absurd (none_some c.t is)
+    kept_by g uns listed whole raised settled None is = absurd (none-some c.t is)
     kept_by g uns listed whole raised settled (Some u) is =
-        subst (λ (x : Ticket). KeptOn w who c.t (with_given w who g (Some x))) (sym (some_same u c.t is))
+        subst (λ (x : Ticket). KeptOn w who c.t (with_given w who g (Some x))) (sym (same_Some u c.t is))
         (record { v = g c.t; at = same_in w.tickets who (g c.t); listed = listed; whole = whole; raised = raised; settled = settled; same = inr uns; safe = refl; root = refl })
 
     kept_with : (up : World) → KeptOn w who c.t up → (next pending : ℕ) → KeptOn w who c.t (record up { next_id = next; pending = pending })
@@ -277,11 +282,11 @@ module _ (f : Formats) (size : ℕ) (w : World) (i : Image) where
 
       unchanged : (o : Option Deletion) → o ≡ None → KeptOn w who e.t (delete_failed_by w who e.t o)
       unchanged None is = kept who e
-      unchanged (Some x) is = absurd (none_some x (sym is))
+      unchanged (Some x) is = absurd (none-some x (sym is))
 
       failed_over : (o : Option Ticket) → o ≡ Some e.t → Own f w who e.t i (PruneStep (DeleteFails why)) HasEnded (delete_failed w who o)
-      failed_over None is = absurd (none_some e.t is)
-      failed_over (Some u) is = subst (λ (x : Ticket). Own f w who e.t i (PruneStep (DeleteFails why)) HasEnded (delete_failed w who (Some x))) (sym (some_same u e.t is)) (by_stale (is_stale w e.t e.t.work))
+      failed_over None is = absurd (none-some e.t is)
+      failed_over (Some u) is = subst (λ (x : Ticket). Own f w who e.t i (PruneStep (DeleteFails why)) HasEnded (delete_failed w who (Some x))) (sym (same_Some u e.t is)) (by_stale (is_stale w e.t e.t.work))
         where
           by_stale : (b : Bool) → Own f w who e.t i (PruneStep (DeleteFails why)) HasEnded (if b then with_ticket w who (record e.t { out = false }) else delete_failed_by w who e.t (fin.get w.deletes e.t.op))
           by_stale true = OnOver (record e.t { out = false }) (same_in w.tickets who (record e.t { out = false })) refl
@@ -342,8 +347,8 @@ module _ (f : Formats) (size : ℕ) (w : World) (i : Image) where
       OnPage page (paged page (fin.get w.tickets who) e.live.there) (own_settled who e g.t g.out g.unsettled) (subst (λ (x : Option Bytes). IsPageOf w.blobs x page) (g.from_is ∙ ap (λ (x : Ticket). last_text x.listed) mine) h.0) h.1
     where
       paged : (page : List BlobSize) (o : Option Ticket) → o ≡ Some e.t → fin.get (with_given w who (λ (x : Ticket). listing x page) o).tickets who ≡ Some (listing e.t page)
-      paged page None is = absurd (none_some e.t is)
-      paged page (Some u) is = same_in w.tickets who (listing u page) ∙ ap (λ (x : Ticket). Some (listing x page)) (some_same u e.t is)
+      paged page None is = absurd (none-some e.t is)
+      paged page (Some u) is = same_in w.tickets who (listing u page) ∙ ap (λ (x : Ticket). Some (listing x page)) (same_Some u e.t is)
   own_step who e (ListStep from) reply image told unit (allowed.ListFails k after im g same) = OnPlain refl (kept who e) (told_at im told (λ blobs. blobs ≡ w.blobs) same)
   own_step who e RaiseStep reply image told unit (allowed.Raising k n im r same) =
       OnPlain refl (kept_with who e _ (kept_by who e (λ (x : Ticket). record x { raised = Some w.pending }) (own_settled who e r.may.t r.may.out r.may.unsettled) refl refl (inr (ap (λ (x : Ticket). x.raised) (sym (same_out who e r.may.t r.may.out)) ∙ r.may.once)) refl (fin.get w.tickets who) e.live.there) _ _)
@@ -368,7 +373,7 @@ module _ (f : Formats) (size : ℕ) (w : World) (i : Image) where
   own_step who e DroppedStep reply image told unit (allowed.Dropping k im d same) = dropped (fin.get w.tickets who) e.live.there
     where
       dropped : (o : Option Ticket) → o ≡ Some e.t → Own f w who e.t i DroppedStep HasEnded (dropped_of w who o)
-      dropped None is = absurd (none_some e.t is)
+      dropped None is = absurd (none-some e.t is)
       dropped (Some u) is = OnOver (record u { out = false }) (same_in w.tickets who (record u { out = false })) refl
   own_step who e DroppedStep reply image told unit (allowed.DropStale k im may apart same) = OnPlain refl (kept who e) (told_at im told (λ blobs. blobs ≡ w.blobs) same)
   own_step who e DroppedStep reply image told unit (allowed.DropFails k im d same) = OnDepose refl
@@ -406,12 +411,9 @@ covered_kept f t v listed whole raised text (inl h) = inl (subst (λ (xs : List 
 covered_kept f t v listed whole raised text (inr (inl h)) = inr (inl (whole ∙ h.0, subst (λ (xs : List BlobSize). IsAfter (last_text xs) text) (sym listed) h.1))
 covered_kept f t v listed whole raised text (inr (inr (inl h))) = inr (inr (inl h))
 covered_kept f t v listed whole (inl same) text (inr (inr (inr (n, is, at, back)))) = inr (inr (inr (n, same ∙ is, at, back)))
-covered_kept f t v listed whole (inr none) text (inr (inr (inr (n, is, at, back)))) = absurd (none_some n (sym none ∙ is))
+covered_kept f t v listed whole (inr none) text (inr (inr (inr (n, is, at, back)))) = absurd (none-some n (sym none ∙ is))
 
 -- ---- what is left of it
-
-at_one : (f : Formats) (blobs : Blobs) → IsOne (At f blobs)
-at_one f blobs name a b p q = some_same a b (sym p.0 ∙ q.0)
 
 -- the removals of the ticket that were answered Ok came after its settle
 abbrev IsGone : Step → Reply → Type 0
@@ -455,7 +457,7 @@ held_on : (f : Formats) (w new : World) (shelf : List Shelved) → Law f new she
 held_on f w new shelf l root read same back held i k g gen =
     let (was, found, reads) = held i k g gen in
     let there = (l.lawful.sound.carried.carries i k g (inl (subst (λ (r : RootData). Generation r i k g) (sym same) gen))).stands.held_reads in
-    let one : there.bytes ≡ reads.bytes = some_same there.bytes reads.bytes (sym (back (f.names.text (ShardIndex i k g)) there.bytes there.there.0.0) ∙ reads.there.0) in
+    let one : there.bytes ≡ reads.bytes = same_Some there.bytes reads.bytes (sym (back (f.names.text (ShardIndex i k g)) there.bytes there.there.0.0) ∙ reads.there.0) in
     (was, found, record { bytes = reads.bytes; there = (there.there.0.0 ∙ ap (λ (b : Bytes). Some b) one, there.there.0.1); reads = reads.reads })
 
 -- a step that adds no text and leaves the ticket keeps what is left
@@ -526,7 +528,7 @@ settles f w new shelf l k s t mine present clean late covered safe root same_blo
     none_gone name h = walk (entries_by w.entries k) (λ e m. m) (same_gone name h)
       where
         batch : (e : Entry) → Has (entries_by w.entries k) e → Has (batch_gone e.step e.reply) name → ⊥
-        batch e there m = let (u, at, done) = late e there (gone_is e.step e.reply name m) in true≢false (sym done ∙ ap (λ (x : Ticket). x.settled) (some_same u s.t (sym at ∙ s.may.out.there)) ∙ s.may.unsettled)
+        batch e there m = let (u, at, done) = late e there (gone_is e.step e.reply name m) in true≢false (sym done ∙ ap (λ (x : Ticket). x.settled) (same_Some u s.t (sym at ∙ s.may.out.there)) ∙ s.may.unsettled)
 
         walk : (entries : List Entry) → ((e : Entry) → Has entries e → Has (entries_by w.entries k) e) → Has (gone_names entries) name → ⊥
         walk [] all m = absurd m
@@ -541,7 +543,7 @@ settles f w new shelf l k s t mine present clean late covered safe root same_blo
               name,
               text_is,
               reads,
-              elim (bool_told (reaches f t.raised s.s.root (s.s.own ++ t.read) name)) [
+              elim (cases_Bool (reaches f t.raised s.s.root (s.s.own ++ t.read) name)) [
                 | inl reached ↦ inl reached
                 | inr not ↦ inr (subst (λ (ns : List BlobName). Has ns name) (sym (cleans_is f (record t { settled = true }) s.uuids s.s (ap (λ (x : Ticket). x.work) (sym mine) ∙ s.deleting.work) clean)) (cleaned_has f t.raised s.s.root (s.s.own ++ t.read) t.listed name (listed_has f t.listed b name listed (ap f.names.read (is ∙ sym text_is) ∙ reads)) not), none_gone name)
               ],
@@ -654,16 +656,16 @@ module _ (f : Formats) (size : ℕ) (w : World) (m : Moment) (s : Step1 f size w
 
   unit_step : (v : Ticket) → fin.get (after f w m).tickets k ≡ Some v → IsLive (after f w m) k v → m.entry.who ≡ k → Own f w m.entry.who t s.image m.entry.step m.entry.reply (answered f w m.entry.who m.entry.step m.entry.reply m.image) → Stage f w k t → Stage f (after f w m) k v
   unit_step v there after_live mine (OnPlain none h same) (IsListing uns covered) =
-      let is : h.v ≡ v = some_same h.v v (sym h.at ∙ ap (fin.get (after f w m).tickets) mine ∙ there) in
+      let is : h.v ≡ v = same_Some h.v v (sym h.at ∙ ap (fin.get (after f w m).tickets) mine ∙ there) in
       subst (Stage f (after f w m) k) is
       (IsListing (h.settled ∙ uns) (λ text bytes at. covered_kept f t h.v h.listed h.whole h.raised text (covered text bytes (same_blobs_back same text bytes at))))
   unit_step v there after_live mine (OnPlain none h same) (IsRemoving r) =
-      let is : h.v ≡ v = some_same h.v v (sym h.at ∙ ap (fin.get (after f w m).tickets) mine ∙ there) in
+      let is : h.v ≡ v = same_Some h.v v (sym h.at ∙ ap (fin.get (after f w m).tickets) mine ∙ there) in
       let kept : h.v ≡ t = elim h.same [ inl e ↦ e | inr uns ↦ absurd (true≢false (sym r.settled ∙ uns)) ] in
       subst (Stage f (after f w m) k) (sym kept ∙ is)
       (stage_same (there ∙ ap (λ (x : Ticket). Some x) (sym is ∙ kept)) h.safe h.root (same_blobs_back same) (λ text bytes name at e g. no_gone none name g) (IsRemoving r))
   unit_step v there after_live mine (OnCommit h uns name bytes now back which) (IsListing also covered) =
-      let is : h.v ≡ v = some_same h.v v (sym h.at ∙ ap (fin.get (after f w m).tickets) mine ∙ there) in
+      let is : h.v ≡ v = same_Some h.v v (sym h.at ∙ ap (fin.get (after f w m).tickets) mine ∙ there) in
       subst (Stage f (after f w m) k) is
       (IsListing (h.settled ∙ uns) (put_covered h.v h.listed h.whole h.raised (f.names.text name) bytes now (own h.v h.listed h.whole h.raised which) covered))
     where
@@ -672,12 +674,12 @@ module _ (f : Formats) (size : ℕ) (w : World) (m : Moment) (s : Step1 f size w
       own v listed whole raised (inr (n, is, at)) = covered_kept f t v listed whole raised (f.names.text name) (inr (inr (inr (n, at, ap f.names.text is, subst (λ (x : BlobName). ReadsBack f.names x) is back))))
   unit_step v there after_live mine (OnCommit h uns name bytes now back which) (IsRemoving r) = absurd (true≢false (sym r.settled ∙ uns))
   unit_step v there after_live mine (OnLatest h uns bytes now back) (IsListing also covered) =
-      let is : h.v ≡ v = some_same h.v v (sym h.at ∙ ap (fin.get (after f w m).tickets) mine ∙ there) in
+      let is : h.v ≡ v = same_Some h.v v (sym h.at ∙ ap (fin.get (after f w m).tickets) mine ∙ there) in
       subst (Stage f (after f w m) k) is
       (IsListing (h.settled ∙ uns) (put_covered h.v h.listed h.whole h.raised (f.names.text Latest) bytes now (inr (inr (inl (refl, back)))) covered))
   unit_step v there after_live mine (OnLatest h uns bytes now back) (IsRemoving r) = absurd (true≢false (sym r.settled ∙ uns))
   unit_step v there after_live mine (OnPage page at uns h same) (IsListing also covered) =
-      let is : listing t page ≡ v = some_same (listing t page) v (sym at ∙ ap (fin.get (after f w m).tickets) mine ∙ there) in
+      let is : listing t page ≡ v = same_Some (listing t page) v (sym at ∙ ap (fin.get (after f w m).tickets) mine ∙ there) in
       subst (Stage f (after f w m) k) is
       (IsListing uns (λ text bytes got. let was = same_blobs_back same text bytes got in covered_page f w.blobs t page h text bytes was (covered text bytes was)))
   unit_step v there after_live mine (OnPage page at uns h same) (IsRemoving r) = absurd (true≢false (sym r.settled ∙ uns))
@@ -685,17 +687,17 @@ module _ (f : Formats) (size : ℕ) (w : World) (m : Moment) (s : Step1 f size w
     where
       settled : SettlesAs f w (answered f w m.entry.who m.entry.step m.entry.reply m.image) k → Stage f (after f w m) k v
       settled (d, present, up) =
-          let one : d.t ≡ t = some_same d.t t (sym d.may.out.there ∙ live.there) in
+          let one : d.t ≡ t = same_Some d.t t (sym d.may.out.there ∙ live.there) in
           let plain = up ∙ delete_settled_plain f w k d.n d.t d.s d.may in
-          let is : record t { settled = true } ≡ v = some_same (record t { settled = true }) v (sym (ap (λ (x : World). fin.get x.tickets k) plain ∙ same_in w.tickets k (record d.t { settled = true }) ∙ ap (λ (x : Ticket). Some (record x { settled = true })) one) ∙ there) in
+          let is : record t { settled = true } ≡ v = same_Some (record t { settled = true }) v (sym (ap (λ (x : World). fin.get x.tickets k) plain ∙ same_in w.tickets k (record d.t { settled = true }) ∙ ap (λ (x : Ticket). Some (record x { settled = true })) one) ∙ there) in
           subst (Stage f (after f w m) k) is
           (IsRemoving (settles f w (after f w m) s.here.shelf s.here.law k d t one present clean late covered (ap (λ (x : World). x.safe) plain) (ap (λ (x : World). x.root) plain) (now_blobs ∙ same) (no_gone none)))
   unit_step v there after_live mine (OnSettle d present none up same) (IsRemoving r) =
-      let one : d.t ≡ t = some_same d.t t (sym d.may.out.there ∙ ap (fin.get w.tickets) mine ∙ live.there) in absurd (true≢false (sym r.settled ∙ ap (λ (x : Ticket). x.settled) (sym one) ∙ d.may.unsettled))
+      let one : d.t ≡ t = same_Some d.t t (sym d.may.out.there ∙ ap (fin.get w.tickets) mine ∙ live.there) in absurd (true≢false (sym r.settled ∙ ap (λ (x : Ticket). x.settled) (sym one) ∙ d.may.unsettled))
   unit_step v there after_live mine (OnRemoval names is up done removes gone) (IsListing uns covered) = absurd (true≢false (sym done ∙ uns))
   unit_step v there after_live mine (OnRemoval names is up done removes gone) (IsRemoving r) =
       let at : fin.get (after f w m).tickets k ≡ Some t = ap (λ (x : World). fin.get x.tickets k) up ∙ live.there in
-      subst (Stage f (after f w m) k) (some_same t v (sym at ∙ there))
+      subst (Stage f (after f w m) k) (same_Some t v (sym at ∙ there))
       (stage_same at (ap (λ (x : World). x.safe) up) (ap (λ (x : World). x.root) up) (λ text bytes got. removes.left text bytes (ap (λ (b : Blobs). fin.get b text) (sym now_blobs) ∙ got)) its_gone (IsRemoving r))
     where
       its_gone : (text bytes : Bytes) (name : BlobName) → fin.get (after f w m).blobs text ≡ Some bytes → f.names.text name ≡ text → Has (gone_names (entries_by (after f w m).entries k)) name → Has (gone_names (entries_by w.entries k)) name
@@ -703,11 +705,11 @@ module _ (f : Formats) (size : ℕ) (w : World) (m : Moment) (s : Step1 f size w
         | inl own ↦
             let (ns, step, reply) = gone_is m.entry.step m.entry.reply name own.1 in
             let among : Has names name = subst (λ (p : Step × Reply). Has (batch_gone p.0 p.1) name) (λ j. (is j, reply j)) own.1 in
-            absurd (none_some bytes (sym (gone reply name among) ∙ ap (fin.get s.image.blobs) text_is ∙ ap (λ (b : Blobs). fin.get b text) (sym now_blobs) ∙ got))
+            absurd (none-some bytes (sym (gone reply name among) ∙ ap (fin.get s.image.blobs) text_is ∙ ap (λ (b : Blobs). fin.get b text) (sym now_blobs) ∙ got))
         | inr before ↦ before
       ]
   unit_step v there after_live mine (OnOver u at over) stage =
-      let is : u ≡ v = some_same u v (sym at ∙ ap (fin.get (after f w m).tickets) mine ∙ there) in absurd (true≢false (sym after_live.out ∙ ap (λ (x : Ticket). x.out) (sym is) ∙ over))
+      let is : u ≡ v = same_Some u v (sym at ∙ ap (fin.get (after f w m).tickets) mine ∙ there) in absurd (true≢false (sym after_live.out ∙ ap (λ (x : Ticket). x.out) (sym is) ∙ over))
   unit_step v there after_live mine (OnDepose dead) stage = absurd (true≢false (sym dead ∙ after_live.alive))
 
   -- a step that was refused before it was looked at
@@ -719,13 +721,13 @@ module _ (f : Formats) (size : ℕ) (w : World) (m : Moment) (s : Step1 f size w
   blocked_step blocked v there stage =
       let same : after f w m ≡ record w { entries = with_entry w.entries m.entry } = blocked_stays f w m blocked in
       let at : fin.get (after f w m).tickets k ≡ Some t = ap (λ (x : World). fin.get x.tickets k) same ∙ live.there in
-      subst (Stage f (after f w m) k) (some_same t v (sym at ∙ there))
+      subst (Stage f (after f w m) k) (same_Some t v (sym at ∙ there))
       (stage_same at (ap (λ (x : World). x.safe) same) (ap (λ (x : World). x.root) same) (λ text bytes got. ap (λ (x : World). fin.get x.blobs text) (sym same) ∙ got)
       (λ text bytes name got is h. no_gone (ap (batch_gone m.entry.step) blocked.refused ∙ refused_none m.entry.step blocked.refusal) name h) stage)
 
   others_step : (v : Ticket) → fin.get (after f w m).tickets k ≡ Some v → k ≢ m.entry.who → (IsUnits m.entry.step → ⊥) → Stage f w k t → Stage f (after f w m) k v
   others_step v there apart no_unit stage =
-      subst (Stage f (after f w m) k) (some_same t v (sym ((step_frame f w m).others k apart (fresh_ticket s.here k t live.there) ∙ live.there) ∙ there)) (other_step apart no_unit stage)
+      subst (Stage f (after f w m) k) (same_Some t v (sym ((step_frame f w m).others k apart (fresh_ticket s.here k t live.there) ∙ live.there) ∙ there)) (other_step apart no_unit stage)
 
   step_stage : (v : Ticket) → fin.get (after f w m).tickets k ≡ Some v → IsLive (after f w m) k v → (uuids : List ℕ) (plan : Option Swap) → t.work ≡ Deleting uuids plan → k ≢ 0 → Stage f w k t → Stage f (after f w m) k v
   step_stage v there after_live uuids plan work first stage = elim s.legal.answered [
@@ -840,7 +842,7 @@ module _ (f : Formats) (size : ℕ) (w : World) (m : Moment) (s : Step1 f size w
   live_last : (v : Ticket) → fin.get w.tickets k ≡ Some v → IsLive w k v
   live_last v there =
       let d = dropping.d in
-      let one : d.may.t ≡ v = some_same d.may.t v (sym d.may.out.there ∙ there) in
+      let one : d.may.t ≡ v = same_Some d.may.t v (sym d.may.out.there ∙ there) in
       record { there = there; out = ap (λ (x : Ticket). x.out) (sym one) ∙ d.may.out.out; present = ap (λ (x : Ticket). x.term) (sym one) ∙ d.present; alive = dropping.alive }
 
   -- nothing is left but what the root reaches
@@ -848,7 +850,7 @@ module _ (f : Formats) (size : ℕ) (w : World) (m : Moment) (s : Step1 f size w
   exact h = by dropping.d.may.unit
     where
       one : dropping.d.may.t ≡ h.t
-      one = some_same dropping.d.may.t h.t (sym dropping.d.may.out.there ∙ h.there)
+      one = same_Some dropping.d.may.t h.t (sym dropping.d.may.out.there ∙ h.there)
 
       blobs : (after f w m).blobs ≡ w.blobs
       blobs = ap (λ (x : Option Image). blobs_in x w.blobs) s.told ∙ dropping.same
@@ -859,7 +861,7 @@ module _ (f : Formats) (size : ℕ) (w : World) (m : Moment) (s : Step1 f size w
       reached : (r : HasSettled f w k h.t) (name : BlobName) → reaches f h.t.raised r.s.root (r.s.own ++ h.t.read) name ≡ true → (name ≡ Latest) ⊎ InReach f w name
       reached r name e = elim (reached_by f (At f w.blobs) r.s.root h.t.raised (r.s.own ++ h.t.read) r.held name e) [
         | inl latest ↦ inl latest
-        | inr (inl root) ↦ inr (r.n, r.safe, inl (root.2 ∙ ap Root (some_same root.0 r.n (sym root.1 ∙ r.raised))))
+        | inr (inl root) ↦ inr (r.n, r.safe, inl (root.2 ∙ ap Root (same_Some root.0 r.n (sym root.1 ∙ r.raised))))
         | inr (inr reach) ↦ inr (r.n, r.safe, inr (w.root, root_reads (subst (λ (n : ℕ). RootIs f (HeldIn f w) n w.root) r.safe s.here.law.lawful.sound.carried.root_is), subst (λ (x : RootData). Reached f (At f w.blobs) x name) (sym r.root) reach))
       ]
         where
@@ -909,7 +911,7 @@ module _ (f : Formats) (size : ℕ) (w : World) where
       let above : w.safe ≤ n = (law.last s un present n may.raised).1 in
       let there = (law.swaps s un (inl present)).root_noted n may.written in
       let found = alone (f.names.text (Root n)) (f.root.text s.root) there.0.0 in
-      let is : found.0 ≡ Root n = some_same found.0 (Root n) (sym found.2 ∙ ap f.names.read found.1 ∙ there.0.1.0) in
+      let is : found.0 ≡ Root n = same_Some found.0 (Root n) (sym found.2 ∙ ap f.names.read found.1 ∙ there.0.1.0) in
       elim found.3 [
         | inl latest ↦ no_latest (sym is ∙ latest)
         | inr reach ↦ elim reach.2 [
@@ -992,11 +994,11 @@ not_listed page refusal e = cc
 -- nothing was listed before the first page
 none_listed : (xs : List BlobSize) → None ≡ last_text xs → xs ≡ []
 none_listed [] e = refl
-none_listed (x ∷ []) e = absurd (none_some x.text e)
+none_listed (x ∷ []) e = absurd (none-some x.text e)
 none_listed (x ∷ y ∷ xs) e = absurd (no_none y xs e)
   where
     no_none : (y : BlobSize) (xs : List BlobSize) → None ≡ last_text (y ∷ xs) → ⊥
-    no_none y [] e = none_some y.text e
+    no_none y [] e = none-some y.text e
     no_none y (z ∷ xs) e = no_none z xs e
 
 pub reach_alone : (f : Formats) (size : ℕ) (w : World) (shelf : List Shelved) (before between rest : List Moment) (first last : Moment) (k : ℕ) → Law f w shelf → Tracked w → ReadTracked w → w.entries ≡ [] → ((t : Ticket) → fin.get w.tickets k ≡ Some t → ⊥)

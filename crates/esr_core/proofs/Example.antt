@@ -4,6 +4,7 @@ use Rattle.std.specs.Cmp.{nat_cmp_total}
 use Rattle.std.specs.Cmp.Lexicographic.{slice_cmp, nat_list_cmp_total}
 use Rattle.std.specs.FinMap.{FinMap, nat_cmp-IsAntisymmetric}
 use Rattle.std.specs.FinMap as fin
+use Rattle.std.proofs.lemmas.Option.{none-some}
 use Rattle.esr_model.specs.Names.{BlobName, Root, Latest, Snap, Meta}
 use Rattle.esr_model.specs.Values.{Bytes, Has, ReadsBack, Formats}
 use Rattle.esr_model.specs.Shelf.{Command, Create}
@@ -16,13 +17,11 @@ use Rattle.esr_core.specs.Past.{entries_by, Repeats}
 use Rattle.esr_core.specs.Entry.{Snapshot, GivenFinalize, Step, AskStep, TakeStep, CommitStep, LatestStep, RaiseStep, SettleStep, Reply, Accepted, Gave, WasDone, WasReplaced, RaisedTo, WasSettled, Entry, Moment}
 use Rattle.esr_core.specs.After.{taken_by, with_given, committing, settled_of, after}
 use Rattle.esr_core.specs.Allowed as allowed
-use Rattle.esr_core.specs.Allowed.{latest_text, Allows, Allowed, HasReady, Commits}
+use Rattle.esr_core.specs.Allowed.{latest_text, Allows, HasReady, Commits}
 use Rattle.esr_core.specs.History.{IsLegal, AreTold, commands_at, committed, command_of}
 use Rattle.esr_core.specs.Example.{begun, bare_op, CanWrite, HasSnapshot}
-use Rattle.esr_core.proofs.Adds.{text_one}
-use Rattle.esr_core.proofs.Maps.{get_same, get_other, get_was, texts_same}
-use Rattle.esr_core.proofs.Opening.{nothing}
-use Rattle.esr_core.proofs.Reading.{none_some}
+use Rattle.esr_core.specs.Laws.BlobFrames.{text_one}
+use Rattle.esr_core.specs.Laws.Maps.{get_same, get_other, get_was, texts_same, nothing}
 
 -- a history that goes on to a world, with its commands
 record Runs (f : Formats) (size : ℕ) (w : World) (cs : List Command) : Type 0 where
@@ -51,7 +50,7 @@ goes f size w next who step reply cs clear new alive allows e back mine is rest 
     record {
       log = shown f who step reply next ∷ rest.log;
       legal = (
-        record { answered = inl (alive, allows); aborted = λ by d a. absurd (none_some by (sym (clear a.t.op a.op a.op_there) ∙ a.by_is)); once = λ d. others_new (entries_by w.entries who) step new; record_back = subst (λ x. ReadsBack f.cluster (record_of x)) (sym e) back; text = λ image same. text image same },
+        record { answered = inl (alive, allows); aborted = λ by d a. absurd (none-some by (sym (clear a.t.op a.op a.op_there) ∙ a.by_is)); once = λ d. others_new (entries_by w.entries who) step new; record_back = subst (λ x. ReadsBack f.cluster (record_of x)) (sym e) back; text = λ image same. text image same },
         subst (λ x. IsLegal f size x rest.log) (sym e) rest.legal,
       );
       told = ((image_of f next, refl), rest.told);

@@ -1,12 +1,15 @@
 -- A name that a finalization finds there has its text, so it counts as committed; and each turn keeps the texts of metadata.
 use Rattle.std.proofs.Common.{◌≡◌, ◌⊎◌, ℕ, ◌<◌, List, [], ◌∷◌, true, false, Option, Some, None, map, refl, sym, ap, ◌∙◌, subst, inl, inr, arith}
 use Rattle.std.specs.FinMap as fin
+use Rattle.std.proofs.lemmas.Option.{same_Some, none-some}
+use Rattle.esr_core.specs.Laws.NumberMaps.{was_in, left_in, split_at}
+use Rattle.esr_core.specs.Laws.ShardStates.{pending_done, out_done}
 use Rattle.esr_model.specs.Names.{BlobName, Root, Snap, IndexMeta, ShardIndex}
 use Rattle.esr_model.specs.Values.{Bytes, Has, SnapInfo, ShardResult, Formats}
 use Rattle.esr_model.specs.Shelf.{Shelved, Command}
 use Rattle.esr_model.specs.Image.{IsStored, Blobs, At}
 use Rattle.esr_model.specs.Kept.{IdsBelow}
-use Rattle.esr_core.specs.World.{World, Op, ShardWork, Pending, Out, Done, Work, Shard, Finalize, Deleting, Drop, Ticket, Swap, swap, swap_of, AllDone, info_of, metadata, marked, HeldIn, ledger_of}
+use Rattle.esr_core.specs.World.{World, Op, ShardWork, Done, Work, Shard, Finalize, Deleting, Drop, Ticket, Swap, swap, swap_of, AllDone, info_of, metadata, marked, HeldIn, ledger_of}
 use Rattle.esr_core.specs.Steps.{CommitExists, MayCommit, ShardCommits, Remove, reading, listing, writing, noting, given, final_ticket, shard_ticket, plain_ticket}
 use Rattle.esr_core.specs.Swaps.{TicketLaw, SwapLaw, IsUnsettled, Counts}
 use Rattle.esr_core.specs.Texts.{IsMetaOf, Texted}
@@ -16,15 +19,14 @@ use Rattle.esr_core.specs.Turns.{Aborts, fails, cleaning_ticket, Turn, Stays, Co
 use Rattle.esr_core.proofs.Testing.{tests_meta}
 use Rattle.esr_core.proofs.Besides.{aside_of, kept_aside}
 use Rattle.esr_core.proofs.Evolving.{all_done_on, failed_leaves}
-use Rattle.esr_core.proofs.Adds.{at_was}
+use Rattle.esr_core.specs.Laws.BlobFrames.{at_was}
 use Rattle.esr_core.proofs.Tickets.{each_ticket, swapping_was}
 use Rattle.esr_core.proofs.Same.{carried_same}
 use Rattle.esr_core.proofs.Law.{noting_same, fresh_same}
-use Rattle.esr_core.proofs.Take.{Kinds, IsSnap, IsMeta, IsIndex, kinds}
-use Rattle.esr_core.proofs.Results.{done_of, done_same}
-use Rattle.esr_core.proofs.Reading.{some_same, none_some}
+use Rattle.esr_core.specs.Laws.Metadata.{Kinds, IsSnap, IsMeta, IsIndex, kinds}
+use Rattle.esr_core.specs.Laws.DoneShards.{done_of, done_same}
 use Rattle.esr_core.proofs.LatestPut.{put_law}
-use Rattle.esr_core.proofs.Queues.{Ops, Tickets, was_in, left_in, split_at}
+use Rattle.esr_core.specs.Laws.Maps.{Ops, Tickets}
 
 -- the metadata of a snapshot have names of its uuid
 meta_name : (f : Formats) (info : SnapInfo) (name : BlobName) (b : Bytes) → Has (metadata f info) (name, b) → IsMetaOf info.uuid name
@@ -188,10 +190,10 @@ module _ (f : Formats) (w : World) (shelf : List Shelved) (l : Law f w shelf) (x
   may_commit name bytes valid absent k t there (inl (s, is, inl own)) = go t.work refl
     where
       go : (work : Work) → t.work ≡ work → Texted f (fin.insert w.blobs (f.names.text name) bytes) w.ops w.tickets
-      go (Shard i q) e = absurd (none_some s (ap (λ y. swap_of f y t.root) (sym e) ∙ is))
-      go Drop e = absurd (none_some s (ap (λ y. swap_of f y t.root) (sym e) ∙ is))
+      go (Shard i q) e = absurd (none-some s (ap (λ y. swap_of f y t.root) (sym e) ∙ is))
+      go Drop e = absurd (none-some s (ap (λ y. swap_of f y t.root) (sym e) ∙ is))
       go (Finalize info results made) e =
-          let same = some_same _ _ (ap (λ y. swap_of f y t.root) (sym e) ∙ is) in
+          let same = same_Some _ _ (ap (λ y. swap_of f y t.root) (sym e) ∙ is) in
           final_committed name bytes valid absent k t there info results made e (subst (λ (z : Swap). Has z.own (name, bytes)) (sym same) own)
       go (Deleting uuids plan) e =
           let planned : plan ≡ Some s = ap (λ y. swap_of f y t.root) (sym e) ∙ is in
@@ -245,7 +247,7 @@ module _ (f : Formats) (w : World) (shelf : List Shelved) (l : Law f w shelf) (x
 
       same_op : (p : ℕ) (q : Op) → fin.get w.ops p ≡ Some q → op.uuid ≡ q.uuid → op ≡ q
       same_op p q h u = elim (split_at o p) [
-        | inl e ↦ some_same _ _ (sym there ∙ ap (fin.get w.ops) e ∙ h)
+        | inl e ↦ same_Some _ _ (sym there ∙ ap (fin.get w.ops) e ∙ h)
         | inr apart ↦ absurd ((l.lawful.sound.carried.together o p op q apart there h).uuids u)
       ]
 
@@ -299,7 +301,7 @@ module _ (f : Formats) (w : World) (shelf : List Shelved) (l : Law f w shelf) (x
       old = s.rooted.tickets k c.t c.out.there
 
       own_is : (z : Swap) → swap f c.t ≡ Some z → metadata f c.info ≡ z.own
-      own_is z is = ap (λ (y : Swap). y.own) (some_same _ _ (ap (λ y. swap_of f y c.t.root) (sym c.work) ∙ is))
+      own_is z is = ap (λ (y : Swap). y.own) (same_Some _ _ (ap (λ y. swap_of f y c.t.root) (sym c.work) ∙ is))
 
       found : (z : Swap) → IsUnsettled f c.t z → Counts (ledger_of w) c.t → (m : BlobName) (b : Bytes) → Has z.own (m, b) → name ≡ m → HeldIn f w m b
       found z i counts m b own e =
@@ -330,12 +332,6 @@ module _ (f : Formats) (w : World) (shelf : List Shelved) (l : Law f w shelf) (x
         clean = λ z i. old.clean z (record { is = i.is; out = i.out; unsettled = i.unsettled });
         swaps = λ z i counts. noted_more z (record { is = i.is; out = i.out; unsettled = i.unsettled }) counts (old.swaps z (record { is = i.is; out = i.out; unsettled = i.unsettled }) counts);
       }
-
-pending_done : {r : ShardResult} → Pending ≡ Done r → ⊥
-pending_done e = cc
-
-out_done : {k : ℕ} {r : ShardResult} → Out k ≡ Done r → ⊥
-out_done e = cc
 
 module _ (f : Formats) (w : World) (shelf : List Shelved) (l : Law f w shelf) (x : Texted f w.blobs w.ops w.tickets) where
   -- an op with other shards, where it was not all done before or stays so

@@ -1,6 +1,9 @@
 -- A unit fails: its op's pending shards are given up, and the op has failed.
 use Rattle.std.proofs.Common.{◌≡◌, ◌≢◌, ℕ, List, true, false, true≢false, Some, refl, sym, ap, ◌∙◌, subst, inl, inr}
 use Rattle.std.specs.FinMap as fin
+use Rattle.std.proofs.lemmas.Option.{same_Some}
+use Rattle.esr_core.specs.Laws.NumberMaps.{was_in, other_in, split_at}
+use Rattle.esr_core.specs.Laws.ShardStates.{out_done, out_same, op_now, ops_now, op_was, live_was, failed_is, failed_grows, failed_goes, out_pending, up_out}
 use Rattle.esr_model.specs.Values.{SnapInfo, ShardResult, Formats}
 use Rattle.esr_model.specs.Shelf.{Shelved, Command}
 use Rattle.esr_model.specs.Image.{Has}
@@ -10,15 +13,16 @@ use Rattle.esr_core.specs.Turns.{Failed, FailedDelete, fails}
 use Rattle.esr_core.specs.Swaps.{Rooted, TicketLaw}
 use Rattle.esr_core.specs.Generations.{OpLaw, ShardLaw, Carried}
 use Rattle.esr_core.specs.Queue.{Queue, Lawful}
-use Rattle.esr_core.proofs.Reading.{some_same, Has-mapped}
-use Rattle.esr_core.proofs.Results.{done_of}
+use Rattle.esr_model.specs.Lists.{Has-mapped}
+use Rattle.esr_core.specs.Laws.DoneShards.{done_of}
 use Rattle.esr_core.proofs.Tickets.{each_ticket, swapping_was}
-use Rattle.esr_core.proofs.Ops.{shard_law_given, op_now, ops_now, op_was, live_was, on_with, carries_now, base_now, op_law_now, together_now}
+use Rattle.esr_core.proofs.Ops.{shard_law_given, on_with, carries_now, base_now, op_law_now, together_now}
 use Rattle.esr_core.proofs.Owning.{plan_on}
 use Rattle.esr_core.proofs.Law.{fresh_same}
 use Rattle.esr_core.proofs.Leaving.{like_ended, ended_lawful}
-use Rattle.esr_core.proofs.Queues.{Ops, was_in, other_in, split_at, Evolves, queue_ops, queued_back, queue_ticket, queue_delete, swap_back}
-use Rattle.esr_core.proofs.Evolving.{failed_is, failed_grows, failed_outs, failed_goes, evolve_map, one_back, one_forth, one_outs, outs_map, all_done_back, all_done_on, failed_leaves, out_pending, out_done, out_same, up_out}
+use Rattle.esr_core.specs.Laws.Maps.{Ops}
+use Rattle.esr_core.proofs.Queues.{Evolves, queue_ops, queued_back, queue_ticket, queue_delete, swap_back}
+use Rattle.esr_core.proofs.Evolving.{failed_outs, evolve_map, one_back, one_forth, one_outs, outs_map, all_done_back, all_done_on, failed_leaves}
 
 module _ (f : Formats) (w : World) (shelf : List Shelved) (l : Lawful f w shelf) (k : ℕ) (new : World) (d : Failed w k new) where
   abbrev o : ℕ
@@ -75,7 +79,7 @@ module _ (f : Formats) (w : World) (shelf : List Shelved) (l : Lawful f w shelf)
         let (i, n, work) = shard_of d.t.work sh in
         let x = c.shards k d.t d.out.there d.out.out i n work in
         let y = c.finals j u e out uns pres info results made is in
-        let one : x.op ≡ y.op = some_same _ _ (sym x.op_there ∙ ap (fin.get w.ops) (sym same) ∙ y.op_there) in
+        let one : x.op ≡ y.op = same_Some _ _ (sym x.op_there ∙ ap (fin.get w.ops) (sym same) ∙ y.op_there) in
         let (r, state, there) = done_of y.op.shards results y.done x.s (subst (λ (z : Op). Has z.shards x.s) one x.s_there) in
         out_done (sym x.state ∙ state)
   ]
@@ -107,7 +111,7 @@ module _ (f : Formats) (w : World) (shelf : List Shelved) (l : Lawful f w shelf)
         held = λ p q z j e m state. elim (op_was f (HeldIn f w) w.root w.ops o op d.op_there g (failed_goes k) true p q e) [
           | inr h ↦ let x = c.held p q z j h.1 m state in elim (split_at j k) [
             | inl same ↦
-                let one : x.t ≡ d.t = some_same _ _ (sym x.there ∙ ap (fin.get w.tickets) same ∙ d.out.there) in
+                let one : x.t ≡ d.t = same_Some _ _ (sym x.there ∙ ap (fin.get w.tickets) same ∙ d.out.there) in
                 absurd (h.0 (sym x.op_is ∙ ap (λ (y : Ticket). y.op) one))
             | inr apart ↦ record { t = x.t; there = other_in w.tickets k v j apart ∙ x.there; out = x.out; op_is = x.op_is; work = x.work }
           ]

@@ -11,10 +11,10 @@ use Rattle.esr_core.specs.Steps.{Drew, DoneShard, ExtendsBase}
 use Rattle.esr_core.specs.Turns.{DoneFound, InBase}
 use Rattle.esr_core.specs.Generations.{AreFilesOf, ShardLaw, Base}
 use Rattle.esr_core.specs.Ids.{OfId, Law}
-use Rattle.esr_core.proofs.Pieces.{in_parts}
-use Rattle.esr_core.proofs.Copying.{SourceStands, source_stands, source_held, source_stand}
-use Rattle.esr_core.proofs.Reading.{AllPairs-with}
-use Rattle.esr_core.proofs.TurningIds.{pairs_has}
+use Rattle.esr_core.specs.Laws.PartNames.{in_parts}
+use Rattle.esr_core.specs.Laws.CloneSources.{SourceStands, source_stands}
+use Rattle.esr_core.proofs.Copying.{source_held, source_stand}
+use Rattle.esr_model.specs.Lists.{AllPairs-with, pairs_has}
 
 some_same : {A : Type 0} {x y : A} → Some x ≡ Some y → x ≡ y
 some_same e = cc

@@ -1,24 +1,16 @@
 -- What holds of shards and ops goes on holding where blobs are only added.
-use Rattle.std.proofs.Common.{◌≡◌, ℕ, zero, suc, List, [], ◌∷◌, Option, Some, None, subst, inl, inr, nat_cmp}
+use Rattle.std.proofs.Common.{◌≡◌, ℕ, zero, suc, List, Option, Some, None, subst, nat_cmp}
 use Rattle.std.specs.FinMap.{FinMap}
 use Rattle.esr_model.specs.Places.{shelf_places}
 use Rattle.esr_model.specs.Names.{BlobName, Root, Snap, ShardIndex}
 use Rattle.esr_model.specs.Values.{Bytes, IndexRef, RootSnap, RootData, SnapInfo, FileEntry, ShardFiles, ShardResult, Formats}
-use Rattle.esr_model.specs.Image.{Has, AllPairs, IsOne, Picked, ListsAs, SnapStands, RootStands}
+use Rattle.esr_model.specs.Image.{Has, IsOne, Picked, ListsAs, RootStands, RootIs}
 use Rattle.esr_model.specs.Shelf.{Shelved}
 use Rattle.esr_core.specs.World.{Op, ShardWork, Ticket}
 use Rattle.esr_core.specs.Generations.{IsOfShard, ListsOwn, Carries, AreFilesOf, DoneStands, AreIndicesBy, OpLaw, Base, ShardLaw, Carried}
-use Rattle.esr_model.specs.Image.{RootIs}
-use Rattle.esr_core.proofs.Frames.{reads_kept, index_kept, file_kept, AllPairs-map}
-use Rattle.esr_core.proofs.Reading.{reads_one, safe_root_stands}
-
--- each listed snapshot's info is there
-pub info_there : (f : Formats) (has : BlobName → Bytes → Type 0) (root : RootData) (snaps : List RootSnap) (shelf : List Shelved) → AllPairs (SnapStands f has root) snaps shelf
-    → (snap : RootSnap) → Has snaps snap → (shelved : Shelved) × SnapStands f has root snap shelved
-info_there f has root [] shelf s snap m = absurd m
-info_there f has root (x ∷ xs) [] s snap m = absurd s
-info_there f has root (x ∷ xs) (y ∷ ys) s snap (inl e) = (y, subst (λ z. SnapStands f has root z y) e s.0)
-info_there f has root (x ∷ xs) (y ∷ ys) s snap (inr m) = info_there f has root xs ys s.1 snap m
+use Rattle.esr_model.specs.Lists.{AllPairs-map}
+use Rattle.esr_core.specs.Laws.BlobFrames.{reads_kept, index_kept, file_kept, info_there}
+use Rattle.esr_core.specs.Laws.OneValue.{reads_one, safe_root_stands}
 
 module _ (f : Formats) (has now : BlobName → Bytes → Type 0) (func : IsOne now) (was_one : IsOne has) (keeps : (name : BlobName) (bytes : Bytes) → has name bytes → now name bytes) where
   pub root_is_kept : (safe : ℕ) (root : RootData) → RootIs f has safe root → RootIs f now safe root

@@ -2,6 +2,7 @@
 use Rattle.std.proofs.Common.{◌≡◌, ◌⊎◌, ℕ, suc, ◌≤◌, List, [], ◌∷◌, ◌++◌, true, false, true≢false, Option, Some, None, map, refl, sym, ap, ◌∙◌, subst, inl, inr, arith}
 use Rattle.std.specs.Prelude.{if◌then◌else◌}
 use Rattle.std.specs.FinMap as fin
+use Rattle.std.proofs.lemmas.Option.{same_Some, none-some}
 use Rattle.esr_model.specs.Values.{ReadsBack, ShardResult, Formats}
 use Rattle.esr_model.specs.Shelf.{Shelved, Command, shelf_after}
 use Rattle.esr_model.specs.Image.{Image}
@@ -15,10 +16,10 @@ use Rattle.esr_core.specs.After.{answered, done_of, done_by, blobs_in, stepped, 
 use Rattle.esr_core.specs.Allowed.{Allows, Allowed, Blocks, ByFailedSwap, ByDelete, IsBlocked, SameBlobs, DoneAs, Dones as DonesBy}
 use Rattle.esr_core.specs.History.{world_from, IsLegal, AreTold, commands_at, committed, Lasts}
 use Rattle.esr_core.specs.Turns.{DoneFound, Turn, Stays, Commits, CommitFails, Finds, Raises, Latests, Fetches, SettlesFinal, SettlesDelete, Elects, TakesShard, TakesFinal, TakesDrop, TakesDelete, TakesCleanup, AsksCleanup, CleanDrops, DrawsShard, DrawsPlan, Dones, Ending, Fails, FailsDelete, Drops, AsksCreate, AsksDelete, Merges, Removing, Pages, Deposes, commands_of, Besides, Calls, Tests, TestTurn, DrawsTest, AddsTest, RemovesTests}
+use Rattle.esr_core.specs.Laws.Histories.{legal_parts, told_parts}
 use Rattle.esr_core.proofs.Besides.{aside_of}
-use Rattle.esr_core.proofs.Heard.{unheard_stays}
-use Rattle.esr_core.proofs.Blocked.{blocked_none, blocked_stays}
-use Rattle.esr_core.proofs.Reading.{some_same, none_some}
+use Rattle.esr_core.specs.Laws.Asides.{unheard_stays, blocked_stays}
+use Rattle.esr_core.proofs.Blocked.{blocked_none}
 use Rattle.esr_core.proofs.Turning.{turn_law}
 use Rattle.esr_core.proofs.Moments.{Turned, plain, turn_by}
 use Rattle.esr_core.proofs.Accepting.{accepted}
@@ -168,8 +169,8 @@ pub image_is : (f : Formats) (size : ℕ) (w : World) (m : Moment) (i : Image) �
 image_is f size w m i told a = λ j. record { blobs = blobs_told m.image told j; text = a.text i told j }
   where
     blobs_told : (image : Option Image) → image ≡ Some i → i.blobs ≡ blobs_in image w.blobs
-    blobs_told None e = absurd (none_some i e)
-    blobs_told (Some x) e = ap (λ (y : Image). y.blobs) (sym (some_same _ _ e))
+    blobs_told None e = absurd (none-some i e)
+    blobs_told (Some x) e = ap (λ (y : Image). y.blobs) (sym (same_Some _ _ e))
 
 world_append : (f : Formats) (log : List Moment) (w : World) (m : Moment) → world_from f w (log ++ m ∷ []) ≡ after f (world_from f w log) m
 world_append f [] w m = refl
@@ -192,14 +193,6 @@ image_kept f size log w shelf m i l image legal told =
     (kept_of f last _ (legal_law f size all w shelf l legal told) back)
 
 -- ---- a history in two parts
-
-pub legal_parts : (f : Formats) (size : ℕ) (xs ys : List Moment) (w : World) → IsLegal f size w (xs ++ ys) → IsLegal f size w xs × IsLegal f size (world_from f w xs) ys
-legal_parts f size [] ys w h = (tt, h)
-legal_parts f size (x ∷ xs) ys w h = let r = legal_parts f size xs ys (after f w x) h.1 in ((h.0, r.0), r.1)
-
-pub told_parts : (xs ys : List Moment) → AreTold (xs ++ ys) → AreTold xs × AreTold ys
-told_parts [] ys h = (tt, h)
-told_parts (x ∷ xs) ys h = let r = told_parts xs ys h.1 in ((h.0, r.0), r.1)
 
 committed_parts : (f : Formats) (safe : ℕ) (xs ys : List Moment) (w : World) → committed f safe w (xs ++ ys) ≡ committed f safe w xs ++ committed f safe (world_from f w xs) ys
 committed_parts f safe [] ys w = refl

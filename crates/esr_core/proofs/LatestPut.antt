@@ -10,24 +10,19 @@ use Rattle.esr_core.specs.World.{World, HeldIn, Safely, ledger_of}
 use Rattle.esr_core.specs.Steps.{PutsLatest}
 use Rattle.esr_core.specs.Sound.{Sound}
 use Rattle.esr_core.specs.Ids.{Law}
-use Rattle.esr_core.proofs.Adds.{text_one}
-use Rattle.esr_core.proofs.Maps.{get_was, get_other, texts_same}
-use Rattle.esr_core.proofs.Frames.{picked_kept, stands_kept, ticket_kept}
+use Rattle.esr_core.specs.Laws.BlobFrames.{text_one, stands_kept, at_back}
+use Rattle.esr_core.specs.Laws.Maps.{get_was, get_other, texts_same}
+use Rattle.esr_core.proofs.Frames.{picked_kept, ticket_kept}
 use Rattle.esr_core.proofs.Grows.{carried_kept}
 use Rattle.esr_core.proofs.Below.{ids_blobs}
-use Rattle.esr_core.proofs.Reading.{held_one, safely_one}
+use Rattle.esr_core.specs.Laws.OneValue.{held_one}
+use Rattle.esr_core.proofs.Reading.{safely_one}
 
 module _ (f : Formats) (blobs now : Blobs) (p : PutsLatest f blobs now) where
   at_kept : (m : BlobName) (b : Bytes) → At f blobs m b → At f now m b
   at_kept m b h = elim p [
     | inl e ↦ subst (λ x. At f x m b) (sym e) h
     | inr q ↦ (ap (λ x. fin.get x (f.names.text m)) q.1 ∙ get_other nat_list_cmp_total texts_same blobs (f.names.text Latest) q.0 (f.names.text m) (λ same. h.1.1 (text_one f m Latest h.1.0 q.2 same)) ∙ h.0, h.1)
-  ]
-
-  pub at_back : (m : BlobName) (b : Bytes) → At f now m b → At f blobs m b
-  at_back m b h = elim p [
-    | inl e ↦ subst (λ x. At f x m b) e h
-    | inr q ↦ (sym (get_other nat_list_cmp_total texts_same blobs (f.names.text Latest) q.0 (f.names.text m) (λ same. h.1.1 (text_one f m Latest h.1.0 q.2 same))) ∙ ap (λ x. fin.get x (f.names.text m)) (sym q.1) ∙ h.0, h.1)
   ]
 
 module _ (f : Formats) (w : World) (shelf : List Shelved) (l : Law f w shelf) (blobs_now : Blobs) (p : PutsLatest f w.blobs blobs_now) where

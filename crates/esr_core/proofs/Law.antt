@@ -11,8 +11,9 @@ use Rattle.esr_core.specs.World.{World, Op, Ticket, Finalize, Swap, ledger_of, H
 use Rattle.esr_core.specs.Steps.{CommitDone, CommitFault, Raise, Elect, DoneShard, TriesLatest, FetchFound, reading, Ends, TakeFinalize, settled, with_ticket, noting, writing, MaySettle}
 use Rattle.esr_core.specs.Swaps.{TicketLaw, IsUnsettled}
 use Rattle.esr_core.specs.Sound.{Sound}
-use Rattle.esr_core.proofs.Maps.{get_was}
-use Rattle.esr_core.proofs.Reading.{held_one, safely_one, safe_root_stands}
+use Rattle.esr_core.specs.Laws.Maps.{get_was}
+use Rattle.esr_core.specs.Laws.OneValue.{held_one, safe_root_stands}
+use Rattle.esr_core.proofs.Reading.{safely_one}
 use Rattle.esr_core.proofs.Tickets.{each_ticket, swapping_was}
 use Rattle.esr_core.proofs.Adds.{safe_kept}
 use Rattle.esr_core.proofs.Grows.{carried_kept}

@@ -1,5 +1,6 @@
 -- The laws as they are told.
 use Rattle.std.proofs.Common.{◌≡◌, ℕ, zero, suc, ◌<◌, ◌≤◌, List, refl, sym, ◌∙◌, subst, inr, arith}
+use Rattle.std.proofs.lemmas.Option.{same_Some}
 use Rattle.esr_model.specs.Names.{BlobName, Root}
 use Rattle.esr_model.specs.Values.{RootData, RecordWork, Creating, Cloning, DeletingOf, Cleaning, Ledger, ReadsBack, Formats}
 use Rattle.esr_model.specs.Shelf.{Shelved}
@@ -9,10 +10,12 @@ use Rattle.esr_core.specs.World.{World, image_of, ledger_of, record_of, Safely}
 use Rattle.esr_core.specs.Steps.{Raise}
 use Rattle.esr_core.specs.Sound.{Sound}
 use Rattle.esr_core.specs.Ids.{Law}
-use Rattle.esr_core.proofs.Reading.{reads_one, some_same}
-use Rattle.esr_core.proofs.Below.{below_up, root_up}
+use Rattle.esr_core.specs.Laws.OneValue.{reads_one}
+use Rattle.esr_core.specs.Laws.IdBounds.{root_up}
+use Rattle.esr_core.proofs.Below.{below_up}
 use Rattle.esr_core.proofs.Recorded.{record_below}
-use Rattle.esr_core.proofs.Frames.{picked_kept, stands_kept}
+use Rattle.esr_core.specs.Laws.BlobFrames.{stands_kept}
+use Rattle.esr_core.proofs.Frames.{picked_kept}
 use Rattle.esr_core.proofs.Law.{raise_law}
 
 pub raise_sound_whole : (f : Formats) (w new : World) (shelf : List Shelved) (k : ℕ) → Sound f w shelf → Raise f w k new → Sound f new shelf
@@ -25,7 +28,7 @@ raise_fresh f w new shelf k l r p = let h : w.pending < w.pending = l.rooted.kep
 root_is_one : (f : Formats) (blobs : Blobs) (doomed : List BlobName) (safe : ℕ) (a b : RootData) → RootIs f (Safely f blobs doomed) safe a → RootIs f (At f blobs) safe b → a ≡ b
 root_is_one f blobs doomed zero a b p q = p ∙ sym q
 root_is_one f blobs doomed (suc n) a b p q =
-    reads_one (At f blobs) (λ name x y h k. some_same x y (sym h.0 ∙ k.0)) (Root n) f.root a b (record { bytes = p.bytes; there = p.there.0; reads = p.reads }) q
+    reads_one (At f blobs) (λ name x y h k. same_Some x y (sym h.0 ∙ k.0)) (Root n) f.root a b (record { bytes = p.bytes; there = p.there.0; reads = p.reads }) q
 
 -- what may be removed aside, the image is kept
 pub kept_at : (f : Formats) (blobs : Blobs) (doomed : List BlobName) (ledger : Ledger) (shelf : List Shelved) → KeptBy f (Safely f blobs doomed) blobs ledger shelf → KeptAt f blobs ledger shelf

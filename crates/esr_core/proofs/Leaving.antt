@@ -2,6 +2,7 @@
 use Rattle.std.proofs.Common.{◌≡◌, ℕ, List, false, true≢false, Option, Some, None, refl, sym, ap, ◌∙◌, subst, inl, inr, nat_cmp}
 use Rattle.std.specs.FinMap.{FinMap}
 use Rattle.std.specs.FinMap as fin
+use Rattle.esr_core.specs.Laws.NumberMaps.{was_in, left_in, stays_in}
 use Rattle.esr_model.specs.Names.{BlobName}
 use Rattle.esr_model.specs.Values.{Bytes, RootData, Formats}
 use Rattle.esr_model.specs.Shelf.{Shelved}
@@ -14,7 +15,8 @@ use Rattle.esr_core.specs.Queue.{Lawful}
 use Rattle.esr_core.proofs.Law.{quiet, ended_same}
 use Rattle.esr_core.proofs.Ops.{shard_law_on}
 use Rattle.esr_core.proofs.Owning.{OnWith, own_on, plan_on}
-use Rattle.esr_core.proofs.Queues.{Ops, was_in, left_in, stays_in, Like, queue_ticket, queue_remove, unit_back}
+use Rattle.esr_core.specs.Laws.Maps.{Ops}
+use Rattle.esr_core.proofs.Queues.{Like, queue_ticket, queue_remove, unit_back}
 
 module _ (f : Formats) (has : BlobName → Bytes → Type 0) (root : RootData) (ops : Ops) (o : ℕ) where
   pub done_was : (uuid index shard g : ℕ) → DoneAt (fin.remove ops o) uuid index shard g → DoneAt ops uuid index shard g

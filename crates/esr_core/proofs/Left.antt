@@ -2,6 +2,7 @@
 use Rattle.std.proofs.Common.{◌≡◌, ◌⊎◌, ℕ, suc, ◌≤◌, List, [], ◌∷◌, ◌++◌, Bool, true, false, true≢false, Option, Some, None, refl, sym, ap, ◌∙◌, subst, inl, inr, arith}
 use Rattle.std.specs.Prelude.{if◌then◌else◌, ◌&&◌}
 use Rattle.std.specs.FinMap as fin
+use Rattle.std.proofs.lemmas.Option.{same_Some}
 use Rattle.esr_model.specs.Names.{BlobName}
 use Rattle.esr_model.specs.Values.{ClusterRecord, ReadsBack, Formats, Bytes}
 use Rattle.esr_model.specs.Shelf.{Shelved, Command, shelf_after}
@@ -16,13 +17,14 @@ use Rattle.esr_core.specs.Allowed as allowed
 use Rattle.esr_core.specs.Allowed.{Settles, SettlesDeletion, PruneAllows, Allows, Blocks, ByFailedSwap, ByDelete, IsBlocked, Allowed}
 use Rattle.esr_core.specs.History.{world_from, IsLegal, AreTold, counts, is_settle, command_of, commands_at, committed}
 use Rattle.esr_core.specs.Left.{cut_off, Leaves, safe_of, safe_by, safe_in}
-use Rattle.esr_core.proofs.Reading.{some_same}
-use Rattle.esr_core.proofs.AskedDeletes.{delete_leaves}
-use Rattle.esr_core.proofs.Moments.{moment, settled_plain, delete_settled_plain}
+use Rattle.esr_core.specs.Laws.DeleteAsks.{delete_leaves}
+use Rattle.esr_core.specs.Laws.Moments.{moment, settled_plain, delete_settled_plain}
 use Rattle.esr_core.proofs.Laws.{kept_of}
 use Rattle.esr_core.proofs.Lists.{shelf_after-append}
-use Rattle.esr_core.proofs.Blocked.{block_faultless, blocked_none, blocked_stays}
-use Rattle.esr_core.proofs.Histories.{settled_above, step_law, image_is, legal_parts, later_none}
+use Rattle.esr_core.specs.Laws.Asides.{blocked_stays}
+use Rattle.esr_core.proofs.Blocked.{block_faultless, blocked_none}
+use Rattle.esr_core.specs.Laws.Histories.{legal_parts}
+use Rattle.esr_core.proofs.Histories.{settled_above, step_law, image_is, later_none}
 
 -- ---- how many roots there are up to the safe one
 
@@ -118,7 +120,7 @@ settles_alike f size w shelf l who reply image left (allowed.Settling k im s sam
     let above : w.safe ≤ s.n = settled_above f w shelf l k s.n s.t s.s s.may s.present in
     record { counted = λ safe. refl; ends = inr (either_below w up (has_text left (f.cluster.text (record_of up))) (omega (arith, now, above))) }
 settles_alike f size w shelf l who reply image left (allowed.SettleStale k n t s im may apart same) cut =
-    let one : t ≡ cut.t = some_same t cut.t (sym may.out.there ∙ cut.may.out.there) in
+    let one : t ≡ cut.t = same_Some t cut.t (sym may.out.there ∙ cut.may.out.there) in
     absurd (apart (ap (λ (x : Ticket). x.term) one ∙ cut.present))
 settles_alike f size w shelf l who reply image left (allowed.SettleFails k im s same) cut = record { counted = λ safe. refl; ends = inl refl }
 
@@ -136,7 +138,7 @@ deletes_alike f w shelf l who reply image left (allowed.SettlingDelete k im s pr
     let above : w.safe ≤ s.n = settled_above f w shelf l k s.n s.t s.s s.may present in
     record { counted = λ safe. refl; ends = inr (either_below w up (has_text left (f.cluster.text (record_of up))) (omega (arith, root, above))) }
 deletes_alike f w shelf l who reply image left (allowed.SettleDeleteStale k im s apart same) cut now =
-    let one : s.t ≡ cut.t = some_same s.t cut.t (sym s.may.out.there ∙ cut.may.out.there) in
+    let one : s.t ≡ cut.t = same_Some s.t cut.t (sym s.may.out.there ∙ cut.may.out.there) in
     absurd (apart (ap (λ (x : Ticket). x.term) one ∙ now))
 deletes_alike f w shelf l who reply image left (allowed.SettleDeleteFails k im s present same) cut now = record { counted = λ safe. refl; ends = inl refl }
 
@@ -254,8 +256,8 @@ settled_safe f size w m t n a step reply there raised =
     let who : ℕ = m.entry.who in
     let allows : Allows f size w who m.entry.step m.entry.reply m.image = elim a.answered [ inl h ↦ h.1 | inr dead ↦ absurd (no_answer m.entry.reply dead.refusal reply dead.refused) ] in
     let s : Settles f w who = settles_by_answer (subst (λ x. Allows f size w who SettleStep x m.image) reply (subst (λ x. Allows f size w who x m.entry.reply m.image) step allows)) in
-    let one : s.t ≡ t = some_same s.t t (sym s.may.out.there ∙ there) in
-    let same : s.n ≡ n = some_same s.n n (sym s.may.raised ∙ ap (λ (x : Ticket). x.raised) one ∙ raised) in
+    let one : s.t ≡ t = same_Some s.t t (sym s.may.out.there ∙ there) in
+    let same : s.n ≡ n = same_Some s.n n (sym s.may.raised ∙ ap (λ (x : Ticket). x.raised) one ∙ raised) in
     ap (λ x. (answered f w who x m.entry.reply m.image).safe) step
     ∙ ap (λ x. (answered f w who SettleStep x m.image).safe) reply
     ∙ ap (λ (x : World). x.safe) (settled_plain f w who s)

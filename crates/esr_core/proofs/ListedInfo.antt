@@ -8,7 +8,8 @@ use Rattle.esr_core.specs.World.{World, HeldIn, metadata}
 use Rattle.esr_core.specs.Queue.{Lists}
 use Rattle.esr_core.specs.Ids.{Law}
 use Rattle.esr_core.specs.Allowed.{WasMade, IsInInfo}
-use Rattle.esr_core.proofs.Reading.{Has-mapped, held_one, safe_root_stands}
+use Rattle.esr_model.specs.Lists.{Has-mapped}
+use Rattle.esr_core.specs.Laws.OneValue.{held_one, safe_root_stands}
 
 pub pairs_both : {A B : Type 0} (R : A → B → Type 0) (xs : List A) (ys : List B) (x : A) → AllPairs R xs ys → Has xs x → (y : B) × Has ys y × R x y
 pairs_both R [] ys x h m = absurd m

@@ -2,23 +2,20 @@
 use Rattle.std.proofs.Common.{◌≡◌, ℕ, suc, ◌<◌, false, true≢false, List, [], ◌∷◌, ◌++◌, Some, refl, sym, ap, ◌∙◌, subst, inl, inr, arith, ◌+◌}
 use Rattle.std.specs.FinMap as fin
 use Rattle.esr_model.specs.Values.{Has, RootData, RecordWork, Creating, Cloning, DeletingOf, Cleaning, ClusterRecord, Formats}
-use Rattle.esr_model.specs.Image.{Image, RootIs}
-use Rattle.esr_model.specs.Kept.{first_id, IdsBelow, RootIds, WorkIds}
+use Rattle.esr_model.specs.Image.{Image, RootIs, Blobs, At, Present, KeptAt}
+use Rattle.esr_model.specs.Kept.{first_id, IdsBelow, RootIds, WorkIds, Kept}
 use Rattle.esr_model.specs.Shelf.{Shelved, Command, apply, shelf_after}
-use Rattle.esr_model.specs.Image.{Blobs, At, Present, KeptAt}
-use Rattle.esr_model.specs.Kept.{Kept}
 use Rattle.esr_model.specs.Names.{BlobName}
 use Rattle.esr_core.specs.World.{World, Deletion, kept_deletes, numbered_deletes, no_record, no_root, opened, Opened, OpenedEmpty, OpenedRecord}
-use Rattle.esr_model.specs.Image.{RootIs}
 use Rattle.esr_core.specs.Queue.{Lawful}
 use Rattle.esr_core.specs.Turns.{Turns, NoTurn, OneMore, commands_of}
-use Rattle.esr_core.proofs.Opening.{opening_sound, nothing}
-use Rattle.esr_core.proofs.Reading.{none_some, some_same}
-use Rattle.esr_core.proofs.Queues.{was_in}
+use Rattle.esr_core.specs.Laws.Maps.{nothing}
+use Rattle.esr_core.specs.Laws.DeleteNumbers.{numbered_from}
+use Rattle.esr_core.proofs.Opening.{opening_sound}
 use Rattle.std.specs.Prelude.{length}
+use Rattle.std.proofs.lemmas.Option.{none-some, same_Some}
 use Rattle.esr_core.proofs.Turning.{turn_law}
 use Rattle.esr_core.specs.Ids.{Law}
-use Rattle.esr_model.specs.Kept.{IdsBelow, RootIds}
 
 pub shelf_after-append : (shelf : List Shelved) (xs ys : List Command) → shelf_after shelf (xs ++ ys) ≡ shelf_after (shelf_after shelf xs) ys
 shelf_after-append shelf [] ys = refl
@@ -28,17 +25,6 @@ pub turns_lawful : (f : Formats) (w last : World) (shelf : List Shelved) (cs : L
 turns_lawful f w last shelf cs l NoTurn = l
 turns_lawful f w last shelf cs l (OneMore mid new ds before d turn) =
     subst (Law f new) (sym (shelf_after-append shelf ds (commands_of f mid new turn))) (turn_law f mid new (shelf_after shelf ds) (turns_lawful f w mid shelf ds l before) d turn)
-
--- the deletes that opening numbers
-pub numbered_from : (n : ℕ) (list : List (List ℕ)) (d : ℕ) (x : Deletion) → fin.get (numbered_deletes n list) d ≡ Some x → (d < n + length list) × (x.clean ≡ false) × ((u : ℕ) → Has x.uuids u → (us : List ℕ) × Has list us × Has us u)
-numbered_from n [] d x e = absurd (nothing d x e)
-numbered_from n (us ∷ rest) d x e = elim (was_in (numbered_deletes (suc n) rest) n (record { uuids = us; clean = false; failed = false }) d x e) [
-  | inl z ↦ let same : d ≡ n = z.0 in (omega (arith, same), ap (λ (y : Deletion). y.clean) (sym z.1), λ u m. (us, inl refl, subst (λ (y : Deletion). Has y.uuids u) (sym z.1) m))
-  | inr z ↦
-      let (below, clean, from) = numbered_from (suc n) rest d x z.1 in
-      let b : d < suc n + length rest = below in
-      (omega (arith, b), clean, λ u m. let (vs, vm, um) = from u m in (vs, inr vm, um))
-]
 
 pub opening_lawful : (f : Formats) (blobs : Blobs) (cluster : ClusterRecord) (root : RootData) (shelf : List Shelved) → KeptAt f blobs cluster.ledger shelf → RootIs f (At f blobs) cluster.ledger.safe root
     → Lawful f (opened blobs cluster root) shelf
@@ -97,13 +83,13 @@ opening_law f image shelf w (inl h) (OpenedEmpty e) =
     (record { ordered = omega arith; picked = h.no_snapshot; begun = λ n p. absurd (h.no_blob _ p.0 p.1.0); whole = λ n p. absurd (h.no_blob _ p.0 p.1.0); named = λ text b there. absurd (h.no_blob text b there) })
     refl
     (λ name p. absurd (h.no_blob _ p.0 p.1.0))
-    (record { generations = λ i k g e. absurd (none_some g e); snapshots = λ s m. absurd m; ids = λ x m. absurd m; uuids = λ x u m. absurd m; one_name = λ x y m. absurd m })
+    (record { generations = λ i k g e. absurd (none-some g e); snapshots = λ s m. absurd m; ids = λ x m. absurd m; uuids = λ x u m. absurd m; one_name = λ x y m. absurd m })
     (λ op m. absurd m)
-opening_law f image shelf w (inl h) (OpenedRecord cluster text root there reads is) = absurd (none_some text (sym h.no_record ∙ there))
-opening_law f image shelf w (inr h) (OpenedEmpty e) = absurd (none_some h.text (sym e ∙ h.there))
+opening_law f image shelf w (inl h) (OpenedRecord cluster text root there reads is) = absurd (none-some text (sym h.no_record ∙ there))
+opening_law f image shelf w (inr h) (OpenedEmpty e) = absurd (none-some h.text (sym e ∙ h.there))
 opening_law f image shelf w (inr h) (OpenedRecord cluster text root there reads is) =
-    let same_text : h.text ≡ text = some_same _ _ (sym h.there ∙ there) in
-    let same : h.cluster ≡ cluster = some_same _ _ (sym h.reads ∙ ap f.cluster.read same_text ∙ reads) in
+    let same_text : h.text ≡ text = same_Some _ _ (sym h.there ∙ there) in
+    let same : h.cluster ≡ cluster = same_Some _ _ (sym h.reads ∙ ap f.cluster.read same_text ∙ reads) in
     record_opens f image.blobs cluster root shelf
     (subst (λ (c : ClusterRecord). KeptAt f image.blobs c.ledger shelf) same h.kept) is
     (subst (λ (c : ClusterRecord). (name : BlobName) → Present f image.blobs name → IdsBelow name (first_id (suc c.ledger.term))) same h.names_below)

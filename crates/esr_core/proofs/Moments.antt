@@ -1,43 +1,40 @@
 -- Each moment of a legal history is a turn of the law.
-use Rattle.std.proofs.Common.{◌≡◌, ◌≢◌, ◌⊎◌, ℕ, suc, ◌+◌, ◌<◌, ◌≤◌, List, [], Bool, true, false, Option, Some, None, refl, sym, ap, ◌∙◌, subst, inl, inr, arith, zero, ◌∷◌, ◌++◌}
+use Rattle.std.proofs.Common.{◌≡◌, ◌≢◌, ◌⊎◌, ℕ, suc, ◌+◌, ◌<◌, ◌≤◌, List, [], Bool, true, false, Option, Some, None, refl, sym, ap, ◌∙◌, subst, inl, inr, arith, zero, ◌∷◌}
 use Rattle.std.specs.Prelude.{if◌then◌else◌, ◌&&◌, ◌==◌, nat_lt}
 use Rattle.std.proofs.lemmas.Bool.Decides.{eqb_tells}
 use Rattle.std.proofs.lemmas.Bool.{lt-ltb, le-ltb}
 use Rattle.std.specs.Cmp.Lexicographic.{nat_list_cmp_total}
 use Rattle.std.specs.FinMap as fin
+use Rattle.std.proofs.lemmas.Option.{same_Some}
+use Rattle.esr_core.specs.Laws.Asides.{blobs_stay}
 use Rattle.esr_model.specs.Names.{BlobName, Root, Latest, Snap, Meta, IndexMeta, ShardSnap, ShardIndex, File, Part, TestMaster, TestNode}
 use Rattle.esr_model.specs.Values.{Bytes, ShardResult, Formats, Has}
 use Rattle.esr_model.specs.Shelf.{Shelved}
 use Rattle.esr_model.specs.Kept.{first_id}
 use Rattle.esr_model.specs.Cleanup.{BlobSize, IsPageOf}
 use Rattle.esr_model.specs.Image.{Blobs, Image, At, Present}
-use Rattle.esr_core.specs.World.{World, Op, Work, Shard, Finalize, Deleting, Drop, Ticket, ReadState, Restored, NotRestored, Restoring, Reader, Swap}
+use Rattle.esr_core.specs.World.{World, Op, Work, Shard, Finalize, Deleting, Drop, Ticket, ReadState, Restored, NotRestored, Restoring, Reader}
 use Rattle.esr_core.specs.Ready.{IsShard, IsMaster}
 use Rattle.esr_core.specs.Restores.{IsReading, ListsPiece, waits, restore_opened, shard_ended}
-use Rattle.esr_core.specs.Steps.{IsOut, PutsLatest, Raise, with_ticket, noting, listing, settled, Removes, MaySettle, plain_ticket}
-use Rattle.esr_core.specs.Pruning.{dooms}
+use Rattle.esr_core.specs.Steps.{IsOut, PutsLatest, Raise, with_ticket, noting, listing, settled, Removes, plain_ticket}
 use Rattle.esr_core.specs.Ids.{Law}
 use Rattle.esr_core.specs.Queue.{Lists}
-use Rattle.esr_core.specs.Entry.{CloneOf, Asked, Snapshot, DeleteSnapshots, Given, GivenShard, GivenFinalize, GivenDrop, Why, Step, AskStep, TakeStep, DrawStep, BeginStep, CommitStep, LatestStep, FetchStep, ListStep, RaiseStep, SettleStep, DoneStep, FailedStep, FinishStep, DroppedStep, ElectStep, LookStep, Refusal, DepotFault, Reply, WasSettled, HasEnded, Refused, Entry, Moment, Restore, Cleanup, Read, ReadBlob, RestoredShard, CheckedAll, ReadFails, ReadStep, AcceptedRestore, GivenRestore, DrawTest, BeginTest, CommitTest, RemoveTests, VerifiedAll, GivenClone, GivenDelete, GivenCleanup, Prune, PruneStep}
+use Rattle.esr_core.specs.Entry.{CloneOf, Snapshot, DeleteSnapshots, Given, GivenShard, GivenFinalize, GivenDrop, Why, Step, AskStep, TakeStep, DrawStep, BeginStep, CommitStep, LatestStep, FetchStep, ListStep, RaiseStep, SettleStep, DoneStep, FailedStep, FinishStep, DroppedStep, ElectStep, LookStep, DepotFault, Reply, WasSettled, HasEnded, Refused, Restore, Cleanup, Read, ReadBlob, RestoredShard, CheckedAll, ReadFails, ReadStep, AcceptedRestore, GivenRestore, DrawTest, BeginTest, CommitTest, RemoveTests, VerifiedAll, GivenClone, GivenDelete, GivenCleanup, Prune, PruneStep}
 use Rattle.esr_core.specs.Past.{with_entry}
-use Rattle.esr_core.specs.After.{asked, asked_op, cleanup_opened, cloned_op, clone_opened, taken_by, taken_shard, with_given, change, committing, fetching, told_blob, settled_of, settled_by, failed_of, failed_by, is_stale, dropped_of, is_latest, tried, blobs_in, after, stepped, caller_after, read_told, read_over, shard_over, taken_restore, taken_restore_shard, test_left, deletes_left, delete_settled, delete_settled_by}
+use Rattle.esr_core.specs.After.{asked, asked_op, cleanup_opened, cloned_op, clone_opened, taken_by, taken_shard, with_given, change, committing, fetching, told_blob, settled_of, settled_by, failed_of, failed_by, is_stale, dropped_of, is_latest, tried, blobs_in, after, stepped, caller_after, read_told, read_over, shard_over, taken_restore, taken_restore_shard, test_left}
 use Rattle.esr_core.specs.Allowed as allowed
-use Rattle.esr_core.specs.Allowed.{PruneAllows, latest_text, Told, SameBlobs, Adds, Accepts, Gives, GivesShard, GivesFinalize, Draws, Commits, Refinds, Puts, Raises, Settles, Fails, Finishes, Drops, Dones, Allows, MayRead, Fetcher, ByReader, ByCheck, MayDelete, DeleteAllows, GoingInto, NotNamed, CloneStands, RestoreStands, FullOfOps, DeleteFault, AcceptsCleanup, CleanupAllows, OpeningCleanup, OpStands, TicketStands, CleanupFault, ListsPage, RestoreAllows, OpeningRestore, NotListed, NamedByDelete, FullOfRestores, AcceptsClone, CloneAllows, OpeningClone, CloneUsed, SourceNotListed, SourceDeleted, IndexMissing, FullOfClones, CloneSpent, CloneFault, ReadAllows, ReadFound, ReadMissing, ReadFault, RestoringShard, ReaderFailing, CheckingAll, CheckFailing, ByVerify, IsOwnTest, MayRemoveTests, VerifyAllows, DrawingTest, TestSpent, BeginningTest, BeginTestFails, CommittingTest, TestTaken, CommitTestFails, RemovingTests, RemoveTestsFails, VerifyingAll, VerifyFailing}
+use Rattle.esr_core.specs.Allowed.{PruneAllows, latest_text, Told, SameBlobs, Adds, Accepts, Gives, Commits, Refinds, Puts, Raises, Settles, Fails, Finishes, Drops, Dones, Allows, MayRead, Fetcher, ByReader, ByCheck, MayDelete, DeleteAllows, GoingInto, NotNamed, CloneStands, RestoreStands, FullOfOps, DeleteFault, AcceptsCleanup, CleanupAllows, OpeningCleanup, OpStands, TicketStands, CleanupFault, ListsPage, RestoreAllows, OpeningRestore, NotListed, NamedByDelete, FullOfRestores, AcceptsClone, CloneAllows, OpeningClone, CloneUsed, SourceNotListed, SourceDeleted, IndexMissing, FullOfClones, CloneSpent, CloneFault, ReadAllows, ReadFound, ReadMissing, ReadFault, RestoringShard, ReaderFailing, CheckingAll, CheckFailing, ByVerify, IsOwnTest, MayRemoveTests, VerifyAllows, DrawingTest, TestSpent, BeginningTest, BeginTestFails, CommittingTest, TestTaken, CommitTestFails, RemovingTests, RemoveTestsFails, VerifyingAll, VerifyFailing}
 use Rattle.esr_core.specs.History.{counts, is_settle, command_of, command_by, commands_at}
-use Rattle.esr_core.specs.Turns.{AskCreate, AsksCreate, AskCleanup, AsksCleanup, TakesCleanup, CleanDrops, Pages, cleaning_ticket, SettleFinal, Failed, Dropped, Turn, Stays, Latests, Fetches, Raises as RaisesTurn, Finds, SettlesFinal, Elects, TakesShard, TakesFinal, TakesDrop, DrawsShard, Ending, Fails as FailsTurn, Drops as DropsTurn, Deposes, commands_of, Besides, OpensRestore, HandsShard, ReadsMore, EndsShard, Calls, Tests, DrawsTest, AddsTest, RemovesTests, TakesDelete}
+use Rattle.esr_core.specs.Turns.{AskCreate, AsksCreate, AskCleanup, AsksCleanup, TakesCleanup, CleanDrops, Pages, cleaning_ticket, Turn, Stays, Latests, Fetches, Raises as RaisesTurn, Finds, SettlesFinal, Elects, TakesShard, TakesFinal, TakesDrop, DrawsShard, Ending, Fails as FailsTurn, Drops as DropsTurn, Deposes, commands_of, Besides, OpensRestore, HandsShard, ReadsMore, EndsShard, Calls, Tests, DrawsTest, AddsTest, RemovesTests, TakesDelete}
 use Rattle.esr_core.specs.Turns as turns
 use Rattle.esr_core.specs.Entry as entry
 use Rattle.esr_core.specs.Deletes.{delete_number, asked_delete}
-use Rattle.esr_core.proofs.AskedDeletes.{delete_leaves, delete_turn}
+use Rattle.esr_core.specs.Laws.DeleteAsks.{delete_leaves}
+use Rattle.esr_core.specs.Laws.Moments.{settled_plain as law-settled_plain, moment}
+use Rattle.esr_core.proofs.AskedDeletes.{delete_turn}
 use Rattle.esr_core.proofs.AskedClones.{accepted_clone}
-use Rattle.esr_core.proofs.Maps.{get_same, texts_same}
-use Rattle.esr_core.proofs.Reading.{some_same}
+use Rattle.esr_core.specs.Laws.Maps.{get_same, texts_same}
 use Rattle.esr_core.proofs.ListedInfo.{made_info}
-
--- the blobs after a step that leaves them
-pub blobs_same : (w : World) (image : Option Image) → SameBlobs w image → blobs_in image w.blobs ≡ w.blobs
-blobs_same w None same = refl
-blobs_same w (Some i) same = same
 
 -- a step with the commands that count in an image with so many roots, by what the world after it says of them
 pub record Turned (f : Formats) (w : World) (who : ℕ) (step : Step) (reply : Reply) (new : World) : Type 0 where
@@ -63,7 +60,7 @@ plain f w who step reply new turn no_settle none =
 pub stays : (f : Formats) (w : World) (who : ℕ) (step : Step) (reply : Reply) (image : Option Image) → SameBlobs w image → counts reply ≡ false → Turned f w who step reply (record w { blobs = blobs_in image w.blobs })
 stays f w who step reply image same no_count =
     record {
-      turn = Stays (record w { blobs = blobs_in image w.blobs }) (λ j. record w { blobs = blobs_same w image same j });
+      turn = Stays (record w { blobs = blobs_in image w.blobs }) (λ j. record w { blobs = blobs_stay w image same j });
       commands = λ safe a b. ap (λ (x : Bool). if x && is_settle step then command_of f safe (fin.get w.tickets who) else []) no_count;
       early = λ safe a. ap (λ (x : Bool). if x && is_settle step then command_of f safe (fin.get w.tickets who) else []) no_count;
     }
@@ -79,7 +76,7 @@ module _ (f : Formats) (w : World) where
         unsettled = r.may.unsettled;
         present = r.present;
         once = r.may.once;
-        new_is = λ j. record (record (with_given w k (λ (t : Ticket). record t { raised = Some w.pending }) (r.may.out.there j)) { pending = suc w.pending }) { blobs = blobs_same w image same j };
+        new_is = λ j. record (record (with_given w k (λ (t : Ticket). record t { raised = Some w.pending }) (r.may.out.there j)) { pending = suc w.pending }) { blobs = blobs_stay w image same j };
       }
 
   -- a record swap that failed leaves the world as before, or as where Ok, and deposed
@@ -99,8 +96,8 @@ module _ (f : Formats) (w : World) where
       → Turned f w k step (Refused DepotFault) (record (if b then up0 else w) { deposed = true; blobs = blobs_in image w.blobs })
   falls_plain k step up0 up turn b image same is kept no_settle none =
       subst (λ (x : World). Turned f w k step (Refused DepotFault) (record (if b then x else w) { deposed = true; blobs = blobs_in image w.blobs })) (sym is)
-      (plain f w k step (Refused DepotFault) _ (falls up turn b (blobs_in image w.blobs) (blobs_same w image same) kept) no_settle
-      (falls_commands up turn b (blobs_in image w.blobs) (blobs_same w image same) kept ∙ neither b))
+      (plain f w k step (Refused DepotFault) _ (falls up turn b (blobs_in image w.blobs) (blobs_stay w image same) kept) no_settle
+      (falls_commands up turn b (blobs_in image w.blobs) (blobs_stay w image same) kept ∙ neither b))
     where
       neither : (b : Bool) → (if b then commands_of f w up turn else []) ≡ []
       neither true = none
@@ -114,46 +111,46 @@ module _ (f : Formats) (w : World) where
       (TakesShard _ o g.op g.s base (record {
         ready = g.ready;
         largest = g.largest;
-        new_is = (λ j. record (taken_by f w o (GivenShard index number base) (g.ready.op_there j)) { blobs = blobs_in image w.blobs }) ∙ (λ j. record (taken_shard w o g.op base (g.found j)) { blobs = blobs_same w image same j });
+        new_is = (λ j. record (taken_by f w o (GivenShard index number base) (g.ready.op_there j)) { blobs = blobs_in image w.blobs }) ∙ (λ j. record (taken_shard w o g.op base (g.found j)) { blobs = blobs_stay w image same j });
       })) refl refl
   gives_turn k o (GivenFinalize info results) image g same =
       plain f w 0 TakeStep (entry.Gave k o (GivenFinalize info results)) _
       (TakesFinal _ o g.op results (record {
         ready = g.ready;
         root_back = g.root_back;
-        new_is = λ j. record (taken_by f w o (GivenFinalize info results) (g.ready.op_there j)) { blobs = blobs_same w image same j };
+        new_is = λ j. record (taken_by f w o (GivenFinalize info results) (g.ready.op_there j)) { blobs = blobs_stay w image same j };
       })) refl refl
   gives_turn k o (GivenClone index number source base) image g same =
       plain f w 0 TakeStep (entry.Gave k o (GivenClone index number source base)) _
       (TakesShard _ o g.op g.s base (record {
         ready = g.ready;
         largest = g.largest;
-        new_is = (λ j. record (taken_by f w o (GivenClone index number source base) (g.ready.op_there j)) { blobs = blobs_in image w.blobs }) ∙ (λ j. record (taken_shard w o g.op base (g.found j)) { blobs = blobs_same w image same j });
+        new_is = (λ j. record (taken_by f w o (GivenClone index number source base) (g.ready.op_there j)) { blobs = blobs_in image w.blobs }) ∙ (λ j. record (taken_shard w o g.op base (g.found j)) { blobs = blobs_stay w image same j });
       })) refl refl
   gives_turn k o (GivenDelete uuids) image g same =
       plain f w 0 TakeStep (entry.Gave k o (GivenDelete uuids)) _ (TakesDelete _ o g.0 (record { ready = g.1; new_is = deleting (fin.get w.ops o) })) refl refl
     where
       deleting : (found : Option Op) → record (taken_by f w o (GivenDelete uuids) found) { blobs = blobs_in image w.blobs } ≡ record w { tickets = fin.insert w.tickets w.next_ticket (plain_ticket w o (Deleting g.0.uuids None)); next_ticket = suc w.next_ticket }
-      deleting None = λ j. record w { tickets = fin.insert w.tickets w.next_ticket (plain_ticket w o (Deleting (g.2 j) None)); next_ticket = suc w.next_ticket; blobs = blobs_same w image same j }
-      deleting (Some op) = λ j. record w { tickets = fin.insert w.tickets w.next_ticket (plain_ticket w o (Deleting (g.2 j) None)); next_ticket = suc w.next_ticket; blobs = blobs_same w image same j }
+      deleting None = λ j. record w { tickets = fin.insert w.tickets w.next_ticket (plain_ticket w o (Deleting (g.2 j) None)); next_ticket = suc w.next_ticket; blobs = blobs_stay w image same j }
+      deleting (Some op) = λ j. record w { tickets = fin.insert w.tickets w.next_ticket (plain_ticket w o (Deleting (g.2 j) None)); next_ticket = suc w.next_ticket; blobs = blobs_stay w image same j }
   gives_turn k o GivenCleanup image g same =
       plain f w 0 TakeStep (entry.Gave k o GivenCleanup) _ (TakesCleanup _ o g.0 (record { ready = g.1; new_is = cleaning (fin.get w.ops o) })) refl refl
     where
       cleaning : (found : Option Op) → record (taken_by f w o GivenCleanup found) { blobs = blobs_in image w.blobs } ≡ record w { tickets = fin.insert w.tickets w.next_ticket (cleaning_ticket w o); next_ticket = suc w.next_ticket }
-      cleaning None = λ j. record w { tickets = fin.insert w.tickets w.next_ticket (cleaning_ticket w o); next_ticket = suc w.next_ticket; blobs = blobs_same w image same j }
-      cleaning (Some op) = λ j. record w { tickets = fin.insert w.tickets w.next_ticket (cleaning_ticket w o); next_ticket = suc w.next_ticket; blobs = blobs_same w image same j }
+      cleaning None = λ j. record w { tickets = fin.insert w.tickets w.next_ticket (cleaning_ticket w o); next_ticket = suc w.next_ticket; blobs = blobs_stay w image same j }
+      cleaning (Some op) = λ j. record w { tickets = fin.insert w.tickets w.next_ticket (cleaning_ticket w o); next_ticket = suc w.next_ticket; blobs = blobs_stay w image same j }
   gives_turn k o (GivenRestore index number uuid) image g same =
       plain f w 0 TakeStep (entry.Gave k o (GivenRestore index number uuid)) _
       (Besides _ w (Stays w refl) (HandsShard _ o g.r g.s (record {
         ready = g.ready;
-        new_is = (λ j. record (taken_restore w o index number (g.ready.there j)) { blobs = blobs_in image w.blobs }) ∙ (λ j. record (taken_restore_shard w o g.r (g.found j)) { blobs = blobs_same w image same j });
+        new_is = (λ j. record (taken_restore w o index number (g.ready.there j)) { blobs = blobs_in image w.blobs }) ∙ (λ j. record (taken_restore_shard w o g.r (g.found j)) { blobs = blobs_stay w image same j });
       }))) refl refl
   gives_turn k o GivenDrop image g same =
       plain f w 0 TakeStep (entry.Gave k o GivenDrop) _ (TakesDrop _ o (record { ready = g; new_is = dropping (fin.get w.ops o) })) refl refl
     where
       dropping : (found : Option Op) → record (taken_by f w o GivenDrop found) { blobs = blobs_in image w.blobs } ≡ record w { tickets = fin.insert w.tickets w.next_ticket (plain_ticket w o Drop); next_ticket = suc w.next_ticket }
-      dropping None = λ j. record w { tickets = fin.insert w.tickets w.next_ticket (plain_ticket w o Drop); next_ticket = suc w.next_ticket; blobs = blobs_same w image same j }
-      dropping (Some op) = λ j. record w { tickets = fin.insert w.tickets w.next_ticket (plain_ticket w o Drop); next_ticket = suc w.next_ticket; blobs = blobs_same w image same j }
+      dropping None = λ j. record w { tickets = fin.insert w.tickets w.next_ticket (plain_ticket w o Drop); next_ticket = suc w.next_ticket; blobs = blobs_stay w image same j }
+      dropping (Some op) = λ j. record w { tickets = fin.insert w.tickets w.next_ticket (plain_ticket w o Drop); next_ticket = suc w.next_ticket; blobs = blobs_stay w image same j }
 
   -- ---- blobs
 
@@ -172,7 +169,7 @@ module _ (f : Formats) (w : World) where
       → Turned f w k (CommitStep name) entry.WasThere (record (change w k (λ (t : Ticket). noting t name)) { blobs = blobs_in image w.blobs })
   find_turn k name image c bytes there same =
       plain f w k (CommitStep name) entry.WasThere _
-      (Finds _ k name (record { t = c.t; out = c.out; info = c.info; results = c.results; made = c.made; work = c.work; bytes = c.bytes; own = c.own; there = (bytes, there); new_is = λ j. record (with_given w k (λ (t : Ticket). noting t name) (c.out.there j)) { blobs = blobs_same w image same j } })) refl refl
+      (Finds _ k name (record { t = c.t; out = c.out; info = c.info; results = c.results; made = c.made; work = c.work; bytes = c.bytes; own = c.own; there = (bytes, there); new_is = λ j. record (with_given w k (λ (t : Ticket). noting t name) (c.out.there j)) { blobs = blobs_stay w image same j } })) refl refl
 
   latest_turn : (k : ℕ) (step : Step) (reply : Reply) (image : Option Image) → Puts f w k → is_settle step ≡ false → (blobs : Blobs) → PutsLatest f w.blobs blobs → Turned f w k step reply (record (change w k (λ (t : Ticket). record t { tried_latest = true })) { blobs = blobs })
   latest_turn k step reply image c no_settle blobs puts =
@@ -190,11 +187,8 @@ module _ (f : Formats) (w : World) where
   settled_is : (k : ℕ) (s : Settles f w k) (blobs : Blobs) → record (settled_of f w k (fin.get w.tickets k)) { blobs = blobs } ≡ record (settled w k s.t s.n s.s.root) { deletes = fin.remove w.deletes s.t.op; blobs = blobs }
   settled_is k s blobs = (λ j. record (settled_of f w k (s.may.out.there j)) { blobs = blobs }) ∙ (λ j. record (settled_by f w k s.t (s.may.is j) (s.may.raised j)) { blobs = blobs })
 
-  pub delete_settled_plain : (k n : ℕ) (t : Ticket) (s : Swap) → MaySettle f w k n t s → delete_settled f w k (fin.get w.tickets k) ≡ record (settled w k t n s.root) { deletes = deletes_left w t; doomed = dooms f t ++ w.doomed }
-  delete_settled_plain k n t s may = (λ j. delete_settled f w k (may.out.there j)) ∙ (λ j. delete_settled_by f w k t (may.is j) (may.raised j))
-
-  pub settled_plain : (k : ℕ) (s : Settles f w k) → settled_of f w k (fin.get w.tickets k) ≡ record (settled w k s.t s.n s.s.root) { deletes = fin.remove w.deletes s.t.op }
-  settled_plain k s = (λ j. settled_of f w k (s.may.out.there j)) ∙ (λ j. settled_by f w k s.t (s.may.is j) (s.may.raised j))
+  settled_plain : (k : ℕ) (s : Settles f w k) → settled_of f w k (fin.get w.tickets k) ≡ record (settled w k s.t s.n s.s.root) { deletes = fin.remove w.deletes s.t.op }
+  settled_plain = law-settled_plain f w
 
   abbrev settle_final : (k : ℕ) (s : Settles f w k) (new : World) → new ≡ record (settled w k s.t s.n s.s.root) { deletes = fin.remove w.deletes s.t.op } → Turn f w new
   settle_final k s new e = SettlesFinal new k s.n s.t s.s (record { info = s.info; results = s.results; made = s.made; work = s.work; may = s.may; present = s.present; new_is = e })
@@ -216,7 +210,7 @@ module _ (f : Formats) (w : World) where
   settle_turn shelf l k image s same =
       subst (λ (x : World). Turned f w k SettleStep WasSettled x) (sym (settled_is k s (blobs_in image w.blobs)))
       (record {
-        turn = settle_final k s _ (λ j. record (settled w k s.t s.n s.s.root) { deletes = fin.remove w.deletes s.t.op; blobs = blobs_same w image same j });
+        turn = settle_final k s _ (λ j. record (settled w k s.t s.n s.s.root) { deletes = fin.remove w.deletes s.t.op; blobs = blobs_stay w image same j });
         commands = λ safe above alone. command_is k s safe ∙ ap (λ b. if b then s.s.commands else []) (less_true s.n safe (let h : suc s.n ≤ safe = above in omega (arith, h)));
         early = λ safe below. command_is k s safe ∙ ap (λ b. if b then s.s.commands else []) (less_false s.n safe (let h : w.safe ≤ s.n = not_before shelf l k s in omega (arith, h, below)));
       })
@@ -227,8 +221,8 @@ module _ (f : Formats) (w : World) where
   settle_fails shelf l k s b image same =
       subst (λ (x : World). Turned f w k SettleStep (Refused DepotFault) (record (if b then x else w) { deposed = true; blobs = blobs_in image w.blobs })) (sym (settled_plain k s))
       (record {
-        turn = falls (record (settled w k s.t s.n s.s.root) { deletes = fin.remove w.deletes s.t.op }) (settle_final k s _ refl) b (blobs_in image w.blobs) (blobs_same w image same) refl;
-        commands = λ safe above alone. command_is k s safe ∙ chosen b safe above (alone refl) ∙ sym (falls_commands (record (settled w k s.t s.n s.s.root) { deletes = fin.remove w.deletes s.t.op }) (settle_final k s _ refl) b (blobs_in image w.blobs) (blobs_same w image same) refl);
+        turn = falls (record (settled w k s.t s.n s.s.root) { deletes = fin.remove w.deletes s.t.op }) (settle_final k s _ refl) b (blobs_in image w.blobs) (blobs_stay w image same) refl;
+        commands = λ safe above alone. command_is k s safe ∙ chosen b safe above (alone refl) ∙ sym (falls_commands (record (settled w k s.t s.n s.s.root) { deletes = fin.remove w.deletes s.t.op }) (settle_final k s _ refl) b (blobs_in image w.blobs) (blobs_stay w image same) refl);
         early = λ safe below. command_is k s safe ∙ ap (λ c. if c then s.s.commands else []) (less_false s.n safe (omega (arith, below, not_below)));
       })
     where
@@ -273,7 +267,7 @@ module _ (f : Formats) (w : World) where
         op_there = there;
         new_is = (λ j. record (failed_of w k (c.out.there j)) { blobs = blobs_in image w.blobs })
             ∙ (λ j. record (if fresh j then with_ticket w k (record c.t { out = false }) else failed_by w k c.t (fin.get w.ops c.t.op)) { blobs = blobs_in image w.blobs })
-            ∙ (λ j. record (failed_by w k c.t (there j)) { blobs = blobs_same w image same j });
+            ∙ (λ j. record (failed_by w k c.t (there j)) { blobs = blobs_stay w image same j });
       })) refl refl
 
   fails_stale : (k : ℕ) (why : Why) (image : Option Image) → SameBlobs w image → (c : Fails w k) → IsMaster c.t.work → c.t.term ≢ w.term → is_stale w c.t c.t.work ≡ true
@@ -286,7 +280,7 @@ module _ (f : Formats) (w : World) where
         no_shard = no_shard c.t.work master;
         done = inr apart;
         new_is = (λ j. record (failed_of w k (c.out.there j)) { blobs = blobs_in image w.blobs })
-            ∙ (λ j. record (if stale j then with_ticket w k (record c.t { out = false }) else failed_by w k c.t (fin.get w.ops c.t.op)) { blobs = blobs_same w image same j });
+            ∙ (λ j. record (if stale j then with_ticket w k (record c.t { out = false }) else failed_by w k c.t (fin.get w.ops c.t.op)) { blobs = blobs_stay w image same j });
       })) refl refl
 
   fails_turn : (k : ℕ) (why : Why) (image : Option Image) → Fails w k → SameBlobs w image → Turned f w k (FailedStep why) HasEnded (record (failed_of w k (fin.get w.tickets k)) { blobs = blobs_in image w.blobs })
@@ -300,7 +294,7 @@ module _ (f : Formats) (w : World) where
 
   ends_turn : (k : ℕ) (image : Option Image) → Finishes w k → SameBlobs w image → Turned f w k FinishStep HasEnded (record (change w k (λ (t : Ticket). record t { out = false })) { blobs = blobs_in image w.blobs })
   ends_turn k image c same =
-      plain f w k FinishStep HasEnded _ (Ending _ k (record { t = c.t; out = c.out; no_shard = c.no_shard; done = elim c.done [ inl h ↦ inl h.0 | inr h ↦ inr h.0 ]; new_is = λ j. record (with_given w k (λ (t : Ticket). record t { out = false }) (c.out.there j)) { blobs = blobs_same w image same j } })) refl refl
+      plain f w k FinishStep HasEnded _ (Ending _ k (record { t = c.t; out = c.out; no_shard = c.no_shard; done = elim c.done [ inl h ↦ inl h.0 | inr h ↦ inr h.0 ]; new_is = λ j. record (with_given w k (λ (t : Ticket). record t { out = false }) (c.out.there j)) { blobs = blobs_stay w image same j } })) refl refl
 
   -- an op leaves: by its drop, or with the end of a cleanup
   drop_turn : (k : ℕ) (image : Option Image) (c : Drops f w k image) (new : World)
@@ -322,7 +316,7 @@ module _ (f : Formats) (w : World) where
 -- the blobs of an image that is told
 blobs_told : (w : World) (i : Image) (image : Option Image) → image ≡ Some i → blobs_in image w.blobs ≡ i.blobs
 blobs_told w i None e = absurd (cc)
-blobs_told w i (Some x) e = ap (λ (y : Image). y.blobs) (some_same _ _ e)
+blobs_told w i (Some x) e = ap (λ (y : Image). y.blobs) (same_Some _ _ e)
 
 pub not_latest : (name : BlobName) → name ≢ Latest → is_latest name ≡ false
 not_latest (Root n) h = refl
@@ -342,19 +336,16 @@ begin_fails : (f : Formats) (w : World) (k : ℕ) (name : BlobName) (image : Opt
     → Turned f w k (BeginStep name) (Refused DepotFault) (record (if is_latest name then tried w k else w) { blobs = blobs_in image w.blobs })
 begin_fails f w k name image no_latest same =
     subst (λ (b : Bool). Turned f w k (BeginStep name) (Refused DepotFault) (record (if b then tried w k else w) { blobs = blobs_in image w.blobs })) (sym no_latest)
-    (plain f w k (BeginStep name) (Refused DepotFault) _ (Stays _ (λ j. record w { blobs = blobs_same w image same j })) refl refl)
+    (plain f w k (BeginStep name) (Refused DepotFault) _ (Stays _ (λ j. record w { blobs = blobs_stay w image same j })) refl refl)
 
 -- a call that failed and leaves all but the record as it was
 pub fault_stays : (f : Formats) (w : World) (who : ℕ) (step : Step) (image : Option Image) → SameBlobs w image → is_settle step ≡ false → Turned f w who step (Refused DepotFault) (record w { blobs = blobs_in image w.blobs })
-fault_stays f w who step image same no_settle = plain f w who step (Refused DepotFault) _ (Stays _ (λ j. record w { blobs = blobs_same w image same j })) no_settle refl
-
-abbrev pub moment : ℕ → Step → Reply → Option Image → Moment
-moment who step reply image = record { entry = record { who = who; step = step; reply = reply }; image = image }
+fault_stays f w who step image same no_settle = plain f w who step (Refused DepotFault) _ (Stays _ (λ j. record w { blobs = blobs_stay w image same j })) no_settle refl
 
 -- a told condition, of the image that is told
 pub of_told : (i : Image) (image : Option Image) (P : Blobs → Type 0) → image ≡ Some i → Told image P → P i.blobs
 of_told i None P e h = absurd (cc)
-of_told i (Some x) P e h = subst (λ (y : Image). P y.blobs) (some_same _ _ e) h
+of_told i (Some x) P e h = subst (λ (y : Image). P y.blobs) (same_Some _ _ e) h
 
 module _ (f : Formats) (size : ℕ) (w : World) (shelf : List Shelved) (l : Law f w shelf) (i : Image)
     (doing : (k : ℕ) (r : ShardResult) → Dones f size w k r (Some i) → i.blobs ≡ w.blobs → Turned f w k (DoneStep r) HasEnded (stepped f w (moment k (DoneStep r) HasEnded (Some i))))
@@ -362,7 +353,7 @@ module _ (f : Formats) (size : ℕ) (w : World) (shelf : List Shelved) (l : Law 
     (pruning : (k : ℕ) (prune : Prune) (reply : Reply) → PruneAllows f w k prune reply (Some i) → Turned f w k (PruneStep prune) reply (stepped f w (moment k (PruneStep prune) reply (Some i)))) where
   ask_turn : (name : Bytes) (indices : List entry.AskedIndex) (time o : ℕ) (image : Option Image) → Accepts f w name indices time o → SameBlobs w image → Turned f w 0 (AskStep (Snapshot name indices time)) (entry.Accepted o) (stepped f w (moment 0 (AskStep (Snapshot name indices time)) (entry.Accepted o) image))
   ask_turn name indices time o image acc same =
-      plain f w 0 _ _ _ (AsksCreate _ (asked_op w name indices time) (subst (AskCreate f w (asked_op w name indices time)) (λ j. record (asked w (Snapshot name indices time)) { blobs = sym (blobs_same w image same) j }) (asking name indices time o acc))) refl refl
+      plain f w 0 _ _ _ (AsksCreate _ (asked_op w name indices time) (subst (AskCreate f w (asked_op w name indices time)) (λ j. record (asked w (Snapshot name indices time)) { blobs = sym (blobs_stay w image same) j }) (asking name indices time o acc))) refl refl
 
   ask_fails : (name : Bytes) (indices : List entry.AskedIndex) (time : ℕ) (image : Option Image) → Accepts f w name indices time w.next_op → SameBlobs w image → Turned f w 0 (AskStep (Snapshot name indices time)) (Refused DepotFault) (stepped f w (moment 0 (AskStep (Snapshot name indices time)) (Refused DepotFault) image))
   ask_fails name indices time image acc same =
@@ -385,7 +376,7 @@ module _ (f : Formats) (size : ℕ) (w : World) (shelf : List Shelved) (l : Law 
   asks_clone : (source name : Bytes) (names : List Bytes) (time : ℕ) (taken : Option CloneOf) (reply : Reply) (image : Option Image) → image ≡ Some i → CloneAllows f w source name names time taken reply image → SameBlobs w image
       → Turned f w 0 (AskStep (entry.Clone source name names time taken)) reply (stepped f w (moment 0 (AskStep (entry.Clone source name names time taken)) reply image))
   asks_clone source name names time taken reply image told (OpeningClone t o im acc) same =
-      plain f w 0 _ _ _ (AsksCreate _ (cloned_op w name time t) (subst (AskCreate f w (cloned_op w name time t)) (λ j. record (clone_opened w name time t) { blobs = sym (blobs_same w im same) j }) (clone_asked source name names time o t im told acc))) refl refl
+      plain f w 0 _ _ _ (AsksCreate _ (cloned_op w name time t) (subst (AskCreate f w (cloned_op w name time t)) (λ j. record (clone_opened w name time t) { blobs = sym (blobs_stay w im same) j }) (clone_asked source name names time o t im told acc))) refl refl
   asks_clone source name names time taken reply image told (CloneUsed uuid im clear is) same = stays f w 0 (AskStep (entry.Clone source name names time None)) _ im same refl
   asks_clone source name names time taken reply image told (SourceNotListed im may none) same = stays f w 0 (AskStep (entry.Clone source name names time None)) _ im same refl
   asks_clone source name names time taken reply image told (SourceDeleted uuid d im may listed named) same = stays f w 0 (AskStep (entry.Clone source name names time None)) _ im same refl
@@ -399,7 +390,7 @@ module _ (f : Formats) (size : ℕ) (w : World) (shelf : List Shelved) (l : Law 
 
   going_into : (names : List Bytes) (image : Option Image) → MayDelete w names → SameBlobs w image → Turned f w 0 (AskStep (DeleteSnapshots names)) (entry.Accepted (delete_number w names)) (stepped f w (moment 0 (AskStep (DeleteSnapshots names)) (entry.Accepted (delete_number w names)) image))
   going_into names image may same =
-      let kept : (asked_delete w names).blobs ≡ blobs_in image w.blobs = ap (λ (x : World). x.blobs) (delete_leaves w names) ∙ sym (blobs_same w image same) in
+      let kept : (asked_delete w names).blobs ≡ blobs_in image w.blobs = ap (λ (x : World). x.blobs) (delete_leaves w names) ∙ sym (blobs_stay w image same) in
       let turn = subst (λ (x : World). (t : Turn f w x) × (commands_of f w x t ≡ [])) (λ j. record (asked_delete w names) { blobs = kept j }) (delete_turn f w names may) in
       plain f w 0 (AskStep (DeleteSnapshots names)) (entry.Accepted (delete_number w names)) _ turn.0 refl turn.1
 
@@ -420,7 +411,7 @@ module _ (f : Formats) (size : ℕ) (w : World) (shelf : List Shelved) (l : Law 
       record { no_op = λ o op h. acc.none_open o (inl (op, h)); no_delete = λ d x h. acc.none_open d (inr (x, h)); no_ticket = λ k t h out. acc.no_ticket k (t, record { there = h; out = out }); new_is = e }
 
   asks_cleanup : (reply : Reply) (image : Option Image) → CleanupAllows w reply → SameBlobs w image → Turned f w 0 (AskStep Cleanup) reply (stepped f w (moment 0 (AskStep Cleanup) reply image))
-  asks_cleanup reply image (OpeningCleanup acc) same = plain f w 0 (AskStep Cleanup) _ _ (AsksCleanup _ (asked_cleanup acc _ (λ j. record (cleanup_opened w) { blobs = blobs_same w image same j }))) refl refl
+  asks_cleanup reply image (OpeningCleanup acc) same = plain f w 0 (AskStep Cleanup) _ _ (AsksCleanup _ (asked_cleanup acc _ (λ j. record (cleanup_opened w) { blobs = blobs_stay w image same j }))) refl refl
   asks_cleanup reply image (OpStands o clear lowest) same = stays f w 0 (AskStep Cleanup) _ image same refl
   asks_cleanup reply image (TicketStands k none lowest) same = stays f w 0 (AskStep Cleanup) _ image same refl
   asks_cleanup reply image (CleanupFault acc) same = falls_plain f w 0 (AskStep Cleanup) (cleanup_opened w) (cleanup_opened w) (AsksCleanup _ (asked_cleanup acc _ refl)) _ image same refl refl refl refl
@@ -443,7 +434,7 @@ module _ (f : Formats) (size : ℕ) (w : World) (shelf : List Shelved) (l : Law 
         info_reads = info.1;
         indices_is = info.2;
         apart = acc.indices_of.within.apart;
-        new_is = λ j. record (restore_opened w uuid place indices) { blobs = blobs_same w im same j };
+        new_is = λ j. record (restore_opened w uuid place indices) { blobs = blobs_stay w im same j };
       }))) refl refl
   asks_restore name place reply image told (NotListed im none) same = stays f w 0 (AskStep (Restore name place)) _ im same refl
   asks_restore name place reply image told (NamedByDelete uuid d im listed named) same = stays f w 0 (AskStep (Restore name place)) _ im same refl
@@ -460,7 +451,7 @@ module _ (f : Formats) (size : ℕ) (w : World) (shelf : List Shelved) (l : Law 
         reading = out;
         there = at;
         may = elim may [ inl e ↦ inl e | inr piece ↦ inr (of_told i image (λ blobs. ListsPiece f q name) told piece.1) ];
-        new_is = λ j. record (read_told w (suc k) name (is j) (out.there j)) { blobs = blobs_same w image same j };
+        new_is = λ j. record (read_told w (suc k) name (is j) (out.there j)) { blobs = blobs_stay w image same j };
       }))) refl refl
 
   found_by : (k : ℕ) (name : BlobName) (image : Option Image) → image ≡ Some i → Fetcher f w name image k → (bytes : Bytes) → At f w.blobs name bytes → told_blob f image name ≡ Some bytes → SameBlobs w image
@@ -476,10 +467,10 @@ module _ (f : Formats) (size : ℕ) (w : World) (shelf : List Shelved) (l : Law 
   -- a ticket of a restore that ended: where its restore is open, the shard has gone on
   over_by : (k : ℕ) (step : Step) (state : ReadState) (image : Option Image) (q : Reader) → IsReading w k q → waits state ≡ false → SameBlobs w image → is_settle step ≡ false → (r : Option Restoring) → fin.get w.restores q.op ≡ r
       → Turned f w k step HasEnded (record (shard_over w k state q r) { blobs = blobs_in image w.blobs })
-  over_by k step state image q out over same no_settle None there = plain f w k step HasEnded _ (Stays _ (λ j. record w { blobs = blobs_same w image same j })) no_settle refl
+  over_by k step state image q out over same no_settle None there = plain f w k step HasEnded _ (Stays _ (λ j. record w { blobs = blobs_stay w image same j })) no_settle refl
   over_by k step state image q out over same no_settle (Some r) there =
       plain f w k step HasEnded _
-      (Besides _ w (Stays w refl) (EndsShard _ k state (record { q = q; reading = out; r = r; there = there; over = over; new_is = λ j. record (shard_ended w k q r state) { blobs = blobs_same w image same j } }))) no_settle refl
+      (Besides _ w (Stays w refl) (EndsShard _ k state (record { q = q; reading = out; r = r; there = there; over = over; new_is = λ j. record (shard_ended w k q r state) { blobs = blobs_stay w image same j } }))) no_settle refl
 
   restored_by : (k files bytes : ℕ) (image : Option Image) (q : Reader) → IsReading w k q → SameBlobs w image → Turned f w k (ReadStep (RestoredShard files bytes)) HasEnded (stepped f w (moment k (ReadStep (RestoredShard files bytes)) HasEnded image))
   restored_by zero files bytes image q out same = stays f w 0 (ReadStep (RestoredShard files bytes)) HasEnded image same refl
@@ -543,7 +534,7 @@ module _ (f : Formats) (size : ℕ) (w : World) (shelf : List Shelved) (l : Law 
 
   verifies : (read : Read) (reply : Reply) (image : Option Image) → image ≡ Some i → VerifyAllows f w read reply image → Turned f w 0 (ReadStep read) reply (stepped f w (moment 0 (ReadStep read) reply image))
   verifies read reply image told (DrawingTest im idle fits same) =
-      plain f w 0 (ReadStep DrawTest) (entry.DrawnFrom w.next_id) _ (Tests _ (DrawsTest _ (record { fits = fits; new_is = λ j. record w { next_id = suc w.next_id; blobs = blobs_same w im same j } }))) refl refl
+      plain f w 0 (ReadStep DrawTest) (entry.DrawnFrom w.next_id) _ (Tests _ (DrawsTest _ (record { fits = fits; new_is = λ j. record w { next_id = suc w.next_id; blobs = blobs_stay w im same j } }))) refl refl
   verifies read reply image told (TestSpent im idle spent same) = stays f w 0 (ReadStep DrawTest) _ im same refl
   verifies read reply image told (BeginningTest name im own same) = stays f w 0 (ReadStep (BeginTest name)) entry.WasBegun im same refl
   verifies read reply image told (BeginTestFails name im own same) = fault_stays f w 0 (ReadStep (BeginTest name)) im same refl
@@ -570,7 +561,7 @@ module _ (f : Formats) (size : ℕ) (w : World) (shelf : List Shelved) (l : Law 
   turn_of who step reply image told (allowed.Giving k o unit im is lowest g same) = gives_turn f w k o unit im g same
   turn_of who step reply image told (allowed.Drawing k n first im d same) =
       plain f w k (DrawStep n) (entry.DrawnFrom first) _
-      (DrawsShard _ k n (record { t = d.may.t; out = d.may.out; shard = d.may.shard; once = d.may.once; fits = d.fits; new_is = λ j. record (record (with_given w k (λ (t : Ticket). record t { first = w.next_id; drawn = n }) (d.may.out.there j)) { next_id = w.next_id + n }) { blobs = blobs_same w im same j } })) refl refl
+      (DrawsShard _ k n (record { t = d.may.t; out = d.may.out; shard = d.may.shard; once = d.may.once; fits = d.fits; new_is = λ j. record (record (with_given w k (λ (t : Ticket). record t { first = w.next_id; drawn = n }) (d.may.out.there j)) { next_id = w.next_id + n }) { blobs = blobs_stay w im same j } })) refl refl
   turn_of who step reply image told (allowed.Beginning k name im c same) = stays f w k (BeginStep name) entry.WasBegun im same refl
   turn_of who step reply image told (allowed.BeginningLatest k im c same) = stays f w k (BeginStep Latest) entry.WasBegun im same refl
   turn_of who step reply image told (allowed.Committing k name im c adds) =
@@ -598,9 +589,9 @@ module _ (f : Formats) (size : ℕ) (w : World) (shelf : List Shelved) (l : Law 
   turn_of who step reply image told (allowed.Failing k why im c same) = fails_turn f w k why im c same
   turn_of who step reply image told (allowed.Finishing k im c same) = ends_turn f w k im c same
   turn_of who step reply image told (allowed.Dropping k im c same) =
-      let turn = drop_turn f w k im c _ (λ j. record (dropped_of w k (c.may.out.there j)) { blobs = blobs_same w im same j }) in
+      let turn = drop_turn f w k im c _ (λ j. record (dropped_of w k (c.may.out.there j)) { blobs = blobs_stay w im same j }) in
       plain f w k DroppedStep HasEnded _ turn.0 refl turn.1
-  turn_of who step reply image told (allowed.Electing im room same) = plain f w 0 ElectStep _ _ (Elects _ (record { new_is = λ j. record w { term = suc w.term; next_id = first_id (suc w.term); blobs = blobs_same w im same j } })) refl refl
+  turn_of who step reply image told (allowed.Electing im room same) = plain f w 0 ElectStep _ _ (Elects _ (record { new_is = λ j. record w { term = suc w.term; next_id = first_id (suc w.term); blobs = blobs_stay w im same j } })) refl refl
   turn_of who step reply image told (allowed.Looking im same) = stays f w 0 LookStep _ im same refl
   turn_of who step reply image told (allowed.AskingRestore name place rep im h same) = asks_restore name place rep im told h same
   turn_of who step reply image told (allowed.AskingClone source name names time taken rep im h same) = asks_clone source name names time taken rep im told h same
@@ -623,7 +614,7 @@ module _ (f : Formats) (size : ℕ) (w : World) (shelf : List Shelved) (l : Law 
   turn_of who step reply image told (allowed.Taken k name im c aside found) =
       stays f w k (CommitStep name) _ im (subst (SameBlobs w) (sym told) (of_told i im (λ blobs. Present f w.blobs name × (blobs ≡ w.blobs)) told found).1) refl
   turn_of who step reply image told (allowed.BeginFails k name im c same) = begin_fails f w k name im (not_latest name c.named.1) same
-  turn_of who step reply image told (allowed.BeginLatestFails k im c same) = latest_turn f w k (BeginStep Latest) (Refused DepotFault) im c refl (blobs_in im w.blobs) (inl (blobs_same w im same))
+  turn_of who step reply image told (allowed.BeginLatestFails k im c same) = latest_turn f w k (BeginStep Latest) (Refused DepotFault) im c refl (blobs_in im w.blobs) (inl (blobs_stay w im same))
   turn_of who step reply image told (allowed.CommitFails k name im c leaves) =
       subst (λ x. Turned f w k (CommitStep name) (Refused DepotFault) (stepped f w (moment k (CommitStep name) (Refused DepotFault) x))) (sym told)
       (commit_fails f w size k name i c (of_told i im (λ blobs. (blobs ≡ w.blobs) ⊎ Adds f w name c.bytes blobs) told leaves))

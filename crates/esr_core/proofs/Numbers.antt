@@ -3,6 +3,7 @@ use Rattle.std.proofs.Common.{◌≡◌, ◌⊎◌, ℕ, suc, ◌+◌, ◌<◌, 
 use Rattle.std.specs.Prelude.{if◌then◌else◌}
 use Rattle.std.specs.FinMap.{FinMap}
 use Rattle.std.specs.FinMap as fin
+use Rattle.esr_core.specs.Laws.NumberMaps.{was_in, left_in}
 use Rattle.esr_model.specs.Values.{Has, Formats}
 use Rattle.esr_model.specs.Shelf.{Shelved}
 use Rattle.esr_model.specs.Kept.{first_id}
@@ -10,8 +11,7 @@ use Rattle.esr_core.specs.World.{World, Deletion}
 use Rattle.esr_core.specs.Turns.{IsKnown, Turn, Stays, Commits, CommitFails, Finds, Raises, Latests, Fetches, SettlesFinal, SettlesDelete, Elects, TakesShard, TakesFinal, TakesDrop, TakesDelete, TakesCleanup, AsksCleanup, CleanDrops, DrawsShard, DrawsPlan, Dones, Ending, Fails, FailsDelete, Drops, AsksCreate, AsksDelete, Merges, Removing, Pages, Deposes, Besides, Tests, TestTurn, DrawsTest, AddsTest, RemovesTests}
 use Rattle.esr_core.specs.Ids.{DeletionIds, InTerm, Law}
 use Rattle.esr_core.proofs.Besides.{aside_of, term_aside, kept_aside}
-use Rattle.esr_core.proofs.Reading.{Has-either}
-use Rattle.esr_core.proofs.Queues.{was_in, left_in}
+use Rattle.esr_model.specs.Lists.{Has-either}
 
 abbrev Deletions : Type 0
 Deletions = FinMap nat_cmp Deletion
@@ -32,7 +32,7 @@ drawn_term w new n t e fits h =
       below = subst (λ x. new.next_id < first_id (suc x)) (sym t) (subst (λ x. x < first_id (suc w.term)) (sym e) fits);
     }
 
-one_more : (n : ℕ) → suc n ≡ n + 1
+pub one_more : (n : ℕ) → suc n ≡ n + 1
 one_more n = omega arith
 
 abbrev term_of : World → ℕ

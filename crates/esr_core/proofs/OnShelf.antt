@@ -11,8 +11,9 @@ use Rattle.esr_core.specs.Restores.{IsReading, WasRead}
 use Rattle.esr_core.specs.Ids.{Law}
 use Rattle.esr_core.specs.Allowed.{RestoredBy}
 use Rattle.esr_core.specs.ReadLaw.{ReaderLaw, ReadLaw, IsOnShelf}
-use Rattle.esr_core.proofs.Reading.{reads_one, held_one}
-use Rattle.esr_core.proofs.Frames.{AllPairs-map, reads_kept, file_kept}
+use Rattle.esr_core.specs.Laws.OneValue.{reads_one, held_one}
+use Rattle.esr_model.specs.Lists.{AllPairs-map}
+use Rattle.esr_core.specs.Laws.BlobFrames.{reads_kept, file_kept}
 use Rattle.esr_core.proofs.Determined.{file_one}
 use Rattle.esr_core.proofs.Shelving.{shelved_one}
 use Rattle.esr_core.proofs.ReadLaws.{Serves, serves_now, serves_snap}

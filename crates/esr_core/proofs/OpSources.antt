@@ -2,6 +2,7 @@
 use Rattle.std.proofs.Common.{◌≡◌, ℕ, zero, suc, List, Bool, true, false, Option, Some, None, map, refl, sym, ap, subst, inl, inr}
 use Rattle.std.specs.Prelude.{if◌then◌else◌}
 use Rattle.std.specs.FinMap as fin
+use Rattle.esr_core.specs.Laws.NumberMaps.{was_in, left_in}
 use Rattle.esr_model.specs.Names.{BlobName}
 use Rattle.esr_model.specs.Values.{Bytes, ShardResult, Formats}
 use Rattle.esr_model.specs.Image.{Image}
@@ -12,9 +13,10 @@ use Rattle.esr_core.specs.Pruning.{planned}
 use Rattle.esr_core.specs.Deletes.{named_uuids, waiting_delete, running_delete, aborted_ops, delete_merged, delete_by}
 use Rattle.esr_core.specs.Entry.{Asked, Snapshot, Clone, DeleteSnapshots, Cleanup, AsksNoClone, AsksNoSnapshot, Restore, Given, GivenShard, GivenClone, GivenFinalize, GivenDrop, GivenRestore, GivenDelete, GivenCleanup, Read, DrawTest, CommitTest, Prune, FetchShard, PlanShards, SettlePruned, RemoveDoomed, EndDelete, DeleteFails, Step, AskStep, TakeStep, ListStep, WasListed, DrawStep, BeginStep, CommitStep, LatestStep, FetchStep, RaiseStep, SettleStep, DoneStep, FailedStep, FinishStep, DroppedStep, ElectStep, ReadStep, PruneStep, DepotFault, Reply, Gave, DrawnFrom, WasDone, WasThere, WasFetched, HasEnded, Refused, AcceptedRestore, Moment}
 use Rattle.esr_core.specs.After.{asked_op, cloned_op, taken_shard, taken_by, shard_of, with_given, change, committing, told_blob, fetching, settled_by, settled_of, done_by, done_of, is_stale, failed_by, failed_of, dropped_of, delete_settled_by, delete_settled, delete_failed_by, delete_failed, prune_step, read_by, done_step, swaps_record, has_text, fallen, is_latest, tried, test_left, faulted, answered, after}
-use Rattle.esr_core.proofs.AskedDeletes.{aborts}
-use Rattle.esr_core.proofs.Besides.{Aside, aside_taken, aside_step}
-use Rattle.esr_core.proofs.Queues.{Ops, was_in, left_in}
+use Rattle.esr_core.specs.Laws.DeleteAsks.{aborts}
+use Rattle.esr_core.specs.Laws.Asides.{Aside, aside_step}
+use Rattle.esr_core.proofs.Besides.{aside_taken}
+use Rattle.esr_core.specs.Laws.Maps.{Ops}
 
 -- each of these ops copies so
 abbrev pub SourcesAre : (Option ℕ → Type 0) → Ops → Type 0

@@ -1,36 +1,22 @@
 -- The opened world of a kept image is sound.
-use Rattle.std.proofs.Common.{◌≡◌, ℕ, List, [], ◌∷◌, Option, Some, None, sym, ◌∙◌, subst, inl, inr, nat_cmp}
+use Rattle.std.proofs.Common.{◌≡◌, ℕ, List, [], sym, ◌∙◌, subst, inl, inr, nat_cmp}
 use Rattle.std.specs.FinMap.{FinMap}
 use Rattle.std.specs.FinMap as fin
+use Rattle.std.proofs.lemmas.Option.{same_Some}
 use Rattle.esr_model.specs.Places.{shelf_places}
 use Rattle.esr_model.specs.Names.{BlobName, Snap}
-use Rattle.esr_model.specs.Values.{Bytes, IndexRef, RootData, SnapInfo, Ledger, ClusterRecord, Formats}
-use Rattle.esr_model.specs.Shelf.{Shelved, ShelfShard}
-use Rattle.esr_model.specs.Image.{Blobs, Has, AllPairs, At, IsOne, Generation, ListsAs, KeptAt, RootStands, ShardStands}
+use Rattle.esr_model.specs.Values.{Bytes, RootData, SnapInfo, Ledger, ClusterRecord, Formats}
+use Rattle.esr_model.specs.Shelf.{Shelved}
+use Rattle.esr_model.specs.Image.{Blobs, Has, At, IsOne, Generation, ListsAs, KeptAt, RootStands, RootIs}
 use Rattle.esr_core.specs.World.{Op, Safely, opened}
 use Rattle.esr_core.specs.Generations.{DoneAt, IsOwn, Carries}
-use Rattle.esr_model.specs.Image.{RootIs}
 use Rattle.esr_core.specs.Sound.{Sound}
-use Rattle.esr_core.proofs.Frames.{picked_kept, stands_kept}
-use Rattle.esr_core.proofs.Grows.{root_is_kept, info_there}
-use Rattle.esr_core.proofs.Reading.{some_same, safely_one, reads_one, safe_root_stands}
-
-pub nothing : {A : Type 0} (k : ℕ) (x : A) → fin.get (fin.empty {R = nat_cmp}) k ≡ Some x → ⊥
-nothing k x e = none_some x (sym (fin.get-empty nat_cmp k) ∙ e)
-  where
-    none_some : {A : Type 0} (x : A) → ◌≡◌ {A = Option A} None (Some x) → ⊥
-    none_some x e = cc
-
--- the shard of a listed snapshot stands under the root's generation
-pub listed_as : (f : Formats) (has : BlobName → Bytes → Type 0) (root : RootData) (uuid : ℕ) (places : List (IndexRef × ℕ)) (shards : List ShelfShard) → AllPairs (ShardStands f has root uuid) places shards
-    → (place : IndexRef × ℕ) → Has places place → (g : ℕ) → Generation root place.0.id place.1 g → ListsAs f has place.0.id place.1 g uuid
-listed_as f has root uuid [] shards h place m g is = absurd m
-listed_as f has root uuid (x ∷ xs) [] h place m g is = absurd h
-listed_as f has root uuid (x ∷ xs) (y ∷ ys) h place (inl e) g is =
-    let s : ShardStands f has root uuid place y = subst (λ p. ShardStands f has root uuid p y) e h.0 in
-    let same : s.generation ≡ g = some_same _ _ (sym s.in_root ∙ is) in
-    subst (λ n. ListsAs f has place.0.id place.1 n uuid) same (record { snap = s.snap; snap_reads = s.snap_reads; held = s.index; held_reads = s.index_reads; lists = s.lists })
-listed_as f has root uuid (x ∷ xs) (y ∷ ys) h place (inr m) g is = listed_as f has root uuid xs ys h.1 place m g is
+use Rattle.esr_core.specs.Laws.BlobFrames.{stands_kept, info_there}
+use Rattle.esr_core.specs.Laws.Maps.{nothing}
+use Rattle.esr_core.specs.Laws.OneValue.{listed_as, reads_one, safe_root_stands}
+use Rattle.esr_core.proofs.Frames.{picked_kept}
+use Rattle.esr_core.proofs.Grows.{root_is_kept}
+use Rattle.esr_core.proofs.Reading.{safely_one}
 
 -- in a root that stands each generation serves the listed snapshots
 pub root_carries : (f : Formats) (has : BlobName → Bytes → Type 0) → IsOne has → (root : RootData) (shelf : List Shelved) → RootStands f has root shelf → (ops : FinMap nat_cmp Op)
@@ -54,7 +40,7 @@ opening_sound f blobs cluster root shelf k is =
     let ledger : Ledger = cluster.ledger in
     let lift : (m : BlobName) (b : Bytes) → At f blobs m b → Safely f blobs [] m b = λ m b h. (h, λ d. d) in
     let picked = picked_kept f (At f blobs) (Safely f blobs []) lift ledger.safe shelf k.picked in
-    let root_is = root_is_kept f (At f blobs) (Safely f blobs []) (safely_one f blobs []) (λ n a b p q. some_same a b (sym p.0 ∙ q.0)) lift ledger.safe root is in
+    let root_is = root_is_kept f (At f blobs) (Safely f blobs []) (safely_one f blobs []) (λ n a b p q. same_Some a b (sym p.0 ∙ q.0)) lift ledger.safe root is in
     let stands : RootStands f (Safely f blobs []) root shelf = safe_root_stands f (Safely f blobs []) (safely_one f blobs []) ledger.safe root shelf picked root_is in
     record {
       rooted = record {

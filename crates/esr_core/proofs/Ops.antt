@@ -3,19 +3,16 @@ use Rattle.std.proofs.Common.{◌≡◌, ◌≢◌, ◌⊎◌, ℕ, List, [], �
 use Rattle.std.specs.Cmp.{nat_cmp_total}
 use Rattle.std.specs.FinMap.{FinMap, nat_cmp-IsAntisymmetric}
 use Rattle.std.specs.FinMap as fin
+use Rattle.std.proofs.lemmas.Option.{same_Some}
 use Rattle.esr_model.specs.Names.{BlobName}
 use Rattle.esr_model.specs.Values.{Bytes, IndexRef, RootData, ShardResult, Formats}
 use Rattle.esr_model.specs.Image.{Has}
 use Rattle.esr_core.specs.World.{Op, ShardWork, Out, Done, Ticket}
 use Rattle.esr_core.specs.Generations.{DoneAt, IsLive, HasShard, Carries, DoneStands, OpLaw, Together, Base, ShardLaw}
-use Rattle.esr_core.proofs.Maps.{get_was, get_same, get_other, split}
-use Rattle.esr_core.proofs.Reading.{some_same, Has-map, Has-mapped}
+use Rattle.esr_core.specs.Laws.Maps.{get_same, get_other, split}
+use Rattle.esr_model.specs.Lists.{Has-map, Has-mapped}
+use Rattle.esr_core.specs.Laws.ShardStates.{GoesOn, op_now as law-op_now, ops_now as law-ops_now, op_was as law-op_was, done_was as law-done_was, live_was as law-live_was}
 use Rattle.esr_core.proofs.Owning.{OnWith, own_on}
-
-pub record GoesOn (g : ShardWork → ShardWork) : Type 0 where
-  pub ref : (s : ShardWork) → (g s).ref ≡ s.ref
-  pub number : (s : ShardWork) → (g s).number ≡ s.number
-  pub done : (s : ShardWork) (r : ShardResult) → (g s).state ≡ Done r → g s ≡ s
 
 -- the law of a shard's ticket, where its op stays
 pub shard_law_on : (f : Formats) (has : BlobName → Bytes → Type 0) (root : RootData) (ops now : FinMap nat_cmp Op) (k : ℕ) (t : Ticket) (index shard : ℕ) (l : ShardLaw f has root ops k t index shard) → fin.get now t.op ≡ Some l.op
@@ -29,7 +26,7 @@ pub shard_law_given : (f : Formats) (has : BlobName → Bytes → Type 0) (root 
     → ShardLaw f has root (fin.insert ops o (record op { shards = map g op.shards; failed = failed })) k t index shard
 shard_law_given f has root ops o op there g failed k t index shard l stays base = elim (split nat_cmp_total nat_cmp-IsAntisymmetric t.op o) [
   | inl same ↦
-      let one : l.op ≡ op = some_same _ _ (sym l.op_there ∙ ap (fin.get ops) same ∙ there) in
+      let one : l.op ≡ op = same_Some _ _ (sym l.op_there ∙ ap (fin.get ops) same ∙ there) in
       let mine : Has op.shards l.s = subst (λ (x : Op). Has x.shards l.s) one l.s_there in
       record {
         op = now;
@@ -78,27 +75,20 @@ op_law_given f has root op g failed ref number l done =
 
 module _ (f : Formats) (has : BlobName → Bytes → Type 0) (root : RootData) (ops : FinMap nat_cmp Op) (o : ℕ) (op : Op) (there : fin.get ops o ≡ Some op)
     (g : ShardWork → ShardWork) (on : GoesOn g) (failed : Bool) where
-  abbrev pub op_now : Op
-  op_now = record op { shards = map g op.shards; failed = failed }
+  abbrev op_now : Op
+  op_now = law-op_now f has root ops o op there g on failed
 
-  abbrev pub ops_now : FinMap nat_cmp Op
-  ops_now = fin.insert ops o op_now
+  abbrev ops_now : FinMap nat_cmp Op
+  ops_now = law-ops_now f has root ops o op there g on failed
 
-  pub op_was : (p : ℕ) (q : Op) → fin.get ops_now p ≡ Some q → ((p ≡ o) × (op_now ≡ q)) ⊎ ((p ≢ o) × (fin.get ops p ≡ Some q))
-  op_was p q e = get_was nat_cmp_total nat_cmp-IsAntisymmetric ops o op_now p q e
+  op_was : (p : ℕ) (q : Op) → fin.get ops_now p ≡ Some q → ((p ≡ o) × (op_now ≡ q)) ⊎ ((p ≢ o) × (fin.get ops p ≡ Some q))
+  op_was = law-op_was f has root ops o op there g on failed
 
-  pub done_was : (uuid index shard n : ℕ) → DoneAt ops_now uuid index shard n → DoneAt ops uuid index shard n
-  done_was uuid index shard n a = elim (op_was a.number a.op a.there) [
-    | inr h ↦ record { number = a.number; op = a.op; there = h.1; uuid_is = a.uuid_is; s = a.s; s_there = a.s_there; r = a.r; state = a.state; index_is = a.index_is; shard_is = a.shard_is; generation_is = a.generation_is }
-    | inl h ↦
-        let (z, m, same) = Has-mapped g op.shards a.s (subst (λ (x : Op). Has x.shards a.s) (sym h.1) a.s_there) in
-        let is : z ≡ a.s = sym (on.done z a.r (ap (λ (x : ShardWork). x.state) same ∙ a.state)) ∙ same in
-        record { number = o; op = op; there = there; uuid_is = ap (λ (x : Op). x.uuid) h.1 ∙ a.uuid_is; s = z; s_there = m; r = a.r; state = ap (λ (x : ShardWork). x.state) is ∙ a.state; index_is = ap (λ (x : ShardWork). x.ref.id) is ∙ a.index_is; shard_is = ap (λ (x : ShardWork). x.number) is ∙ a.shard_is; generation_is = a.generation_is }
-  ]
+  done_was : (uuid index shard n : ℕ) → DoneAt ops_now uuid index shard n → DoneAt ops uuid index shard n
+  done_was = law-done_was f has root ops o op there g on failed
 
-  pub live_was : (index shard n : ℕ) → IsLive root ops_now index shard n → IsLive root ops index shard n
-  live_was index shard n (inl h) = inl h
-  live_was index shard n (inr (u, a)) = inr (u, done_was u index shard n a)
+  live_was : (index shard n : ℕ) → IsLive root ops_now index shard n → IsLive root ops index shard n
+  live_was = law-live_was f has root ops o op there g on failed
 
   has_still : (index shard : ℕ) → HasShard op index shard → HasShard op_now index shard
   has_still index shard h = (g h.0, Has-map g op.shards h.0 h.1, ap (λ (r : IndexRef). r.id) (on.ref h.0) ∙ h.2, on.number h.0 ∙ h.3)

@@ -8,8 +8,8 @@ use Rattle.esr_model.specs.Image.{Has, Reads, IndexStands}
 use Rattle.esr_model.specs.Finalize.{Finalizes}
 use Rattle.esr_core.specs.World.{Op, Swap, AllDone, info_of}
 use Rattle.esr_core.specs.Generations.{HasShard, ListsOwn, IsOwn, Carries, DoneStands, OpLaw, PlanLaw}
-use Rattle.esr_core.proofs.Reading.{Has-append}
-use Rattle.esr_core.proofs.Results.{done_of}
+use Rattle.esr_model.specs.Lists.{Has-append}
+use Rattle.esr_core.specs.Laws.DoneShards.{done_of}
 
 -- each op was open, with the same uuid and no shard more
 abbrev pub OnWith : FinMap nat_cmp Op → FinMap nat_cmp Op → Type 0

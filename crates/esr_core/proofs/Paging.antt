@@ -1,6 +1,7 @@
 -- What a cleanup lists, and that a page more keeps the law.
 use Rattle.std.proofs.Common.{◌≡◌, ◌≢◌, ◌⊎◌, ℕ, ◌<◌, List, [], ◌∷◌, ◌++◌, Option, Some, None, refl, sym, ap, ◌∙◌, subst, inl, inr}
 use Rattle.std.specs.FinMap as fin
+use Rattle.std.proofs.lemmas.Option.{same_Some}
 use Rattle.esr_model.specs.Names.{BlobName, Root, Latest, Snap, Meta, IndexMeta, ShardSnap, ShardIndex, File, Part, TestMaster, TestNode}
 use Rattle.esr_model.specs.Values.{Bytes, Ledger, ReadsBack, Formats}
 use Rattle.esr_model.specs.Shelf.{Shelved}
@@ -12,7 +13,7 @@ use Rattle.esr_core.specs.Steps.{ListMore, listing}
 use Rattle.esr_core.specs.Swaps.{TicketLaw}
 use Rattle.esr_core.specs.Sound.{Sound}
 use Rattle.esr_core.specs.Ids.{Law, TicketIds}
-use Rattle.esr_core.proofs.Reading.{some_same, Has-either}
+use Rattle.esr_model.specs.Lists.{Has-either}
 use Rattle.esr_core.proofs.Same.{SameTicket, notes_same}
 use Rattle.esr_core.proofs.Law.{quiet}
 
@@ -28,7 +29,7 @@ and_first None names name e = absurd (never e)
   where
     never : ◌≡◌ {A = Option BlobName} None (Some name) → ⊥
     never e = cc
-and_first (Some x) names name e = inl (some_same x name e)
+and_first (Some x) names name e = inl (same_Some x name e)
 
 and_later : (o : Option BlobName) (names : List BlobName) (name : BlobName) → Has names name → Has (and_name o names) name
 and_later None names name m = m
@@ -72,7 +73,7 @@ pub text_named : (f : Formats) (has : BlobName → Bytes → Type 0) (blobs : Bl
     → (f.names.text name ≡ text) × ReadsBack f.names name
 text_named f has blobs ledger shelf kept text bytes there name e =
     let (own, text_is, back) = kept.named text bytes there in
-    let same : own ≡ name = some_same own name (sym back ∙ ap f.names.read text_is ∙ e) in
+    let same : own ≡ name = same_Some own name (sym back ∙ ap f.names.read text_is ∙ e) in
     subst (λ (n : BlobName). (f.names.text n ≡ text) × ReadsBack f.names n) same (text_is, back)
 
 pub listed_present : (f : Formats) (has : BlobName → Bytes → Type 0) (blobs : Blobs) (ledger : Ledger) (shelf : List Shelved) → KeptBy f has blobs ledger shelf → (page : List BlobSize)

@@ -1,13 +1,14 @@
 -- The plan of a delete is one of the law: of the shards that it read, with the ids that it draws.
 use Rattle.std.proofs.Common.{◌≡◌, ◌⊎◌, ℕ, suc, ◌+◌, ◌<◌, ◌≤◌, Bool, true, false, List, [], ◌∷◌, ◌++◌, Option, Some, None, refl, sym, ap, ◌∙◌, subst, inl, inr, arith}
 use Rattle.std.specs.Prelude.{◌==◌, ◌&&◌}
-use Rattle.std.proofs.lemmas.Bool.Decides.{eqb_tells}
 use Rattle.std.specs.FinMap as fin
+use Rattle.std.proofs.lemmas.Bool.{and_parts, eqb-true, cond-true, cond-false, cases_Bool}
+use Rattle.std.proofs.lemmas.Option.{same_Some, none-some}
 use Rattle.esr_model.specs.Names.{BlobName, Root, Latest, Snap, Meta, IndexMeta, ShardSnap, ShardIndex, File, Part, TestMaster, TestNode}
 use Rattle.esr_model.specs.Values.{Bytes, Has, RootSnap, RootData, ShardFiles, ReadsBack, IsOneEach, Formats}
 use Rattle.esr_model.specs.Shelf.{Shelved, Delete, names_uuid}
 use Rattle.esr_model.specs.Kept.{RootIds, first_id}
-use Rattle.esr_model.specs.Image.{Image, Reads, Generation}
+use Rattle.esr_model.specs.Image.{Image, Reads}
 use Rattle.esr_model.specs.Delete.{Deletes, PrunedShard, kept_count, fresh_from, left_uuids, uuids_of, is_index, index_bytes, files_by, files_read, left_text, pruned_blobs, deleted_root}
 use Rattle.esr_core.specs.World.{World, Deleting, HeldIn}
 use Rattle.esr_core.specs.Restores.{IsTestOf}
@@ -17,27 +18,21 @@ use Rattle.esr_core.specs.Tracked.{IsWithin}
 use Rattle.esr_core.specs.Ids.{Law}
 use Rattle.esr_core.specs.Turns.{Without, DrawPlan}
 use Rattle.esr_core.specs.Allowed.{MayPlan}
-use Rattle.esr_core.proofs.Reading.{some_same, none_some, held_one, generation_index}
-use Rattle.esr_core.proofs.Results.{choose_true, choose_false}
-use Rattle.esr_core.proofs.Deleting.{bool_told, left_has}
-use Rattle.esr_core.proofs.DeletedRoots.{AreApart, deleted_snapshots, deleted_from, deleted_generations}
-use Rattle.esr_core.proofs.DeletesHold.{clash, unlisted_read, none_of_listed, same_named, snaps_same, fresh_is, deletes_hold}
+use Rattle.esr_core.specs.Laws.OneValue.{held_one, generation_index}
+use Rattle.esr_core.specs.Laws.DeleteRoots.{left_has, AreApart, deleted_snapshots, deleted_generations}
+use Rattle.esr_core.specs.Laws.DeletePlans.{of_root_apart, in_root, own_is}
+use Rattle.esr_core.proofs.DeletedRoots.{deleted_from}
+use Rattle.esr_core.specs.Laws.Tests.{clash}
+use Rattle.esr_core.proofs.DeletesHold.{unlisted_read, none_of_listed, same_named, snaps_same, fresh_is, deletes_hold}
 
 -- ---- what was read
-
-both : (a b : Bool) → (a && b) ≡ true → (a ≡ true) × (b ≡ true)
-both true b e = (refl, e)
-both false b e = absurd (clash false e refl)
-
-same_number : (a b : ℕ) → (a == b) ≡ true → a ≡ b
-same_number a b e = elim (eqb_tells a b) [ inl t ↦ t.1 | inr t ↦ absurd (clash (a == b) e t.0) ]
 
 -- the name that is looked for
 is_index_name : (i k g : ℕ) (name : BlobName) → is_index i k g name ≡ true → name ≡ ShardIndex i k g
 is_index_name i k g (ShardIndex a b c) e =
-    let outer = both ((a == i) && (b == k)) (c == g) e in
-    let inner = both (a == i) (b == k) outer.0 in
-    λ j. ShardIndex (same_number a i inner.0 j) (same_number b k inner.1 j) (same_number c g outer.1 j)
+    let outer = and_parts ((a == i) && (b == k)) (c == g) e in
+    let inner = and_parts (a == i) (b == k) outer.0 in
+    λ j. ShardIndex (eqb-true a i inner.0 j) (eqb-true b k inner.1 j) (eqb-true c g outer.1 j)
 is_index_name i k g (Root n) e = absurd (clash false e refl)
 is_index_name i k g Latest e = absurd (clash false e refl)
 is_index_name i k g (Snap u) e = absurd (clash false e refl)
@@ -51,13 +46,13 @@ is_index_name i k g (TestNode v n) e = absurd (clash false e refl)
 
 -- the bytes that are found are among what was read
 pub bytes_there : (read : List (BlobName × Bytes)) (p : PrunedShard) (b : Bytes) → index_bytes read p ≡ Some b → Has read (ShardIndex p.index p.number p.base, b)
-bytes_there [] p b e = absurd (none_some b e)
-bytes_there (blob ∷ read) p b e = elim (bool_told (is_index p.index p.number p.base blob.0)) [
+bytes_there [] p b e = absurd (none-some b e)
+bytes_there (blob ∷ read) p b e = elim (cases_Bool (is_index p.index p.number p.base blob.0)) [
   | inl t ↦
-      let bytes : Some blob.1 ≡ Some b = sym (choose_true _ _ _ t) ∙ e in
+      let bytes : Some blob.1 ≡ Some b = sym (cond-true _ _ _ t) ∙ e in
       let name : blob.0 ≡ ShardIndex p.index p.number p.base = is_index_name p.index p.number p.base blob.0 t in
-      inl (λ j. (name j, some_same blob.1 b bytes j))
-  | inr t ↦ inr (bytes_there read p b (sym (choose_false _ _ _ t) ∙ e))
+      inl (λ j. (name j, same_Some blob.1 b bytes j))
+  | inr t ↦ inr (bytes_there read p b (sym (cond-false _ _ _ t) ∙ e))
 ]
 
 -- what was read of a shard reads so where all that was read is there
@@ -66,51 +61,10 @@ pub shard_reads : (f : Formats) (has : BlobName → Bytes → Type 0) (read : Li
 shard_reads f has read held p was e = go (index_bytes read p) refl e
   where
     go : (o : Option Bytes) → index_bytes read p ≡ o → files_by f o ≡ Some was → Reads has (ShardIndex p.index p.number p.base) f.shard_index was
-    go None is e = absurd (none_some was e)
+    go None is e = absurd (none-some was e)
     go (Some b) is e = record { bytes = b; there = held (ShardIndex p.index p.number p.base) b (bytes_there read p b is); reads = e }
 
 -- ---- the shards
-
-pub of_root_apart : (root : RootData) (shards : List PrunedShard) → AreOfRoot root shards → AreApart shards
-of_root_apart root [] h = tt
-of_root_apart root (p ∷ shards) h = (h.1, of_root_apart root shards h.2)
-
-pub in_root : (root : RootData) (shards : List PrunedShard) (q : PrunedShard) → AreOfRoot root shards → Has shards q → Generation root q.index q.number q.base
-in_root root [] q h m = absurd m
-in_root root (p ∷ shards) q h (inl e) = subst (λ (x : PrunedShard). Generation root x.index x.number x.base) e h.0
-in_root root (p ∷ shards) q h (inr m) = in_root root shards q h.2 m
-
--- a new shard index is that of one of the shards, under an id of the draw
-pub record IsOwnIndex (next : ℕ) (shards : List PrunedShard) (name : BlobName) : Type 0 where
-  pub q : PrunedShard
-  pub there : Has shards q
-  pub id : ℕ
-  pub name_is : name ≡ ShardIndex q.index q.number id
-  pub from : next ≤ id
-  pub below : id < next + kept_count shards
-
-one_here : (next c : ℕ) → next < next + suc c
-one_here next c = omega arith
-
-one_later : (id next c : ℕ) → id < suc next + c → id < next + suc c
-one_later id next c lt = omega (arith, lt)
-
-pub own_is : (f : Formats) (read : List (BlobName × Bytes)) (left : List ℕ) (shards : List PrunedShard) (next : ℕ) (name : BlobName) (b : Bytes) → Has (pruned_blobs f read left next shards) (name, b) → IsOwnIndex next shards name
-own_is f read left [] next name b m = absurd m
-own_is f read left (p ∷ shards) next name b m = elim (bool_told p.kept) [
-  | inl t ↦
-      let count : kept_count (p ∷ shards) ≡ suc (kept_count shards) = choose_true _ _ _ t in
-      elim (subst (λ (l : List (BlobName × Bytes)). Has l (name, b)) (choose_true _ _ _ t) m) [
-        | inl e ↦ record { q = p; there = inl refl; id = next; name_is = sym (ap (λ (x : BlobName × Bytes). x.0) e); from = omega arith; below = subst (λ (c : ℕ). next < next + c) (sym count) (one_here next (kept_count shards)) }
-        | inr later ↦
-            let r = own_is f read left shards (suc next) name b later in
-            record { q = r.q; there = inr r.there; id = r.id; name_is = r.name_is; from = let le = r.from in omega (arith, le); below = subst (λ (c : ℕ). r.id < next + c) (sym count) (one_later r.id next (kept_count shards) r.below) }
-      ]
-  | inr t ↦
-      let count : kept_count (p ∷ shards) ≡ kept_count shards = choose_false _ _ _ t in
-      let r = own_is f read left shards next name b (subst (λ (l : List (BlobName × Bytes)). Has l (name, b)) (choose_false _ _ _ t) m) in
-      record { q = r.q; there = inr r.there; id = r.id; name_is = r.name_is; from = r.from; below = subst (λ (c : ℕ). r.id < next + c) (sym count) r.below }
-]
 
 index_id_is : {a b c i k g : ℕ} → ShardIndex a b c ≡ ShardIndex i k g → c ≡ g
 index_id_is e = cc
@@ -135,13 +89,13 @@ first_apart f read left shards next i k name x is m =
 own_one_text : (f : Formats) (read : List (BlobName × Bytes)) (left : List ℕ) (shards : List PrunedShard) (next : ℕ) (name : BlobName) (a b : Bytes)
     → Has (pruned_blobs f read left next shards) (name, a) → Has (pruned_blobs f read left next shards) (name, b) → a ≡ b
 own_one_text f read left [] next name a b m n = absurd m
-own_one_text f read left (p ∷ shards) next name a b m n = elim (bool_told p.kept) [
+own_one_text f read left (p ∷ shards) next name a b m n = elim (cases_Bool p.kept) [
   | inl t ↦
       first_text name (ShardIndex p.index p.number next) (left_text f left (files_read f read p)) a b (pruned_blobs f read left (suc next) shards)
       (first_apart f read left shards next p.index p.number name)
       (own_one_text f read left shards (suc next) name a b)
-      (subst (λ (l : List (BlobName × Bytes)). Has l (name, a)) (choose_true _ _ _ t) m) (subst (λ (l : List (BlobName × Bytes)). Has l (name, b)) (choose_true _ _ _ t) n)
-  | inr t ↦ own_one_text f read left shards next name a b (subst (λ (l : List (BlobName × Bytes)). Has l (name, a)) (choose_false _ _ _ t) m) (subst (λ (l : List (BlobName × Bytes)). Has l (name, b)) (choose_false _ _ _ t) n)
+      (subst (λ (l : List (BlobName × Bytes)). Has l (name, a)) (cond-true _ _ _ t) m) (subst (λ (l : List (BlobName × Bytes)). Has l (name, b)) (cond-true _ _ _ t) n)
+  | inr t ↦ own_one_text f read left shards next name a b (subst (λ (l : List (BlobName × Bytes)). Has l (name, a)) (cond-false _ _ _ t) m) (subst (λ (l : List (BlobName × Bytes)). Has l (name, b)) (cond-false _ _ _ t) n)
 ]
 
 -- it is no root, and no test blob

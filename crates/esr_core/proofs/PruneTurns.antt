@@ -23,14 +23,18 @@ use Rattle.esr_core.specs.After.{with_given, change, fetching, told_blob, is_sta
 use Rattle.esr_core.specs.History.{command_of, command_by}
 use Rattle.esr_core.specs.Turns.{IsOfPast, SettleDelete, Fetches, DrawsPlan, SettlesDelete, Removing, Ending, FailsDelete}
 use Rattle.esr_core.specs.Allowed.{FetchesShard, SettlesDeletion, RemovesDoomed, EndsDelete, FailsDeletion, PruneAllows, FetchingShard, ShardMissing, FetchShardFails, Planning, PlanSpent, SettlingDelete, SettleDeleteStale, SettleDeleteFails, RemovingDoomed, RemoveDoomedFails, EndingDelete, FailingDelete}
-use Rattle.esr_core.proofs.Reading.{held_one}
-use Rattle.esr_core.proofs.Finalizing.{root_one_each}
-use Rattle.esr_core.proofs.DeletedRoots.{one_found}
-use Rattle.esr_core.proofs.DeletionLaws.{dooms_is, cleans_is}
-use Rattle.esr_core.proofs.Cleaning.{same_number, IsHeldNow, cleaned_held, IsReachedBy, reached_by, reaches_has, cleaned_was}
+use Rattle.esr_core.specs.Laws.OneValue.{held_one}
+use Rattle.esr_core.specs.Laws.NewRoots.{root_one_each}
+use Rattle.esr_core.specs.Laws.DeleteRoots.{one_found}
+use Rattle.esr_core.specs.Laws.DoomNames.{dooms_is}
+use Rattle.esr_core.proofs.DeletionLaws.{cleans_is}
+use Rattle.esr_core.specs.Laws.Tests.{same_number}
+use Rattle.esr_core.specs.Laws.CleanupReach.{IsHeldNow, IsReachedBy, reached_by, reaches_has, cleaned_was}
+use Rattle.esr_core.proofs.Cleaning.{cleaned_held}
 use Rattle.esr_core.proofs.Plans.{plan_draw}
 use Rattle.esr_core.proofs.DoomedNames.{doomed_reached, doomed_aside, doomed_root_is}
-use Rattle.esr_core.proofs.Moments.{Turned, plain, stays, falls, falls_commands, fault_stays, delete_settled_plain, master_stale, moment}
+use Rattle.esr_core.specs.Laws.Moments.{delete_settled_plain, moment}
+use Rattle.esr_core.proofs.Moments.{Turned, plain, stays, falls, falls_commands, fault_stays, master_stale}
 
 plan_none : (us vs : List ℕ) (plan : Option Swap) → Deleting us None ≡ Deleting vs plan → plan ≡ None
 plan_none us vs plan e = cc

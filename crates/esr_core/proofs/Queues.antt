@@ -1,48 +1,15 @@
 -- What each kind of change leaves of the queue's law.
-use Rattle.std.proofs.Common.{◌≡◌, ◌≢◌, ◌⊎◌, ℕ, suc, ◌<◌, List, true, false, Option, Some, None, refl, sym, ap, ◌∙◌, subst, inl, inr, arith, nat_cmp, true≢false}
-use Rattle.std.specs.Cmp.{nat_cmp_total}
-use Rattle.std.specs.FinMap.{FinMap, nat_cmp-IsAntisymmetric}
+use Rattle.std.proofs.Common.{◌≡◌, ◌≢◌, ◌⊎◌, ℕ, suc, ◌<◌, List, true, false, Option, Some, refl, sym, ap, ◌∙◌, subst, inl, inr, arith, true≢false}
 use Rattle.std.specs.FinMap as fin
+use Rattle.std.proofs.lemmas.Option.{same_Some}
+use Rattle.esr_core.specs.Laws.NumberMaps.{was_in, same_in, other_in, left_in, stays_in, split_at}
 use Rattle.esr_model.specs.Values.{RootData, ShardResult}
 use Rattle.esr_model.specs.Image.{Has}
 use Rattle.esr_core.specs.World.{Op, Deletion, ShardWork, Pending, Out, GivenUp, Deleting, Drop, Ticket, Swap, AllDone}
 use Rattle.esr_core.specs.Ready.{Stopped, Idle, IsMaster, IsShard, SwapIsOut, UnitIsOut}
 use Rattle.esr_core.specs.Queue.{DeleteLaw, DropLaw, Sole, Queue, Lists}
 use Rattle.esr_model.specs.Shelf.{names_uuid}
-use Rattle.esr_core.proofs.Maps.{get_was, get_same, get_other, get_left, get_stays, split}
-
-abbrev pub Ops : Type 0
-Ops = FinMap nat_cmp Op
-
-abbrev pub Deletes : Type 0
-Deletes = FinMap nat_cmp Deletion
-
-abbrev pub Tickets : Type 0
-Tickets = FinMap nat_cmp Ticket
-
-pub was_in : {X : Type 0} (m : FinMap nat_cmp X) (k : ℕ) (v : X) (q : ℕ) (x : X) → fin.get (fin.insert m k v) q ≡ Some x → ((q ≡ k) × (v ≡ x)) ⊎ ((q ≢ k) × (fin.get m q ≡ Some x))
-was_in m k v q x e = get_was nat_cmp_total nat_cmp-IsAntisymmetric m k v q x e
-
-pub same_in : {X : Type 0} (m : FinMap nat_cmp X) (k : ℕ) (v : X) → fin.get (fin.insert m k v) k ≡ Some v
-same_in m k v = get_same nat_cmp_total nat_cmp-IsAntisymmetric m k v
-
-pub other_in : {X : Type 0} (m : FinMap nat_cmp X) (k : ℕ) (v : X) (q : ℕ) → q ≢ k → fin.get (fin.insert m k v) q ≡ fin.get m q
-other_in m k v q a = get_other nat_cmp_total nat_cmp-IsAntisymmetric m k v q a
-
-pub left_in : {X : Type 0} (m : FinMap nat_cmp X) (k q : ℕ) (x : X) → fin.get (fin.remove m k) q ≡ Some x → (q ≢ k) × (fin.get m q ≡ Some x)
-left_in m k q x e = get_left nat_cmp_total nat_cmp-IsAntisymmetric m k q x e
-
-pub stays_in : {X : Type 0} (m : FinMap nat_cmp X) (k q : ℕ) → q ≢ k → fin.get (fin.remove m k) q ≡ fin.get m q
-stays_in m k q a = get_stays nat_cmp_total nat_cmp-IsAntisymmetric m k q a
-
-pub split_at : (a b : ℕ) → (a ≡ b) ⊎ (a ≢ b)
-split_at a b = elim (split nat_cmp_total nat_cmp-IsAntisymmetric a b) [ inl e ↦ inl e | inr e ↦ inr e.0 ]
-
-pub same_some : {A : Type 0} (x y : A) → Some x ≡ Some y → x ≡ y
-same_some x y e = cc
-
-pub none_is : {A : Type 0} (x : A) → Some x ≡ None → ⊥
-none_is x e = cc
+use Rattle.esr_core.specs.Laws.Maps.{Ops, Deletes, Tickets}
 
 -- the parts of the queue's law that read its root or its tickets
 record QueueTickets (term : ℕ) (root : RootData) (ops : Ops) (deletes : Deletes) (tickets : Tickets) : Type 0 where
@@ -469,7 +436,7 @@ module _ (term : ℕ) (root : RootData) (ops : Ops) (deletes : Deletes) (complet
           stopped = elim l.stopped [
             | inl h ↦ inl h
             | inr h ↦ elim (split_at t.op d) [
-              | inl same ↦ inr (x, ap (fin.get (fin.insert deletes d x)) same ∙ same_in deletes d x, failed (ap (λ (z : Deletion). z.failed) (same_some old h.0 (sym there ∙ ap (fin.get deletes) (sym same) ∙ h.1)) ∙ h.2))
+              | inl same ↦ inr (x, ap (fin.get (fin.insert deletes d x)) same ∙ same_in deletes d x, failed (ap (λ (z : Deletion). z.failed) (same_Some old h.0 (sym there ∙ ap (fin.get deletes) (sym same) ∙ h.1)) ∙ h.2))
               | inr apart ↦ inr (h.0, other_in deletes d x t.op apart ∙ h.1, h.2)
             ]
           ];

@@ -1,15 +1,13 @@
 -- A raise keeps the law.
 use Rattle.std.proofs.Common.{◌≡◌, ℕ, suc, ◌<◌, List, Some, sym, subst, inl, arith}
 use Rattle.std.specs.FinMap as fin
+use Rattle.std.proofs.lemmas.Option.{same_Some}
 use Rattle.esr_model.specs.Values.{Formats}
 use Rattle.esr_model.specs.Shelf.{Shelved}
 use Rattle.esr_core.specs.World.{World, ledger_of, HeldIn}
 use Rattle.esr_core.specs.Steps.{Raise}
 use Rattle.esr_core.specs.Swaps.{Rooted, TicketLaw}
 use Rattle.esr_core.proofs.Tickets.{each_ticket, swapping_was}
-
-some_same : {A : Type 0} (x y : A) → Some x ≡ Some y → x ≡ y
-some_same x y e = cc
 
 pub raise_sound : (f : Formats) (w new : World) (shelf : List Shelved) (k : ℕ) → Rooted f w shelf → Raise f w k new → Rooted f new shelf
 raise_sound f w new shelf k l r = subst (λ v. Rooted f v shelf) (sym r.new_is) here
@@ -30,12 +28,12 @@ raise_sound f w new shelf k l r = subst (λ v. Rooted f v shelf) (sym r.new_is) 
       tickets = each_ticket _ w.tickets k _
           (record {
             term = was.term;
-            raised = λ n e. let h : w.pending ≡ n = some_same _ _ e in omega arith;
-            last = λ s i e n q. let h : w.pending ≡ n = some_same _ _ q in (omega arith, omega (arith, l.kept.ordered));
+            raised = λ n e. let h : w.pending ≡ n = same_Some _ _ e in omega arith;
+            last = λ s i e n q. let h : w.pending ≡ n = same_Some _ _ q in (omega arith, omega (arith, l.kept.ordered));
             shape = was.shape;
             clean = λ s i c. was.clean s (record { is = i.is; out = i.out; unsettled = i.unsettled }) (inl r.present);
             listed = λ n m. let h : n < w.pending = was.listed n m in omega arith;
-            clean_root = λ n e le d. let h : w.pending ≡ n = some_same _ _ e in let b : n < w.pending = l.doomed_begun n d in omega arith;
+            clean_root = λ n e le d. let h : w.pending ≡ n = same_Some _ _ e in let b : n < w.pending = l.doomed_begun n d in omega arith;
             swaps = λ s i c. was.swaps s (record { is = i.is; out = i.out; unsettled = i.unsettled }) (inl r.present);
           })
           (λ j u apart e. let old = l.tickets j u e in record {

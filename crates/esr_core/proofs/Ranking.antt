@@ -4,13 +4,15 @@ use Rattle.std.specs.Prelude.{if◌then◌else◌}
 use Rattle.std.specs.Ordering.{nat_cmp}
 use Rattle.std.specs.FinMap.{FinMap}
 use Rattle.std.specs.FinMap as fin
+use Rattle.esr_core.specs.Laws.NumberMaps.{was_in}
+use Rattle.esr_core.proofs.Settling.{swap_master}
 use Rattle.esr_model.specs.Names.{BlobName}
 use Rattle.esr_model.specs.Values.{Bytes, RootData, ShardResult, ClusterRecord, Formats}
 use Rattle.esr_model.specs.Image.{Image, Blobs}
 use Rattle.esr_model.specs.Delete.{PrunedShard, kept_count}
 use Rattle.esr_model.specs.Cleanup.{BlobSize}
 use Rattle.esr_core.specs.Pruning.{planned}
-use Rattle.esr_core.specs.World.{World, Op, Work, Shard, Finalize, Deleting, Drop, Ticket, Swap, swap_of, opened, Deletion}
+use Rattle.esr_core.specs.World.{World, Op, Ticket, opened, Deletion}
 use Rattle.esr_core.specs.Ready.{IsMaster}
 use Rattle.esr_core.specs.Steps.{with_ticket, listing}
 use Rattle.esr_core.specs.Entry.{CloneOf, Clone, Given, GivenShard, GivenFinalize, GivenDrop, Step, Reply, Moment, GivenRestore, DeleteSnapshots, Restore, Cleanup, AskStep, ReadStep, Read, ReadBlob, RestoredShard, ReadFails, WasFetched, WasAbsent, HasEnded, GivenClone, GivenDelete, GivenCleanup, Prune, PruneStep}
@@ -20,13 +22,13 @@ use Rattle.esr_core.specs.Allowed.{MayPlan, SettlesDeletion, FailsDeletion, Prun
 use Rattle.esr_core.specs.History.{world_from, IsLegal}
 use Rattle.esr_core.specs.Tracked.{Tracked}
 use Rattle.esr_core.specs.Ranked.{Ranks, Ranked}
-use Rattle.esr_core.proofs.Blocked.{blocked_stays}
-use Rattle.esr_core.proofs.Opening.{nothing}
-use Rattle.esr_core.proofs.Queues.{was_in}
-use Rattle.esr_core.proofs.Besides.{aside_taken, aside_by, kept_aside}
+use Rattle.esr_core.specs.Laws.Asides.{blocked_stays, aside_by}
+use Rattle.esr_core.specs.Laws.Maps.{nothing}
+use Rattle.esr_core.proofs.Besides.{aside_taken, kept_aside}
 use Rattle.esr_core.specs.Deletes.{asked_delete}
-use Rattle.esr_core.proofs.AskedDeletes.{delete_leaves}
-use Rattle.esr_core.proofs.Moments.{moment, not_latest, settled_plain, delete_settled_plain}
+use Rattle.esr_core.specs.Laws.DeleteAsks.{delete_leaves}
+use Rattle.esr_core.specs.Laws.Moments.{moment, settled_plain, delete_settled_plain}
+use Rattle.esr_core.proofs.Moments.{not_latest}
 use Rattle.esr_core.proofs.TrackingSteps.{tracked_step}
 
 -- a ticket that goes on: nothing that ranks it changes, and it is out and unsettled only where it was
@@ -120,19 +122,6 @@ module _ (safe pending term : ℕ) (tickets : FinMap nat_cmp Ticket) (l : Ranks 
 ranks_falls : (w up : World) → Ranked w → Ranked up → (b : Bool) (blobs : Blobs) → Ranked (record (if b then up else w) { deposed = true; blobs = blobs })
 ranks_falls w up l u true blobs = u
 ranks_falls w up l u false blobs = l
-
--- only a swap has one
-swap_master : (f : Formats) (work : Work) (root : RootData) (s : Swap) → swap_of f work root ≡ Some s → IsMaster work
-swap_master f (Finalize info results made) root s e = tt
-swap_master f (Deleting uuids plan) root s e = tt
-swap_master f (Shard index number) root s e = absurd (never s e)
-  where
-    never : (x : Swap) → ◌≡◌ {A = Option Swap} None (Some x) → ⊥
-    never x e = cc
-swap_master f Drop root s e = absurd (never s e)
-  where
-    never : (x : Swap) → ◌≡◌ {A = Option Swap} None (Some x) → ⊥
-    never x e = cc
 
 module _ (f : Formats) (size : ℕ) (w : World) (q : Tracked w) (l : Ranked w) where
   alike_at : (k : ℕ) (t v : Ticket) → fin.get w.tickets k ≡ Some t → Alike t v → Ranks w.safe w.pending w.term (fin.insert w.tickets k v)

@@ -7,7 +7,7 @@ use Rattle.esr_model.specs.Values.{Bytes, IndexRef, RootSnap, RootData, FileEntr
 use Rattle.esr_model.specs.Shelf.{Shelved, ShelfShard}
 use Rattle.esr_model.specs.Image.{Has, AllPairs, Reads, Generation, FileStands, ShardStands, SnapStands, IndexStands, RootStands}
 use Rattle.esr_model.specs.Reach.{Reached, ReachSnap, ReachMeta, ReachIndexMeta, ReachIndex, ReachShardSnap, ReachPart}
-use Rattle.esr_core.proofs.Reading.{AllPairs-with}
+use Rattle.esr_model.specs.Lists.{AllPairs-with}
 
 module _ (f : Formats) (has : BlobName → Bytes → Type 0) (root : RootData) where
   abbrev pub Used : BlobName → Bytes → Type 0

@@ -2,6 +2,8 @@
 use Rattle.std.proofs.Common.{◌≡◌, ◌⊎◌, ℕ, zero, suc, ◌≤◌, List, [], ◌∷◌, ◌++◌, false, true≢false, Some, map, refl, sym, ap, ◌∙◌, subst, inl, inr, arith}
 use Rattle.std.specs.Prelude.{length, sum_by, min, ◌-◌, ◌^◌}
 use Rattle.std.specs.FinMap as fin
+use Rattle.std.proofs.lemmas.Option.{same_Some}
+use Rattle.esr_core.specs.Laws.NumberMaps.{same_in}
 use Rattle.esr_model.specs.Names.{BlobName, ShardSnap}
 use Rattle.esr_model.specs.Values.{Bytes, Has, FileEntry, ShardSnapshot, ReadsBack, Formats}
 use Rattle.esr_model.specs.Shelf.{Shelved}
@@ -14,18 +16,16 @@ use Rattle.esr_core.specs.Entry.{ReadBlob, RestoredShard, Step, ReadStep, Read, 
 use Rattle.esr_core.specs.After.{read_told, after}
 use Rattle.esr_core.specs.Ids.{Law}
 use Rattle.esr_core.specs.Allowed as allowed
-use Rattle.esr_core.specs.Allowed.{MayRead, ByReader, RestoredBy, ReadAllows, ReadFound, RestoringShard, Allowed}
+use Rattle.esr_core.specs.Allowed.{MayRead, ByReader, ReadAllows, ReadFound, RestoringShard, Allowed}
 use Rattle.esr_core.specs.History.{IsLegal}
 use Rattle.esr_core.specs.ReadLaw.{ReadLaw}
 use Rattle.esr_core.specs.ReadTracked.{ReadTracked}
 use Rattle.esr_core.specs.ReadEnds.{NoFetchFailed, CanEnd}
-use Rattle.esr_core.proofs.Reading.{some_same, Has-left, Has-right, Has-either}
-use Rattle.esr_core.proofs.Frames.{AllPairs-map, file_kept}
-use Rattle.esr_core.proofs.Queues.{same_in}
+use Rattle.esr_model.specs.Lists.{Has-left, Has-right, Has-either, AllPairs-map}
+use Rattle.esr_core.specs.Laws.BlobFrames.{file_kept, text_one}
 use Rattle.esr_core.proofs.Recording.{record_stays}
-use Rattle.esr_core.proofs.Pieces.{in_parts}
-use Rattle.esr_core.proofs.Adds.{text_one}
-use Rattle.esr_core.proofs.Accepting.{same_one, same_true}
+use Rattle.esr_core.specs.Laws.PartNames.{in_parts}
+use Rattle.esr_core.specs.Laws.Tests.{same_one, same_true}
 use Rattle.esr_core.proofs.Past.{entry_or_before}
 use Rattle.esr_core.proofs.ReadLaws.{Serves, serves_now, serves_snap}
 
@@ -112,7 +112,7 @@ legal_one f size w k read reply new none alive back allows =
       aborted = λ by d a. absurd (none a.t a.out.there);
       once = λ d. new;
       record_back = subst (ReadsBack f.cluster) (sym (record_stays f w m refl)) back;
-      text = λ image same. ap (λ (x : Image). x.text) (sym (some_same _ _ same)) ∙ ap (λ r. Some (f.cluster.text r)) (sym (record_stays f w m refl));
+      text = λ image same. ap (λ (x : Image). x.text) (sym (same_Some _ _ same)) ∙ ap (λ r. Some (f.cluster.text r)) (sym (record_stays f w m refl));
     }
 
 -- what the ticket has before each step: its reader has read the snapshot of its shard, and of what is needed some is still to be read
@@ -172,7 +172,7 @@ read_or_not f ((n, b) ∷ read) name back backs = elim (same_one (f.names.text n
 ]
 
 one_content : (f : Formats) (blobs : Blobs) (name : BlobName) (a b : Bytes) → At f blobs name a → At f blobs name b → a ≡ b
-one_content f blobs name a b p q = some_same a b (sym p.0 ∙ q.0)
+one_content f blobs name a b p q = same_Some a b (sym p.0 ∙ q.0)
 
 -- a fetch of a blob that it has not read is new
 new_blob : (w : World) (k : ℕ) (q : Reader) (name : BlobName) → NoFetchFailed w k q → ((b : Bytes) → Has q.read (name, b) → ⊥) → IsNewStep w k (ReadStep (ReadBlob name))

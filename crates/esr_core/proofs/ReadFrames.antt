@@ -3,6 +3,8 @@ use Rattle.std.proofs.Common.{◌≡◌, ℕ, suc, ◌≤◌, List, [], ◌++◌
 use Rattle.std.specs.Prelude.{if◌then◌else◌}
 use Rattle.std.specs.FinMap.{FinMap}
 use Rattle.std.specs.FinMap as fin
+use Rattle.std.proofs.lemmas.Option.{same_Some}
+use Rattle.esr_core.specs.Laws.NumberMaps.{was_in, left_in}
 use Rattle.esr_model.specs.Names.{BlobName}
 use Rattle.esr_model.specs.Values.{Bytes, Formats}
 use Rattle.esr_model.specs.Shelf.{Shelved, names_uuid}
@@ -12,11 +14,8 @@ use Rattle.esr_core.specs.Steps.{PutsLatest}
 use Rattle.esr_core.specs.Queue.{Lists}
 use Rattle.esr_core.specs.Ids.{Law}
 use Rattle.esr_core.specs.Turns.{SettleDelete, Turn, Stays, Commits, CommitFails, Finds, Raises, Latests, Fetches, SettlesFinal, SettlesDelete, Elects, TakesShard, TakesFinal, TakesDrop, TakesDelete, TakesCleanup, AsksCleanup, CleanDrops, DrawsShard, DrawsPlan, Dones, Ending, Fails, FailsDelete, Drops, AsksCreate, AsksDelete, Merges, Removing, Pages, Deposes, Besides, Tests, TestTurn, DrawsTest, AddsTest, RemovesTests}
-use Rattle.esr_core.proofs.Adds.{at_kept}
-use Rattle.esr_core.proofs.LatestPut.{at_back}
+use Rattle.esr_core.specs.Laws.BlobFrames.{at_kept, at_back}
 use Rattle.esr_core.proofs.DeletesHold.{none_both}
-use Rattle.esr_core.proofs.Reading.{some_same}
-use Rattle.esr_core.proofs.Queues.{was_in, left_in}
 use Rattle.esr_core.proofs.Settling.{final_keeps, delete_keeps}
 
 -- an open restore of w reads the snapshot
@@ -49,7 +48,7 @@ up : (n : ℕ) → n ≤ suc n
 up n = omega arith
 
 one : (f : Formats) (blobs : Blobs) → OneContent f blobs blobs
-one f blobs name a b p q = some_same a b (sym p.0 ∙ q.0)
+one f blobs name a b p q = same_Some a b (sym p.0 ∙ q.0)
 
 -- the root stays
 rooted : (f : Formats) (w new v : World) → new ≡ v → v.restores ≡ w.restores → v.readers ≡ w.readers → w.next_op ≤ v.next_op → w.next_ticket ≤ v.next_ticket → v.root ≡ w.root → ((u : ℕ) → IsRestored w u → Spares w.deletes u → Spares v.deletes u) → OneContent f w.blobs v.blobs → Frame f w new
@@ -78,10 +77,10 @@ deleted f w new v e restores readers ops tickets root deletes blobs = rooted f w
 
 -- a blob more, under a name that was absent
 added : (f : Formats) (blobs : Blobs) (name : BlobName) (bytes : Bytes) → IsStored f name → fin.get blobs (f.names.text name) ≡ None → OneContent f blobs (fin.insert blobs (f.names.text name) bytes)
-added f blobs name bytes named absent m a b p q = some_same a b (sym (at_kept f blobs name bytes named absent [] m a p).0 ∙ q.0)
+added f blobs name bytes named absent m a b p q = same_Some a b (sym (at_kept f blobs name bytes named absent [] m a p).0 ∙ q.0)
 
 put : (f : Formats) (blobs now : Blobs) → PutsLatest f blobs now → OneContent f blobs now
-put f blobs now p m a b x y = some_same a b (sym x.0 ∙ (at_back f blobs now p m b y).0)
+put f blobs now p m a b x y = same_Some a b (sym x.0 ∙ (at_back f blobs now p m b y).0)
 
 fewer : (deletes : FinMap nat_cmp Deletion) (o u : ℕ) → Spares deletes u → Spares (fin.remove deletes o) u
 fewer deletes o u spared d x e = spared d x (left_in deletes o d x e).1
@@ -114,7 +113,7 @@ settled_delete f w shelf l k n t s new h =
 tested : (f : Formats) (w new : World) → TestTurn f w new → Frame f w new
 tested f w new (DrawsTest m d) = still f w m _ d.new_is refl refl (le w.next_op) (le w.next_ticket) refl refl refl
 tested f w new (AddsTest m name bytes a) = blobbed f w m _ a.new_is refl refl (le w.next_op) (le w.next_ticket) refl refl (added f w.blobs name bytes a.named a.absent)
-tested f w new (RemovesTests m names r) = blobbed f w m _ r.new_is refl refl (le w.next_op) (le w.next_ticket) refl refl (λ name a b x y. some_same a b (sym x.0 ∙ r.removes.left (f.names.text name) b y.0))
+tested f w new (RemovesTests m names r) = blobbed f w m _ r.new_is refl refl (le w.next_op) (le w.next_ticket) refl refl (λ name a b x y. same_Some a b (sym x.0 ∙ r.removes.left (f.names.text name) b y.0))
 
 pub frame : (f : Formats) (w new : World) (shelf : List Shelved) → Law f w shelf → (turn : Turn f w new) → IsQuiet f w new turn → Frame f w new
 frame f w new shelf l (Stays m e) q = still f w m w e refl refl (le w.next_op) (le w.next_ticket) refl refl refl
@@ -161,7 +160,7 @@ frame f w new shelf l (Merges m uuids n h) q =
     deleted f w m _ h.new_is refl refl (le w.next_op) (le w.next_ticket) refl
     (λ u is spared. with_one w.deletes n u (record h.x { uuids = h.x.uuids ++ h.more }) (none_both h.x.uuids h.more u (spared n h.x h.there) (ap (names_uuid h.more) (sym is.uuid_is) ∙ h.spares_restores is.o is.r is.there)) spared) refl
 frame f w new shelf l (Pages m k page h) q = still f w m _ h.new_is refl refl (le w.next_op) (le w.next_ticket) refl refl refl
-frame f w new shelf l (Removing m k names h) q = blobbed f w m _ h.new_is refl refl (le w.next_op) (le w.next_ticket) refl refl (λ name a b x y. some_same a b (sym x.0 ∙ h.removes.left (f.names.text name) b y.0))
+frame f w new shelf l (Removing m k names h) q = blobbed f w m _ h.new_is refl refl (le w.next_op) (le w.next_ticket) refl refl (λ name a b x y. same_Some a b (sym x.0 ∙ h.removes.left (f.names.text name) b y.0))
 frame f w new shelf l (Tests m t) q = tested f w m t
 frame f w new shelf l (Deposes m v h e) q = absurd q
 frame f w new shelf l (Besides m v h r) q = absurd q

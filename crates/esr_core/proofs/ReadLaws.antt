@@ -1,7 +1,9 @@
 -- Each turn keeps what holds of restores, and what they read is on the shelf.
-use Rattle.std.proofs.Common.{◌≡◌, ◌⊎◌, ℕ, List, [], ◌∷◌, Bool, true, false, true≢false, Some, map, refl, sym, ap, ◌∙◌, subst, inl, inr, nat_cmp}
+use Rattle.std.proofs.Common.{◌≡◌, ◌⊎◌, ℕ, List, ◌∷◌, Bool, true, false, true≢false, Some, map, refl, sym, ap, ◌∙◌, subst, inl, inr, nat_cmp}
 use Rattle.std.specs.FinMap.{FinMap}
 use Rattle.std.specs.FinMap as fin
+use Rattle.std.proofs.lemmas.Option.{same_Some}
+use Rattle.esr_core.specs.Laws.NumberMaps.{was_in}
 use Rattle.esr_model.specs.Names.{BlobName, Snap, ShardSnap}
 use Rattle.esr_model.specs.Values.{Bytes, Has, IndexRef, RootData, SnapInfo, FileEntry, ShardSnapshot, ClusterRecord, Formats}
 use Rattle.esr_model.specs.Shelf.{Shelved, ShelfShard, shelf_after}
@@ -9,24 +11,23 @@ use Rattle.esr_model.specs.Parts.{part_names}
 use Rattle.esr_model.specs.Places.{places, shelf_places, comes_first}
 use Rattle.esr_model.specs.Image.{Blobs, At, Reads, FileStands, ShardStands}
 use Rattle.esr_core.specs.World.{World, Deletion, ReadState, RestoreShard, Restoring, Reader, Caller, HeldIn, opened}
-use Rattle.esr_core.specs.Restores.{WasRead, unread, restore_of, handed, ended, reader_of, read_more}
+use Rattle.esr_core.specs.Restores.{WasRead, restore_of, handed, ended, reader_of, read_more}
 use Rattle.esr_core.specs.Queue.{Lists}
 use Rattle.esr_core.specs.Ids.{Law}
 use Rattle.esr_core.specs.Entry.{Entry}
 use Rattle.esr_core.specs.Turns.{OpenRestore, HandShard, ReadMore, EndShard, ReadTurn, OpensRestore, HandsShard, ReadsMore, EndsShard, Calls, Turn, Deposes, Besides, commands_of}
 use Rattle.esr_core.specs.ReadTracked.{ReaderTracked, RestoresTracked}
 use Rattle.esr_core.specs.ReadLaw.{RestoreLaw, IsPartOf, ReaderLaw, ReadLaw}
-use Rattle.esr_core.proofs.Reading.{some_same, reads_one, held_one, Has-map}
-use Rattle.esr_core.proofs.Frames.{reads_kept}
+use Rattle.esr_model.specs.Lists.{Has-map, pairs_has}
+use Rattle.esr_core.specs.Laws.OneValue.{reads_one, held_one}
+use Rattle.esr_core.specs.Laws.BlobFrames.{reads_kept}
+use Rattle.esr_core.specs.Laws.RestoreMaps.{places_mapped, places_begun, LeavesPlace, handed_place, ended_place, put_was}
 use Rattle.esr_core.proofs.ListedInfo.{pairs_both, listed_as, listed_info}
-use Rattle.esr_core.proofs.Queues.{was_in}
-use Rattle.esr_core.proofs.Ordered.{sorted-Has}
-use Rattle.esr_core.proofs.Opening.{nothing}
-use Rattle.esr_core.proofs.Restoring.{LeavesPlace, handed_place, ended_place, put_was}
+use Rattle.esr_core.specs.Laws.SortedLists.{sorted-Has}
+use Rattle.esr_core.specs.Laws.Maps.{nothing}
 use Rattle.esr_core.proofs.ReadTracking.{tracked_up, tracked_opened, tracked_handed, tracked_more, tracked_ended}
 use Rattle.esr_core.proofs.ReadSteps.{read_opened_tracked}
 use Rattle.esr_core.proofs.ReadFrames.{IsRestored, Frame, frame}
-use Rattle.esr_core.proofs.TurningIds.{pairs_has}
 use Rattle.esr_core.proofs.Turning.{turn_law}
 
 -- ---- what stands of a listed snapshot
@@ -122,7 +123,7 @@ module _ (f : Formats) (w new : World) (shelf : List Shelved) (l : Law f new she
   snap_same : (q : Reader) (s : Serves f new shelf q) (snap : ShardSnapshot) → Reads (HeldIn f w) (ShardSnap q.index q.number q.uuid) f.shard_snap snap → snap ≡ s.found.stands.snap
   snap_same q s snap was =
       let now = serves_snap f new shelf q s in
-      some_same _ _ (sym was.reads ∙ ap f.shard_snap.read (fr.blobs (ShardSnap q.index q.number q.uuid) was.bytes now.bytes was.there.0 now.there.0) ∙ now.reads)
+      same_Some _ _ (sym was.reads ∙ ap f.shard_snap.read (fr.blobs (ShardSnap q.index q.number q.uuid) was.bytes now.bytes was.there.0 now.there.0) ∙ now.reads)
 
   held_on : (q : Reader) (s : Serves f new shelf q) (name : BlobName) (bytes : Bytes) → At f w.blobs name bytes → (name ≡ ShardSnap q.index q.number q.uuid) ⊎ IsPartOf f (HeldIn f w) q name → HeldIn f new name bytes
   held_on q s name bytes was (inl e) =
@@ -165,14 +166,6 @@ module _ (f : Formats) (w new : World) (shelf : List Shelved) (l : Law f new she
 
 -- ---- a turn that reads
 
-pub places_mapped : (g : RestoreShard → RestoreShard) → LeavesPlace g → (shards : List RestoreShard) → map {B = IndexRef × ℕ} (λ (s : RestoreShard). (s.ref, s.number)) (map g shards) ≡ map {B = IndexRef × ℕ} (λ (s : RestoreShard). (s.ref, s.number)) shards
-places_mapped g p [] = refl
-places_mapped g p (s ∷ shards) = λ i. (p.ref s i, p.number s i) ∷ places_mapped g p shards i
-
-pub places_begun : (ps : List (IndexRef × ℕ)) → map {B = IndexRef × ℕ} (λ (s : RestoreShard). (s.ref, s.number)) (map unread ps) ≡ ps
-places_begun [] = refl
-places_begun (p ∷ ps) = λ i. p ∷ places_begun ps i
-
 restore_mapped : (f : Formats) (has : BlobName → Bytes → Type 0) (root : RootData) (deletes : FinMap nat_cmp Deletion) (r : Restoring) (g : RestoreShard → RestoreShard) → LeavesPlace g → RestoreLaw f has root deletes r → RestoreLaw f has root deletes (record r { shards = map g r.shards })
 restore_mapped f has root deletes r g p l = record { listed = l.listed; spared = l.spared; info = l.info; info_reads = l.info_reads; shards = places_mapped g p r.shards ∙ l.shards }
 
@@ -189,7 +182,7 @@ module _ (f : Formats) (w : World) (shelf : List Shelved) (l : Law f w shelf) (r
       begun =
           let a = listed_as f w shelf l uuid h.listed in
           let info = listed_info f w shelf uuid a in
-          let bytes : h.info_reads.bytes ≡ info.bytes = some_same _ _ (sym h.info_reads.there.0 ∙ info.there.0.0) in
+          let bytes : h.info_reads.bytes ≡ info.bytes = same_Some _ _ (sym h.info_reads.there.0 ∙ info.there.0.0) in
           record {
             listed = h.listed;
             spared = h.spared;
@@ -247,11 +240,11 @@ module _ (f : Formats) (w : World) (shelf : List Shelved) (l : Law f w shelf) (r
       own_held : (name ≡ ShardSnap h.q.index h.q.number h.q.uuid) ⊎ IsPartOf f (HeldIn f w) h.q name → HeldIn f w name bytes
       own_held (inl e) =
           let there : HeldIn f w name snap_now.bytes = subst (λ x. HeldIn f w x snap_now.bytes) (sym e) snap_now.there in
-          subst (HeldIn f w name) (some_same _ _ (sym there.0.0 ∙ h.there.0)) there
+          subst (HeldIn f w name) (same_Some _ _ (sym there.0.0 ∙ h.there.0)) there
       own_held (inr p) =
           let same : p.snap ≡ s.found.stands.snap = reads_one (HeldIn f w) (held_one f w) (ShardSnap h.q.index h.q.number h.q.uuid) f.shard_snap p.snap s.found.stands.snap p.snap_reads snap_now in
           let (b, there) = serves_part f w shelf h.q s p.e (subst (λ (x : ShardSnapshot). Has x.files p.e) same p.listed) name p.part in
-          subst (HeldIn f w name) (some_same _ _ (sym there.0.0 ∙ h.there.0)) there
+          subst (HeldIn f w name) (same_Some _ _ (sym there.0.0 ∙ h.there.0)) there
 
       pair_same : {a b : BlobName} {x y : Bytes} → ◌≡◌ {A = BlobName × Bytes} (a, x) (b, y) → (a ≡ b) × (x ≡ y)
       pair_same e = (ap (λ (p : BlobName × Bytes). p.0) e, ap (λ (p : BlobName × Bytes). p.1) e)

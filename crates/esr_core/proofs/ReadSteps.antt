@@ -3,6 +3,7 @@ use Rattle.std.proofs.Common.{◌≡◌, Bool, ℕ, zero, suc, ◌<◌, ◌≤�
 use Rattle.std.specs.Prelude.{if◌then◌else◌}
 use Rattle.std.specs.FinMap.{FinMap}
 use Rattle.std.specs.FinMap as fin
+use Rattle.esr_core.specs.Laws.NumberMaps.{was_in}
 use Rattle.esr_model.specs.Names.{BlobName}
 use Rattle.esr_model.specs.Values.{Bytes, Has, IndexRef, RootData, ClusterRecord, Formats}
 use Rattle.esr_model.specs.Kept.{first_id}
@@ -14,16 +15,15 @@ use Rattle.esr_core.specs.Past.{with_entry}
 use Rattle.esr_core.specs.Entry.{Restore, GivenRestore, Why, Read, ReadBlob, RestoredShard, ReadFails, Step, AskStep, TakeStep, LookStep, ReadStep, DepotFault, Reply, Gave, WasFetched, WasAbsent, HasEnded, Refused, Entry, Moment}
 use Rattle.esr_core.specs.After.{told_blob, taken_restore, taken_restore_shard, read_told, shard_over, read_over, read_by, is_heard, caller_told, caller_wrote, caller_by, caller_after, answered, blobs_in, after, test_left}
 use Rattle.esr_core.specs.Allowed as allowed
-use Rattle.esr_core.specs.Allowed.{Gives, GivesRestore, Fetcher, ByReader, ByCheck, RestoreAllows, OpeningRestore, NotListed, NamedByDelete, FullOfRestores, ReadAllows, ReadFound, ReadMissing, ReadFault, RestoringShard, ReaderFailing, CheckingAll, CheckFailing, Allows, Allowed, ByVerify, VerifyAllows, DrawingTest, TestSpent, BeginningTest, BeginTestFails, CommittingTest, TestTaken, CommitTestFails, RemovingTests, RemoveTestsFails, VerifyingAll, VerifyFailing}
+use Rattle.esr_core.specs.Allowed.{GivesRestore, Fetcher, ByReader, ByCheck, RestoreAllows, OpeningRestore, NotListed, NamedByDelete, FullOfRestores, ReadAllows, ReadFound, ReadMissing, ReadFault, RestoringShard, ReaderFailing, CheckingAll, CheckFailing, Allows, Allowed, ByVerify, VerifyAllows, DrawingTest, TestSpent, BeginningTest, BeginTestFails, CommittingTest, TestTaken, CommitTestFails, RemovingTests, RemoveTestsFails, VerifyingAll, VerifyFailing}
 use Rattle.esr_core.specs.History.{world_from, IsLegal}
 use Rattle.esr_core.specs.Tracked.{Tracked}
 use Rattle.esr_core.specs.ReadTracked.{RestoresTracked, ReadTracked, FetchesOnce}
-use Rattle.esr_core.proofs.Blocked.{blocked_stays}
-use Rattle.esr_core.proofs.Opening.{nothing}
-use Rattle.esr_core.proofs.Queues.{was_in}
-use Rattle.esr_core.proofs.Restoring.{one_waits, put_was}
+use Rattle.esr_core.specs.Laws.Asides.{blocked_stays}
+use Rattle.esr_core.specs.Laws.Maps.{nothing}
+use Rattle.esr_core.specs.Laws.RestoreMaps.{one_waits, put_was}
 use Rattle.esr_core.proofs.ReadTracking.{tracked_up, tracked_opened, tracked_handed, tracked_more, tracked_ended}
-use Rattle.esr_core.proofs.Going.{Goes, goes_answered}
+use Rattle.esr_core.specs.Laws.RestoreFrames.{Goes, goes_answered}
 use Rattle.esr_core.proofs.TrackingSteps.{tracked_step}
 
 -- what holds of what who 0 has done, in this world

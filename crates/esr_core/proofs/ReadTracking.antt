@@ -2,14 +2,16 @@
 use Rattle.std.proofs.Common.{◌≡◌, ◌≢◌, ℕ, suc, ◌<◌, ◌≤◌, List, true, false, true≢false, Some, map, refl, sym, ap, ◌∙◌, subst, inl, inr, arith, nat_cmp}
 use Rattle.std.specs.FinMap.{FinMap}
 use Rattle.std.specs.FinMap as fin
+use Rattle.std.proofs.lemmas.Option.{same_Some}
+use Rattle.esr_core.specs.Laws.NumberMaps.{was_in, same_in, other_in, split_at}
 use Rattle.esr_model.specs.Names.{BlobName}
 use Rattle.esr_model.specs.Values.{Bytes, Has, IndexRef}
 use Rattle.esr_core.specs.World.{ReadState, Unread, BeingRead, RestoreShard, Restoring, Reader}
 use Rattle.esr_core.specs.Restores.{AreApart, restore_of, waits, any_waits, put_restore, handed, ended, reader_of, read_more}
 use Rattle.esr_core.specs.ReadTracked.{ReaderTracked, IsReadBy, RestoresTracked}
-use Rattle.esr_core.proofs.Reading.{some_same, Has-mapped, Has-map}
-use Rattle.esr_core.proofs.Queues.{was_in, same_in, other_in, split_at}
-use Rattle.esr_core.proofs.Restoring.{unread_read, some_waits, handed_is, ended_is, handed_place, ended_place, once_mapped, once_begun, begun_unread, put_was, put_other, put_same}
+use Rattle.esr_model.specs.Lists.{Has-mapped, Has-map}
+use Rattle.esr_core.specs.Laws.RestoreMaps.{unread_read, some_waits, handed_is, ended_is, handed_place, ended_place, begun_unread, put_was, put_other, put_same}
+use Rattle.esr_core.proofs.Restoring.{once_mapped, once_begun}
 
 abbrev Restores : Type 0
 Restores = FinMap nat_cmp Restoring
@@ -76,7 +78,7 @@ module _ (next_op next_ticket : ℕ) (restores : Restores) (readers : Readers) (
     others k q h = elim (split_at q.op o) [
       | inr apart ↦ moved (fin.insert restores o now) k q h (other_in restores o now q.op apart ∙ h.there)
       | inl same ↦
-          let one : h.r ≡ r = some_same _ _ (sym h.there ∙ ap (fin.get restores) same ∙ there) in
+          let one : h.r ≡ r = same_Some _ _ (sym h.there ∙ ap (fin.get restores) same ∙ there) in
           let mine : Has r.shards h.s = subst (λ (y : Restoring). Has y.shards h.s) one h.s_there in
           elim (handed_is next_ticket s.ref.id s.number h.s) [
             | inl z ↦ absurd (unread_read (sym unread ∙ ap (λ (y : RestoreShard). y.state) (l.distinct o r s h.s there s_there mine (sym z.0) (sym z.1)) ∙ h.state))
@@ -177,7 +179,7 @@ module _ (next_op next_ticket : ℕ) (restores : Restores) (readers : Readers) (
               let h = l.held o r s j e m state in
               elim (split_at j k) [
                 | inl same ↦
-                    let one : h.q ≡ q = some_same _ _ (sym h.there ∙ ap (fin.get readers) same ∙ there) in
+                    let one : h.q ≡ q = same_Some _ _ (sym h.there ∙ ap (fin.get readers) same ∙ there) in
                     record {
                       q = more;
                       there = ap (fin.get (fin.insert readers k more)) same ∙ same_in readers k more;
@@ -204,7 +206,7 @@ module _ (next_op next_ticket : ℕ) (restores : Restores) (readers : Readers) (
     still j x away h = elim (split_at x.op q.op) [
       | inr apart ↦ moved (put_restore restores q.op after) j x h (put_other restores q.op after x.op apart ∙ h.there)
       | inl same ↦
-          let one : h.r ≡ r = some_same _ _ (sym h.there ∙ ap (fin.get restores) same ∙ there) in
+          let one : h.r ≡ r = same_Some _ _ (sym h.there ∙ ap (fin.get restores) same ∙ there) in
           let mine : Has r.shards h.s = subst (λ (y : Restoring). Has y.shards h.s) one h.s_there in
           elim (ended_is k state h.s) [
             | inl z ↦ absurd (away (read_one (sym h.state ∙ z.0)))
@@ -245,7 +247,7 @@ module _ (next_op next_ticket : ℕ) (restores : Restores) (readers : Readers) (
 
     -- of another restore no shard is read by the ticket
     elsewhere : (p : ℕ) (x : Restoring) (z : RestoreShard) (j : ℕ) → p ≢ q.op → IsReadBy readers p z j → j ≢ k
-    elsewhere p x z j apart h same = apart (sym h.op_is ∙ ap (λ (y : Reader). y.op) (some_same h.q q (sym h.there ∙ ap (fin.get readers) same ∙ q_there)))
+    elsewhere p x z j apart h same = apart (sym h.op_is ∙ ap (λ (y : Reader). y.op) (same_Some h.q q (sym h.there ∙ ap (fin.get readers) same ∙ q_there)))
 
     pub tracked_ended : RestoresTracked next_op next_ticket (put_restore restores q.op (record r { shards = map (ended k state) r.shards })) (fin.insert readers k (record q { out = false }))
     tracked_ended =

@@ -1,68 +1,16 @@
 -- What the cluster record lists is open, and its ids lie below the next one.
-use Rattle.std.proofs.Common.{◌≡◌, ◌⊎◌, ℕ, ◌<◌, Bool, true, false, true≢false, cond, List, [], ◌∷◌, ◌++◌, Option, Some, None, map, refl, sym, ap, ◌∙◌, subst, inl, inr, nat_cmp}
-use Rattle.std.specs.Prelude.{T, ◌&&◌, if◌then◌else◌}
-use Rattle.std.specs.declared.cmp.Ordering.{Ordering}
-use Rattle.std.specs.declared.cmp.Ordering.TheVariants.{Less, Equal, Greater}
-use Rattle.std.specs.Ordering.{eq_by_cmp, is_lt, is_eq}
-use Rattle.std.specs.Cmp.{nat_cmp_total, eq_by_cmp_equiv}
-use Rattle.std.specs.FinMap.Entries.{find, is_sorted, below_all}
-use Rattle.std.specs.FinMap.{FinMap, nat_cmp-IsAntisymmetric}
+use Rattle.std.proofs.Common.{◌≡◌, ◌⊎◌, ℕ, ◌<◌, Bool, true, false, List, ◌++◌, Option, Some, None, map, refl, sym, ap, ◌∙◌, subst, inl, inr, nat_cmp}
+use Rattle.std.specs.Prelude.{if◌then◌else◌}
+use Rattle.std.specs.Cmp.{nat_cmp_total}
+use Rattle.std.specs.FinMap.{FinMap}
 use Rattle.std.specs.FinMap as fin
 use Rattle.esr_model.specs.Values.{Has, RecordWork, DeletingOf, Cleaning, Formats}
 use Rattle.esr_model.specs.Shelf.{Shelved}
 use Rattle.esr_model.specs.Kept.{WorkIds}
 use Rattle.esr_core.specs.World.{World, Op, Deletion, work_by, work_of, deletion_work, record_ops}
 use Rattle.esr_core.specs.Ids.{Law}
-use Rattle.esr_core.proofs.Maps.{split}
-use Rattle.esr_core.proofs.Reading.{some_same, none_some, Has-either, Has-mapped}
-
-first : (a b : Bool) → T (a && b) → T a
-first true b p = tt
-first false b p = p
-
-second : (a b : Bool) → T (a && b) → T b
-second true b p = p
-second false b p = absurd p
-
-not_both : (r : Ordering) → T (is_lt r) → is_eq r ≡ true → ⊥
-not_both Less a e = true≢false (sym e)
-not_both Equal a e = a
-not_both Greater a e = a
-
-not_below : (k : ℕ) → T (is_lt (nat_cmp k k)) → ⊥
-not_below k h = not_both (nat_cmp k k) h ((eq_by_cmp_equiv nat_cmp_total).refl k)
-
-module _ {X : Type 0} where
-  below_member : (q k : ℕ) (v : X) (es : List (ℕ × X)) → T (below_all nat_cmp q es) → Has es (k, v) → T (is_lt (nat_cmp q k))
-  below_member q k v [] h m = absurd m
-  below_member q k v (e ∷ es) h (inl same) = subst (λ (p : ℕ × X). T (is_lt (nat_cmp q p.0))) same (first _ _ h)
-  below_member q k v (e ∷ es) h (inr m) = below_member q k v es (second _ _ h) m
-
-  member_found : (k : ℕ) (v : X) (es : List (ℕ × X)) → T (is_sorted nat_cmp es) → Has es (k, v) → find nat_cmp k es ≡ Some v
-  member_found k v [] h m = absurd m
-  member_found k v (e ∷ es) h (inl same) =
-      ap (λ b. cond b (Some e.1) (find nat_cmp k es)) (subst (λ (p : ℕ × X). eq_by_cmp nat_cmp k p.0 ≡ true) (sym same) ((eq_by_cmp_equiv nat_cmp_total).refl k)) ∙ ap (λ (p : ℕ × X). Some p.1) same
-  member_found k v (e ∷ es) h (inr m) = elim (split nat_cmp_total nat_cmp-IsAntisymmetric k e.0) [
-    | inl same ↦ absurd (not_below k (subst (λ q. T (is_lt (nat_cmp q k))) (sym same) (below_member e.0 k v es (first _ _ h) m)))
-    | inr other ↦ ap (λ b. cond b (Some e.1) (find nat_cmp k es)) other.1 ∙ member_found k v es (second _ _ h) m
-  ]
-
-  -- an entry of a map is found under its key
-  pub entry_got : (m : FinMap nat_cmp X) (k : ℕ) (v : X) → Has (fin.entries m) (k, v) → fin.get m k ≡ Some v
-  entry_got m k v h = fin.get-entries m k ∙ member_found k v (fin.entries m) (fin.entries_sorted m) h
-
-  found_member : (k : ℕ) (v : X) (es : List (ℕ × X)) → find nat_cmp k es ≡ Some v → Has es (k, v)
-  found_member k v [] e = absurd (none_some v e)
-  found_member k v (x ∷ es) e = elim (split nat_cmp_total nat_cmp-IsAntisymmetric k x.0) [
-    | inl same ↦
-        let tied : eq_by_cmp nat_cmp k x.0 ≡ true = subst (λ q. eq_by_cmp nat_cmp k q ≡ true) same ((eq_by_cmp_equiv nat_cmp_total).refl k) in
-        let value : x.1 ≡ v = some_same _ _ (sym (ap (λ b. cond b (Some x.1) (find nat_cmp k es)) tied) ∙ e) in
-        inl (λ i. (sym same i, value i))
-    | inr other ↦ inr (found_member k v es (sym (ap (λ b. cond b (Some x.1) (find nat_cmp k es)) other.1) ∙ e))
-  ]
-
-  pub got_entry : (m : FinMap nat_cmp X) (k : ℕ) (v : X) → fin.get m k ≡ Some v → Has (fin.entries m) (k, v)
-  got_entry m k v e = found_member k v (fin.entries m) (sym (fin.get-entries m k) ∙ e)
+use Rattle.esr_core.specs.Laws.Maps.{entry_got, found_member}
+use Rattle.esr_model.specs.Lists.{Has-either, Has-mapped}
 
 -- an op of the record is an open one
 pub recorded_is : (ops : FinMap nat_cmp Op) (deletes : FinMap nat_cmp Deletion) (number : ℕ) (work : RecordWork) → Has (record_ops ops deletes) (number, work)

@@ -14,8 +14,9 @@ use Rattle.esr_core.specs.Steps.{listing, with_ticket, given}
 use Rattle.esr_core.specs.Turns.{fails}
 use Rattle.esr_core.specs.Entry.{Given, GivenShard, GivenClone, GivenFinalize, GivenDrop, Step, AskStep, TakeStep, ListStep, WasListed, DrawStep, BeginStep, CommitStep, LatestStep, FetchStep, RaiseStep, SettleStep, DoneStep, FailedStep, FinishStep, DroppedStep, ElectStep, DepotFault, Reply, Gave, WasDone, WasThere, WasFetched, Refused, Moment, Snapshot, Restore, GivenRestore, ReadStep, AcceptedRestore, Read, DrawTest, CommitTest, DrawnFrom, Clone, DeleteSnapshots, Cleanup, GivenDelete, GivenCleanup, Prune, FetchShard, PlanShards, SettlePruned, RemoveDoomed, EndDelete, DeleteFails, PruneStep}
 use Rattle.esr_core.specs.After.{or_else, taken_shard, taken_by, shard_of, with_given, committing, told_blob, fetching, done_by, done_of, is_stale, failed_by, failed_of, done_step, swaps_record, is_latest, faulted, answered, after, read_by, test_left, delete_failed_by, delete_failed, prune_step}
-use Rattle.esr_core.proofs.Besides.{Aside, aside_taken, aside_step}
-use Rattle.esr_core.proofs.Maps.{split, get_same, get_other}
+use Rattle.esr_core.specs.Laws.Asides.{Aside, aside_step}
+use Rattle.esr_core.proofs.Besides.{aside_taken}
+use Rattle.esr_core.specs.Laws.Maps.{split, get_same, get_other}
 use Rattle.esr_core.specs.Pruning.{planned}
 use Rattle.esr_model.specs.Delete.{kept_count}
 

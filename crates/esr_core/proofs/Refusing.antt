@@ -15,7 +15,7 @@ use Rattle.esr_core.specs.Allowed as allowed
 use Rattle.esr_core.specs.Allowed.{RestoreAllows, CloneAllows, DeleteAllows, CleanupAllows, ReadAllows, VerifyAllows, PruneAllows, Allows, Blocks, Allowed}
 use Rattle.esr_core.specs.History.{world_from}
 use Rattle.esr_core.specs.Refusing.{MayRefuse, InCleanup, InUse, InFull, NoIdForAsk, AskFault, CloneInUse, NoSource, SourceInDelete, NoSuchIndex, CloneInFull, NoIdForClone, AskCloneFault, NotNamed, CloneStands, RestoreStands, FullOfOps, AskDeleteFault, OpStands, TicketStands, AskCleanupFault, NotListed, NamedByDelete, FullOfRestores, NoIds, BeginFault, CommitFault, CommitTaken, LatestFault, FetchFault, ListFault, RaiseFault, RaiseStale, RaiseSpent, SettleFault, SettleStale, DropFault, DropStale, ElectFault, NoTerms, ReadFault, NoTestId, BeginTestFault, CommitTestFault, TestTaken, RemoveFault, RefusedSo, SwapFailed, FetchShardFault, NoPlanIds, SettleDeleteFault, SettleDeleteStale, RemoveDoomedFault}
-use Rattle.esr_core.proofs.AskedDeletes.{delete_leaves}
+use Rattle.esr_core.specs.Laws.DeleteAsks.{delete_leaves}
 
 -- ---- refusals
 
@@ -94,7 +94,7 @@ module _ (f : Formats) (size : ℕ) (w : World) where
   refused_by who step refusal image (allowed.DropFails k im d same) = DropFault
   refused_by who step refusal image (allowed.ElectFails im room same) = ElectFault
 
-same_refusal : (a b : Refusal) → Refused a ≡ Refused b → a ≡ b
+pub same_refusal : (a b : Refusal) → Refused a ≡ Refused b → a ≡ b
 same_refusal a b e = cc
 
 pub refused_so : (f : Formats) (size : ℕ) (w : World) (m : Moment) (refusal : Refusal) → Allowed f size w m → m.entry.reply ≡ Refused refusal → RefusedSo w m.entry.who m.entry.step refusal

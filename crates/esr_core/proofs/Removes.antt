@@ -7,9 +7,11 @@ use Rattle.esr_model.specs.Image.{Blobs, Has}
 use Rattle.esr_core.specs.World.{World, HeldIn, Safely, ledger_of}
 use Rattle.esr_core.specs.Steps.{Removes, Remove}
 use Rattle.esr_core.specs.Sound.{Sound}
-use Rattle.esr_core.proofs.Frames.{picked_kept, stands_kept, ticket_kept}
+use Rattle.esr_core.specs.Laws.BlobFrames.{stands_kept}
+use Rattle.esr_core.proofs.Frames.{picked_kept, ticket_kept}
 use Rattle.esr_core.proofs.Grows.{carried_kept}
-use Rattle.esr_core.proofs.Reading.{held_one, safely_one}
+use Rattle.esr_core.specs.Laws.OneValue.{held_one}
+use Rattle.esr_core.proofs.Reading.{safely_one}
 
 module _ (f : Formats) (w : World) (shelf : List Shelved) (names : List BlobName) (l : Sound f w shelf) (doomed : (name : BlobName) → Has names name → Has w.doomed name) (now_blobs : Blobs) (removes : Removes f w.blobs now_blobs names) where
   abbrev now : BlobName → Bytes → Type 0

@@ -2,10 +2,11 @@
 use Rattle.std.proofs.Common.{◌≡◌, ◌⊎◌, ℕ, suc, ◌≤◌, List, [], ◌∷◌, ◌++◌, Bool, true, false, true≢false, Option, Some, None, refl, sym, ap, ◌∙◌, subst, inl, inr, arith}
 use Rattle.std.specs.Prelude.{if◌then◌else◌}
 use Rattle.std.specs.FinMap as fin
+use Rattle.std.proofs.lemmas.Option.{same_Some}
 use Rattle.esr_model.specs.Values.{ClusterRecord, ReadsBack, Formats}
 use Rattle.esr_model.specs.Image.{Image}
 use Rattle.esr_core.specs.World.{World, Ticket, record_of}
-use Rattle.esr_core.specs.Entry.{Snapshot, Step, AskStep, RaiseStep, SettleStep, DroppedStep, ElectStep, DeposedAt, DepotFault, Reply, WasSettled, Refused, Moment, SettlePruned, PruneStep}
+use Rattle.esr_core.specs.Entry.{Snapshot, Step, AskStep, RaiseStep, SettleStep, DroppedStep, ElectStep, DepotFault, Reply, WasSettled, Refused, Moment, SettlePruned, PruneStep}
 use Rattle.esr_core.specs.Entry as entry
 use Rattle.esr_core.specs.After.{swaps_record, raised, settled_of, has_text, done_step, answered, after, delete_settled}
 use Rattle.esr_core.specs.Allowed as allowed
@@ -14,11 +15,10 @@ use Rattle.esr_core.specs.History.{world_from, IsLegal, is_settle}
 use Rattle.esr_core.specs.Left.{cut_off, Leaves, safe_in}
 use Rattle.esr_core.specs.Ranked.{Ranked}
 use Rattle.esr_core.specs.Tracked.{Tracked}
-use Rattle.esr_core.proofs.Reading.{some_same}
-use Rattle.esr_core.proofs.AskedDeletes.{delete_leaves}
-use Rattle.esr_core.proofs.Moments.{moment, settled_plain, delete_settled_plain}
-use Rattle.esr_core.proofs.Blocked.{blocked_stays}
-use Rattle.esr_core.proofs.Histories.{legal_parts}
+use Rattle.esr_core.specs.Laws.DeleteAsks.{delete_leaves}
+use Rattle.esr_core.specs.Laws.Moments.{moment, settled_plain, delete_settled_plain}
+use Rattle.esr_core.specs.Laws.Asides.{blocked_stays}
+use Rattle.esr_core.specs.Laws.Histories.{legal_parts}
 use Rattle.esr_core.proofs.Recording.{record_stays}
 use Rattle.esr_core.proofs.TrackingSteps.{tracked_step, tracked_history}
 use Rattle.esr_core.proofs.Ranking.{ranked_step, ranked_history}
@@ -117,8 +117,8 @@ deleted_safe f size w m t n a step reply there raised =
     let who : ℕ = m.entry.who in
     let allows : Allows f size w who m.entry.step m.entry.reply m.image = elim a.answered [ inl h ↦ h.1 | inr dead ↦ absurd (no_answer m.entry.reply dead.refusal reply dead.refused) ] in
     let s : SettlesDeletion f w who = by_answer (allows_pruned (subst (λ x. Allows f size w who (PruneStep SettlePruned) x m.image) reply (subst (λ x. Allows f size w who x m.entry.reply m.image) step allows))) in
-    let one : s.t ≡ t = some_same s.t t (sym s.may.out.there ∙ there) in
-    let same : s.n ≡ n = some_same s.n n (sym s.may.raised ∙ ap (λ (x : Ticket). x.raised) one ∙ raised) in
+    let one : s.t ≡ t = same_Some s.t t (sym s.may.out.there ∙ there) in
+    let same : s.n ≡ n = same_Some s.n n (sym s.may.raised ∙ ap (λ (x : Ticket). x.raised) one ∙ raised) in
     ap (λ x. (answered f w who x m.entry.reply m.image).safe) step
     ∙ ap (λ x. (answered f w who (PruneStep SettlePruned) x m.image).safe) reply
     ∙ ap (λ (x : World). x.safe) (delete_settled_plain f w who s.n s.t s.s s.may)

@@ -3,14 +3,14 @@ use Rattle.std.proofs.Common.{◌≡◌, ◌≢◌, ◌⊎◌, ℕ, ◌+◌, ◌
 use Rattle.std.specs.Cmp.{nat_cmp_total}
 use Rattle.std.specs.FinMap.{FinMap, nat_cmp-IsAntisymmetric}
 use Rattle.std.specs.FinMap as fin
+use Rattle.std.proofs.lemmas.Option.{same_Some}
 use Rattle.esr_model.specs.Names.{BlobName}
 use Rattle.esr_model.specs.Values.{Bytes, RootData, SnapInfo, ShardResult, Formats}
 use Rattle.esr_model.specs.Shelf.{Command}
 use Rattle.esr_model.specs.Cleanup.{BlobSize}
 use Rattle.esr_core.specs.World.{Op, Ticket, Shard}
 use Rattle.esr_core.specs.Generations.{BaseBelow, ShardLaw, FinalLaw, Carried}
-use Rattle.esr_core.proofs.Maps.{get_was, get_same, get_other, split}
-use Rattle.esr_core.proofs.Reading.{some_same}
+use Rattle.esr_core.specs.Laws.Maps.{get_was, get_same, get_other, split}
 
 pub record SameTicket (t v : Ticket) : Type 1 where
   pub work : v.work ≡ t.work
@@ -68,7 +68,7 @@ carried_same f has safe term root ops tickets k t v there s c =
           c.one_shard i j p.0 q.0 p.1 q.1 p.2 q.2 index shard p.3 q.3;
       held = λ o op z j e m state. let h = c.held o op z j e m state in elim (split nat_cmp_total nat_cmp-IsAntisymmetric j k) [
         | inl same ↦
-            let is : h.t ≡ t = some_same _ _ (sym h.there ∙ ap (fin.get tickets) same ∙ there) in
+            let is : h.t ≡ t = same_Some _ _ (sym h.there ∙ ap (fin.get tickets) same ∙ there) in
             record {
               t = v;
               there = ap (fin.get (fin.insert tickets k v)) same ∙ get_same nat_cmp_total nat_cmp-IsAntisymmetric tickets k v;

@@ -11,9 +11,6 @@ use Rattle.esr_core.specs.Swaps.{Rooted, SwapLaw, TicketLaw, IsUnsettled, Counts
 use Rattle.esr_core.proofs.Tickets.{each_ticket, swapping_was}
 use Rattle.esr_core.proofs.Commit.{written}
 
-some_same : {A : Type 0} (x y : A) → Some x ≡ Some y → x ≡ y
-some_same x y e = cc
-
 -- the new root stands, for the shelf with the command
 pub new_root : (f : Formats) (has : BlobName → Bytes → Type 0) (shelf : List Shelved) (names : List BlobName) (s : Swap) (n : ℕ) → ReadsBack f.root s.root → SwapLaw f has shelf names s
     → Has names (Root n) → ((m : BlobName) (b : Bytes) → Has s.own (m, b) → Has names m) → Stands f has n (shelf_after shelf s.commands)

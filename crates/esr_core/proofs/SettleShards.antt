@@ -1,22 +1,22 @@
 -- After a settle the generations of shards serve the new root.
-use Rattle.std.proofs.Common.{◌≡◌, ℕ, ◌≤◌, List, [], ◌∷◌, Option, Some, None, map, refl, sym, ap, ◌∙◌, subst, inl, inr, arith, nat_cmp}
+use Rattle.std.proofs.Common.{◌≡◌, ℕ, ◌≤◌, List, Option, Some, None, map, refl, sym, ap, ◌∙◌, subst, inl, inr, arith, nat_cmp}
 use Rattle.std.specs.Cmp.{nat_cmp_total}
 use Rattle.std.specs.FinMap.{FinMap, nat_cmp-IsAntisymmetric}
 use Rattle.std.specs.FinMap as fin
 use Rattle.esr_model.specs.Places.{shelf_places}
 use Rattle.esr_model.specs.Names.{BlobName, Snap}
 use Rattle.esr_model.specs.Values.{Bytes, IndexRef, RootSnap, RootData, SnapInfo, ShardResult, Formats}
-use Rattle.esr_model.specs.Shelf.{Command}
 use Rattle.esr_model.specs.Image.{Has, IsOne, Reads, Generation, ListsAs, index_at, at_shard_of}
-use Rattle.esr_model.specs.Finalize.{Finalizes, finalized_root, done_at}
-use Rattle.esr_core.specs.World.{Op, ShardWork, Work, Finalize, Swap, swap_of, Done, AllDone, info_of, metadata}
+use Rattle.esr_model.specs.Finalize.{Finalizes, done_at}
+use Rattle.esr_core.specs.World.{Op, ShardWork, Done, AllDone, info_of}
 use Rattle.esr_core.specs.Generations.{DoneAt, IsLive, IsOfShard, Carries, OpLaw, Together, Base}
-use Rattle.esr_core.proofs.Maps.{get_left}
+use Rattle.esr_core.specs.Laws.Maps.{get_left}
 use Rattle.esr_core.proofs.Ordered.{in_shelf_places}
-use Rattle.esr_core.proofs.Reading.{some_same, reads_one, Has-left, Has-append, Has-mapped}
-use Rattle.esr_core.proofs.Results.{done_of, found_done, done_found}
+use Rattle.esr_model.specs.Lists.{Has-left, Has-append, Has-mapped}
+use Rattle.esr_core.specs.Laws.OneValue.{reads_one}
+use Rattle.esr_core.specs.Laws.DoneShards.{done_of, found_done, done_found}
 use Rattle.esr_core.proofs.Owning.{OnWith, own_on, stands_on}
-use Rattle.esr_core.proofs.Staging.{larger_is, larger_old, larger_new}
+use Rattle.esr_core.specs.Laws.NewRoots.{larger_is, larger_old, larger_new}
 
 module _ (f : Formats) (has : BlobName → Bytes → Type 0) (root new : RootData) (ops : FinMap nat_cmp Op) (o : ℕ) (op : Op) (results : List ShardResult)
     (there : fin.get ops o ≡ Some op) (law : OpLaw f has root op) (done : AllDone op.shards results)
@@ -72,11 +72,6 @@ module _ (f : Formats) (has : BlobName → Bytes → Type 0) (root new : RootDat
   pub based : (index shard : ℕ) (base : Option ℕ) → Base f has root ops index shard base → Base f has new (fin.remove ops o) index shard base
   based index shard None h = λ g live. h g (live_was index shard g live)
   based index shard (Some base) h = (λ g live. h.0 g (live_was index shard g live), carried index shard base h.1)
-
--- the swap of a finalization
-pub of_swap : (f : Formats) (work : Work) (root : RootData) (s : Swap) → swap_of f work root ≡ Some s
-    → (info : SnapInfo) (results : List ShardResult) (made : Command) → work ≡ Finalize info results made → record { root = finalized_root root info results; own = metadata f info; commands = made ∷ [] } ≡ s
-of_swap f work root s e info results made is = some_same _ _ (ap (λ x. swap_of f x root) (sym is) ∙ e)
 
 -- the law of an open op, in the new root
 pub op_law : (f : Formats) (has : BlobName → Bytes → Type 0) (root new : RootData) (op : Op) (results : List ShardResult) (other : Op)

@@ -3,6 +3,7 @@ use Rattle.std.proofs.Common.{◌≡◌, ◌≢◌, ℕ, List, [], ◌∷◌, tr
 use Rattle.std.specs.Cmp.{nat_cmp_total}
 use Rattle.std.specs.FinMap.{nat_cmp-IsAntisymmetric}
 use Rattle.std.specs.FinMap as fin
+use Rattle.std.proofs.lemmas.Option.{same_Some}
 use Rattle.esr_model.specs.Names.{Snap}
 use Rattle.esr_model.specs.Values.{RootData, SnapInfo, ShardResult, Formats}
 use Rattle.esr_model.specs.Shelf.{Shelved, Command}
@@ -12,12 +13,13 @@ use Rattle.esr_core.specs.World.{World, Op, Work, Shard, Finalize, Ticket, Swap,
 use Rattle.esr_core.specs.Steps.{MaySettle, settled}
 use Rattle.esr_core.specs.Swaps.{Rooted, IsUnsettled, SwapLaw}
 use Rattle.esr_core.specs.Generations.{OpLaw, ShardLaw, FinalLaw, Carried}
-use Rattle.esr_core.proofs.Maps.{get_left, get_stays, get_was, get_other}
-use Rattle.esr_core.proofs.Reading.{some_same, held_one}
-use Rattle.esr_core.proofs.Results.{done_of, done_out}
-use Rattle.esr_core.proofs.Finalizing.{finalizes, root_one_each}
+use Rattle.esr_core.specs.Laws.Maps.{get_left, get_stays, get_was, get_other}
+use Rattle.esr_core.specs.Laws.OneValue.{held_one}
+use Rattle.esr_core.specs.Laws.DoneShards.{done_of}
+use Rattle.esr_core.proofs.Results.{done_out}
+use Rattle.esr_core.specs.Laws.NewRoots.{finalizes, root_one_each, of_swap}
 use Rattle.esr_core.proofs.Staging.{info_back}
-use Rattle.esr_core.proofs.SettleShards.{of_swap, op_law, carried, based, live_was}
+use Rattle.esr_core.proofs.SettleShards.{op_law, carried, based, live_was}
 
 abbrev pub CarriedIn : Formats → World → Type 0
 CarriedIn f w = Carried f (HeldIn f w) w.safe w.term w.root w.ops w.tickets
@@ -83,7 +85,7 @@ settles_shards f w shelf k n t s l c may present info results made work =
         differ e = cc
 
         apart : j ≢ k
-        apart same = differ (sym is ∙ ap (λ (x : Ticket). x.work) (some_same _ _ (sym may.out.there ∙ ap (fin.get w.tickets) (sym same) ∙ e)) ∙ its)
+        apart same = differ (sym is ∙ ap (λ (x : Ticket). x.work) (same_Some _ _ (sym may.out.there ∙ ap (fin.get w.tickets) (sym same) ∙ e)) ∙ its)
 
     shard_law : {info : SnapInfo} {results : List ShardResult} {made : Command} {new : RootData} (j : ℕ) (u : Ticket) → fin.get w.tickets j ≡ Some u → u.out ≡ true → (index shard : ℕ) → u.work ≡ Shard index shard
         → ShardLaw f (HeldIn f w) w.root w.ops j u index shard → (law : FinalLaw f w.root w.ops t info results made) → OpLaw f (HeldIn f w) w.root law.op
@@ -106,6 +108,6 @@ settles_shards f w shelf k n t s l c may present info results made work =
       where
         apart : u.op ≢ t.op
         apart same =
-            let one : old.op ≡ law.op = some_same _ _ (sym old.op_there ∙ ap (fin.get w.ops) same ∙ law.op_there) in
+            let one : old.op ≡ law.op = same_Some _ _ (sym old.op_there ∙ ap (fin.get w.ops) same ∙ law.op_there) in
             let (r, state, there) = done_of law.op.shards results law.done old.s (subst (λ (x : Op). Has x.shards old.s) one old.s_there) in
             done_out r j (sym state ∙ old.state)

@@ -4,43 +4,44 @@ use Rattle.std.specs.Prelude.{if◌then◌else◌}
 use Rattle.std.proofs.lemmas.Bool.{cases_order}
 use Rattle.std.specs.FinMap.{FinMap}
 use Rattle.std.specs.FinMap as fin
+use Rattle.std.proofs.lemmas.Option.{same_Some, none-some}
+use Rattle.esr_core.specs.Laws.NumberMaps.{was_in, left_in}
 use Rattle.esr_model.specs.Parts.{part_names}
 use Rattle.esr_model.specs.Names.{BlobName, Root, ShardIndex, File, Part}
 use Rattle.esr_model.specs.Reach.{Reached, ReachSnap, ReachMeta, ReachIndexMeta, ReachIndex, ReachShardSnap, ReachPart}
 use Rattle.esr_model.specs.Values.{RootSnap, RootData, SnapInfo, FileEntry, ShardFiles, ShardResult, Formats}
 use Rattle.esr_model.specs.Shelf.{Shelved, Command, shelf_after, names_uuid}
-use Rattle.esr_model.specs.Image.{Has, Generation, RootStands}
+use Rattle.esr_model.specs.Image.{Has, Generation, RootStands, RootIs}
 use Rattle.esr_core.specs.World.{World, Op, Deletion, ShardWork, Out, Work, Shard, Finalize, Deleting, Drop, Ticket, Swap, swap_of, ledger_of, info_of, HeldIn}
 use Rattle.esr_core.specs.Ready.{Idle, IsMaster, SwapIsOut}
 use Rattle.esr_core.specs.Steps.{MaySettle, settled}
 use Rattle.esr_core.specs.Turns.{SettleFinal, SettleDelete}
 use Rattle.esr_core.specs.Generations.{DoneAt, ListsOwn, IsOwn, FinalLaw, PlanLaw}
-use Rattle.esr_model.specs.Image.{RootIs}
 use Rattle.esr_core.specs.Swaps.{Rooted, IsUnsettled, SwapLaw, Counts}
 use Rattle.esr_core.specs.Doomed.{Dooms}
 use Rattle.esr_core.specs.Sound.{Sound}
 use Rattle.esr_core.specs.Queue.{Queue, Lawful, DeleteLaw, Shrinks, Lists}
 use Rattle.esr_model.specs.Finalize.{Finalizes, finalized_root}
-use Rattle.esr_core.proofs.Pieces.{in_parts}
-use Rattle.esr_core.proofs.Finalizing.{finalizes, root_one_each}
-use Rattle.esr_core.proofs.SettleShards.{of_swap}
-use Rattle.esr_core.proofs.Reading.{some_same, none_some, held_one, reads_one, safe_root_stands, Has-left}
+use Rattle.esr_core.specs.Laws.PartNames.{in_parts}
+use Rattle.esr_core.specs.Laws.NewRoots.{finalizes, root_one_each, of_swap}
+use Rattle.esr_model.specs.Lists.{Has-left}
+use Rattle.esr_core.specs.Laws.OneValue.{held_one, reads_one, safe_root_stands}
 use Rattle.esr_core.proofs.Opening.{root_carries}
 use Rattle.esr_core.proofs.Owning.{OnWith, lists_on, own_on}
 use Rattle.esr_core.proofs.Settle.{settles}
 use Rattle.esr_core.proofs.SettleWhole.{CarriedIn}
 use Rattle.esr_core.proofs.Dooming.{dooming_sound}
 use Rattle.esr_core.proofs.Law.{settle_law, fresh_same}
-use Rattle.esr_core.proofs.Queues.{was_in, left_in, Like, queue_ticket, queue_remove, queue_root, queue_ops}
+use Rattle.esr_core.proofs.Queues.{Like, queue_ticket, queue_remove, queue_root, queue_ops}
 
 pub like_settled : (t : Ticket) → Like t (record t { settled = true })
 like_settled t = record { op = refl; term = refl; out = λ e. e; settled = λ e. absurd (true≢false e); master = λ m. m; shard = λ s. s; drop = λ d. d }
 
 pub swap_master : (f : Formats) (work : Work) (root : RootData) (s : Swap) → swap_of f work root ≡ Some s → IsMaster work
-swap_master f (Shard i n) root s e = absurd (none_some s e)
+swap_master f (Shard i n) root s e = absurd (none-some s e)
 swap_master f (Finalize info rs made) root s e = tt
 swap_master f (Deleting uuids plan) root s e = tt
-swap_master f Drop root s e = absurd (none_some s e)
+swap_master f Drop root s e = absurd (none-some s e)
 
 module _ (f : Formats) (w : World) (shelf : List Shelved) (l : Lawful f w shelf) (k n : ℕ) (t : Ticket) (s : Swap) (may : MaySettle f w k n t s) (present : t.term ≡ w.term) where
   mine : SwapIsOut w.tickets w.term k
@@ -96,7 +97,7 @@ settle_final_lawful f w shelf l k n t s new h =
     no_drop : (j : ℕ) (u : Ticket) → fin.get w.tickets j ≡ Some u → u.out ≡ true → u.term ≡ w.term → u.work ≡ Drop → u.op ≢ t.op
     no_drop j u e out pres is same =
         let one : k ≡ j = (l.queue.drops j u e out pres is).alone k (record { t = t; there = h.may.out.there; out = h.may.out.out; op_is = sym same; counts = inr h.present }) in
-        let is_t : u ≡ t = some_same _ _ (sym e ∙ ap (fin.get w.tickets) (sym one) ∙ h.may.out.there) in
+        let is_t : u ≡ t = same_Some _ _ (sym e ∙ ap (fin.get w.tickets) (sym one) ∙ h.may.out.there) in
         differ (sym h.work ∙ ap (λ (x : Ticket). x.work) (sym is_t) ∙ is)
 
 module _ (f : Formats) (w : World) (shelf : List Shelved) (l : Lawful f w shelf) (k n : ℕ) (t : Ticket) (s : Swap) (new : World) (d : SettleDelete f w k n t s new) where
@@ -267,7 +268,7 @@ module _ (f : Formats) (w : World) (shelf : List Shelved) (l : Lawful f w shelf)
   queue_left : (b : Bool) → d.cleans ≡ b → Queue w.term s.root (fin.remove w.ops t.op) (if b then w.deletes else fin.remove w.deletes t.op) w.completed w.next_op (fin.insert w.tickets k (record t { settled = true }))
   queue_left false e = queue_settled f w shelf l k n t s d.may d.present listed (λ j u e out pres is same. elim (l.queue.drops j u e out pres is).stopped [
     | inl h ↦ l.queue.apart t.op h.0 law.deletion (ap (fin.get w.ops) (sym same) ∙ h.1) law.there
-    | inr h ↦ true≢false (sym h.2 ∙ ap (λ (x : Deletion). x.failed) (some_same _ _ (sym h.1 ∙ ap (fin.get w.deletes) same ∙ law.there)) ∙ law.unfailed)
+    | inr h ↦ true≢false (sym h.2 ∙ ap (λ (x : Deletion). x.failed) (same_Some _ _ (sym h.1 ∙ ap (fin.get w.deletes) same ∙ law.there)) ∙ law.unfailed)
   ])
   queue_left true e =
       let now : FinMap nat_cmp Ticket = fin.insert w.tickets k (record t { settled = true }) in

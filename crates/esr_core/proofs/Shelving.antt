@@ -2,6 +2,8 @@
 use Rattle.std.proofs.Common.{◌≡◌, ℕ, ◌<◌, ◌≤◌, List, [], ◌∷◌, ◌++◌, false, Some, map, refl, sym, ap, ◌∙◌, subst, inl, inr, arith, nat_cmp}
 use Rattle.std.specs.FinMap.{FinMap}
 use Rattle.std.specs.FinMap as fin
+use Rattle.std.proofs.lemmas.Option.{same_Some}
+use Rattle.esr_core.specs.Laws.NumberMaps.{was_in}
 use Rattle.esr_model.specs.Names.{Snap, ShardSnap}
 use Rattle.esr_model.specs.Values.{Bytes, Has, IndexRef, SnapInfo, FileEntry, ShardSnapshot, Formats}
 use Rattle.esr_model.specs.Shelf.{Shelved, ShelfShard, shelf_after}
@@ -16,10 +18,9 @@ use Rattle.esr_core.specs.After.{after}
 use Rattle.esr_core.specs.Turns.{ReadTurn, OpensRestore, HandsShard, ReadsMore, EndsShard, Calls, Turn, Deposes, Besides, commands_of}
 use Rattle.esr_core.specs.ReadLaw.{ReadLaw, ReadsShelved}
 use Rattle.esr_core.specs.History.{world_from, IsLegal, AreTold, commands_at, committed}
-use Rattle.esr_core.proofs.Reading.{some_same, held_one, safe_root_stands}
-use Rattle.esr_core.proofs.Queues.{was_in}
+use Rattle.esr_core.specs.Laws.OneValue.{held_one, safe_root_stands}
 use Rattle.esr_core.proofs.Determined.{pairs_one}
-use Rattle.esr_core.proofs.Restoring.{put_was}
+use Rattle.esr_core.specs.Laws.RestoreMaps.{put_was}
 use Rattle.esr_core.proofs.Turning.{turn_law}
 use Rattle.esr_core.proofs.ReadFrames.{OneContent, Frame, frame}
 use Rattle.esr_core.proofs.ListedInfo.{IsListedAs, listed_as, listed_info}
@@ -53,7 +54,7 @@ module _ (f : Formats) (w new : World) (one : OneContent f w.blobs new.blobs) wh
   shard_same : (u : ℕ) (place : IndexRef × ℕ) (a b : ShelfShard) → ShardStands f (HeldIn f w) w.root u place a → ShardStands f (HeldIn f new) new.root u place b → a ≡ b
   shard_same u place a b p q =
       let bytes : p.snap_reads.bytes ≡ q.snap_reads.bytes = one (ShardSnap place.0.id place.1 u) p.snap_reads.bytes q.snap_reads.bytes p.snap_reads.there.0 q.snap_reads.there.0 in
-      let same : p.snap ≡ q.snap = some_same _ _ (sym p.snap_reads.reads ∙ ap f.shard_snap.read bytes ∙ q.snap_reads.reads) in
+      let same : p.snap ≡ q.snap = same_Some _ _ (sym p.snap_reads.reads ∙ ap f.shard_snap.read bytes ∙ q.snap_reads.reads) in
       let files : a.files ≡ b.files = pairs_one _ _ (λ e (x : Bytes × Bytes) (y : Bytes × Bytes) h k. λ i. ((sym h.0 ∙ k.0) i, file_same place.0.id place.1 e x.1 y.1 h.1 k.1 i)) q.snap.files a.files b.files
       (subst (λ (s : ShardSnapshot). AllPairs (λ e file. (e.physical ≡ file.0) × FileStands f (HeldIn f w) place.0.id place.1 e file.1) s.files a.files) same p.files) q.files in
       λ i. record { index = (p.name_is ∙ sym q.name_is) i; number = (p.number_is ∙ sym q.number_is) i; files = files i }
@@ -63,7 +64,7 @@ module _ (f : Formats) (w new : World) (one : OneContent f w.blobs new.blobs) wh
       let p = listed_info f w shelf u a in
       let q = listed_info f new now u b in
       let bytes : p.bytes ≡ q.bytes = one (Snap u) p.bytes q.bytes p.there.0 q.there.0 in
-      let same : a.stands.info ≡ b.stands.info = some_same _ _ (sym p.reads ∙ ap f.info.read bytes ∙ q.reads) in
+      let same : a.stands.info ≡ b.stands.info = same_Some _ _ (sym p.reads ∙ ap f.info.read bytes ∙ q.reads) in
       let name : a.shelved.name ≡ b.shelved.name = a.stands.name_is ∙ sym a.stands.info_name ∙ ap (λ (x : SnapInfo). x.name) same ∙ b.stands.info_name ∙ sym b.stands.name_is in
       let shards : a.shelved.shards ≡ b.shelved.shards = pairs_one (ShardStands f (HeldIn f w) w.root u) (ShardStands f (HeldIn f new) new.root u) (shard_same u) (shelf_places b.stands.info.indices) a.shelved.shards b.shelved.shards
       (subst (λ (x : SnapInfo). AllPairs (ShardStands f (HeldIn f w) w.root u) (shelf_places x.indices) a.shelved.shards) same
@@ -72,7 +73,7 @@ module _ (f : Formats) (w new : World) (one : OneContent f w.blobs new.blobs) wh
       λ i. record { name = name i; uuid = (a.stands.uuid_is ∙ a.uuid_is ∙ sym b.uuid_is ∙ sym b.stands.uuid_is) i; shards = shards i }
 
 one_same : (f : Formats) (w : World) → OneContent f w.blobs w.blobs
-one_same f w name a b p q = some_same a b (sym p.0 ∙ q.0)
+one_same f w name a b p q = same_Some a b (sym p.0 ∙ q.0)
 
 -- two of the shelf with one uuid are one
 pub shelved_one : (f : Formats) (w : World) (shelf : List Shelved) → Law f w shelf → (x y : Shelved) → Has shelf x → Has shelf y → x.uuid ≡ y.uuid → x ≡ y

@@ -3,6 +3,8 @@ use Rattle.std.proofs.Common.{◌≡◌, ◌≢◌, ◌⊎◌, ℕ, zero, suc, L
 use Rattle.std.specs.Prelude.{if◌then◌else◌}
 use Rattle.std.specs.Cmp.Lexicographic.{nat_list_cmp_total}
 use Rattle.std.specs.FinMap as fin
+use Rattle.std.proofs.lemmas.Option.{same_Some, none-some}
+use Rattle.esr_core.specs.Laws.NumberMaps.{was_in, left_in}
 use Rattle.esr_model.specs.Names.{BlobName, Latest, ShardSnap}
 use Rattle.esr_model.specs.Values.{Bytes, Has, FileEntry, ShardSnapshot, ShardResult, Formats, files_told}
 use Rattle.esr_model.specs.Shelf.{Shelved, Create, shelf_after}
@@ -23,26 +25,21 @@ use Rattle.esr_core.specs.Allowed.{Allows, Allowed, DoneBy, DoneAs, Dones, Gives
 use Rattle.esr_core.specs.History.{IsLegal, AreTold, IsHonest, TellsShards, TellsHandedOut}
 use Rattle.esr_core.specs.Changes.{BlobsChange, NoBlobChange, NewBlob, NewLatest, Removal}
 use Rattle.esr_core.specs.Sources.{told_shard, told_from, IsOfSources, AreOfSources, HasUpload, HonestUploads}
-use Rattle.esr_core.proofs.Adds.{text_one}
-use Rattle.esr_core.proofs.Accepting.{in_all}
-use Rattle.esr_core.proofs.AskedDeletes.{aborts}
-use Rattle.esr_core.proofs.Besides.{Aside, aside_taken, aside_step}
+use Rattle.esr_core.specs.Laws.BlobFrames.{text_one}
+use Rattle.esr_core.specs.Laws.SnapshotOps.{in_all}
+use Rattle.esr_core.specs.Laws.DeleteAsks.{aborts}
+use Rattle.esr_core.specs.Laws.Asides.{Aside, aside_step, blocked_stays}
+use Rattle.esr_core.proofs.Besides.{aside_taken}
 use Rattle.esr_core.proofs.BlobChanges.{blobs_change}
-use Rattle.esr_core.proofs.Blocked.{blocked_stays}
-use Rattle.esr_core.proofs.Causes.{take_gave}
-use Rattle.esr_core.proofs.Evolving.{pending_done, failed_goes}
+use Rattle.esr_core.specs.Laws.TakeAnswers.{take_gave}
+use Rattle.esr_core.specs.Laws.ShardStates.{failed_goes, marked_is, GoesOn, goes_on, pending_done}
 use Rattle.esr_core.proofs.Histories.{Stepped, step_law}
-use Rattle.esr_core.proofs.Maps.{get_other, texts_same}
-use Rattle.esr_core.proofs.Marked.{marked_is}
-use Rattle.esr_core.proofs.Ops.{GoesOn}
-use Rattle.esr_core.proofs.Ordered.{Has-sorted}
-use Rattle.esr_core.proofs.Queues.{Ops, was_in, left_in}
-use Rattle.esr_core.proofs.Opening.{nothing}
-use Rattle.esr_core.proofs.Reading.{some_same, none_some, AllPairs-with, Has-mapped}
-use Rattle.esr_core.proofs.Results.{done_of as result_of}
+use Rattle.esr_core.specs.Laws.Maps.{get_other, texts_same, Ops, nothing}
+use Rattle.esr_core.specs.Laws.SortedLists.{Has-sorted}
+use Rattle.esr_model.specs.Lists.{AllPairs-with, Has-mapped}
+use Rattle.esr_core.specs.Laws.DoneShards.{done_of as result_of}
 use Rattle.esr_core.proofs.Stored.{StandsAs, stored_is}
 use Rattle.esr_core.proofs.Storing.{done_told}
-use Rattle.esr_core.proofs.TakeShard.{goes_on}
 
 -- ---- done shards as a history goes on
 
@@ -184,7 +181,7 @@ module _ (P : ℕ → ShardWork → Type 0) where
   step_done : (f : Formats) (w : World) (k : ℕ) (step : Step) (reply : Reply) (image : Option Image) → DoesNone step → HoldsOfDone w.ops → HoldsOfDone (done_step f w k step reply image).ops
   step_done f w k (AskStep (Snapshot name indices moment)) reply image other h = asked_done w name indices moment h
   step_done f w k (AskStep (Clone source name indices moment None)) reply image other h = h
-  step_done f w k (AskStep (Clone source name indices moment (Some taken))) reply image other h = put w.ops w.next_op (cloned_op w name moment taken) h (λ s r none m state. absurd (none_some taken.source (sym none)))
+  step_done f w k (AskStep (Clone source name indices moment (Some taken))) reply image other h = put w.ops w.next_op (cloned_op w name moment taken) h (λ s r none m state. absurd (none-some taken.source (sym none)))
   step_done f w k (AskStep (DeleteSnapshots names)) reply image other h = delete_done w names (waiting_delete w) (running_delete w (named_uuids w names)) h
   step_done f w k (AskStep (Restore name place)) (AcceptedRestore o uuid indices) image other h = h
   step_done f w k (AskStep Cleanup) reply image other h = h
@@ -245,14 +242,14 @@ which step = inr (λ r e. cc)
 
 -- a blob that is there before a step and after it has one text
 same_text : (f : Formats) (w : World) (step : Step) (now : Blobs) → BlobsChange f w step now → (name : BlobName) (a b : Bytes) → At f w.blobs name a → At f now name b → a ≡ b
-same_text f w step now (NoBlobChange same) name a b was is = some_same a b (sym was.0 ∙ ap (λ (x : Blobs). fin.get x (f.names.text name)) (sym same) ∙ is.0)
+same_text f w step now (NoBlobChange same) name a b was is = same_Some a b (sym was.0 ∙ ap (λ (x : Blobs). fin.get x (f.names.text name)) (sym same) ∙ is.0)
 same_text f w step now (NewBlob new bytes how stored absent is_now) name a b was is =
-    let apart : f.names.text name ≢ f.names.text new = λ e. none_some a (sym absent ∙ ap (fin.get w.blobs) (sym e) ∙ was.0) in
-    some_same a b (sym was.0 ∙ sym (get_other nat_list_cmp_total texts_same w.blobs (f.names.text new) bytes (f.names.text name) apart) ∙ ap (λ (x : Blobs). fin.get x (f.names.text name)) (sym is_now) ∙ is.0)
+    let apart : f.names.text name ≢ f.names.text new = λ e. none-some a (sym absent ∙ ap (fin.get w.blobs) (sym e) ∙ was.0) in
+    same_Some a b (sym was.0 ∙ sym (get_other nat_list_cmp_total texts_same w.blobs (f.names.text new) bytes (f.names.text name) apart) ∙ ap (λ (x : Blobs). fin.get x (f.names.text name)) (sym is_now) ∙ is.0)
 same_text f w step now (NewLatest bytes how named is_now) name a b was is =
     let apart : f.names.text name ≢ f.names.text Latest = λ e. was.1.1 (text_one f name Latest was.1.0 named e) in
-    some_same a b (sym was.0 ∙ sym (get_other nat_list_cmp_total texts_same w.blobs (f.names.text Latest) bytes (f.names.text name) apart) ∙ ap (λ (x : Blobs). fin.get x (f.names.text name)) (sym is_now) ∙ is.0)
-same_text f w step now (Removal names how removes) name a b was is = some_same a b (sym was.0 ∙ removes.left (f.names.text name) b is.0)
+    same_Some a b (sym was.0 ∙ sym (get_other nat_list_cmp_total texts_same w.blobs (f.names.text Latest) bytes (f.names.text name) apart) ∙ ap (λ (x : Blobs). fin.get x (f.names.text name)) (sym is_now) ∙ is.0)
+same_text f w step now (Removal names how removes) name a b was is = same_Some a b (sym was.0 ∙ removes.left (f.names.text name) b is.0)
 
 module _ (f : Formats) (old new : World) (one : (name : BlobName) (a b : Bytes) → At f old.blobs name a → At f new.blobs name b → a ≡ b) where
   parts_same : (names : List BlobName) (xs ys : List Bytes) → AllPairs (At f old.blobs) names xs → AllPairs (HeldIn f new) names ys → xs ≡ ys
@@ -289,7 +286,7 @@ module _ (f : Formats) (old new : World) (one : (name : BlobName) (a b : Bytes) 
       → (others : List (Bytes × Bytes)) → AllPairs (λ (e : FileEntry) (file : Bytes × Bytes). (e.physical ≡ file.0) × FileStands f (HeldIn f new) index shard e file.1) snap.files others → StandsAs f (At f new.blobs) index shard uuid files
   stands_again index shard uuid files h snap reads others stand =
       let text : h.reads.bytes ≡ reads.bytes = one (ShardSnap index shard uuid) h.reads.bytes reads.bytes h.reads.there reads.there.0 in
-      let same : h.snap ≡ snap = some_same h.snap snap (sym h.reads.reads ∙ ap f.shard_snap.read text ∙ reads.reads) in
+      let same : h.snap ≡ snap = same_Some h.snap snap (sym h.reads.reads ∙ ap f.shard_snap.read text ∙ reads.reads) in
       record {
         snap = snap;
         reads = record { bytes = reads.bytes; there = reads.there.0; reads = reads.reads };
@@ -318,7 +315,7 @@ module _ (f : Formats) (size : ℕ) (w : World) (shelf : List Shelved) (l : Law 
   place_is : (z : ShardWork) → Has d.op.shards z → z.state ≡ Out k → (z.ref.id ≡ r.index) × (z.number ≡ r.shard)
   place_is z m e =
       let h = l.lawful.sound.carried.held d.t.op d.op z k d.op_there m e in
-      let same : h.t ≡ d.t = some_same _ _ (sym h.there ∙ d.out.there) in
+      let same : h.t ≡ d.t = same_Some _ _ (sym h.there ∙ d.out.there) in
       places_same _ _ _ _ (sym h.work ∙ ap (λ (x : Ticket). x.work) same ∙ d.is)
     where
       places_same : (a b x y : ℕ) → Shard a b ≡ Shard x y → (a ≡ x) × (b ≡ y)
@@ -337,7 +334,7 @@ module _ (f : Formats) (size : ℕ) (w : World) (shelf : List Shelved) (l : Law 
       let b : DoneBy f size d.t r = subst (DoneAs f size d.t r) uploads d.done in
       let upload : HasUpload w = record { number = k; ticket = d.t; index = r.index; shard = r.shard; there = d.out.there; out = d.out.out; work = d.is; uploads = uploads } in
       let law = l.lawful.sound.carried.shards k d.t d.out.there d.out.out r.index r.shard d.is in
-      let uuid : d.t.uuid ≡ d.op.uuid = sym law.uuid_is ∙ ap (λ (x : Op). x.uuid) (some_same law.op d.op (sym law.op_there ∙ d.op_there)) in
+      let uuid : d.t.uuid ≡ d.op.uuid = sym law.uuid_is ∙ ap (λ (x : Op). x.uuid) (same_Some law.op d.op (sym law.op_there ∙ d.op_there)) in
       let place = place_is d.s d.s_there d.state in
       let stands : StandsAs f (At f w.blobs) r.index r.shard d.t.uuid files =
       done_told f size w shelf l k d.t d.out r d.is d.op d.op_there d.s d.s_there d.state none b (honest upload) d.place_is d.name_is (b.told (known k d.t r.index r.shard d.out.there d.out.out d.is uploads)) in
@@ -415,7 +412,7 @@ module _ (f : Formats) (w : World) (sourced : Sourced f w) (o : ℕ) (op : Op) (
 final_told : (f : Formats) (size : ℕ) (w : World) (m : Moment) → Allowed f size w m → Sourced f w → IsOfSources f w m
 final_told f size w m a sourced k o info results op reply there =
     let g : GivesFinalize f w o info results = (take_gave f size w m k o (GivenFinalize info results) a reply).gives in
-    let same : g.op ≡ op = some_same g.op op (sym g.ready.op_there ∙ there) in
+    let same : g.op ≡ op = same_Some g.op op (sym g.ready.op_there ∙ there) in
     made_told f w sourced o op there results (subst (λ (x : Op). AllDone x.shards results) same g.ready.done) op.source refl
 
 -- ---- over a history

@@ -1,49 +1,34 @@
 -- What a finalization stages: with its metadata added, the new root stands for the shelf with its snapshot.
-use Rattle.std.proofs.Common.{◌≡◌, ◌≢◌, ◌⊎◌, ℕ, ◌<◌, max, List, [], ◌∷◌, ◌++◌, Option, Some, None, map, refl, sym, ap, ◌∙◌, subst, inl, inr, arith, nat_cmp}
+use Rattle.std.proofs.Common.{◌≡◌, ◌≢◌, ℕ, ◌<◌, List, [], ◌∷◌, ◌++◌, Some, None, map, refl, sym, ap, ◌∙◌, subst, inl, inr, arith, nat_cmp}
 use Rattle.std.specs.FinMap.{FinMap}
 use Rattle.std.specs.FinMap as fin
 use Rattle.std.specs.List.{list_any}
 use Rattle.std.proofs.lemmas.Bool.Decides.{eqb_tells}
-use Rattle.esr_model.specs.Places.{shelf_places}
+use Rattle.esr_model.specs.Places.{shelf_places, comes_first, sorted_by}
 use Rattle.esr_model.specs.Names.{BlobName, Snap, Meta, IndexMeta, ShardSnap}
 use Rattle.esr_model.specs.Values.{Bytes, IndexRef, RootSnap, RootData, SnapInfo, FileEntry, ShardSnapshot, ShardResult, Kind, ReadsBack, Formats}
 use Rattle.esr_model.specs.Shelf.{Shelved, ShelfShard, is_of_one, shelved_at}
 use Rattle.esr_model.specs.Uploads.{same_bytes}
 use Rattle.esr_model.specs.Image.{Blobs, Has, AllPairs, IsOne, Reads, index_at, at_shard_of, ListsAs, FileStands, ShardStands, SnapStands, RootStands, global_of}
-use Rattle.esr_model.specs.Finalize.{Finalizes, larger, done_at}
+use Rattle.esr_model.specs.Finalize.{Finalizes, done_at}
 use Rattle.std.specs.Prelude.{sum_by, min, filter, ◌-◌, ◌^◌, ◌≤◌, ◌==◌}
-use Rattle.esr_model.specs.Places.{comes_first, sorted_by}
+use Rattle.std.proofs.lemmas.Bool.{cond-true, cond-false}
+use Rattle.std.proofs.lemmas.Option.{same_Some}
 use Rattle.esr_core.specs.Stored.{stored_files}
 use Rattle.esr_core.specs.World.{Op, ShardWork, Done, AllDone, info_of, comes_first_of, shelved_shard, shelved_of, index_names, metadata}
 use Rattle.esr_core.specs.Generations.{DoneAt, IsLive, Carries, AreFilesOf, DoneStands, AreIndicesBy, OpTexts, OpLaw}
 use Rattle.esr_core.specs.Swaps.{OrOwn}
-use Rattle.esr_core.proofs.Frames.{reads_kept, file_kept, snap_in, index_kept, AllPairs-map}
-use Rattle.esr_core.proofs.Results.{choose_true, choose_false, done_of}
+use Rattle.esr_model.specs.Lists.{AllPairs-map, AllPairs-with, Has-map, Has-mapped}
+use Rattle.esr_core.specs.Laws.BlobFrames.{reads_kept, file_kept, snap_in, index_kept}
+use Rattle.esr_core.specs.Laws.DoneShards.{done_of}
+use Rattle.esr_core.specs.Laws.NewRoots.{larger_is, larger_old, larger_new}
 use Rattle.esr_core.proofs.Owning.{stands_on}
-use Rattle.esr_core.proofs.Ordered.{Has-sorted, map-sorted, in_shelf_places}
-use Rattle.esr_core.proofs.Reading.{some_same, reads_one, AllPairs-snoc, AllPairs-with, Has-map, Has-mapped}
+use Rattle.esr_core.specs.Laws.SortedLists.{Has-sorted}
+use Rattle.esr_core.proofs.Ordered.{map-sorted, in_shelf_places}
+use Rattle.esr_core.specs.Laws.OneValue.{reads_one}
+use Rattle.esr_core.proofs.Reading.{AllPairs-snoc}
 use Rattle.esr_core.proofs.Stored.{stored_is}
 use Rattle.esr_core.proofs.Chosen.{apart-once, chosen_places, filter_pairs}
-
--- the larger of two is one of them, and not below either
-pub larger_is : (a b : Option ℕ) (g : ℕ) → larger a b ≡ Some g → (a ≡ Some g) ⊎ (b ≡ Some g)
-larger_is None b g e = inr e
-larger_is (Some x) None g e = inl e
-larger_is (Some x) (Some y) g e = let h : max x y ≡ g = some_same _ _ e in let k : (x ≡ g) ⊎ (y ≡ g) = grind arith in elim k [ inl p ↦ inl (ap Some p) | inr p ↦ inr (ap Some p) ]
-
-pub larger_old : (a b : Option ℕ) (g : ℕ) → a ≡ Some g → (now : ℕ) × (larger a b ≡ Some now) × ((now ≡ g) ⊎ ((g < now) × (b ≡ Some now)))
-larger_old a None g e = (g, ap (λ x. larger x None) e, inl refl)
-larger_old a (Some y) g e = (max g y, ap (λ x. larger x (Some y)) e, cases)
-  where
-    cases : (max g y ≡ g) ⊎ ((g < max g y) × (Some y ≡ Some (max g y)))
-    cases = let k : (max g y ≡ g) ⊎ ((g < y) × (max g y ≡ y)) = grind arith in elim k [ inl p ↦ inl p | inr p ↦ inr (omega (arith, p.0, p.1), ap Some (sym p.1)) ]
-
-pub larger_new : (a b : Option ℕ) (g : ℕ) → b ≡ Some g → (now : ℕ) × (larger a b ≡ Some now) × ((now ≡ g) ⊎ ((g < now) × (a ≡ Some now)))
-larger_new None b g e = (g, e, inl refl)
-larger_new (Some x) b g e = (max x g, ap (larger (Some x)) e, cases)
-  where
-    cases : (max x g ≡ g) ⊎ ((g < max x g) × (Some x ≡ Some (max x g)))
-    cases = let k : (max x g ≡ g) ⊎ ((g < x) × (max x g ≡ x)) = grind arith in elim k [ inl p ↦ inl p | inr p ↦ inr (omega (arith, p.0, p.1), ap Some (sym p.1)) ]
 
 module _ (f : Formats) (has : BlobName → Bytes → Type 0) (func : IsOne has) (own : List (BlobName × Bytes)) where
   abbrev Then : BlobName → Bytes → Type 0
@@ -66,7 +51,7 @@ module _ (f : Formats) (has : BlobName → Bytes → Type 0) (func : IsOne has) 
       let serves : ListsAs f has place.0.id place.1 now.0 snap.uuid = elim now.2 [
         | inl e ↦ subst (λ g. ListsAs f has place.0.id place.1 g snap.uuid) (sym e) (record { snap = s.snap; snap_reads = s.snap_reads; held = s.index; held_reads = s.index_reads; lists = s.lists })
         | inr up ↦ (carries place.0.id place.1 now.0 up.1).listed
-            (λ g h. let e : s.generation ≡ g = some_same _ _ (sym s.in_root ∙ h) in omega (arith, up.0))
+            (λ g h. let e : s.generation ≡ g = same_Some _ _ (sym s.in_root ∙ h) in omega (arith, up.0))
             snap listed (record { info = its; info_reads = its_reads; place = place; there = there; index_is = refl; shard_is = refl })
       ] in
       let same : serves.snap ≡ s.snap = reads_one has func (ShardSnap place.0.id place.1 snap.uuid) f.shard_snap serves.snap s.snap serves.snap_reads s.snap_reads in
@@ -155,10 +140,10 @@ pub listed_shelved : (f : Formats) (has : BlobName → Bytes → Type 0) (root :
 listed_shelved f has root [] shelf h z m u is = absurd m
 listed_shelved f has root (s ∷ snaps) [] h z m u is = absurd h
 listed_shelved f has root (s ∷ snaps) (y ∷ shelf) h z m u is = elim (eqb_tells y.uuid u) [
-  | inl t ↦ record { shelved = y; found = choose_true (y.uuid == u) (Some y) (shelved_at shelf u) t.0; snap = s; uuid_is = sym h.0.uuid_is ∙ t.1; stands = h.0 }
+  | inl t ↦ record { shelved = y; found = cond-true (y.uuid == u) (Some y) (shelved_at shelf u) t.0; snap = s; uuid_is = sym h.0.uuid_is ∙ t.1; stands = h.0 }
   | inr t ↦
       let x : IsShelved f has root shelf u = later t.1 m (λ n. listed_shelved f has root snaps shelf h.1 z n u is) in
-      record { shelved = x.shelved; found = choose_false (y.uuid == u) (Some y) (shelved_at shelf u) t.0 ∙ x.found; snap = x.snap; uuid_is = x.uuid_is; stands = x.stands }
+      record { shelved = x.shelved; found = cond-false (y.uuid == u) (Some y) (shelved_at shelf u) t.0 ∙ x.found; snap = x.snap; uuid_is = x.uuid_is; stands = x.stands }
 ]
   where
     later : (y.uuid ≡ u → ⊥) → Has (s ∷ snaps) z → (Has snaps z → IsShelved f has root shelf u) → IsShelved f has root shelf u

@@ -1,12 +1,14 @@
 -- What a shard's ticket wrote is the shard: its parts are the files, its index has the base's snapshots and its own.
-use Rattle.std.proofs.Common.{◌≡◌, ◌⊎◌, ℕ, zero, suc, ◌+◌, ◌-◌, ◌*◌, ◌/◌, ◌<◌, ◌≤◌, List, [], ◌∷◌, ◌++◌, length, Bool, true, false, true≢false, Option, Some, None, map, take, drop, refl, sym, ap, ◌∙◌, subst, inl, inr, arith}
-use Rattle.std.specs.Prelude.{if◌then◌else◌, ◌&&◌, leb}
+use Rattle.std.proofs.Common.{◌≡◌, ◌⊎◌, ℕ, zero, suc, ◌+◌, ◌-◌, ◌*◌, ◌/◌, ◌<◌, ◌≤◌, List, [], ◌∷◌, ◌++◌, length, true, false, true≢false, Option, Some, None, map, take, drop, refl, sym, ap, ◌∙◌, subst, inl, inr, arith}
+use Rattle.std.specs.Prelude.{if◌then◌else◌, leb}
 use Rattle.std.proofs.lemmas.Bool.Decides.{eqb_tells}
-use Rattle.std.proofs.lemmas.Bool.{eqb-true, le-leb}
+use Rattle.std.proofs.lemmas.Bool.{eqb-true, le-leb, cases_Bool, and_parts, cond-true, cond-false}
 use Rattle.std.proofs.lemmas.List.{take-append-drop, length-take-le, length-drop}
 use Rattle.std.proofs.Math.Nat.{div-mul-le_self, le-div_iff_mul-le}
 use Rattle.std.specs.Cmp.Lexicographic.{nat_list_cmp_total}
 use Rattle.std.specs.FinMap as fin
+use Rattle.std.proofs.lemmas.Option.{same_Some, none-some}
+use Rattle.esr_core.specs.Laws.Tests.{told}
 use Rattle.esr_model.specs.Names.{BlobName, ShardSnap, ShardIndex}
 use Rattle.esr_model.specs.Values.{Bytes, Has, FileEntry, SnapList, ShardFiles, ShardResult, Formats, or_no_files, files_told}
 use Rattle.esr_model.specs.Shelf.{Shelved}
@@ -23,24 +25,11 @@ use Rattle.esr_core.specs.Ids.{Law}
 use Rattle.esr_core.specs.Written.{WroteLaw}
 use Rattle.esr_core.specs.Allowed.{Based, DoneBy}
 use Rattle.esr_core.specs.History.{IsHonest}
-use Rattle.esr_core.proofs.Frames.{AllPairs-map, file_kept}
-use Rattle.esr_core.proofs.Maps.{split, texts_same}
-use Rattle.esr_core.proofs.Ordered.{put_by-Has, Has-put_by}
-use Rattle.esr_core.proofs.Reading.{some_same, none_some, Has-left, Has-right, Has-either}
-use Rattle.esr_core.proofs.Results.{choose_true, choose_false}
+use Rattle.esr_model.specs.Lists.{AllPairs-map, Has-left, Has-right, Has-either}
+use Rattle.esr_core.specs.Laws.BlobFrames.{file_kept}
+use Rattle.esr_core.specs.Laws.Maps.{split, texts_same}
+use Rattle.esr_core.specs.Laws.SortedLists.{put_by-Has, Has-put_by}
 use Rattle.esr_core.proofs.Stored.{StandsAs}
-
-bool_told : (b : Bool) → (b ≡ true) ⊎ (b ≡ false)
-bool_told true = inl refl
-bool_told false = inr refl
-
-told : {A : Type 0} (o : Option A) → (o ≡ None) ⊎ ((x : A) × (o ≡ Some x))
-told None = inl refl
-told (Some x) = inr (x, refl)
-
-both : (a b : Bool) → (a && b) ≡ true → (a ≡ true) × (b ≡ true)
-both true b e = (refl, e)
-both false b e = absurd (true≢false (sym e))
 
 same_is : (a b : Bytes) → same_bytes a b ≡ true → a ≡ b
 same_is a b e = elim (split nat_list_cmp_total texts_same a b) [ inl h ↦ h | inr h ↦ absurd (true≢false (sym e ∙ h.1)) ]
@@ -78,8 +67,8 @@ pieces_length size (suc (suc n)) bytes = ap suc (pieces_length size (suc n) (dro
 
 -- there is a part, and all but the last are full
 count_part : (len size : ℕ) → 0 < size → (n : ℕ) × (part_count len size ≡ suc n) × (n * size ≤ len)
-count_part len size some = elim (bool_told (leb len size)) [
-  | inl t ↦ (0, choose_true _ _ _ t, omega arith)
+count_part len size some = elim (cases_Bool (leb len size)) [
+  | inl t ↦ (0, cond-true _ _ _ t, omega arith)
   | inr t ↦
       let more : size < len = above len size t in
       let one : 1 ≤ (len + (size - 1)) / size = (le-div_iff_mul-le some).1 (omega (arith, more)) in
@@ -95,16 +84,16 @@ count_part len size some = elim (bool_told (leb len size)) [
 
     split_count : (q : ℕ) → (len + (size - 1)) / size ≡ q → 1 ≤ q → q * size ≤ len + (size - 1) → leb len size ≡ false → (n : ℕ) × (part_count len size ≡ suc n) × (n * size ≤ len)
     split_count zero e one whole t = absurd (omega (arith, one))
-    split_count (suc n) e one whole t = let m : suc n * size ≡ size + n * size = grind arith in (n, choose_false _ _ _ t ∙ e, omega (arith, m, whole, some))
+    split_count (suc n) e one whole t = let m : suc n * size ≡ size + n * size = grind arith in (n, cond-false _ _ _ t ∙ e, omega (arith, m, whole, some))
 
 names_length : (i k x p n : ℕ) → length (parts_from i k x p n) ≡ n
 names_length i k x p zero = refl
 names_length i k x p (suc n) = ap suc (names_length i k x (suc p) n)
 
 part_names_length : (i k : ℕ) (e : FileEntry) → length (part_names i k e) ≡ part_count e.len e.part_size
-part_names_length i k e = elim (bool_told (leb e.len e.part_size)) [
-  | inl t ↦ ap length (choose_true _ _ _ t) ∙ sym (choose_true _ _ _ t)
-  | inr t ↦ ap length (choose_false _ _ _ t) ∙ names_length i k e.name 0 (part_count e.len e.part_size)
+part_names_length i k e = elim (cases_Bool (leb e.len e.part_size)) [
+  | inl t ↦ ap length (cond-true _ _ _ t) ∙ sym (cond-true _ _ _ t)
+  | inr t ↦ ap length (cond-false _ _ _ t) ∙ names_length i k e.name 0 (part_count e.len e.part_size)
 ]
 
 -- what holds of each pair of two lists that are equally long
@@ -133,14 +122,14 @@ new_stands f has i k size next file some there =
 
 -- a reused entry is one of the base, and matches
 reused_is : (es : List FileEntry) (physical : Bytes) (len : ℕ) (digest : Bytes) (e : FileEntry) → reused es physical len digest ≡ Some e → Has es e × (e.physical ≡ physical) × (e.len ≡ len) × (e.digest ≡ digest)
-reused_is [] physical len digest e is = absurd (none_some e is)
-reused_is (x ∷ es) physical len digest e is = elim (bool_told (matches x physical len digest)) [
+reused_is [] physical len digest e is = absurd (none-some e is)
+reused_is (x ∷ es) physical len digest e is = elim (cases_Bool (matches x physical len digest)) [
   | inl t ↦
-      let same : x ≡ e = some_same _ _ (sym (choose_true _ _ _ t) ∙ is) in
-      let h = both _ _ t in
-      let g = both _ _ h.1 in
+      let same : x ≡ e = same_Some _ _ (sym (cond-true _ _ _ t) ∙ is) in
+      let h = and_parts _ _ t in
+      let g = and_parts _ _ h.1 in
       (inl same, ap (λ (y : FileEntry). y.physical) (sym same) ∙ same_is _ _ h.0, ap (λ (y : FileEntry). y.len) (sym same) ∙ eqb-true _ _ g.0, ap (λ (y : FileEntry). y.digest) (sym same) ∙ same_is _ _ g.1)
-  | inr t ↦ let (m, a, b, c) = reused_is es physical len digest e (sym (choose_false _ _ _ t) ∙ is) in (inr m, a, b, c)
+  | inr t ↦ let (m, a, b, c) = reused_is es physical len digest e (sym (cond-false _ _ _ t) ∙ is) in (inr m, a, b, c)
 ]
 
 next_up : (o : Option FileEntry) (next : ℕ) → next ≤ next_by o next
@@ -176,27 +165,27 @@ entry_from f size base (file ∷ files) next e m = go (reused_file f base file) 
 has_true : (es : List FileEntry) (e : FileEntry) → Has es e → has_entry es e.name ≡ true
 has_true [] e m = absurd m
 has_true (x ∷ es) e m = elim (eqb_tells x.name e.name) [
-  | inl h ↦ choose_true _ _ _ h.0
-  | inr h ↦ elim m [ inl same ↦ absurd (h.1 (ap (λ (y : FileEntry). y.name) same)) | inr rest ↦ choose_false _ _ _ h.0 ∙ has_true es e rest ]
+  | inl h ↦ cond-true _ _ _ h.0
+  | inr h ↦ elim m [ inl same ↦ absurd (h.1 (ap (λ (y : FileEntry). y.name) same)) | inr rest ↦ cond-false _ _ _ h.0 ∙ has_true es e rest ]
 ]
 
 has_false : (es : List FileEntry) (id : ℕ) → ((e : FileEntry) → Has es e → e.name < id) → has_entry es id ≡ false
 has_false [] id below = refl
 has_false (x ∷ es) id below = elim (eqb_tells x.name id) [
   | inl h ↦ absurd (let b : x.name < id = below x (inl refl) in omega (arith, b, h.1))
-  | inr h ↦ choose_false _ _ _ h.0 ∙ has_false es id (λ e m. below e (inr m))
+  | inr h ↦ cond-false _ _ _ h.0 ∙ has_false es id (λ e m. below e (inr m))
 ]
 
 more_has : (have : List FileEntry) (e x : FileEntry) → Has have x → Has (if has_entry have e.name then have else put_by id_first e have) x
-more_has have e x m = elim (bool_told (has_entry have e.name)) [
-  | inl t ↦ subst (λ l. Has l x) (sym (choose_true _ _ _ t)) m
-  | inr t ↦ subst (λ l. Has l x) (sym (choose_false _ _ _ t)) (put_by-Has id_first e x have (inr m))
+more_has have e x m = elim (cases_Bool (has_entry have e.name)) [
+  | inl t ↦ subst (λ l. Has l x) (sym (cond-true _ _ _ t)) m
+  | inr t ↦ subst (λ l. Has l x) (sym (cond-false _ _ _ t)) (put_by-Has id_first e x have (inr m))
 ]
 
 more_from : (have : List FileEntry) (e x : FileEntry) → Has (if has_entry have e.name then have else put_by id_first e have) x → (e ≡ x) ⊎ Has have x
-more_from have e x m = elim (bool_told (has_entry have e.name)) [
-  | inl t ↦ inr (subst (λ l. Has l x) (choose_true _ _ _ t) m)
-  | inr t ↦ Has-put_by id_first e x have (subst (λ l. Has l x) (choose_false _ _ _ t) m)
+more_from have e x m = elim (cases_Bool (has_entry have e.name)) [
+  | inl t ↦ inr (subst (λ l. Has l x) (cond-true _ _ _ t) m)
+  | inr t ↦ Has-put_by id_first e x have (subst (λ l. Has l x) (cond-false _ _ _ t) m)
 ]
 
 entries_keep : (es have : List FileEntry) (x : FileEntry) → Has have x → Has (with_entries have es) x
@@ -226,7 +215,7 @@ entries_there f size base (file ∷ files) next have keeps below e m =
       where
         added : Has (entry_by f size next file None ∷ entries_from f size base (suc next) files) e → Has (with_entries (if has_entry have next then have else put_by id_first (entry_by f size next file None) have) (entries_from f size base (suc next) files)) e
         added (inl same) = entries_keep (entries_from f size base (suc next) files) (if has_entry have next then have else put_by id_first (entry_by f size next file None) have) e
-            (subst (λ l. Has l e) (sym (choose_false _ _ _ (has_false have next below))) (put_by-Has id_first (entry_by f size next file None) e have (inl same)))
+            (subst (λ l. Has l e) (sym (cond-false _ _ _ (has_false have next below))) (put_by-Has id_first (entry_by f size next file None) e have (inl same)))
         added (inr later) = rest (suc next) (if has_entry have next then have else put_by id_first (entry_by f size next file None) have) (λ x h. more_has have (entry_by f size next file None) x (keeps x h))
             (λ x h. elim (more_from have (entry_by f size next file None) x h) [
               | inl same ↦ let n : next ≡ x.name = ap (λ (y : FileEntry). y.name) same in omega (arith, n)
@@ -364,7 +353,7 @@ module _ (f : Formats) (size : ℕ) (w : World) (shelf : List Shelved) (l : Law 
       let ticket = l.lawful.sound.carried.shards k t out.there out.out r.index r.shard is in
       let stands = (subst (Base f (HeldIn f w) w.root w.ops r.index r.shard) at ticket.base).1.stands in
       let reads = base_read g at in
-      let same : b.base ≡ stands.held = some_same _ _ (sym reads.reads ∙ ap f.shard_index.read (some_same _ _ (sym reads.there.0 ∙ stands.held_reads.there.0.0)) ∙ stands.held_reads.reads) in
+      let same : b.base ≡ stands.held = same_Some _ _ (sym reads.reads ∙ ap f.shard_index.read (same_Some _ _ (sym reads.there.0 ∙ stands.held_reads.there.0.0)) ∙ stands.held_reads.reads) in
       let (bytes, file) = stands.files e (subst (λ (h : ShardFiles). Has h.files e) same m) in
       (bytes, file_kept f (HeldIn f w) (At f w.blobs) (λ n c h. h.0) r.index r.shard e bytes file)
 
@@ -423,7 +412,7 @@ module _ (f : Formats) (size : ℕ) (w : World) (shelf : List Shelved) (l : Law 
   number_is : s.number ≡ r.shard
   number_is =
       let held = l.lawful.sound.carried.held t.op op s k op_there s_there state in
-      let same : held.t ≡ t = some_same _ _ (sym held.there ∙ out.there) in
+      let same : held.t ≡ t = same_Some _ _ (sym held.there ∙ out.there) in
       number_same _ _ _ _ (sym held.work ∙ ap (λ (x : Ticket). x.work) same ∙ is)
     where
       number_same : (a b c d : ℕ) → Shard a b ≡ Shard c d → b ≡ d

@@ -3,36 +3,26 @@ use Rattle.std.proofs.Common.{◌≡◌, ◌≢◌, ◌⊎◌, ℕ, suc, ◌<◌
 use Rattle.std.specs.Cmp.{nat_cmp_total}
 use Rattle.std.specs.FinMap.{nat_cmp-IsAntisymmetric}
 use Rattle.std.specs.FinMap as fin
+use Rattle.std.proofs.lemmas.Option.{same_Some}
 use Rattle.esr_model.specs.Names.{BlobName, Root, Snap, Meta, IndexMeta}
 use Rattle.esr_model.specs.Values.{Bytes, IndexRef, RootData, SnapInfo, ShardResult, ReadsBack, Formats}
 use Rattle.esr_model.specs.Shelf.{Shelved, Command, apply, shelf_after, is_of_one, copied_snap}
 use Rattle.esr_model.specs.Places.{shelf_places}
-use Rattle.esr_model.specs.Image.{Has, AllPairs, ShardStands, RootStands, global_of}
+use Rattle.esr_model.specs.Image.{Has, AllPairs, ShardStands, RootStands}
 use Rattle.esr_model.specs.Finalize.{Finalizes, finalized_root, done_at}
 use Rattle.esr_core.specs.World.{World, Op, ShardWork, Shard, Finalize, Deleting, Ticket, Swap, Done, AllDone, info_of, shelved_of, index_names, made_from, made_of, metadata, ledger_of, HeldIn}
 use Rattle.esr_core.specs.Steps.{TakeFinalize, final_ticket}
 use Rattle.esr_core.specs.Restores.{IsTestOf}
 use Rattle.esr_core.specs.Swaps.{Rooted, IsSwapping, SwapLaw, SwapShape, TicketLaw, OrOwn}
 use Rattle.esr_core.specs.Generations.{DoneAt, OpLaw, FinalLaw, PlanLaw, Carried}
-use Rattle.esr_core.proofs.Maps.{get_was, get_other}
-use Rattle.esr_core.proofs.Reading.{some_same, held_one, safe_root_stands, Has-mapped}
-use Rattle.esr_core.proofs.Results.{found_done, done_found}
+use Rattle.esr_core.specs.Laws.Maps.{get_was, get_other}
+use Rattle.esr_model.specs.Lists.{Has-mapped}
+use Rattle.esr_core.specs.Laws.OneValue.{held_one, safe_root_stands}
+use Rattle.esr_core.specs.Laws.DoneShards.{found_done, done_found}
+use Rattle.esr_core.specs.Laws.Metadata.{Kinds, IsIndex, IsMeta, IsSnap, kinds}
 use Rattle.esr_core.proofs.Staging.{listed_shelved, stored_shards, copied_shards, stage}
-use Rattle.esr_core.proofs.Finalizing.{finalizes, root_one_each}
+use Rattle.esr_core.specs.Laws.NewRoots.{finalizes, root_one_each}
 use Rattle.esr_core.proofs.Tickets.{each_ticket, swapping_new}
-
--- which blob of the metadata it is
-pub data Kinds (f : Formats) (info : SnapInfo) (name : BlobName) (b : Bytes) : Type 0 where
-  IsSnap : name ≡ Snap info.uuid → b ≡ f.info.text info → Kinds f info name b
-  IsMeta : name ≡ Meta info.uuid → b ≡ f.global.text (global_of info) → Kinds f info name b
-  IsIndex : (r : IndexRef) → Has info.indices r → name ≡ IndexMeta r.id info.uuid → b ≡ f.index_meta.text (record { index = r; uuid = info.uuid }) → Kinds f info name b
-
-pub kinds : (f : Formats) (info : SnapInfo) (name : BlobName) (b : Bytes) → Has (metadata f info) (name, b) → Kinds f info name b
-kinds f info name b (inl e) = IsSnap (sym (ap (λ (p : BlobName × Bytes). p.0) e)) (sym (ap (λ (p : BlobName × Bytes). p.1) e))
-kinds f info name b (inr (inl e)) = IsMeta (sym (ap (λ (p : BlobName × Bytes). p.0) e)) (sym (ap (λ (p : BlobName × Bytes). p.1) e))
-kinds f info name b (inr (inr m)) =
-    let (r, there, e) = Has-mapped {B = BlobName × Bytes} (λ (r : IndexRef). (IndexMeta r.id info.uuid, f.index_meta.text (record { index = r; uuid = info.uuid }))) info.indices (name, b) m in
-    IsIndex r there (sym (ap (λ (p : BlobName × Bytes). p.0) e)) (sym (ap (λ (p : BlobName × Bytes). p.1) e))
 
 one_kind : (f : Formats) (info : SnapInfo) → ((r q : IndexRef) → Has info.indices r → Has info.indices q → r.id ≡ q.id → r ≡ q) → (name : BlobName) (a b : Bytes) → Kinds f info name a → Kinds f info name b → a ≡ b
 one_kind f info one name a b (IsSnap n t) (IsSnap m u) = t ∙ sym u
@@ -173,11 +163,11 @@ module _ (f : Formats) (w : World) (shelf : List Shelved) (o : ℕ) (op : Op) (r
         term = le_refl w.term;
         raised = λ n e. absurd (cc);
         last = λ s i p n e. absurd (cc);
-        clean = λ s i c name b own. d.clean name b (subst (λ (x : Swap). Has x.own (name, b)) (sym (some_same _ _ i.is)) own);
+        clean = λ s i c name b own. d.clean name b (subst (λ (x : Swap). Has x.own (name, b)) (sym (same_Some _ _ i.is)) own);
         clean_root = λ n e le. absurd (cc);
         listed = λ n m. absurd m;
-        shape = λ s e. subst (SwapShape f) (some_same _ _ e) (metadata_shape f (info_of op results) (c.ops o op d.op_there).one_id its.root (made_of f w.blobs op) d.root_back);
-        swaps = λ s i counts. subst (SwapLaw f (HeldIn f w) shelf []) (some_same _ _ i.is) (record { staged = staged; noted = λ name b m h. absurd h; root_noted = λ n h. absurd h });
+        shape = λ s e. subst (SwapShape f) (same_Some _ _ e) (metadata_shape f (info_of op results) (c.ops o op d.op_there).one_id its.root (made_of f w.blobs op) d.root_back);
+        swaps = λ s i counts. subst (SwapLaw f (HeldIn f w) shelf []) (same_Some _ _ i.is) (record { staged = staged; noted = λ name b m h. absurd h; root_noted = λ n h. absurd h });
       }
 
   rooted_now : Rooted f (record w { tickets = fin.insert w.tickets w.next_ticket v; next_ticket = suc w.next_ticket }) shelf

@@ -1,52 +1,24 @@
 -- A shard that is taken keeps what holds of shards and ops.
-use Rattle.std.proofs.Common.{◌≡◌, ◌≢◌, ◌⊎◌, ℕ, ◌<◌, List, ◌==◌, ◌&&◌, Option, Some, None, refl, sym, ap, ◌∙◌, subst, inl, inr, arith, nat_cmp}
+use Rattle.std.proofs.Common.{◌≡◌, ◌≢◌, ◌⊎◌, ℕ, ◌<◌, List, Option, Some, None, refl, sym, ap, ◌∙◌, subst, inl, inr, arith, nat_cmp}
 use Rattle.std.specs.Cmp.{nat_cmp_total}
 use Rattle.std.specs.FinMap.{FinMap, nat_cmp-IsAntisymmetric}
 use Rattle.std.specs.FinMap as fin
-use Rattle.std.proofs.lemmas.Bool.Decides.{eqb_tells}
+use Rattle.std.proofs.lemmas.Option.{same_Some}
 use Rattle.esr_model.specs.Values.{IndexRef, SnapInfo, ShardResult, Formats}
 use Rattle.esr_model.specs.Shelf.{Command}
 use Rattle.esr_model.specs.Image.{Has}
-use Rattle.esr_core.specs.World.{World, Op, ShardWork, Pending, Out, Done, Shard, Finalize, Deleting, Ticket, Swap, HeldIn}
+use Rattle.esr_core.specs.World.{World, Op, ShardWork, Out, Shard, Finalize, Deleting, Ticket, Swap, HeldIn}
 use Rattle.esr_core.specs.Steps.{TakeShard, given, Largest, shard_ticket}
 use Rattle.esr_core.specs.Generations.{OpLaw, Base, ShardLaw, Carried}
-use Rattle.esr_core.proofs.Maps.{get_was, get_same, get_other}
-use Rattle.esr_core.proofs.Reading.{some_same, Has-map, Has-mapped}
-use Rattle.esr_core.proofs.Results.{choose_true, choose_false, done_of}
-use Rattle.esr_core.proofs.Ops.{shard_law_given, GoesOn, op_now, ops_now, op_was, live_was, on_with, carries_now, base_now, op_law_now, together_now}
+use Rattle.esr_core.specs.Laws.Maps.{get_was, get_same, get_other}
+use Rattle.esr_model.specs.Lists.{Has-map, Has-mapped}
+use Rattle.esr_core.specs.Laws.DoneShards.{done_of}
+use Rattle.esr_core.specs.Laws.ShardStates.{op_now, ops_now, op_was, live_was, out_same, pending_out, pending_done, given_is, goes_on}
+use Rattle.esr_core.proofs.Ops.{shard_law_given, on_with, carries_now, base_now, op_law_now, together_now}
 use Rattle.esr_core.proofs.Owning.{plan_on}
-
-out_same : {a b : ℕ} → Out a ≡ Out b → a ≡ b
-out_same e = cc
-
-pending_out : {a : ℕ} → Pending ≡ Out a → ⊥
-pending_out e = cc
-
-pending_done : {r : ShardResult} → Pending ≡ Done r → ⊥
-pending_done e = cc
-
-out_done : {a : ℕ} {r : ShardResult} → Out a ≡ Done r → ⊥
-out_done e = cc
 
 shard_deleting : {i n : ℕ} {us : List ℕ} {p : Option Swap} → Shard i n ≡ Deleting us p → ⊥
 shard_deleting e = cc
-
--- the one of this place goes to the ticket, the others stay
-pub given_is : (k i n : ℕ) (s : ShardWork) → ((s.ref.id ≡ i) × (s.number ≡ n) × (given k i n s ≡ record s { state = Out k })) ⊎ ((s.ref.id ≡ i → s.number ≡ n → ⊥) × (given k i n s ≡ s))
-given_is k i n s = elim (eqb_tells s.ref.id i) [
-  | inl a ↦ elim (eqb_tells s.number n) [
-    | inl b ↦ inl (a.1, b.1, choose_true _ _ _ (ap (λ x. x && (s.number == n)) a.0 ∙ b.0))
-    | inr b ↦ inr ((λ p q. b.1 q), choose_false _ _ _ (ap (λ x. x && (s.number == n)) a.0 ∙ b.0))
-  ]
-  | inr a ↦ inr ((λ p q. a.1 p), choose_false _ _ _ (ap (λ x. x && (s.number == n)) a.0))
-]
-
-pub goes_on : (k i n : ℕ) → GoesOn (given k i n)
-goes_on k i n = record {
-  ref = λ s. elim (given_is k i n s) [ inl h ↦ ap (λ (x : ShardWork). x.ref) h.2 | inr h ↦ ap (λ (x : ShardWork). x.ref) h.1 ];
-  number = λ s. elim (given_is k i n s) [ inl h ↦ ap (λ (x : ShardWork). x.number) h.2 | inr h ↦ ap (λ (x : ShardWork). x.number) h.1 ];
-  done = λ s r e. elim (given_is k i n s) [ inl h ↦ absurd (out_done (ap (λ (x : ShardWork). x.state) (sym h.2) ∙ e)) | inr h ↦ h.1 ];
-}
 
 module _ (f : Formats) (w : World) (o : ℕ) (op : Op) (s : ShardWork) (base : Option ℕ) (new : World) (d : TakeShard w o op s base new)
     (c : Carried f (HeldIn f w) w.safe w.term w.root w.ops w.tickets) (fresh : (k : ℕ) (t : Ticket) → fin.get w.tickets k ≡ Some t → k < w.next_ticket) where
@@ -145,7 +117,7 @@ module _ (f : Formats) (w : World) (o : ℕ) (op : Op) (s : ShardWork) (base : O
           | inr h ↦
               let l = c.finals j u h.1 out uns pres info results made is in
               let not_it : u.op ≢ o = λ same.
-              let one : l.op ≡ op = some_same _ _ (sym l.op_there ∙ ap (fin.get w.ops) same ∙ d.op_there) in
+              let one : l.op ≡ op = same_Some _ _ (sym l.op_there ∙ ap (fin.get w.ops) same ∙ d.op_there) in
               let (q, state, there) = done_of l.op.shards results l.done s (subst (λ (x : Op). Has x.shards s) (sym one) d.s_there) in
               pending_done (sym d.pending ∙ state) in
               record { op = l.op; op_there = get_other nat_cmp_total nat_cmp-IsAntisymmetric w.ops o now u.op not_it ∙ l.op_there; done = l.done; info_is = l.info_is; made_is = l.made_is; root_is = l.root_is }

@@ -2,6 +2,8 @@
 use Rattle.std.proofs.Common.{◌≡◌, ◌≢◌, ◌⊎◌, ℕ, suc, ◌<◌, ◌≤◌, List, [], true, true≢false, Option, Some, None, map, refl, sym, ap, ◌∙◌, subst, inl, inr, arith, le_refl, nat_cmp}
 use Rattle.std.specs.FinMap.{FinMap}
 use Rattle.std.specs.FinMap as fin
+use Rattle.std.proofs.lemmas.Option.{same_Some, none-some}
+use Rattle.esr_core.specs.Laws.NumberMaps.{was_in, other_in, same_in, split_at}
 use Rattle.esr_model.specs.Names.{BlobName, Root}
 use Rattle.esr_model.specs.Cleanup.{BlobSize, names_listed}
 use Rattle.esr_model.specs.Values.{Bytes, RootData, SnapInfo, ShardResult, Formats}
@@ -14,14 +16,16 @@ use Rattle.esr_core.specs.Turns.{TakeReadyShard, TakeReadyFinal, TakeDrop, TakeD
 use Rattle.esr_core.specs.Swaps.{Rooted, TicketLaw, IsSwapping}
 use Rattle.esr_core.specs.Generations.{Carried}
 use Rattle.esr_core.specs.Queue.{Queue, QueueIn, Lawful}
-use Rattle.esr_core.proofs.Reading.{some_same, none_some, Has-mapped}
-use Rattle.esr_core.proofs.Results.{done_of}
+use Rattle.esr_model.specs.Lists.{Has-mapped}
+use Rattle.esr_core.specs.Laws.DoneShards.{done_of}
 use Rattle.esr_core.proofs.Tickets.{each_ticket}
 use Rattle.esr_core.proofs.Take.{carried_new}
-use Rattle.esr_core.proofs.TakeShard.{taken_shard, given_is}
+use Rattle.esr_core.specs.Laws.ShardStates.{given_is, pending_done, out_done, out_pending}
+use Rattle.esr_core.proofs.TakeShard.{taken_shard}
 use Rattle.esr_core.proofs.Law.{take_law}
-use Rattle.esr_core.proofs.Queues.{was_in, other_in, same_in, split_at, Ops, queue_new}
-use Rattle.esr_core.proofs.Evolving.{free_of, all_done_back, pending_done, out_pending, out_done, out_up}
+use Rattle.esr_core.specs.Laws.Maps.{Ops}
+use Rattle.esr_core.proofs.Queues.{queue_new}
+use Rattle.esr_core.proofs.Evolving.{free_of, all_done_back, out_up}
 
 pub fresh_new : (tickets : FinMap nat_cmp Ticket) (next : ℕ) (v : Ticket) → ((k : ℕ) (t : Ticket) → fin.get tickets k ≡ Some t → k < next) → (j : ℕ) (u : Ticket) → fin.get (fin.insert tickets next v) j ≡ Some u → j < suc next
 fresh_new tickets next v fresh j u e = elim (was_in tickets next v j u e) [
@@ -32,18 +36,18 @@ fresh_new tickets next v fresh j u e = elim (was_in tickets next v j u e) [
 -- a ticket that has no swap yet
 module _ (f : Formats) (w : World) (shelf : List Shelved) (l : Rooted f w shelf) (v : Ticket) (none : swap f v ≡ None) (unraised : v.raised ≡ None) (unlisted : v.listed ≡ []) (present : v.term ≡ w.term) where
   no_swap : (s : Swap) → swap f v ≡ Some s → ⊥
-  no_swap s e = none_some s (sym none ∙ e)
+  no_swap s e = none-some s (sym none ∙ e)
 
   law : TicketLaw f (HeldIn f w) w.doomed (ledger_of w) shelf v
   law =
       record {
         term = subst (λ n. v.term ≤ n) present (le_refl v.term);
-        raised = λ n e. absurd (none_some n (sym unraised ∙ e));
+        raised = λ n e. absurd (none-some n (sym unraised ∙ e));
         last = λ s i. absurd (no_swap s i.is);
         shape = λ s e. absurd (no_swap s e);
         swaps = λ s i. absurd (no_swap s i.is);
         clean = λ s i. absurd (no_swap s i.is);
-        clean_root = λ n e. absurd (none_some n (sym unraised ∙ e));
+        clean_root = λ n e. absurd (none-some n (sym unraised ∙ e));
         listed = λ n m. absurd (subst (λ (xs : List BlobSize). Has (names_listed f xs) (Root n)) unlisted m);
       }
 
@@ -74,10 +78,10 @@ module _ (f : Formats) (w : World) (shelf : List Shelved) (l : Lawful f w shelf)
   goes_aside : (o : ℕ) (op : Op) → fin.get w.ops o ≡ Some op → Goes op → (j : ℕ) (u : Ticket) → fin.get w.tickets j ≡ Some u → u.out ≡ true → u.term ≡ w.term → u.work ≡ Drop → u.op ≡ o → ⊥
   goes_aside o op there goes j u e out pres is same = elim (l.queue.drops j u e out pres is).stopped [
     | inl h ↦
-        let one : h.0 ≡ op = some_same _ _ (sym h.1 ∙ ap (fin.get w.ops) same ∙ there) in
+        let one : h.0 ≡ op = same_Some _ _ (sym h.1 ∙ ap (fin.get w.ops) same ∙ there) in
         elim h.2 [
           | inl x ↦ true≢false (sym x ∙ ap (λ (z : Op). z.failed) one ∙ goes.unfailed)
-          | inr x ↦ none_some x.0 (sym goes.unaborted ∙ ap (λ (z : Op). z.aborted) (sym one) ∙ x.1)
+          | inr x ↦ none-some x.0 (sym goes.unaborted ∙ ap (λ (z : Op). z.aborted) (sym one) ∙ x.1)
         ]
     | inr h ↦ l.queue.apart o op h.0 there (ap (fin.get w.deletes) (sym same) ∙ h.1)
   ]
@@ -115,20 +119,20 @@ module _ (f : Formats) (w : World) (shelf : List Shelved) (l : Lawful f w shelf)
   delete_lawful d x new h = subst (λ x. Lawful f x shelf) (sym h.new_is) (record {
     sound = record {
       rooted = rooted_new f w shelf l.sound.rooted (deleting_ticket d x) refl refl refl refl w.ops;
-      carried = carried_plain f w l.sound.carried l.sound.fresh (deleting_ticket d x) (λ i n e. cc) (λ a b c e. cc) (λ us s e. none_some s (unplanned e));
+      carried = carried_plain f w l.sound.carried l.sound.fresh (deleting_ticket d x) (λ i n e. cc) (λ a b c e. cc) (λ us s e. none-some s (unplanned e));
       fresh = fresh_new w.tickets w.next_ticket (deleting_ticket d x) l.sound.fresh;
     };
     queue = queue_new w.term w.tickets w.next_ticket (deleting_ticket d x) w.root w.ops w.deletes w.completed w.next_op
-        (λ uuids plan e. record { deletion = x; there = h.ready.there; unfailed = h.ready.unfailed; first = h.ready.first; root_is = refl; planned = λ s is. absurd (none_some s (unplanned e ∙ is)); named = λ c us p z. sym (uuids_same z); keeps = λ s is. absurd (none_some s (unplanned e ∙ is)) })
+        (λ uuids plan e. record { deletion = x; there = h.ready.there; unfailed = h.ready.unfailed; first = h.ready.first; root_is = refl; planned = λ s is. absurd (none-some s (unplanned e ∙ is)); named = λ c us p z. sym (uuids_same z); keeps = λ s is. absurd (none-some s (unplanned e ∙ is)) })
         (λ e. absurd (differ e)) (λ m. h.ready.no_swap)
         (λ j u e out pres is same. elim (l.queue.drops j u e out pres is).stopped [
           | inl y ↦ l.queue.apart d y.0 x (ap (fin.get w.ops) (sym same) ∙ y.1) h.ready.there
-          | inr y ↦ true≢false (sym y.2 ∙ ap (λ (z : Deletion). z.failed) (some_same _ _ (sym y.1 ∙ ap (fin.get w.deletes) same ∙ h.ready.there)) ∙ h.ready.unfailed)
+          | inr y ↦ true≢false (sym y.2 ∙ ap (λ (z : Deletion). z.failed) (same_Some _ _ (sym y.1 ∙ ap (fin.get w.deletes) same ∙ h.ready.there)) ∙ h.ready.unfailed)
         ])
-        (λ m y there clean. absurd (true≢false (sym clean ∙ ap (λ (z : Deletion). z.clean) (some_same _ _ (sym there ∙ h.ready.there)) ∙ h.ready.deletes)))
+        (λ m y there clean. absurd (true≢false (sym clean ∙ ap (λ (z : Deletion). z.clean) (same_Some _ _ (sym there ∙ h.ready.there)) ∙ h.ready.deletes)))
         (λ j u e out m pres y there clean.
         let same : d ≡ u.op = (l.queue.lone u.op y there clean).1 d x h.ready.there in
-        true≢false (sym clean ∙ ap (λ (z : Deletion). z.clean) (some_same _ _ (sym there ∙ ap (fin.get w.deletes) (sym same) ∙ h.ready.there)) ∙ h.ready.deletes))
+        true≢false (sym clean ∙ ap (λ (z : Deletion). z.clean) (same_Some _ _ (sym there ∙ ap (fin.get w.deletes) (sym same) ∙ h.ready.there)) ∙ h.ready.deletes))
         l.queue;
   })
     where
@@ -145,15 +149,15 @@ module _ (f : Formats) (w : World) (shelf : List Shelved) (l : Lawful f w shelf)
   cleanup_lawful d x new h = subst (λ x. Lawful f x shelf) (sym h.new_is) (record {
     sound = record {
       rooted = rooted_new f w shelf l.sound.rooted (cleaning_ticket w d) refl refl refl refl w.ops;
-      carried = carried_plain f w l.sound.carried l.sound.fresh (cleaning_ticket w d) (λ i n e. cc) (λ a b c e. cc) (λ us s e. none_some s (unplanned e));
+      carried = carried_plain f w l.sound.carried l.sound.fresh (cleaning_ticket w d) (λ i n e. cc) (λ a b c e. cc) (λ us s e. none-some s (unplanned e));
       fresh = fresh_new w.tickets w.next_ticket (cleaning_ticket w d) l.sound.fresh;
     };
     queue = queue_new w.term w.tickets w.next_ticket (cleaning_ticket w d) w.root w.ops w.deletes w.completed w.next_op
-        (λ uuids plan e. record { deletion = x; there = h.ready.there; unfailed = h.ready.unfailed; first = λ p q lt e. h.ready.no_op p q e; root_is = refl; planned = λ s is. absurd (none_some s (unplanned e ∙ is)); named = λ c. absurd (true≢false c); keeps = λ s is. absurd (none_some s (unplanned e ∙ is)) })
+        (λ uuids plan e. record { deletion = x; there = h.ready.there; unfailed = h.ready.unfailed; first = λ p q lt e. h.ready.no_op p q e; root_is = refl; planned = λ s is. absurd (none-some s (unplanned e ∙ is)); named = λ c. absurd (true≢false c); keeps = λ s is. absurd (none-some s (unplanned e ∙ is)) })
         (λ e. absurd (differ e)) (λ m j a. h.ready.no_ticket j a.t a.there a.out)
         (λ j u e out pres is same. elim (l.queue.drops j u e out pres is).stopped [
           | inl y ↦ l.queue.apart d y.0 x (ap (fin.get w.ops) (sym same) ∙ y.1) h.ready.there
-          | inr y ↦ true≢false (sym y.2 ∙ ap (λ (z : Deletion). z.failed) (some_same _ _ (sym y.1 ∙ ap (fin.get w.deletes) same ∙ h.ready.there)) ∙ h.ready.unfailed)
+          | inr y ↦ true≢false (sym y.2 ∙ ap (λ (z : Deletion). z.failed) (same_Some _ _ (sym y.1 ∙ ap (fin.get w.deletes) same ∙ h.ready.there)) ∙ h.ready.unfailed)
         ])
         (λ m y there clean j u e out. h.ready.no_ticket j u e out)
         (λ j u e out m pres y there clean. h.ready.no_ticket j u e out)
@@ -181,10 +185,10 @@ module _ (f : Formats) (w : World) (shelf : List Shelved) (l : Lawful f w shelf)
       differ_drop e = cc
 
       master : (work : Work) (root : RootData) (s : Swap) → swap_of f work root ≡ Some s → IsMaster work
-      master (Shard i n) root s e = absurd (none_some s e)
+      master (Shard i n) root s e = absurd (none-some s e)
       master (Finalize info rs made) root s e = tt
       master (Deleting uuids plan) root s e = tt
-      master Drop root s e = absurd (none_some s e)
+      master Drop root s e = absurd (none-some s e)
 
       it : TakeFinalize f w o op results new
       it = record {
@@ -293,7 +297,7 @@ module _ (f : Formats) (w : World) (shelf : List Shelved) (l : Lawful f w shelf)
             | inr x ↦ inr x
             | inl x ↦ elim (split_at t.op o) [
               | inl same ↦
-                  let one : x.0 ≡ op = some_same _ _ (sym x.1 ∙ ap (fin.get w.ops) same ∙ d.ready.op_there) in
+                  let one : x.0 ≡ op = same_Some _ _ (sym x.1 ∙ ap (fin.get w.ops) same ∙ d.ready.op_there) in
                   inl (now, ap (fin.get now_ops) same ∙ same_in w.ops o now, elim x.2 [ inl fl ↦ inl (ap (λ (c : Op). c.failed) (sym one) ∙ fl) | inr ab ↦ inr (ab.0, ap (λ (c : Op). c.aborted) (sym one) ∙ ab.1) ])
               | inr apart ↦ inl (x.0, other_in w.ops o now t.op apart ∙ x.1, x.2)
             ]

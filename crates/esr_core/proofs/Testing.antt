@@ -15,11 +15,12 @@ use Rattle.esr_core.specs.Queue.{Lawful}
 use Rattle.esr_core.specs.Texts.{IsMetaOf}
 use Rattle.esr_core.specs.Ids.{OfUuid, OfId, DoomedIds, IdsIn, Law}
 use Rattle.esr_core.specs.Turns.{DrawTest, AddTest, TestTurn, DrawsTest, AddsTest, RemovesTests}
-use Rattle.esr_core.proofs.Maps.{get_was, texts_same}
-use Rattle.esr_core.proofs.Reading.{held_one, safely_one}
-use Rattle.esr_core.proofs.Frames.{picked_kept, stands_kept, swap_kept}
+use Rattle.esr_core.specs.Laws.Maps.{get_was, texts_same}
+use Rattle.esr_core.specs.Laws.OneValue.{held_one}
+use Rattle.esr_core.proofs.Reading.{safely_one}
+use Rattle.esr_core.specs.Laws.BlobFrames.{stands_kept, at_kept, at_was}
+use Rattle.esr_core.proofs.Frames.{picked_kept, swap_kept}
 use Rattle.esr_core.proofs.Grows.{carried_kept}
-use Rattle.esr_core.proofs.Adds.{at_kept, at_was}
 use Rattle.esr_core.proofs.Removes.{removed}
 use Rattle.esr_core.proofs.Below.{ids_up, ids_blobs, ids_doom}
 

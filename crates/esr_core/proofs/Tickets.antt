@@ -6,7 +6,7 @@ use Rattle.std.specs.FinMap as fin
 use Rattle.esr_model.specs.Values.{Formats}
 use Rattle.esr_core.specs.World.{Ticket, Swap}
 use Rattle.esr_core.specs.Swaps.{IsSwapping, IsUnsettled}
-use Rattle.esr_core.proofs.Maps.{get_was}
+use Rattle.esr_core.specs.Laws.Maps.{get_was}
 
 -- P holds of each ticket of a map in which one is given anew
 pub each_ticket : (P : Ticket → Type 0) (m : FinMap nat_cmp Ticket) (k : ℕ) (v : Ticket)

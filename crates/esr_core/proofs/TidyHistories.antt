@@ -1,5 +1,6 @@
 -- Over a legal history from a tidy image the world stays tidy, and so do the images; so each delete dooms exactly what it leaves behind.
 use Rattle.std.proofs.Common.{◌≡◌, ℕ, zero, suc, true, false, true≢false, List, [], ◌∷◌, ◌++◌, Option, None, refl, sym, ap, ◌∙◌, subst, inl, inr}
+use Rattle.std.proofs.lemmas.Option.{same_Some, none-some}
 use Rattle.esr_model.specs.Names.{BlobName, Root}
 use Rattle.esr_model.specs.Values.{Bytes, RootData, ClusterRecord, ReadsBack, Formats}
 use Rattle.esr_model.specs.Shelf.{Shelved, shelf_after}
@@ -11,16 +12,17 @@ use Rattle.esr_core.specs.Ids.{Law}
 use Rattle.esr_core.specs.Entry.{SettlePruned, PruneStep, Reply, Moment}
 use Rattle.esr_core.specs.After.{after}
 use Rattle.esr_core.specs.Allowed as allowed
-use Rattle.esr_core.specs.Allowed.{Settles, SettlesDeletion, PruneAllows, Allows, Allowed}
+use Rattle.esr_core.specs.Allowed.{SettlesDeletion, PruneAllows, Allows, Allowed}
 use Rattle.esr_core.specs.History.{world_from, IsLegal, AreTold, committed, counts}
 use Rattle.esr_core.specs.Left.{cut_off, Leaves}
 use Rattle.esr_core.specs.Tidy.{TidyRoot, TidyIn, TidyImage, DoomsExactly}
-use Rattle.esr_core.proofs.Reading.{some_same, none_some, reads_one, held_one}
+use Rattle.esr_core.specs.Laws.OneValue.{reads_one, held_one}
 use Rattle.esr_core.proofs.Grows.{root_is_kept}
-use Rattle.esr_core.proofs.Opening.{nothing}
+use Rattle.esr_core.specs.Laws.Maps.{nothing}
 use Rattle.esr_core.proofs.Lists.{opening_law}
 use Rattle.esr_core.proofs.Blocked.{block_uncounted}
-use Rattle.esr_core.proofs.Histories.{Stepped, step_law, legal_law, image_is, legal_parts, told_parts}
+use Rattle.esr_core.specs.Laws.Histories.{legal_parts, told_parts}
+use Rattle.esr_core.proofs.Histories.{Stepped, step_law, legal_law, image_is}
 use Rattle.esr_core.proofs.Left.{allows_pruned}
 use Rattle.esr_core.proofs.PruneTurns.{was_reached, is_left}
 use Rattle.esr_core.proofs.DoomsAll.{dooms_all, dooms_root}
@@ -42,11 +44,11 @@ legal_tidy f size (m ∷ log) w shelf l tidy legal told =
 -- ---- images
 
 pub empty_tidy : (f : Formats) (image : Image) → image.text ≡ None → TidyImage f image
-empty_tidy f image none = λ text cluster root there. absurd (none_some text (sym none ∙ there))
+empty_tidy f image none = λ text cluster root there. absurd (none-some text (sym none ∙ there))
 
 pub opened_tidy : (f : Formats) (image : Image) (w : World) → TidyImage f image → Opened f image w → TidyIn f w
 opened_tidy f image w tidy (OpenedEmpty e) = record {
-  rooted = record { used = λ x m. absurd m; lists = λ i k g gen. absurd (none_some g gen) };
+  rooted = record { used = λ x m. absurd m; lists = λ i k g gen. absurd (none-some g gen) };
   done = λ u i k g a. absurd (nothing a.number a.op a.there);
   bases = λ k t e. absurd (nothing k t e);
 }
@@ -56,8 +58,8 @@ opened_tidy f image w tidy (OpenedRecord cluster text root there reads is) = rec
   bases = λ k t e. absurd (nothing k t e);
 }
 
-at_one : (f : Formats) (blobs : Blobs) → IsOne (At f blobs)
-at_one f blobs name a b p q = some_same a b (sym p.0 ∙ q.0)
+pub at_one : (f : Formats) (blobs : Blobs) → IsOne (At f blobs)
+at_one f blobs name a b p q = same_Some a b (sym p.0 ∙ q.0)
 
 -- the safe root is one
 root_one : (f : Formats) (has : BlobName → Bytes → Type 0) → IsOne has → (safe : ℕ) (a b : RootData) → RootIs f has safe a → RootIs f has safe b → a ≡ b
@@ -67,8 +69,8 @@ root_one f has func (suc n) a b p q = reads_one has func (Root n) f.root a b p q
 -- what is doomed is there still, but no index that the safe root reaches
 image_tidy : (f : Formats) (w : World) (shelf : List Shelved) → Law f w shelf → TidyIn f w → ReadsBack f.cluster (record_of w) → TidyImage f (image_of f w)
 image_tidy f w shelf l tidy back = λ text cluster root there reads is.
-    let same_text : f.cluster.text (record_of w) ≡ text = some_same (f.cluster.text (record_of w)) text there in
-    let same : record_of w ≡ cluster = some_same (record_of w) cluster (sym back ∙ ap f.cluster.read same_text ∙ reads) in
+    let same_text : f.cluster.text (record_of w) ≡ text = same_Some (f.cluster.text (record_of w)) text there in
+    let same : record_of w ≡ cluster = same_Some (record_of w) cluster (sym back ∙ ap f.cluster.read same_text ∙ reads) in
     let own : RootIs f (At f w.blobs) w.safe w.root = root_is_kept f (HeldIn f w) (At f w.blobs) (at_one f w.blobs) (held_one f w) (λ name bytes h. h.0) w.safe w.root l.lawful.sound.carried.root_is in
     let told : RootIs f (At f w.blobs) w.safe root = subst (λ (c : ClusterRecord). RootIs f (At f w.blobs) c.ledger.safe root) (sym same) is in
     subst (λ (r : RootData). TidyRoot f (At f w.blobs) r) (root_one f (At f w.blobs) (at_one f w.blobs) w.safe w.root root own told) (record {

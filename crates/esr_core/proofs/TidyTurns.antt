@@ -2,6 +2,9 @@
 use Rattle.std.proofs.Common.{◌≡◌, ℕ, suc, ◌==◌, ◌&&◌, true, false, true≢false, List, [], ◌∷◌, ◌++◌, map, Option, Some, None, refl, sym, ap, ◌∙◌, subst, inl, inr, nat_cmp}
 use Rattle.std.specs.FinMap.{FinMap}
 use Rattle.std.specs.FinMap as fin
+use Rattle.std.proofs.lemmas.Option.{same_Some}
+use Rattle.std.proofs.lemmas.Bool.{cond-true, cond-false, cases_Bool}
+use Rattle.esr_core.specs.Laws.NumberMaps.{was_in, left_in}
 use Rattle.esr_model.specs.Names.{BlobName, ShardIndex}
 use Rattle.esr_model.specs.Values.{Bytes, IndexRef, RootSnap, RootIndex, RootData, SnapList, SnapInfo, ShardResult, IsOneEach, Formats}
 use Rattle.esr_model.specs.Shelf.{Shelved, Command}
@@ -18,16 +21,15 @@ use Rattle.esr_core.specs.Pruning.{IsPlanned, PruneLaw, pruned_shards}
 use Rattle.esr_core.specs.Ids.{Law}
 use Rattle.esr_core.specs.Turns.{Aborts, TakeReadyShard, SettleFinal, SettleDelete, Failed, AddTest, TestTurn, DrawsTest, AddsTest, RemovesTests, fails, fails_by, cleaning_ticket, Turn, Stays, Commits, CommitFails, Finds, Raises, Latests, Fetches, SettlesFinal, SettlesDelete, Elects, TakesShard, TakesFinal, TakesDrop, TakesDelete, TakesCleanup, AsksCleanup, CleanDrops, DrawsShard, DrawsPlan, Dones, Ending, Fails, FailsDelete, Drops, AsksCreate, AsksDelete, Merges, Removing, Pages, Deposes, Besides, Tests}
 use Rattle.esr_core.specs.Tidy.{IsInIndex, ListsListed, IsTidy, TidyRoot, Tidy, TidyIn}
-use Rattle.esr_core.proofs.Reading.{some_same, reads_one, held_one, safely_one, safe_root_stands, Has-map, Has-mapped, Has-append, Has-right}
-use Rattle.esr_core.proofs.Results.{choose_true, choose_false, found_done, done_out}
-use Rattle.esr_core.proofs.Deleting.{bool_told}
-use Rattle.esr_core.proofs.Frames.{reads_kept}
-use Rattle.esr_core.proofs.Adds.{at_kept, safe_kept}
-use Rattle.esr_core.proofs.Ordered.{in_places}
-use Rattle.esr_core.proofs.Queues.{was_in, left_in}
-use Rattle.esr_core.proofs.Finalizing.{finalizes, root_one_each}
-use Rattle.esr_core.proofs.Staging.{larger_is}
-use Rattle.esr_core.proofs.SettleShards.{of_swap}
+use Rattle.esr_model.specs.Lists.{Has-map, Has-mapped, Has-append, Has-right}
+use Rattle.esr_core.specs.Laws.OneValue.{reads_one, held_one, safe_root_stands}
+use Rattle.esr_core.proofs.Reading.{safely_one}
+use Rattle.esr_core.specs.Laws.DoneShards.{found_done}
+use Rattle.esr_core.proofs.Results.{done_out}
+use Rattle.esr_core.specs.Laws.BlobFrames.{reads_kept, at_kept}
+use Rattle.esr_core.proofs.Adds.{safe_kept}
+use Rattle.esr_core.specs.Laws.SortedLists.{in_places}
+use Rattle.esr_core.specs.Laws.NewRoots.{finalizes, root_one_each, larger_is, of_swap}
 use Rattle.esr_core.proofs.Law.{settle_law}
 use Rattle.esr_core.proofs.LatestPut.{keeps}
 use Rattle.esr_core.proofs.Founding.{found}
@@ -147,11 +149,11 @@ back_mapped g same shards z r m state =
     subst (Has shards) (sym (same x r (ap (λ (y : ShardWork). y.state) e ∙ state)) ∙ e) there
 
 given_done : (k i n : ℕ) (x : ShardWork) (r : ShardResult) → (given k i n x).state ≡ Done r → given k i n x ≡ x
-given_done k i n x r state = elim (bool_told ((x.ref.id == i) && (x.number == n))) [
+given_done k i n x r state = elim (cases_Bool ((x.ref.id == i) && (x.number == n))) [
   | inl b ↦
-      let now : given k i n x ≡ record x { state = Out k } = choose_true _ _ _ b in
+      let now : given k i n x ≡ record x { state = Out k } = cond-true _ _ _ b in
       absurd (done_out r k (sym state ∙ ap (λ (y : ShardWork). y.state) now))
-  | inr b ↦ choose_false _ _ _ b
+  | inr b ↦ cond-false _ _ _ b
 ]
 
 up_done : (r : ShardResult) → GivenUp ≡ Done r → ⊥
@@ -162,11 +164,11 @@ pending_done r e = cc
 
 fails_done : (k : ℕ) (x : ShardWork) (st : ShardState) (r : ShardResult) → (fails_by k x st).state ≡ Done r → fails_by k x st ≡ x
 fails_done k x Pending r state = absurd (up_done r state)
-fails_done k x (Out j) r state = elim (bool_told (j == k)) [
+fails_done k x (Out j) r state = elim (cases_Bool (j == k)) [
   | inl b ↦
-      let now : fails_by k x (Out j) ≡ record x { state = GivenUp } = choose_true _ _ _ b in
+      let now : fails_by k x (Out j) ≡ record x { state = GivenUp } = cond-true _ _ _ b in
       absurd (up_done r (sym (ap (λ (y : ShardWork). y.state) now) ∙ state))
-  | inr b ↦ choose_false _ _ _ b
+  | inr b ↦ cond-false _ _ _ b
 ]
 fails_done k x (Done q) r state = refl
 fails_done k x GivenUp r state = refl
@@ -250,7 +252,7 @@ module _ (f : Formats) (w : World) (shelf : List Shelved) (l : Law f w shelf) (t
     -- the op's own snapshot isn't listed
     own_unlisted : (u : SnapList) (z : RootSnap) → u.uuid ≡ d.t.uuid → Has w.root.snapshots z → u.uuid ≡ z.uuid → ⊥
     own_unlisted u z own there e =
-        let uuid : d.op.uuid ≡ d.t.uuid = ap (λ (x : Op). x.uuid) (some_same _ _ (sym d.op_there ∙ law.op_there)) ∙ law.uuid_is in
+        let uuid : d.op.uuid ≡ d.t.uuid = ap (λ (x : Op). x.uuid) (same_Some _ _ (sym d.op_there ∙ law.op_there)) ∙ law.uuid_is in
         (c.ops d.t.op d.op d.op_there).unlisted z there (sym e ∙ own ∙ sym uuid)
 
     by_base : (base : Option ℕ) → d.t.base ≡ base → ExtendsBase f (HeldIn f w) r.index r.shard base d.held d.t.uuid d.snap.files → ListsListed w.root r.index d.held

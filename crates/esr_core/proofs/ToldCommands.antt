@@ -4,6 +4,8 @@ use Rattle.std.specs.Prelude.{nat_lt, ◌&&◌, if◌then◌else◌}
 use Rattle.std.specs.Cmp.{nat_cmp_total}
 use Rattle.std.specs.FinMap.{FinMap, nat_cmp-IsAntisymmetric}
 use Rattle.std.specs.FinMap as fin
+use Rattle.std.proofs.lemmas.Bool.{and_parts}
+use Rattle.std.proofs.lemmas.Option.{same_Some}
 use Rattle.esr_model.specs.Values.{Has, SnapInfo, ShardResult, Formats}
 use Rattle.esr_model.specs.Shelf.{Shelved, Command, Create, shelf_after}
 use Rattle.esr_model.specs.Image.{Image}
@@ -21,13 +23,12 @@ use Rattle.esr_core.specs.Changes.{StepChange, NoChange, NewOp, NewDeletion, Mer
 use Rattle.esr_core.specs.Sources.{told_snap, told_from, told_command, IsOfSources, AreOfSources, IsOfOp, AreOfOps}
 use Rattle.esr_core.proofs.Besides.{aside_taken}
 use Rattle.esr_core.proofs.Blocked.{blocked_none}
-use Rattle.esr_core.proofs.Changes.{change_of}
+use Rattle.esr_core.specs.Laws.ChangeLaws.{change_of}
 use Rattle.esr_core.proofs.Histories.{step_law}
 use Rattle.esr_core.proofs.Left.{allows_pruned}
-use Rattle.esr_core.proofs.Maps.{get_same, get_was}
-use Rattle.esr_core.proofs.Opening.{nothing}
-use Rattle.esr_core.proofs.Reading.{some_same, Has-either}
-use Rattle.esr_core.proofs.StepFrames.{step_frame}
+use Rattle.esr_core.specs.Laws.Maps.{get_same, get_was, nothing}
+use Rattle.esr_model.specs.Lists.{Has-either}
+use Rattle.esr_core.specs.Laws.StepFrames.{step_frame}
 use Rattle.esr_core.proofs.TidyHistories.{settles_delete}
 
 no_shard : (index number : ℕ) (info : SnapInfo) (results : List ShardResult) (made : Command) → Shard index number ≡ Finalize info results made → ⊥
@@ -97,7 +98,7 @@ takes step = inr (λ e. cc)
 -- for the ticket of a finalization under the next number
 module _ (f : Formats) (w : World) (free : IsFree w) (v : Ticket) (info : SnapInfo) (results : List ShardResult) (made : Command) (is : v.work ≡ Finalize info results made) where
   new_work : (t : Ticket) → fin.get (fin.insert w.tickets w.next_ticket t) w.next_ticket ≡ Some v → t.work ≡ Finalize info results made
-  new_work t e = ap (λ (x : Ticket). x.work) (some_same t v (sym (get_same nat_cmp_total nat_cmp-IsAntisymmetric w.tickets w.next_ticket t) ∙ e)) ∙ is
+  new_work t e = ap (λ (x : Ticket). x.work) (same_Some t v (sym (get_same nat_cmp_total nat_cmp-IsAntisymmetric w.tickets w.next_ticket t) ∙ e)) ∙ is
 
   no_taken_shard : (o : ℕ) (op : Op) (base : Option ℕ) (s : Option ShardWork) → fin.get (taken_shard w o op base s).tickets w.next_ticket ≡ Some v → ⊥
   no_taken_shard o op base None e = free v e
@@ -142,10 +143,6 @@ module _ (f : Formats) (w : World) (free : IsFree w) (v : Ticket) (info : SnapIn
 of_cond : (b : Bool) (cs : List Command) (c : Command) → Has (if b then cs else []) c → (b ≡ true) × Has cs c
 of_cond true cs c h = (refl, h)
 of_cond false cs c h = absurd h
-
-both_true : (a b : Bool) → (a && b) ≡ true → (a ≡ true) × (b ≡ true)
-both_true true b e = (refl, e)
-both_true false b e = absurd (true≢false (sym e))
 
 settles : (step : Step) → is_settle step ≡ true → (step ≡ SettleStep) ⊎ (step ≡ PruneStep SettlePruned)
 settles SettleStep e = inl refl
@@ -227,21 +224,21 @@ module _ (f : Formats) (size : ℕ) (Told : Shelved → Type 0) where
       → HasCommand f w who (Create snap) → Told snap
   settled_told w who step reply image a counted (inl e) finals snap h =
       let st : Settles f w who = settles_final (subst (λ (x : Step). Allows f size w who x reply image) e a) counted in
-      let same : h.t ≡ st.t = some_same h.t st.t (sym h.there ∙ st.may.out.there) in
+      let same : h.t ≡ st.t = same_Some h.t st.t (sym h.there ∙ st.may.out.there) in
       let work : h.t.work ≡ Finalize st.info st.results st.made = ap (λ (x : Ticket). x.work) same ∙ st.work in
       let commands : h.s.commands ≡ st.made ∷ [] = ap commands_in (sym h.is ∙ ap (λ (x : Work). swap_of f x h.t.root) work) in
       subst (IsTold Told) (one_command st.made (Create snap) (subst (λ (cs : List Command). Has cs (Create snap)) commands h.has)) (finals who h.t st.info st.results st.made h.there work)
   settled_told w who step reply image a counted (inr e) finals snap h =
       let sd : SettlesDeletion f w who = (settles_delete (allows_pruned (subst (λ (x : Step). Allows f size w who x reply image) e a)) counted).0 in
-      let same : h.t ≡ sd.t = some_same h.t sd.t (sym h.there ∙ sd.may.out.there) in
-      let swaps : h.s ≡ sd.s = some_same h.s sd.s (sym h.is ∙ ap (swap f) same ∙ sd.may.is) in
+      let same : h.t ≡ sd.t = same_Some h.t sd.t (sym h.there ∙ sd.may.out.there) in
+      let swaps : h.s ≡ sd.s = same_Some h.s sd.s (sym h.is ∙ ap (swap f) same ∙ sd.may.is) in
       absurd (no_snapshot sd.t.clean sd.uuids snap (subst (λ (cs : List Command). Has cs (Create snap)) (ap (λ (x : Swap). x.commands) swaps ∙ sd.commands) h.has))
 
   counted_told : (w : World) (m : Moment) → Allowed f size w m → FinalsTold w.tickets → (safe : ℕ) (snap : Shelved) → Has (commands_at f safe w m.entry.who m.entry.step m.entry.reply) (Create snap) → Told snap
   counted_told w m a finals safe snap h = elim a.answered [
     | inl alive ↦
         let which = of_cond (counts m.entry.reply && is_settle m.entry.step) (command_of f safe (fin.get w.tickets m.entry.who)) (Create snap) h in
-        let both = both_true (counts m.entry.reply) (is_settle m.entry.step) which.0 in
+        let both = and_parts (counts m.entry.reply) (is_settle m.entry.step) which.0 in
         settled_told w m.entry.who m.entry.step m.entry.reply m.image alive.1 both.0 (settles m.entry.step both.1) finals snap (of_ticket f w m.entry.who safe (Create snap) (fin.get w.tickets m.entry.who) refl which.1)
     | inr dead ↦ absurd (subst (λ (cs : List Command). Has cs (Create snap)) (blocked_none f w safe m dead) h)
   ]

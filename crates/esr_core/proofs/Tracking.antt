@@ -2,6 +2,8 @@
 use Rattle.std.proofs.Common.{◌≡◌, ◌≢◌, ◌⊎◌, ℕ, suc, ◌+◌, ◌<◌, ◌≤◌, List, Bool, true, false, Some, refl, sym, ap, ◌∙◌, subst, inl, inr, arith, Option, nat_cmp}
 use Rattle.std.specs.FinMap.{FinMap}
 use Rattle.std.specs.FinMap as fin
+use Rattle.std.proofs.lemmas.Option.{same_Some}
+use Rattle.esr_core.specs.Laws.NumberMaps.{was_in, same_in, other_in, split_at}
 use Rattle.esr_model.specs.Names.{BlobName}
 use Rattle.esr_model.specs.Values.{SnapInfo, ShardResult, RootData}
 use Rattle.esr_model.specs.Shelf.{Command}
@@ -10,10 +12,9 @@ use Rattle.esr_model.specs.Image.{Blobs}
 use Rattle.esr_core.specs.World.{World, Finalize, Drop, Ticket, Deletion, Deleting, Swap}
 use Rattle.esr_core.specs.Ready.{IsShard, IsMaster, SwapIsOut}
 use Rattle.esr_core.specs.Tracked.{ShardTracked, FinalTracked, DropTracked, Tracked, IsWithin, DeleteTracked, CleanTracked}
-use Rattle.esr_core.proofs.Reading.{some_same}
-use Rattle.esr_core.proofs.Queues.{Ops, was_in, same_in, other_in, split_at}
-use Rattle.esr_core.proofs.Naming.{named_up}
-use Rattle.esr_core.proofs.Below.{root_up}
+use Rattle.esr_core.specs.Laws.Maps.{Ops}
+use Rattle.esr_core.specs.Laws.NameLaws.{named_up}
+use Rattle.esr_core.specs.Laws.IdBounds.{root_up}
 use Rattle.esr_core.proofs.Besides.{tracked_besides}
 
 -- what isn't read of a world
@@ -74,7 +75,7 @@ module _ (w : World) (l : Tracked w) (k : ℕ) (t v : Ticket) (there : fin.get w
   held_by : (o j : ℕ) → (h : Ticket) → fin.get w.tickets j ≡ Some h → IsShard h.work → h.out ≡ true → (u : Ticket) × (fin.get (fin.insert w.tickets k v) j ≡ Some u) × Follows h u × (u.out ≡ true)
   held_by o j h e shard out = elim (split_at j k) [
     | inl same ↦
-        let one : t ≡ h = some_same _ _ (sym there ∙ ap (fin.get w.tickets) (sym same) ∙ e) in
+        let one : t ≡ h = same_Some _ _ (sym there ∙ ap (fin.get w.tickets) (sym same) ∙ e) in
         let f : Follows h v = subst (λ x. Follows x v) one like in
         (v, ap (fin.get (fin.insert w.tickets k v)) same ∙ same_in w.tickets k v, f, f.shard shard out)
     | inr away ↦ (h, other_in w.tickets k v j away ∙ e, follows_same h, out)
@@ -226,7 +227,7 @@ module _ (w : World) (l : Tracked w) (v : Ticket) (term : v.term ≤ w.term) (dr
           modes = λ j u uuids plan e is x at. elim (was_in w.tickets w.next_ticket v j u e) [
             | inl h ↦
                 let m = mode uuids plan (ap (λ (y : Ticket). y.work) h.1 ∙ is) in
-                ap (λ (y : Deletion). y.clean) (some_same x m.x (sym at ∙ ap (λ (y : Ticket). fin.get w.deletes y.op) (sym h.1) ∙ m.there)) ∙ m.mode ∙ ap (λ (y : Ticket). y.clean) h.1
+                ap (λ (y : Deletion). y.clean) (same_Some x m.x (sym at ∙ ap (λ (y : Ticket). fin.get w.deletes y.op) (sym h.1) ∙ m.there)) ∙ m.mode ∙ ap (λ (y : Ticket). y.clean) h.1
             | inr h ↦ l.deletions.modes j u uuids plan h.1 is x at
           ];
           cleaning = λ j u e out pres clean. elim (was_in w.tickets w.next_ticket v j u e) [
@@ -308,7 +309,7 @@ module _ (w : World) (l : Tracked w) (k : ℕ) (t : Ticket) (there : fin.get w.t
         ];
         held = λ o op s j e m state.
             let h = l.held o op s j e m state in
-            let apart : j ≡ k → ⊥ = λ same. subst IsShard (sym h.work ∙ ap (λ (y : Ticket). y.work) (some_same h.t t (sym h.there ∙ ap (fin.get w.tickets) same ∙ there)) ∙ work) tt in
+            let apart : j ≡ k → ⊥ = λ same. subst IsShard (sym h.work ∙ ap (λ (y : Ticket). y.work) (same_Some h.t t (sym h.there ∙ ap (fin.get w.tickets) same ∙ there)) ∙ work) tt in
             record { t = h.t; there = other_in w.tickets k now j apart ∙ h.there; out = h.out; op_is = h.op_is; work = h.work };
         finals = λ j u info rs made e out uns pres is. elim (was_in w.tickets k now j u e) [
           | inl h ↦ absurd (no_final info rs made (ap (λ (y : Ticket). y.work) h.1 ∙ is))

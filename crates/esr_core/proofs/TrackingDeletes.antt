@@ -1,6 +1,7 @@
 -- What a delete that is asked changes in the order of a world.
 use Rattle.std.proofs.Common.{◌≡◌, ◌⊎◌, ℕ, suc, ◌<◌, ◌≤◌, List, [], true, false, Option, Some, None, refl, sym, ap, ◌∙◌, subst, inl, inr, arith}
 use Rattle.std.specs.FinMap as fin
+use Rattle.esr_core.specs.Laws.NumberMaps.{was_in, other_in}
 use Rattle.esr_model.specs.Values.{Bytes, Has}
 use Rattle.esr_core.specs.World.{World, Op, ShardWork, Deletion, Ticket}
 use Rattle.esr_core.specs.Ready.{Stopped, IsMaster}
@@ -8,9 +9,10 @@ use Rattle.esr_core.specs.Deletes.{with_named, named_uuids, waiting_delete, runn
 use Rattle.esr_core.specs.Turns.{Aborts}
 use Rattle.esr_core.specs.After.{cleanup_opened}
 use Rattle.esr_core.specs.Tracked.{Tracked}
-use Rattle.esr_core.proofs.Queues.{Ops, Deletes, was_in, other_in}
+use Rattle.esr_core.specs.Laws.Maps.{Ops, Deletes}
 use Rattle.esr_core.proofs.Naming.{Alike, alike_same, named_from}
-use Rattle.esr_core.proofs.AskedDeletes.{Waits, waits, aborts, unfinal}
+use Rattle.esr_core.specs.Laws.DeleteAsks.{Waits, waits, aborts}
+use Rattle.esr_core.proofs.AskedDeletes.{unfinal}
 
 -- an op after it
 abbrev Became : ℕ → Op → Op → Type 0

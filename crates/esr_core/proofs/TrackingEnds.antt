@@ -1,6 +1,8 @@
 -- What the end of a ticket, and with it of the shards that it holds, changes in the order of a world.
 use Rattle.std.proofs.Common.{◌≡◌, ◌≢◌, ◌⊎◌, ℕ, ◌+◌, ◌<◌, ◌≤◌, List, Bool, true, false, true≢false, Some, map, refl, sym, ap, ◌∙◌, subst, inl, inr}
 use Rattle.std.specs.FinMap as fin
+use Rattle.std.proofs.lemmas.Option.{same_Some}
+use Rattle.esr_core.specs.Laws.NumberMaps.{was_in, same_in, other_in, split_at}
 use Rattle.esr_model.specs.Values.{Has, SnapInfo, ShardResult}
 use Rattle.esr_model.specs.Shelf.{Command}
 use Rattle.esr_core.specs.World.{World, Op, ShardWork, Out, Done, Finalize, Ticket}
@@ -8,8 +10,8 @@ use Rattle.esr_core.specs.Generations.{IsHeldBy}
 use Rattle.esr_core.specs.Ready.{Stopped, SwapIsOut}
 use Rattle.esr_core.specs.Steps.{IsOut}
 use Rattle.esr_core.specs.Tracked.{ShardTracked, Tracked}
-use Rattle.esr_core.proofs.Reading.{some_same, Has-map, Has-mapped}
-use Rattle.esr_core.proofs.Queues.{Ops, Tickets, was_in, same_in, other_in, split_at}
+use Rattle.esr_model.specs.Lists.{Has-map, Has-mapped}
+use Rattle.esr_core.specs.Laws.Maps.{Ops, Tickets}
 use Rattle.esr_core.proofs.Naming.{Alike, alike_same, named_from}
 
 -- how its shards go on: those of other tickets stay, and none is held by this one
@@ -41,7 +43,7 @@ module _ (w : World) (l : Tracked w) (k : ℕ) (t : Ticket) (out : IsOut w k t) 
   shard_on : (j : ℕ) (u : Ticket) (i n : ℕ) → j ≢ k → ShardTracked w.ops j u i n → ShardTracked ops j u i n
   shard_on j u i n away x = elim (split_at u.op t.op) [
     | inl same ↦
-        let one : x.op ≡ op = some_same _ _ (sym x.op_there ∙ ap (fin.get w.ops) same ∙ there) in
+        let one : x.op ≡ op = same_Some _ _ (sym x.op_there ∙ ap (fin.get w.ops) same ∙ there) in
         let m : Has op.shards x.s = subst (λ (y : Op). Has y.shards x.s) one x.s_there in
         record {
           op = now;
@@ -71,7 +73,7 @@ module _ (w : World) (l : Tracked w) (k : ℕ) (t : Ticket) (out : IsOut w k t) 
         subst (λ x. IsHeldBy tickets p x j) z_is (held_on p y j away (subst (λ x. IsHeldBy w.tickets x y j) (sym h.0) (l.held t.op op y j there ym (ap (λ (x : ShardWork). x.state) z_is ∙ state))))
     | inr h ↦
         let x = l.held p q z j h.1 m state in
-        let away : j ≢ k = λ same. h.0 (sym x.op_is ∙ ap (λ (y : Ticket). y.op) (some_same _ _ (sym x.there ∙ ap (fin.get w.tickets) same ∙ out.there))) in
+        let away : j ≢ k = λ same. h.0 (sym x.op_is ∙ ap (λ (y : Ticket). y.op) (same_Some _ _ (sym x.there ∙ ap (fin.get w.tickets) same ∙ out.there))) in
         held_on p z j away x
   ]
 

@@ -1,6 +1,8 @@
 -- What a shard that is given changes in the order of a world.
 use Rattle.std.proofs.Common.{◌≡◌, ◌≢◌, ℕ, suc, ◌+◌, ◌<◌, ◌≤◌, List, Option, Some, map, refl, sym, ap, ◌∙◌, subst, inl, inr, arith, true≢false}
 use Rattle.std.specs.FinMap as fin
+use Rattle.std.proofs.lemmas.Option.{same_Some}
+use Rattle.esr_core.specs.Laws.NumberMaps.{was_in, same_in, other_in, split_at}
 use Rattle.esr_model.specs.Values.{Has, SnapInfo, ShardResult}
 use Rattle.esr_model.specs.Shelf.{Command}
 use Rattle.esr_core.specs.World.{World, Op, ShardWork, Out, Done, Shard, Finalize, Drop, Ticket, Deleting, Swap}
@@ -8,10 +10,9 @@ use Rattle.esr_core.specs.Generations.{IsHeldBy}
 use Rattle.esr_core.specs.Ready.{IsMaster, SwapIsOut, ReadyShard}
 use Rattle.esr_core.specs.Steps.{given, shard_ticket}
 use Rattle.esr_core.specs.Tracked.{ShardTracked, Tracked}
-use Rattle.esr_core.proofs.Reading.{some_same, Has-map, Has-mapped}
-use Rattle.esr_core.proofs.Queues.{Ops, Tickets, was_in, same_in, other_in, split_at}
-use Rattle.esr_core.proofs.Evolving.{pending_out, pending_done, out_done}
-use Rattle.esr_core.proofs.TakeShard.{given_is}
+use Rattle.esr_model.specs.Lists.{Has-map, Has-mapped}
+use Rattle.esr_core.specs.Laws.Maps.{Ops, Tickets}
+use Rattle.esr_core.specs.Laws.ShardStates.{given_is, pending_out, pending_done, out_done}
 use Rattle.esr_core.proofs.Naming.{Alike, alike_same, named_from}
 use Rattle.esr_core.proofs.TrackingOps.{goes_not_stopped, final_apart}
 
@@ -77,7 +78,7 @@ module _ (w : World) (l : Tracked w) (o : ℕ) (op : Op) (s : ShardWork) (base :
   other_shard : (j : ℕ) (u : Ticket) (i n : ℕ) → ShardTracked w.ops j u i n → ShardTracked ops j u i n
   other_shard j u i n x = elim (split_at u.op o) [
     | inl same ↦
-        let one : x.op ≡ op = some_same _ _ (sym x.op_there ∙ ap (fin.get w.ops) same ∙ ready.op_there) in
+        let one : x.op ≡ op = same_Some _ _ (sym x.op_there ∙ ap (fin.get w.ops) same ∙ ready.op_there) in
         let m : Has op.shards x.s = subst (λ (y : Op). Has y.shards x.s) one x.s_there in
         record {
           op = now;

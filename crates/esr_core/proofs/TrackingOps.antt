@@ -1,17 +1,18 @@
 -- What an op that comes or leaves changes in the order of a world.
 use Rattle.std.proofs.Common.{◌≡◌, ◌≢◌, ℕ, suc, ◌+◌, ◌<◌, ◌≤◌, List, true, false, true≢false, Some, None, sym, ap, ◌∙◌, subst, inl, inr, arith, Option}
 use Rattle.std.specs.FinMap as fin
+use Rattle.std.proofs.lemmas.Option.{same_Some}
+use Rattle.esr_core.specs.Laws.NumberMaps.{was_in, other_in, left_in, stays_in}
+use Rattle.esr_core.specs.Laws.ShardStates.{pending_out}
 use Rattle.esr_model.specs.Values.{Has, RootData, SnapInfo, ShardResult}
 use Rattle.esr_model.specs.Shelf.{Command}
 use Rattle.esr_model.specs.Kept.{first_id}
 use Rattle.esr_core.specs.World.{World, Op, Deletion, ShardWork, Done, Finalize, Ticket, Deleting, Swap}
 use Rattle.esr_core.specs.Ready.{Goes, Stopped, IsShard}
 use Rattle.esr_core.specs.Tracked.{FinalTracked, Named, Tracked, IsWithin}
-use Rattle.esr_core.proofs.Reading.{some_same}
-use Rattle.esr_core.proofs.Results.{done_of}
-use Rattle.esr_core.proofs.Queues.{Deletes, was_in, other_in, left_in, stays_in}
-use Rattle.esr_core.proofs.Evolving.{pending_out}
-use Rattle.esr_core.proofs.Naming.{IsNewOp, named_new}
+use Rattle.esr_core.specs.Laws.DoneShards.{done_of}
+use Rattle.esr_core.specs.Laws.Maps.{Deletes}
+use Rattle.esr_core.specs.Laws.NameLaws.{IsNewOp, named_new}
 use Rattle.esr_core.proofs.Tracking.{delete_up}
 
 pub goes_not_stopped : (op : Op) → Goes op → Stopped op → ⊥
@@ -25,7 +26,7 @@ goes_not_stopped op g (inr h) = some_none (sym h.1 ∙ g.unaborted)
 pub final_apart : (w : World) → Tracked w → (op : Op) (s : ShardWork) → Has op.shards s → ((r : ShardResult) → s.state ≡ Done r → ⊥) → (o : ℕ) → fin.get w.ops o ≡ Some op
     → (u : Ticket) (info : SnapInfo) (results : List ShardResult) → FinalTracked w.root w.ops u info results → u.op ≢ o
 final_apart w l op s m undone o there u info results x same =
-    let one : x.op ≡ op = some_same _ _ (sym x.op_there ∙ ap (fin.get w.ops) same ∙ there) in
+    let one : x.op ≡ op = same_Some _ _ (sym x.op_there ∙ ap (fin.get w.ops) same ∙ there) in
     let (r, state, in_results) = done_of x.op.shards results x.done s (subst (λ (y : Op). Has y.shards s) (sym one) m) in
     undone r state
 

@@ -3,6 +3,9 @@ use Rattle.std.proofs.Common.{◌≡◌, ◌≢◌, ◌⊎◌, ℕ, suc, ◌+◌
 use Rattle.std.specs.Prelude.{if◌then◌else◌, length}
 use Rattle.std.proofs.lemmas.Bool.Decides.{eqb_tells}
 use Rattle.std.specs.FinMap as fin
+use Rattle.std.proofs.lemmas.Option.{same_Some}
+use Rattle.esr_core.specs.Laws.NumberMaps.{was_in, left_in, stays_in}
+use Rattle.esr_core.specs.Laws.ShardStates.{out_same, pending_out, out_done, marked_is, up_out, up_done, failed_is, failed_grows}
 use Rattle.esr_model.specs.Names.{BlobName}
 use Rattle.esr_model.specs.Values.{Bytes, Has, RootIndex, RootData, SnapInfo, ShardResult, ClusterRecord, Formats}
 use Rattle.esr_model.specs.Shelf.{Command}
@@ -22,18 +25,18 @@ use Rattle.esr_core.specs.Allowed as allowed
 use Rattle.esr_core.specs.Allowed.{MayPlan, SettlesDeletion, FailsDeletion, PruneAllows, FetchingShard, ShardMissing, FetchShardFails, Planning, PlanSpent, SettlingDelete, SettleDeleteStale, SettleDeleteFails, RemovingDoomed, RemoveDoomedFails, EndingDelete, FailingDelete, Accepts, Gives, Settles, Fails, Drops, Dones, Allows, Allowed, DeleteAllows, GoingInto, NotNamed, CloneStands, RestoreStands, FullOfOps, DeleteFault, CleanupAllows, OpeningCleanup, OpStands, TicketStands, CleanupFault, RestoreAllows, OpeningRestore, NotListed, NamedByDelete, FullOfRestores, AcceptsClone, CloneAllows, OpeningClone, CloneUsed, SourceNotListed, SourceDeleted, IndexMissing, FullOfClones, CloneSpent, CloneFault, ReadAllows, ReadFound, ReadMissing, ReadFault, RestoringShard, ReaderFailing, CheckingAll, CheckFailing, VerifyAllows, DrawingTest, TestSpent, BeginningTest, BeginTestFails, CommittingTest, TestTaken, CommitTestFails, RemovingTests, RemoveTestsFails, VerifyingAll, VerifyFailing}
 use Rattle.esr_core.specs.History.{world_from, IsLegal}
 use Rattle.esr_core.specs.Tracked.{IsOneIndex, FinalTracked, Named, Tracked, IsWithin, DeleteTracked}
-use Rattle.esr_core.proofs.Reading.{some_same}
-use Rattle.esr_core.proofs.Results.{done_same, done_out}
-use Rattle.esr_core.proofs.Marked.{marked_is, marked_ref, marked_number}
-use Rattle.esr_core.proofs.Opening.{nothing}
-use Rattle.esr_core.proofs.Lists.{numbered_from}
-use Rattle.esr_core.proofs.Queues.{was_in, left_in, stays_in}
-use Rattle.esr_core.proofs.Evolving.{out_same, pending_out, out_done, up_out, up_done, failed_is, failed_grows}
-use Rattle.esr_core.proofs.Moments.{moment, not_latest, shard_stale, master_stale, no_shard, settled_plain, delete_settled_plain}
-use Rattle.esr_core.proofs.Besides.{aside_opened, aside_taken, aside_by, tracked_aside_of}
+use Rattle.esr_core.specs.Laws.DoneShards.{done_same}
+use Rattle.esr_core.proofs.Results.{done_out}
+use Rattle.esr_core.proofs.Marked.{marked_ref, marked_number}
+use Rattle.esr_core.specs.Laws.Maps.{nothing}
+use Rattle.esr_core.specs.Laws.DeleteNumbers.{numbered_from}
+use Rattle.esr_core.specs.Laws.Moments.{moment, settled_plain, delete_settled_plain}
+use Rattle.esr_core.proofs.Moments.{not_latest, shard_stale, master_stale, no_shard}
+use Rattle.esr_core.specs.Laws.Asides.{aside_by, block_leaves}
+use Rattle.esr_core.proofs.Besides.{aside_opened, aside_taken, tracked_aside_of}
 use Rattle.esr_core.proofs.Heard.{aside_heard}
-use Rattle.esr_core.proofs.Blocked.{block_leaves}
-use Rattle.esr_core.proofs.Naming.{named_left, named_root, named_within, new_asked, new_cloned}
+use Rattle.esr_core.specs.Laws.NameLaws.{new_asked}
+use Rattle.esr_core.proofs.Naming.{named_left, named_root, named_within, new_cloned}
 use Rattle.esr_core.proofs.Tracking.{Follows, tracked_aside, tracked_ticket, tracked_new, tracked_drawn, tracked_elect, tracked_planned, tracked_failed}
 use Rattle.esr_core.proofs.TrackingOps.{goes_not_stopped, final_apart, tracked_came, tracked_left}
 use Rattle.esr_core.proofs.TrackingDeletes.{tracked_delete, tracked_cleanup}
@@ -122,9 +125,9 @@ module _ (f : Formats) (size : ℕ) (w : World) (l : Tracked w) where
       tracked_new w l (plain_ticket w o Drop) (omega arith) (omega arith) (elim ready.stopped [ inl z ↦ l.numbers o z.0 z.1 | inr z ↦ l.delete_numbers o z.0 z.1 ]) (λ h. h)
       (λ info rs made e. absurd (drop_final info rs made e))
       (λ e. record {
-        stopped = λ op there. elim ready.stopped [ inl z ↦ subst Stopped (some_same _ _ (sym z.1 ∙ there)) z.2 | inr z ↦ absurd (l.apart o op z.0 there z.1) ];
+        stopped = λ op there. elim ready.stopped [ inl z ↦ subst Stopped (same_Some _ _ (sym z.1 ∙ there)) z.2 | inr z ↦ absurd (l.apart o op z.0 there z.1) ];
         idle = λ k u there out shard same. ready.idle k (record { t = u; there = there; out = out; op_is = same; counts = inl shard });
-        failed = λ x there. elim ready.stopped [ inl z ↦ absurd (l.apart o z.0 x z.1 there) | inr z ↦ ap (λ (y : Deletion). y.failed) (some_same _ _ (sym there ∙ z.1)) ∙ z.2 ];
+        failed = λ x there. elim ready.stopped [ inl z ↦ absurd (l.apart o z.0 x z.1 there) | inr z ↦ ap (λ (y : Deletion). y.failed) (same_Some _ _ (sym there ∙ z.1)) ∙ z.2 ];
       })
       (λ h. absurd h)
       (λ uuids plan e. absurd (drop_delete uuids plan e))
@@ -151,7 +154,7 @@ module _ (f : Formats) (size : ℕ) (w : World) (l : Tracked w) where
             alone = λ c. absurd (true≢false (sym c));
             aside = λ k t at out pres c same.
                 let h = l.deletions.cleaning k t at out pres c in
-                true≢false (sym h.cleans ∙ ap (λ (y : Deletion). y.clean) (some_same _ _ (sym h.there ∙ ap (fin.get w.deletes) same ∙ g.1.there)) ∙ g.1.deletes);
+                true≢false (sym h.cleans ∙ ap (λ (y : Deletion). y.clean) (same_Some _ _ (sym h.there ∙ ap (fin.get w.deletes) same ∙ g.1.there)) ∙ g.1.deletes);
           })
           (λ c. absurd (true≢false (sym c)))
 
@@ -253,7 +256,7 @@ module _ (f : Formats) (size : ℕ) (w : World) (l : Tracked w) where
         | inr h ↦ inl (sym (ap (λ (x : ShardWork). x.state) h.is) ∙ e)
         | inl h ↦
             let x = l.held d.t.op d.op s k d.op_there m h.state in
-            let work : Shard s.ref.id s.number ≡ Shard r.index r.shard = sym x.work ∙ ap (λ (y : Ticket). y.work) (some_same _ _ (sym x.there ∙ d.out.there)) ∙ d.is in
+            let work : Shard s.ref.id s.number ≡ Shard r.index r.shard = sym x.work ∙ ap (λ (y : Ticket). y.work) (same_Some _ _ (sym x.there ∙ d.out.there)) ∙ d.is in
             let same = shard_same work in
             let one : r ≡ q = done_same _ _ (sym (ap (λ (y : ShardWork). y.state) h.is) ∙ e) in
             let below : r.generation < w.next_id = (let a : r.generation < d.t.first + d.t.drawn = d.drew.below in let b : d.t.first + d.t.drawn ≤ w.next_id = drew k d.t d.out.there in omega (arith, a, b)) in
@@ -329,7 +332,7 @@ module _ (f : Formats) (size : ℕ) (w : World) (l : Tracked w) where
           stays_in w.deletes s.t.op u.op (λ same. l.apart u.op it.op h.x (ap (fin.get w.ops) same ∙ it.op_there) h.there)
 
       root_is : s.s.root ≡ finalized_root w.root (info_of it.op s.results) s.results
-      root_is = sym (ap (λ (y : Swap). y.root) (some_same _ _ (sym (ap (λ y. swap_of f y s.t.root) s.work) ∙ s.may.is))) ∙ (λ j. finalized_root (it.root_is j) (it.info_is j) s.results)
+      root_is = sym (ap (λ (y : Swap). y.root) (same_Some _ _ (sym (ap (λ y. swap_of f y s.t.root) s.work) ∙ s.may.is))) ∙ (λ j. finalized_root (it.root_is j) (it.info_is j) s.results)
 
       named : Named s.s.root (fin.remove w.ops s.t.op) w.next_id
       named = subst (λ r. Named r (fin.remove w.ops s.t.op) w.next_id) (sym root_is) (named_root w.root w.ops w.next_id l.named s.t.op it.op it.op_there s.results it.done)
@@ -436,7 +439,7 @@ module _ (f : Formats) (size : ℕ) (w : World) (l : Tracked w) where
           let root_is : p.t.root ≡ w.root = (l.deleting k p.t p.uuids None p.deleting.out.there out uns pres p.deleting.work).root_is in
           let ids : RootIds p.t.root w.next_id = subst (λ (r : RootData). RootIds r w.next_id) (sym root_is) l.named.root_below in
           subst (λ (r : RootData). IsWithin r s.root (w.next_id + kept_count shards)) root_is
-          (subst (λ (x : Swap). IsWithin p.t.root x.root (w.next_id + kept_count shards)) (some_same _ _ is) (plan_within f p.t.root p.one_each p.uuids shards w.next_id p.of_root ids))
+          (subst (λ (x : Swap). IsWithin p.t.root x.root (w.next_id + kept_count shards)) (same_Some _ _ is) (plan_within f p.t.root p.one_each p.uuids shards w.next_id p.of_root ids))
 
   deletion_settles : (k : ℕ) (s : SettlesDeletion f w k) → s.t.term ≡ w.term → Tracked (delete_settled f w k (fin.get w.tickets k))
   deletion_settles k s present =

@@ -2,6 +2,7 @@
 use Rattle.std.proofs.Common.{◌≡◌, ℕ, suc, ◌<◌, ◌≤◌, List, true, false, true≢false, Some, map, refl, sym, ap, ◌∙◌, subst, inl, inr, arith, nat_cmp}
 use Rattle.std.specs.FinMap.{FinMap}
 use Rattle.std.specs.FinMap as fin
+use Rattle.esr_core.specs.Laws.NumberMaps.{was_in}
 use Rattle.esr_model.specs.Names.{BlobName}
 use Rattle.esr_model.specs.Values.{Formats, ShardResult}
 use Rattle.esr_model.specs.Shelf.{Shelved, shelf_after}
@@ -16,7 +17,7 @@ use Rattle.esr_core.proofs.Law.{raise_law, commit_law, commit_fault_law, latest_
 use Rattle.esr_core.proofs.Besides.{aside_of, lawful_aside}
 use Rattle.esr_core.proofs.Testing.{tests_lawful}
 use Rattle.esr_core.proofs.Removes.{remove_sound}
-use Rattle.esr_core.proofs.Queues.{Like, Evolves, was_in, queue_ticket, queue_ops, queued_back, queue_elect}
+use Rattle.esr_core.proofs.Queues.{Like, Evolves, queue_ticket, queue_ops, queued_back, queue_elect}
 use Rattle.esr_core.proofs.Evolving.{marked_grows, marked_outs, evolve_map, one_back, one_forth, one_outs, outs_map, completing_has, completing_more, completing_was, results_of, all_done_on, marked_leaves}
 use Rattle.esr_core.proofs.Paging.{page_sound}
 use Rattle.esr_core.proofs.Taking.{shard_lawful, final_lawful, drop_lawful, delete_lawful, cleanup_lawful}

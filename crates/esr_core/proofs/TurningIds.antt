@@ -1,12 +1,14 @@
 -- Each turn keeps ids below the counter, and doomed names apart.
-use Rattle.std.proofs.Common.{◌≡◌, ◌⊎◌, ℕ, suc, ◌+◌, ◌<◌, ◌≤◌, List, [], ◌∷◌, ◌++◌, Bool, true, false, true≢false, Option, Some, None, map, refl, sym, ap, ◌∙◌, subst, inl, inr, arith, nat_cmp, le_refl}
+use Rattle.std.proofs.Common.{◌≡◌, ◌⊎◌, ℕ, suc, ◌+◌, ◌<◌, ◌≤◌, List, ◌∷◌, ◌++◌, Bool, true, false, true≢false, Option, Some, None, map, refl, sym, ap, ◌∙◌, subst, inl, inr, arith, nat_cmp, le_refl}
 use Rattle.std.specs.FinMap.{FinMap}
 use Rattle.std.specs.FinMap as fin
+use Rattle.std.proofs.lemmas.Option.{same_Some, none-some}
+use Rattle.esr_core.specs.Laws.NumberMaps.{was_in, left_in}
 use Rattle.esr_model.specs.Parts.{part_names}
 use Rattle.esr_model.specs.Names.{BlobName, Root, Latest, Snap, Meta, IndexMeta, ShardSnap, ShardIndex, File, Part, TestMaster, TestNode}
 use Rattle.esr_model.specs.Values.{Bytes, IndexRef, RootSnap, RootData, ShardResult, Formats}
 use Rattle.esr_model.specs.Shelf.{Shelved}
-use Rattle.esr_model.specs.Image.{IsStored, Has, AllPairs, Present, Generation, RootStands}
+use Rattle.esr_model.specs.Image.{IsStored, Has, Present, Generation, RootStands}
 use Rattle.esr_model.specs.Finalize.{Finalizes, finalized_root, done_at}
 use Rattle.esr_model.specs.Reach.{Reached, ReachSnap, ReachMeta, ReachIndexMeta, ReachIndex, ReachShardSnap, ReachPart}
 use Rattle.esr_core.specs.World.{World, Op, ShardWork, Pending, Done, Work, Shard, Finalize, Deleting, Drop, Ticket, Swap, AllDone, swap, HeldIn, info_of, marked}
@@ -16,25 +18,23 @@ use Rattle.esr_core.specs.Turns.{cleaning_ticket, Turn, Stays, Commits, CommitFa
 use Rattle.esr_core.specs.Generations.{DoneAt, OpLaw}
 use Rattle.esr_core.specs.Ids.{OfUuid, OfId, TicketIds, OpIds, DoomedIds, Ids, IdsIn, Law}
 use Rattle.esr_model.specs.Kept.{first_id, IdsBelow, RootIds}
+use Rattle.esr_model.specs.Lists.{pairs_has, Has-append, Has-mapped, Has-either}
 use Rattle.esr_core.proofs.Testing.{tests_ids}
 use Rattle.esr_core.proofs.Besides.{aside_of, kept_aside}
 use Rattle.esr_core.proofs.LatestPut.{put_law}
-use Rattle.esr_core.proofs.Pieces.{in_parts}
-use Rattle.esr_core.proofs.Reading.{generation_index, some_same, none_some, reads_one, held_one, safe_root_stands, Has-append, Has-mapped, Has-either}
-use Rattle.esr_core.proofs.Adds.{at_was}
-use Rattle.esr_core.proofs.Results.{found_done}
-use Rattle.esr_core.proofs.Staging.{larger_is}
-use Rattle.esr_core.proofs.Finalizing.{finalizes, root_one_each}
-use Rattle.esr_core.proofs.Take.{Kinds, IsSnap, IsMeta, IsIndex, kinds}
-use Rattle.esr_core.proofs.Marked.{marked_is}
-use Rattle.esr_core.proofs.TakeShard.{given_is}
-use Rattle.esr_core.proofs.Evolving.{failed_is, out_done, up_done}
-use Rattle.esr_core.proofs.Deleting.{left_has}
+use Rattle.esr_core.specs.Laws.PartNames.{in_parts}
+use Rattle.esr_core.specs.Laws.OneValue.{generation_index, reads_one, held_one, safe_root_stands}
+use Rattle.esr_core.specs.Laws.BlobFrames.{at_was}
+use Rattle.esr_core.specs.Laws.DoneShards.{found_done}
+use Rattle.esr_core.specs.Laws.NewRoots.{larger_is, finalizes, root_one_each}
+use Rattle.esr_core.specs.Laws.Metadata.{Kinds, IsSnap, IsMeta, IsIndex, kinds}
+use Rattle.esr_core.specs.Laws.ShardStates.{marked_is, given_is, out_done, failed_is, up_done}
+use Rattle.esr_core.specs.Laws.DeleteRoots.{left_has}
 use Rattle.esr_core.proofs.Settling.{no_shard}
 use Rattle.esr_core.proofs.Paging.{page_ids}
 use Rattle.esr_core.proofs.Below.{ticket_up, ids_up, ids_put, ids_again, ids_new, ids_ops, ids_add, ids_blobs, ids_root, commits_below}
-use Rattle.esr_core.proofs.Ordered.{shard_ref}
-use Rattle.esr_core.proofs.Queues.{Ops, was_in, left_in}
+use Rattle.esr_core.specs.Laws.SortedLists.{shard_ref}
+use Rattle.esr_core.specs.Laws.Maps.{Ops}
 
 uuid_below : (name : BlobName) (id c : ℕ) → OfUuid name id → IdsBelow name c → id < c
 uuid_below (Root n) id c of b = absurd of
@@ -61,12 +61,6 @@ id_below (File i s x) id c of b = subst (λ y. y < c) of b.1
 id_below (Part i s x p) id c of b = subst (λ y. y < c) of b.1
 id_below (TestMaster v) id c of b = absurd of
 id_below (TestNode v n) id c of b = absurd of
-
-pub pairs_has : {A B : Type 0} (R : A → B → Type 0) (xs : List A) (ys : List B) (x : A) → AllPairs R xs ys → Has xs x → (y : B) × R x y
-pairs_has R [] ys x h m = absurd m
-pairs_has R (a ∷ xs) [] x h m = absurd h
-pairs_has R (a ∷ xs) (b ∷ ys) x h (inl e) = (b, subst (λ z. R z b) e h.0)
-pairs_has R (a ∷ xs) (b ∷ ys) x h (inr m) = pairs_has R xs ys x h.1 m
 
 module _ (f : Formats) (w : World) (shelf : List Shelved) (l : Law f w shelf) where
   x : IdsIn f w
@@ -121,11 +115,11 @@ module _ (f : Formats) (w : World) (shelf : List Shelved) (l : Law f w shelf) wh
   -- a ticket without a swap, and of no shard
   plain_ids : (o : ℕ) (work : Work) → (IsShard work → ⊥) → ((s : Swap) → swap f (plain_ticket w o work) ≡ Some s → ⊥) → TicketIds f w.next_id (plain_ticket w o work)
   plain_ids o work not none =
-      record { drawn = omega arith; uuid = λ s. absurd (not s); index = λ i j e. absurd (not (subst IsShard (sym e) tt)); base = λ b e. absurd (none_some b e); copy = l.ids.root; own = λ s e. absurd (none s e); root = λ s e. absurd (none s e); listed = λ name m. absurd m }
+      record { drawn = omega arith; uuid = λ s. absurd (not s); index = λ i j e. absurd (not (subst IsShard (sym e) tt)); base = λ b e. absurd (none-some b e); copy = l.ids.root; own = λ s e. absurd (none s e); root = λ s e. absurd (none s e); listed = λ name m. absurd m }
 
   cleaning_ids : (o : ℕ) → TicketIds f w.next_id (cleaning_ticket w o)
   cleaning_ids o =
-      record { drawn = omega arith; uuid = λ s. absurd s; index = λ i j e. absurd (subst IsShard (sym e) tt); base = λ b e. absurd (none_some b e); copy = l.ids.root; own = λ s e. absurd (none_some s e); root = λ s e. absurd (none_some s e); listed = λ name m. absurd m }
+      record { drawn = omega arith; uuid = λ s. absurd s; index = λ i j e. absurd (subst IsShard (sym e) tt); base = λ b e. absurd (none-some b e); copy = l.ids.root; own = λ s e. absurd (none-some s e); root = λ s e. absurd (none-some s e); listed = λ name m. absurd m }
 
   shard_ids : (o : ℕ) (op : Op) (s : ShardWork) (base : Option ℕ) → fin.get w.ops o ≡ Some op → Has op.shards s → Largest w s.ref.id s.number base → TicketIds f w.next_id (shard_ticket w o op s base)
   shard_ids o op s base there m largest =
@@ -135,8 +129,8 @@ module _ (f : Formats) (w : World) (shelf : List Shelved) (l : Law f w shelf) wh
         index = λ i k e. subst (λ y. y < w.next_id) (shard_index e) ((l.ids.ops o op there).indices s.ref (shard_ref op s m (l.lawful.sound.carried.ops o op there).places));
         base = λ b e. live_below s.ref.id s.number b (subst (Largest w s.ref.id s.number) e largest).0;
         copy = l.ids.root;
-        own = λ z e. absurd (none_some z e);
-        root = λ z e. absurd (none_some z e);
+        own = λ z e. absurd (none-some z e);
+        root = λ z e. absurd (none-some z e);
         listed = λ name m. absurd m;
       }
     where
@@ -189,10 +183,10 @@ module _ (f : Formats) (w : World) (shelf : List Shelved) (l : Law f w shelf) wh
           drawn = omega arith;
           uuid = λ h. absurd h;
           index = λ i j e. absurd (subst IsShard (sym e) tt);
-          base = λ b e. absurd (none_some b e);
+          base = λ b e. absurd (none-some b e);
           copy = l.ids.root;
-          own = λ s e name b m. own_below name b (kinds f (info_of op results) name b (subst (λ (y : Swap). Has y.own (name, b)) (sym (some_same _ _ e)) m));
-          root = λ s e. subst (λ (y : Swap). RootIds y.root w.next_id) (some_same _ _ e) final_root;
+          own = λ s e name b m. own_below name b (kinds f (info_of op results) name b (subst (λ (y : Swap). Has y.own (name, b)) (sym (same_Some _ _ e)) m));
+          root = λ s e. subst (λ (y : Swap). RootIds y.root w.next_id) (same_Some _ _ e) final_root;
           listed = λ name m. absurd m;
         }
 
@@ -207,8 +201,8 @@ module _ (f : Formats) (w : World) (shelf : List Shelved) (l : Law f w shelf) wh
         base = old.base;
         copy = old.copy;
         listed = old.listed;
-        own = λ s e name b m. let z = d.own_drawn name b (subst (λ (y : Swap). Has y.own (name, b)) (sym (some_same _ _ e)) m) in subst (λ q. IdsBelow q (w.next_id + n)) (sym z.3) (subst (λ q. q < w.next_id + n) z.6.2 (old.copy.ids z.6.0 z.6.1), z.5);
-        root = λ s e. subst (λ (y : Swap). RootIds y.root (w.next_id + n)) (some_same _ _ e) (record {
+        own = λ s e name b m. let z = d.own_drawn name b (subst (λ (y : Swap). Has y.own (name, b)) (sym (same_Some _ _ e)) m) in subst (λ q. IdsBelow q (w.next_id + n)) (sym z.3) (subst (λ q. q < w.next_id + n) z.6.2 (old.copy.ids z.6.0 z.6.1), z.5);
+        root = λ s e. subst (λ (y : Swap). RootIds y.root (w.next_id + n)) (same_Some _ _ e) (record {
           generations = λ i x g gen. elim (d.without.generations i x g gen) [ inl was ↦ old.copy.generations i x g was | inr fresh ↦ (d.fresh_drawn i x g fresh).1 ];
           snapshots = λ s m. old.copy.snapshots s (left_has d.uuids d.t.root.snapshots s (subst (λ xs. Has xs s) d.without.snapshots m));
           ids = λ y m. let h = d.without.from y m in subst (λ q. q < w.next_id + n) h.3 (old.copy.ids h.0 h.1);
@@ -350,8 +344,8 @@ turn_ids f w new shelf l d (TakesShard m o op s base h) = subst (IdsIn f) (sym h
     (ops_on f w shelf l o op now h.ready.op_there refl (op_on f w shelf l (given w.next_ticket s.ref.id s.number) op o op.failed h.ready.op_there (λ z r e. inl (given_done f w shelf l w.next_ticket s.ref.id s.number z r e))))
     w.next_ticket (shard_ticket w o op s base) (shard_ids f w shelf l o op s base h.ready.op_there h.ready.s_there h.largest) refl)
 turn_ids f w new shelf l d (TakesFinal m o op results h) = subst (IdsIn f) (sym h.new_is) (ids_new f w.next_id w.blobs w.doomed w.root w.ops w.tickets l.ids w.next_ticket (final_ticket f w o op results) (final_ids f w shelf l o op results h.ready.op_there h.ready.done) refl)
-turn_ids f w new shelf l d (TakesDrop m o h) = subst (IdsIn f) (sym h.new_is) (ids_new f w.next_id w.blobs w.doomed w.root w.ops w.tickets l.ids w.next_ticket (plain_ticket w o Drop) (plain_ids f w shelf l o Drop (λ s. s) (λ s e. none_some s e)) refl)
-turn_ids f w new shelf l d (TakesDelete m n y h) = subst (IdsIn f) (sym h.new_is) (ids_new f w.next_id w.blobs w.doomed w.root w.ops w.tickets l.ids w.next_ticket (plain_ticket w n (Deleting y.uuids None)) (plain_ids f w shelf l n (Deleting y.uuids None) (λ s. s) (λ s e. none_some s e)) refl)
+turn_ids f w new shelf l d (TakesDrop m o h) = subst (IdsIn f) (sym h.new_is) (ids_new f w.next_id w.blobs w.doomed w.root w.ops w.tickets l.ids w.next_ticket (plain_ticket w o Drop) (plain_ids f w shelf l o Drop (λ s. s) (λ s e. none-some s e)) refl)
+turn_ids f w new shelf l d (TakesDelete m n y h) = subst (IdsIn f) (sym h.new_is) (ids_new f w.next_id w.blobs w.doomed w.root w.ops w.tickets l.ids w.next_ticket (plain_ticket w n (Deleting y.uuids None)) (plain_ids f w shelf l n (Deleting y.uuids None) (λ s. s) (λ s e. none-some s e)) refl)
 turn_ids f w new shelf l d (DrawsShard m k n h) = subst (IdsIn f) (sym h.new_is)
     (let le : w.next_id ≤ w.next_id + n = omega arith in
     let old = ticket_up f h.t w.next_id (w.next_id + n) le (l.ids.tickets k h.t h.out.there) in

@@ -1,6 +1,8 @@
 -- Each turn keeps what the tickets of shards have committed.
 use Rattle.std.proofs.Common.{◌≡◌, ℕ, ◌+◌, ◌<◌, ◌≤◌, List, [], true, false, true≢false, Some, None, refl, sym, ap, ◌∙◌, subst, inl, inr, arith}
 use Rattle.std.specs.FinMap as fin
+use Rattle.std.proofs.lemmas.Option.{none-some, same_Some}
+use Rattle.esr_core.specs.Laws.NumberMaps.{was_in}
 use Rattle.esr_model.specs.Names.{BlobName, Root, Latest, Snap, Meta, IndexMeta, ShardSnap, ShardIndex, File, Part, TestMaster, TestNode}
 use Rattle.esr_model.specs.Values.{Bytes, Has, FileEntry, ShardFiles, RootData, Formats}
 use Rattle.esr_model.specs.Shelf.{Shelved}
@@ -13,12 +15,11 @@ use Rattle.esr_core.specs.Ids.{OfId, Law}
 use Rattle.esr_core.specs.Written.{WroteLaw, Written}
 use Rattle.esr_core.specs.Turns.{DrawShard, cleaning_ticket, Turn, Stays, Commits, CommitFails, Finds, Raises, Latests, Fetches, SettlesFinal, SettlesDelete, Elects, TakesShard, TakesFinal, TakesDrop, TakesDelete, TakesCleanup, AsksCleanup, CleanDrops, DrawsShard, DrawsPlan, Dones, Ending, Fails, FailsDelete, Drops, AsksCreate, AsksDelete, Merges, Removing, Pages, Deposes, Besides, Tests, TestTurn, DrawsTest, AddsTest, RemovesTests}
 use Rattle.esr_core.proofs.Besides.{aside_of, kept_aside}
-use Rattle.esr_core.proofs.Adds.{at_kept, at_new}
-use Rattle.esr_core.proofs.Reading.{none_some, some_same}
+use Rattle.esr_core.specs.Laws.BlobFrames.{at_kept, at_new}
 use Rattle.esr_core.proofs.Pieces.{file_below}
 use Rattle.esr_core.proofs.LatestPut.{put_law}
-use Rattle.esr_core.proofs.Copying.{source_stands}
-use Rattle.esr_core.proofs.Queues.{Tickets, was_in}
+use Rattle.esr_core.specs.Laws.CloneSources.{source_stands}
+use Rattle.esr_core.specs.Laws.Maps.{Tickets}
 
 -- another ticket of the same unit that drew as much
 again : (t v : Ticket) → v.work ≡ t.work → v.uuid ≡ t.uuid → v.first ≡ t.first → v.drawn ≡ t.drawn → (name : BlobName) → ShardCommits t name → ShardCommits v name
@@ -76,7 +77,7 @@ no_shard : (f : Formats) (blobs : Blobs) (v : Ticket) → (IsShard v.work → �
 no_shard f blobs v not o s = absurd (not s)
 
 no_swap : (f : Formats) (work : Work) (root : RootData) (s : Swap) → swap_of f work root ≡ Some s → IsShard work → ⊥
-no_swap f (Shard i k) root s e h = none_some s e
+no_swap f (Shard i k) root s e h = none-some s e
 no_swap f (Finalize info results made) root s e h = h
 no_swap f (Deleting uuids plan) root s e h = h
 no_swap f Drop root s e h = h
@@ -92,7 +93,7 @@ module _ (f : Formats) (w : World) (shelf : List Shelved) (l : Law f w shelf) (h
       → Reads (At f now) (ShardIndex i s g) f.shard_index held → Reads (At f w.blobs) (ShardIndex i s g) f.shard_index held
   base_was k t there out i s g held is at now kept reads =
       let old = (base_stands k t there out i s g is at).held_reads in
-      let same : reads.bytes ≡ old.bytes = some_same _ _ (sym reads.there.0 ∙ (kept (ShardIndex i s g) old.bytes old.there.0).0) in
+      let same : reads.bytes ≡ old.bytes = same_Some _ _ (sym reads.there.0 ∙ (kept (ShardIndex i s g) old.bytes old.there.0).0) in
       record { bytes = old.bytes; there = old.there.0; reads = ap f.shard_index.read (sym same) ∙ reads.reads }
 
   -- its files have ids that were drawn
@@ -100,7 +101,7 @@ module _ (f : Formats) (w : World) (shelf : List Shelved) (l : Law f w shelf) (h
       → (e : FileEntry) → Has held.files e → (id : ℕ) → w.next_id ≤ id → e.name < id
   base_below k t there out i s g held is at reads e m id le =
       let stands = base_stands k t there out i s g is at in
-      let same : held ≡ stands.held = some_same _ _ (sym reads.reads ∙ ap f.shard_index.read (some_same _ _ (sym reads.there.0 ∙ stands.held_reads.there.0.0)) ∙ stands.held_reads.reads) in
+      let same : held ≡ stands.held = same_Some _ _ (sym reads.reads ∙ ap f.shard_index.read (same_Some _ _ (sym reads.there.0 ∙ stands.held_reads.there.0.0)) ∙ stands.held_reads.reads) in
       let (bytes, file) = stands.files e (subst (λ (x : ShardFiles). Has x.files e) same m) in
       let b : e.name < w.next_id = file_below f w.next_id (HeldIn f w) (λ name b h. l.ids.blobs name (b, h.0)) i s e bytes file in
       omega (arith, b, le)

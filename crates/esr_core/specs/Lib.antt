@@ -1,4 +1,5 @@
 pub mod Stored
+pub mod Entry
 pub mod World
 pub mod Past
 pub mod Restores
@@ -17,7 +18,6 @@ pub mod Tracked
 pub mod Ranked
 pub mod ReadTracked
 pub mod Turns
-pub mod Entry
 pub mod Deletes
 pub mod After
 pub mod Numbers
@@ -34,7 +34,4 @@ pub mod Causes
 pub mod Tidy
 pub mod Cleaned
 pub mod Example
-pub mod NumberMaps
-pub mod AbortLaws
-pub mod UnitSteps
-pub mod RestoreShards
+pub mod Laws

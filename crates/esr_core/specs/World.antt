@@ -275,23 +275,22 @@ abbrev pub numbered_deletes : ℕ → List (List ℕ) → FinMap nat_cmp Deletio
 numbered_deletes number [] = fin.empty
 numbered_deletes number (uuids ∷ rest) = fin.insert (numbered_deletes (suc number) rest) number (record { uuids = uuids; clean = false; failed = false })
 
--- the world that opening makes of an image with this record, whose safe root reads as root: the term is raised by one,
--- snapshots, clones and a cleanup are dropped, deletes are kept and numbered 1, 2, ..
-abbrev pub opened : Blobs → ClusterRecord → RootData → World
-opened blobs cluster root =
+-- a world in which nothing is open but deletes
+abbrev pub idle_world : Blobs → ℕ → ℕ → ℕ → RootData → FinMap nat_cmp Deletion → ℕ → World
+idle_world blobs safe pending term root deletes next_op =
     record {
       blobs = blobs;
-      safe = cluster.ledger.safe;
-      pending = cluster.ledger.pending;
-      term = suc cluster.ledger.term;
+      safe = safe;
+      pending = pending;
+      term = term;
       root = root;
       ops = fin.empty;
-      deletes = numbered_deletes 1 (kept_deletes cluster.ops);
+      deletes = deletes;
       completed = [];
       tickets = fin.empty;
-      next_op = suc (length (kept_deletes cluster.ops));
+      next_op = next_op;
       next_ticket = 1;
-      next_id = first_id (suc cluster.ledger.term);
+      next_id = first_id term;
       doomed = [];
       deposed = false;
       restores = fin.empty;
@@ -299,6 +298,12 @@ opened blobs cluster root =
       caller = no_caller;
       entries = [];
     }
+
+-- the world that opening makes of an image with this record, whose safe root reads as root: the term is raised by one,
+-- snapshots, clones and a cleanup are dropped, deletes are kept and numbered 1, 2, ..
+abbrev pub opened : Blobs → ClusterRecord → RootData → World
+opened blobs cluster root =
+    idle_world blobs cluster.ledger.safe cluster.ledger.pending (suc cluster.ledger.term) root (numbered_deletes 1 (kept_deletes cluster.ops)) (suc (length (kept_deletes cluster.ops)))
 
 -- a container in which nothing was written has no root, and term 0
 abbrev pub no_record : ClusterRecord

@@ -1,6 +1,9 @@
 -- What a cleanup dooms: the names that it listed and its root doesn't reach, by what is held of the shards after it.
 use Rattle.std.proofs.Common.{◌≡◌, ◌↔◌, inl, inr, ℕ, suc, Bool, true, false, List, [], ◌∷◌, ◌++◌, map, flat_map, Option, Some, None, refl, sym, ap, ◌∙◌, subst}
 use Rattle.std.specs.Prelude.{◌==◌, ◌&&◌, if◌then◌else◌, IsSome}
+use Rattle.std.proofs.lemmas.Option.{same_Some, none-some}
+use Rattle.std.proofs.lemmas.Bool.{cond-true, cond-false, cases_Bool}
+use Rattle.esr_model.specs.Lists.{Has-mapped}
 use Rattle.esr_names.specs.declared.blob.BlobName.{BlobName as CodeName}
 use Rattle.esr_depot.specs.declared.listing.Listed.{Listed}
 use Rattle.esr_model.specs.Names.{BlobName, Root, Latest, Snap, Meta, IndexMeta, ShardSnap, ShardIndex, File, Part, TestMaster, TestNode}
@@ -11,18 +14,15 @@ use Rattle.esr_model.specs.Delete.{PrunedShard, next_after, own_id, fresh_from, 
 use Rattle.esr_model.specs.Cleanup.{and_name, names_listed, reaches, unreached, cleaned_names}
 use Rattle.esr_core.specs.World.{Ticket}
 use Rattle.esr_core.specs.Pruning.{is_touched, bare_shard, AreOfRoot}
-use Rattle.esr_core.proofs.Reading.{some_same, none_some, generation_index}
-use Rattle.esr_core.proofs.Results.{choose_true, choose_false}
-use Rattle.esr_core.proofs.Deleting.{bool_told}
-use Rattle.esr_core.proofs.DeletedRoots.{AreApart, one_found, pair_tells, left_one_each, deleted_generations}
-use Rattle.esr_core.proofs.DeletesHold.{clash}
-use Rattle.esr_core.proofs.Plans.{in_root, of_root_apart}
-use Rattle.esr_core.proofs.Cleaning.{same_number, IsHeldNow, IsReachedBy, reached_by, reaches_has}
+use Rattle.esr_core.specs.Laws.OneValue.{generation_index}
+use Rattle.esr_core.specs.Laws.Tests.{pair_tells, clash, same_number}
+use Rattle.esr_core.specs.Laws.DeleteRoots.{AreApart, one_found, left_one_each, deleted_generations}
+use Rattle.esr_core.specs.Laws.DeletePlans.{in_root, of_root_apart}
+use Rattle.esr_core.specs.Laws.CleanupReach.{IsHeldNow, IsReachedBy, reached_by, reaches_has}
 use Rattle.esr_formats.specs.Formats.{formats}
 use Rattle.esr_formats.specs.Names.{name_of, code_name, name_kind}
 use Rattle.esr_reach.specs.Held.{HeldShard, held_at}
 use Rattle.esr_reach.specs.Listing.{root_names}
-use Rattle.esr_reach.specs.Members.{has_map}
 use Rattle.esr_reach.specs.Names.{AreOnce}
 use Rattle.esr_reach.specs.Reading.{HasEach, ReadsAsHeld}
 use Rattle.esr_reach.specs.Reached.{names_reached, reached_names}
@@ -82,12 +82,12 @@ rest_named f root read n [] = refl
 rest_named f root read n (x ∷ names) =
     let most = unreached f None root read names in
     let rest = unreached f (Some n) root read names in
-    elim (bool_told (reaches f None root read x)) [
+    elim (cases_Bool (reaches f None root read x)) [
       | inl b ↦
-          ap (flat_map (rest_piece n)) (choose_true (reaches f None root read x) most (x ∷ most) b) ∙ rest_named f root read n names
-          ∙ sym (choose_true (reaches f (Some n) root read x) rest (x ∷ rest) (still_reached f root read n x b))
+          ap (flat_map (rest_piece n)) (cond-true (reaches f None root read x) most (x ∷ most) b) ∙ rest_named f root read n names
+          ∙ sym (cond-true (reaches f (Some n) root read x) rest (x ∷ rest) (still_reached f root read n x b))
       | inr b ↦
-          ap (flat_map (rest_piece n)) (choose_false (reaches f None root read x) most (x ∷ most) b) ∙ pick (is_root n x) x (flat_map (rest_piece n) most) rest (rest_named f root read n names)
+          ap (flat_map (rest_piece n)) (cond-false (reaches f None root read x) most (x ∷ most) b) ∙ pick (is_root n x) x (flat_map (rest_piece n) most) rest (rest_named f root read n names)
           ∙ ap (λ (own : Bool). if own then rest else x ∷ rest) (sym (root_apart f root read n x b))
     ]
 
@@ -99,14 +99,14 @@ Found read (ShardIndex i k g) bytes = index_bytes read (bare_shard i k g) ≡ So
 Found read name bytes = ⊥
 
 found_one : (read : List (BlobName × Bytes)) → IsOne (Found read)
-found_one read (ShardIndex i k g) a b p q = some_same a b (sym p ∙ q)
+found_one read (ShardIndex i k g) a b p q = same_Some a b (sym p ∙ q)
 found_one read name a b p q = absurd p
 
 reads_found : (f : Formats) (read : List (BlobName × Bytes)) (i k g : ℕ) (v : ShardFiles) → files_read f read (bare_shard i k g) ≡ Some v → Reads (Found read) (ShardIndex i k g) f.shard_index v
 reads_found f read i k g v e = go (index_bytes read (bare_shard i k g)) refl e
   where
     go : (o : Option Bytes) → index_bytes read (bare_shard i k g) ≡ o → files_by f o ≡ Some v → Reads (Found read) (ShardIndex i k g) f.shard_index v
-    go None is reads = absurd (none_some v reads)
+    go None is reads = absurd (none-some v reads)
     go (Some b) is reads = record { bytes = b; there = is; reads = reads }
 
 -- of each shard of the root what is held was read or written under its generation
@@ -149,7 +149,7 @@ module _ (f : Formats) (root : RootData) (read : List (BlobName × Bytes)) (now 
       where
         of_reached : IsReachedBy f (Found read) root None name → Reached f (Found read) root name
         of_reached (inl latest) = absurd (other latest)
-        of_reached (inr (inl own)) = absurd (none_some own.0 own.1)
+        of_reached (inr (inl own)) = absurd (none-some own.0 own.1)
         of_reached (inr (inr reached)) = reached
 
     spares : SparesReached f root read has
@@ -169,8 +169,8 @@ module _ (f : Formats) (root : RootData) (read : List (BlobName × Bytes)) (now 
 
 fresh_one_each : (i k : ℕ) (to : Option ℕ) (xs : List RootIndex) → IsOneEach xs → IsOneEach (map (fresh_in i k to) xs)
 fresh_one_each i k to xs one a b p q same =
-    let (x, x_there, a_is) = has_map (fresh_in i k to) xs a p in
-    let (y, y_there, b_is) = has_map (fresh_in i k to) xs b q in
+    let (x, x_there, a_is) = Has-mapped (fresh_in i k to) xs a p in
+    let (y, y_there, b_is) = Has-mapped (fresh_in i k to) xs b q in
     let ids : x.id ≡ y.id = ap (λ (z : RootIndex). z.id) a_is ∙ same ∙ sym (ap (λ (z : RootIndex). z.id) b_is) in
     sym a_is ∙ ap (fresh_in i k to) (one x y x_there y_there ids) ∙ b_is
 
@@ -194,10 +194,10 @@ none_fresh x e = cc
 fresh_apart : (shards : List PrunedShard) (next i k : ℕ) → fresh_from next shards i k ≡ None → (p : PrunedShard) → Has shards p → p.index ≡ i → p.number ≡ k → ⊥
 fresh_apart [] next i k e p none same place = absurd none
 fresh_apart (x ∷ shards) next i k e p m same place = elim (pair_tells x.index i x.number k) [
-  | inl t ↦ some_none (own_id next x) (sym (choose_true _ _ _ t.0) ∙ e)
+  | inl t ↦ some_none (own_id next x) (sym (cond-true _ _ _ t.0) ∙ e)
   | inr t ↦ elim m [
     | inl here ↦ t.1 (ap (λ (y : PrunedShard). y.index) here ∙ same) (ap (λ (y : PrunedShard). y.number) here ∙ place)
-    | inr later ↦ fresh_apart shards (next_after next x) i k (sym (choose_false _ _ _ t.0) ∙ e) p later same place
+    | inr later ↦ fresh_apart shards (next_after next x) i k (sym (cond-false _ _ _ t.0) ∙ e) p later same place
   ]
 ]
 
@@ -211,21 +211,21 @@ module _ (f : Formats) (read : List (BlobName × Bytes)) (left : List ℕ) (rest
       let more : List (BlobName × Bytes) = pruned_blobs f read left (suc next) shards in
       let same : List (BlobName × Bytes) = pruned_blobs f read left next shards in
       let blobs : List (BlobName × Bytes) = (ShardIndex x.index x.number next, text) ∷ more in
-      elim (bool_told x.kept) [
+      elim (cases_Bool x.kept) [
         | inl kept ↦
-            ap (λ (l : List (BlobName × Bytes)). index_bytes (l ++ rest) bare) (choose_true x.kept blobs same kept)
-            ∙ choose_false (((x.index == i) && (x.number == k)) && (next == g)) (Some text) (index_bytes (more ++ rest) bare) (ap (λ (b : Bool). b && (next == g)) other)
-            ∙ ap (λ (n : ℕ). index_bytes (pruned_blobs f read left n shards ++ rest) bare) (sym (choose_true x.kept (suc next) next kept))
+            ap (λ (l : List (BlobName × Bytes)). index_bytes (l ++ rest) bare) (cond-true x.kept blobs same kept)
+            ∙ cond-false (((x.index == i) && (x.number == k)) && (next == g)) (Some text) (index_bytes (more ++ rest) bare) (ap (λ (b : Bool). b && (next == g)) other)
+            ∙ ap (λ (n : ℕ). index_bytes (pruned_blobs f read left n shards ++ rest) bare) (sym (cond-true x.kept (suc next) next kept))
         | inr gone ↦
-            ap (λ (l : List (BlobName × Bytes)). index_bytes (l ++ rest) bare) (choose_false x.kept blobs same gone)
-            ∙ ap (λ (n : ℕ). index_bytes (pruned_blobs f read left n shards ++ rest) bare) (sym (choose_false x.kept (suc next) next gone))
+            ap (λ (l : List (BlobName × Bytes)). index_bytes (l ++ rest) bare) (cond-false x.kept blobs same gone)
+            ∙ ap (λ (n : ℕ). index_bytes (pruned_blobs f read left n shards ++ rest) bare) (sym (cond-false x.kept (suc next) next gone))
       ]
 
   none_written : (shards : List PrunedShard) (next i k g : ℕ) → fresh_from next shards i k ≡ None → index_bytes (pruned_blobs f read left next shards ++ rest) (bare_shard i k g) ≡ index_bytes rest (bare_shard i k g)
   none_written [] next i k g e = refl
   none_written (x ∷ shards) next i k g e = elim (pair_tells x.index i x.number k) [
-    | inl t ↦ absurd (some_none (own_id next x) (sym (choose_true _ _ _ t.0) ∙ e))
-    | inr t ↦ written_past x shards next i k g t.0 ∙ none_written shards (next_after next x) i k g (sym (choose_false _ _ _ t.0) ∙ e)
+    | inl t ↦ absurd (some_none (own_id next x) (sym (cond-true _ _ _ t.0) ∙ e))
+    | inr t ↦ written_past x shards next i k g t.0 ∙ none_written shards (next_after next x) i k g (sym (cond-false _ _ _ t.0) ∙ e)
   ]
 
   -- under a new generation what is left of its shard was written
@@ -241,10 +241,10 @@ module _ (f : Formats) (read : List (BlobName × Bytes)) (left : List ℕ) (rest
   is_written [] next i k now e = absurd (none_fresh now e)
   is_written (x ∷ shards) next i k now e = elim (pair_tells x.index i x.number k) [
     | inl t ↦
-        let mine : own_id next x ≡ Some now = some_same (own_id next x) (Some now) (sym (choose_true _ _ _ t.0) ∙ e) in
-        elim (bool_told x.kept) [
+        let mine : own_id next x ≡ Some now = same_Some (own_id next x) (Some now) (sym (cond-true _ _ _ t.0) ∙ e) in
+        elim (cases_Bool x.kept) [
           | inl kept ↦
-              let same : next ≡ now = some_same next now (sym (choose_true _ _ _ kept) ∙ mine) in
+              let same : next ≡ now = same_Some next now (sym (cond-true _ _ _ kept) ∙ mine) in
               let number : (next == now) ≡ true = ap (λ (m : ℕ). next == m) (sym same) ∙ same_number next in
               let text : Bytes = left_text f left (files_read f read x) in
               let more : List (BlobName × Bytes) = pruned_blobs f read left (suc next) shards in
@@ -255,13 +255,13 @@ module _ (f : Formats) (read : List (BlobName × Bytes)) (left : List ℕ) (rest
                 number_is = t.1.1;
                 kept = kept;
                 bytes =
-                    ap (λ (l : List (BlobName × Bytes)). index_bytes (l ++ rest) (bare_shard i k now)) (choose_true x.kept ((ShardIndex x.index x.number next, text) ∷ more) (pruned_blobs f read left next shards) kept)
-                    ∙ choose_true (((x.index == i) && (x.number == k)) && (next == now)) (Some text) (index_bytes (more ++ rest) (bare_shard i k now)) (λ j. t.0 j && number j);
+                    ap (λ (l : List (BlobName × Bytes)). index_bytes (l ++ rest) (bare_shard i k now)) (cond-true x.kept ((ShardIndex x.index x.number next, text) ∷ more) (pruned_blobs f read left next shards) kept)
+                    ∙ cond-true (((x.index == i) && (x.number == k)) && (next == now)) (Some text) (index_bytes (more ++ rest) (bare_shard i k now)) (λ j. t.0 j && number j);
               }
-          | inr gone ↦ absurd (none_some now (sym (choose_false _ _ _ gone) ∙ mine))
+          | inr gone ↦ absurd (none-some now (sym (cond-false _ _ _ gone) ∙ mine))
         ]
     | inr t ↦
-        let r = is_written shards (next_after next x) i k now (sym (choose_false _ _ _ t.0) ∙ e) in
+        let r = is_written shards (next_after next x) i k now (sym (cond-false _ _ _ t.0) ∙ e) in
         record { p = r.p; there = inr r.there; index_is = r.index_is; number_is = r.number_is; kept = r.kept; bytes = written_past x shards next i k now t.0 ∙ r.bytes }
   ]
 
@@ -271,7 +271,7 @@ apart_once : (shards : List PrunedShard) → AreApart shards → AreOnce (map pl
 apart_once [] apart = tt
 apart_once (p ∷ shards) apart = (
   λ has.
-      let (q, there, same) = has_map place_of shards (place_of p) has in
+      let (q, there, same) = Has-mapped place_of shards (place_of p) has in
       apart.0 q there (sym (ap (λ (x : ℕ × ℕ). x.0) same)) (sym (ap (λ (x : ℕ × ℕ). x.1) same)),
   apart_once shards apart.1,
 )
@@ -334,7 +334,8 @@ module _ (s : Start) (t : Ticket) (uuids : List ℕ) (held now : List HeldShard)
   each_now = now_each f root (known d.blobs) now once own_is
 
   -- what of the listed names isn't reached, its own root aside, is what it dooms
-  pub names_doomed : (has : CodeName → Bool) → ((name : CodeName) → (has name ≡ true) ↔ Has (root_names root now) (name_of name)) → (pages : List Listed) (n : ℕ) (names rest : List CodeName) → map name_of names ≡ flat_map (blob_piece has) pages
+  pub names_doomed : (has : CodeName → Bool) → ((name : CodeName) → (has name ≡ true) ↔ Has (root_names root now) (name_of name)) → (pages : List Listed) (n : ℕ) (names rest : List CodeName)
+      → map name_of names ≡ flat_map (blob_piece has) pages
       → map name_of rest ≡ flat_map (rest_piece n) (map name_of names) → s.tells ≡ true → map name_of rest ≡ cleaned_names f (Some n) root (pruned_blobs f t.read left first shards ++ t.read) (page_of pages)
   unfolding cleaned_names
   names_doomed has set pages n names rest found are tells =

@@ -2,6 +2,7 @@
 use Rattle.std.proofs.Common.{◌≡◌, ◌≤◌, ◌↔◌, ⊎_elim, ℕ, Bool, true, false, List, map, Some, None, Result, Ok, Err, IfErr, OnOk, OnErr, refl, sym, ap, ◌∙◌, subst}
 use Rattle.std.specs.List.{AllByRecursion}
 use Rattle.std.specs.Result.{IsErrAnd}
+use Rattle.esr_model.specs.Lists.{Has-mapped, Has-map}
 use Rattle.esr_names.specs.declared.blob.BlobName.{BlobName as CodeName}
 use Rattle.esr_names.specs.Layout.{IsName}
 use Rattle.esr_model.specs.Names.{BlobName}
@@ -12,7 +13,7 @@ use Rattle.esr_core.specs.Past.{IsRemoval}
 use Rattle.esr_core.specs.Allowed.{HasPutLatest}
 use Rattle.esr_core.specs.Entry.{SettlePruned, RemoveDoomed, EndDelete, DroppedStep, PruneStep, Reply, HasEnded, Moment}
 use Rattle.esr_formats.specs.Names.{name_of}
-use Rattle.esr_reach.specs.Members.{all_has, has_map, in_map}
+use Rattle.esr_reach.specs.Members.{all_has}
 use Rattle.esr_desk.specs.declared.refusal.StepRefusal.{StepRefusal}
 use Rattle.esr_desk.specs.Start.{Start, formats_of, ticket_of, world_of}
 use Rattle.esr_desk.specs.Own.{made_of}
@@ -92,13 +93,14 @@ none_named s log who names none e has was is name mine gone = none e has was is
 -- ---- the names, each once
 
 -- what is doomed is among them
-pub may_remove : (s : Start) (t : Ticket) (names once : List CodeName) → IsSettledPlan t → (s.tells ≡ true → map name_of names ≡ dooms (formats_of s) t) → ((name : CodeName) → Has once name ↔ Has names name) → MayRemove s t (map name_of once)
+pub may_remove : (s : Start) (t : Ticket) (names once : List CodeName) → IsSettledPlan t → (s.tells ≡ true → map name_of names ≡ dooms (formats_of s) t) → ((name : CodeName) → Has once name ↔ Has names name)
+    → MayRemove s t (map name_of once)
 may_remove s t names once over are same = record {
   over = over;
   doomed = λ tells name has.
-      let found = has_map name_of once name has in
+      let found = Has-mapped name_of once name has in
       subst (λ (l : List BlobName). Has l name) (are tells)
-      (subst (Has (map name_of names)) found.2 (in_map name_of names found.0 ((same found.0).0 found.1)));
+      (subst (Has (map name_of names)) found.2 (Has-map name_of names found.0 ((same found.0).0 found.1)));
 }
 
 pub once_layout : (items once : List CodeName) → ((name : CodeName) → Has once name ↔ Has items name) → AllByRecursion IsName items → (name : CodeName) → Has once name → IsName name
@@ -121,7 +123,8 @@ module _ (s : Start) (old log : List Moment) (who : ℕ) (names : List BlobName)
   }
 
   -- or taken away
-  pub can_end_cleanup : (ticket_of s old who).clean ≡ true → (s.tells ≡ true → names ≡ dooms (formats_of s) (ticket_of s old who)) → NoneFailed s old who → HasPutLatest (world_of s old) who → HasRemoved true s old log who names → CanEndCleanup s log who
+  pub can_end_cleanup : (ticket_of s old who).clean ≡ true → (s.tells ≡ true → names ≡ dooms (formats_of s) (ticket_of s old who)) → NoneFailed s old who → HasPutLatest (world_of s old) who → HasRemoved true s old log who names
+      → CanEndCleanup s log who
   can_end_cleanup mode are well put removed = record {
     out = kept_plan.out;
     settled = kept_plan.settled;
@@ -137,7 +140,8 @@ module _ (s : Start) (old log : List Moment) (who : ℕ) (names : List BlobName)
 -- ---- the end
 
 -- by its answer
-pub ended_ok : (s : Start) (old mid new : List Moment) (who : ℕ) (result : Result (Unit {0}) StepRefusal) → 1 ≤ who → ticket_of s mid who ≡ ticket_of s old who → CanEndDelete s mid who → OnOk result (HasEndedAs (ticket_of s mid who) (ticket_of s new who))
+pub ended_ok : (s : Start) (old mid new : List Moment) (who : ℕ) (result : Result (Unit {0}) StepRefusal) → 1 ≤ who → ticket_of s mid who ≡ ticket_of s old who → CanEndDelete s mid who
+    → OnOk result (HasEndedAs (ticket_of s mid who) (ticket_of s new who))
     → Outcome s mid new who (PruneStep EndDelete) (λ x. HasEnded) result → OnOk result (IsCleared false s old new who)
 ended_ok s old mid new who (Ok x) ticket kept can own step = record {
   own = own ∙ ap (λ (t : Ticket). record t { out = false }) kept;

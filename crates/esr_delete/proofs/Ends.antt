@@ -13,7 +13,7 @@ use Rattle.esr_desk.specs.Evidence.{Evidence}
 use Rattle.esr_desk.specs.Delete.Conditions.{CanSettleDelete, CanFailDelete}
 use Rattle.esr_unit.specs.Fetch.{IsRefusedBy}
 use Rattle.esr_finish.specs.Refused.{IsGivenUp, IsSwapRefused}
-use Rattle.esr_finish.proofs.Ends.{unsettled_same}
+use Rattle.esr_finish.specs.Stops.{unsettled_same}
 use Rattle.esr_delete.specs.Refused.{Stops, IsStillOrEnded, IsCleanRefused, IsLateRefused, IsLeftAt, IsHalted}
 use Rattle.esr_delete.specs.Removed.{IsSettledPlan}
 use Rattle.esr_delete.proofs.Passing.{halts_stops, settle_stops, drop_stops}
@@ -21,13 +21,15 @@ use Rattle.esr_delete.proofs.Passing.{halts_stops, settle_stops, drop_stops}
 -- ---- a record swap that was refused
 
 -- an early end is one at the settle
-given_halted : {S F H T : Type 0} (clean : Bool) (e : Evidence S F H T) (s : Start) (old mid new : List Moment) (who : ℕ) (result : UnitRefusal) → ticket_of s mid who ≡ ticket_of s old who → IsGivenUp hands.Delete e s mid new who result → IsHalted clean e s old new who result
+given_halted : {S F H T : Type 0} (clean : Bool) (e : Evidence S F H T) (s : Start) (old mid new : List Moment) (who : ℕ) (result : UnitRefusal) → ticket_of s mid who ≡ ticket_of s old who → IsGivenUp hands.Delete e s mid new who result
+    → IsHalted clean e s old new who result
 given_halted clean e s old mid new who (units.Failed why) same given = (inl (given.0 ∙ ap (λ (t : Ticket). record t { out = false }) same), given.1)
 given_halted clean e s old mid new who units.Stale same given = (inl (given.0 ∙ ap (λ (t : Ticket). record t { out = false }) same), given.1)
 given_halted clean e s old mid new who (units.Stopped refusal) same given = (inl (inl (given.0 ∙ same)), halts_stops clean s new who refusal given.1)
 
 -- or one after it
-pub given_late : {S F H T : Type 0} (e : Evidence S F H T) (s : Start) (old mid new : List Moment) (who : ℕ) (result : UnitRefusal) → ticket_of s mid who ≡ ticket_of s old who → IsGivenUp hands.Delete e s mid new who result → IsCleanRefused e s old new who result
+pub given_late : {S F H T : Type 0} (e : Evidence S F H T) (s : Start) (old mid new : List Moment) (who : ℕ) (result : UnitRefusal) → ticket_of s mid who ≡ ticket_of s old who → IsGivenUp hands.Delete e s mid new who result
+    → IsCleanRefused e s old new who result
 given_late e s old mid new who (units.Failed why) same given = (given.0 ∙ ap (λ (t : Ticket). record t { out = false }) same, given.1)
 given_late e s old mid new who units.Stale same given = (given.0 ∙ ap (λ (t : Ticket). record t { out = false }) same, given.1)
 given_late e s old mid new who (units.Stopped refusal) same given = (inl (given.0 ∙ same), halts_stops true s new who refusal given.1)
@@ -51,7 +53,8 @@ drop_refused e s old mid new who refusal result left refused (inr (other, given)
     given_late e s old mid new who result (unsettled_same (HasEndedAs (ticket_of s old who)) refusal (ticket_of s old who) (ticket_of s mid who) other left) given
 
 -- what went before left the ticket as it was
-pub clean_refused_on : {S F H T : Type 0} (e : Evidence S F H T) (s : Start) (old mid new : List Moment) (who : ℕ) (result : UnitRefusal) → ticket_of s mid who ≡ ticket_of s old who → IsCleanRefused e s mid new who result → IsCleanRefused e s old new who result
+pub clean_refused_on : {S F H T : Type 0} (e : Evidence S F H T) (s : Start) (old mid new : List Moment) (who : ℕ) (result : UnitRefusal) → ticket_of s mid who ≡ ticket_of s old who → IsCleanRefused e s mid new who result
+    → IsCleanRefused e s old new who result
 clean_refused_on e s old mid new who (units.Failed why) same h = (h.0 ∙ ap (λ (t : Ticket). record t { out = false }) same, h.1)
 clean_refused_on e s old mid new who units.Stale same h = (h.0 ∙ ap (λ (t : Ticket). record t { out = false }) same, h.1)
 clean_refused_on e s old mid new who (units.Stopped refusal) same h = (subst (λ (t : Ticket). IsStillOrEnded new who refusal t (ticket_of s new who)) same h.0, h.1)

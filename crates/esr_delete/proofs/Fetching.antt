@@ -2,6 +2,7 @@
 use Rattle.std.proofs.Common.{◌≡◌, ◌<◌, inl, inr, ⊎_elim, ℕ, ◌==◌, ◌&&◌, Bool, true, false, List, [], ◌∷◌, ◌++◌, Option, Some, None, refl, sym, ap, ◌∙◌, subst}
 use Rattle.std.specs.Prelude.{if◌then◌else◌}
 use Rattle.std.proofs.lemmas.Bool.{eq-eqb}
+use Rattle.esr_model.specs.Lists.{Has-append, Has-left, Has-right}
 use Rattle.esr_names.specs.declared.ids.Id.{Id}
 use Rattle.esr_names.specs.declared.blob.ShardId.{ShardId}
 use Rattle.esr_names.specs.declared.blob.BlobName.TheVariants as names
@@ -15,8 +16,8 @@ use Rattle.esr_core.specs.Entry.{Step, PruneStep, FetchShard, Reply, WasFetched,
 use Rattle.esr_core.specs.Past.{Repeats}
 use Rattle.esr_core.specs.After.{fetching}
 use Rattle.esr_core.specs.Pruning.{IsToRead, AreOfRoot, bare_shard}
-use Rattle.esr_core.proofs.DeletedRoots.{pair_tells}
-use Rattle.esr_core.proofs.Plans.{in_root}
+use Rattle.esr_core.specs.Laws.Tests.{pair_tells}
+use Rattle.esr_core.specs.Laws.DeletePlans.{in_root}
 use Rattle.esr_json.specs.declared.refusal.Reason.{Reason}
 use Rattle.esr_json.specs.declared.refusal.ReadRefusal.{ReadRefusal}
 use Rattle.esr_json.specs.declared.refusal.ReadRefusal.TheVariants as refusals
@@ -26,7 +27,6 @@ use Rattle.esr_formats.specs.Formats.{formats}
 use Rattle.esr_formats.specs.Reasons.{reason_of, refused, unreadable, refused_for}
 use Rattle.esr_formats.specs.Shards.{shard_index_kind}
 use Rattle.esr_reach.specs.Held.{HeldShard, held_at, Holds}
-use Rattle.esr_reach.specs.Members.{has_push, has_left, has_right}
 use Rattle.esr_dooming.specs.Reading.{HasToRead}
 use Rattle.esr_desk.specs.Start.{Start, formats_of, ticket_of, told_bytes}
 use Rattle.esr_desk.specs.Outcome.{Stepped, fetch_reply}
@@ -69,7 +69,8 @@ pub came_fetched : (s : Start) (old new : List Moment) (who : ℕ) (name : BlobN
     → ticket_of s new who ≡ fetching name (told_bytes s b) (ticket_of s old who)
 came_fetched s old new who name o b is own = ap (λ (x : Own). x.ticket) (own ∙ ap (λ (y : Option Bytes). own_fetched hands.Delete (told_bytes s) name y (own_of s old who)) is)
 
-pub came_found : (s : Start) (old new : List Moment) (who : ℕ) (name : BlobName) (o : Option Bytes) (b : Bytes) → o ≡ Some b → Stepped s old new who (PruneStep (FetchShard name)) (fetch_reply o) → HadFetch hands.Delete new who name WasFetched
+pub came_found : (s : Start) (old new : List Moment) (who : ℕ) (name : BlobName) (o : Option Bytes) (b : Bytes) → o ≡ Some b → Stepped s old new who (PruneStep (FetchShard name)) (fetch_reply o)
+    → HadFetch hands.Delete new who name WasFetched
 came_found s old new who name o b is step =
     stepped_had s old new who (PruneStep (FetchShard name)) WasFetched (subst (λ (reply : Reply). Stepped s old new who (PruneStep (FetchShard name)) reply) (ap (λ (x : Option Bytes). fetch_reply x) is) step)
 
@@ -110,7 +111,8 @@ told_has false old new name b is yes_is = absurd cc
 
 -- its bytes don't read: the reader's reason is the first there is
 was_damaged : (s : Start) (old new : List Moment) (who index number base : ℕ) (b read : Bytes) (why : Reason) → CanFetchShard (ticket_of s old who) (ShardIndex index number base)
-    → ticket_of s new who ≡ fetching (ShardIndex index number base) (told_bytes s b) (ticket_of s old who) → HadFetch hands.Delete new who (ShardIndex index number base) WasFetched → read ≡ b → Fails (refusals.Damaged why) (shard_index_from read)
+    → ticket_of s new who ≡ fetching (ShardIndex index number base) (told_bytes s b) (ticket_of s old who) → HadFetch hands.Delete new who (ShardIndex index number base) WasFetched → read ≡ b
+    → Fails (refusals.Damaged why) (shard_index_from read)
     → IsOfDelete (ticket_of s new who) (ShardIndex index number base) × WasUnreadable hands.Delete s new who (ShardIndex index number base) (reason_of why)
 unfolding unreadable
 was_damaged s old new who index number base b read why can fetched had one fails =
@@ -122,7 +124,8 @@ was_damaged s old new who index number base b read why can fetched had one fails
 
 pub unread_shown : {S F H T : Type 0} (e : Evidence S F H T) (s : Start) (old new : List Moment) (who : ℕ) (shard : ShardId) (base : Id) (b read : Bytes) (r : ReadRefusal)
     → CanFetchShard (ticket_of s old who) (ShardIndex shard.index.number shard.number base.number)
-    → ticket_of s new who ≡ fetching (ShardIndex shard.index.number shard.number base.number) (told_bytes s b) (ticket_of s old who) → HadFetch hands.Delete new who (ShardIndex shard.index.number shard.number base.number) WasFetched → read ≡ b
+    → ticket_of s new who ≡ fetching (ShardIndex shard.index.number shard.number base.number) (told_bytes s b) (ticket_of s old who) → HadFetch hands.Delete new who (ShardIndex shard.index.number shard.number base.number) WasFetched
+    → read ≡ b
     → Fails r (shard_index_from read) → Shown {S = S} {F = F} {H = H} {T = T} hands.Delete e ⊥ s new who (unread_as {S = S} {F = F} (names.ShardIndex shard base) r)
 unread_shown e s old new who shard base b read refusals.Memory can fetched had one fails = tt
 unread_shown e s old new who shard base b read (refusals.Damaged why) can fetched had one fails = was_damaged s old new who shard.index.number shard.number base.number b read why can fetched had one fails
@@ -154,7 +157,8 @@ some_is : (x y : ℕ) → ◌≡◌ {A = Option ℕ} (Some x) (Some y) → x ≡
 some_is x y e = cc
 
 -- what is held and what was read go on together
-pub holds_more : (f : Formats) (root : RootData) (blobs : List (BlobName × Bytes)) (held now : List HeldShard) (p : PrunedShard) (bytes : Bytes) (files : ShardFiles) → Generation root p.index p.number p.base → f.shard_index.read bytes ≡ Some files
+pub holds_more : (f : Formats) (root : RootData) (blobs : List (BlobName × Bytes)) (held now : List HeldShard) (p : PrunedShard) (bytes : Bytes) (files : ShardFiles) → Generation root p.index p.number p.base
+    → f.shard_index.read bytes ≡ Some files
     → Holds held now p.index p.number files → HoldsRead f root blobs held → HoldsRead f root ((index_name p, bytes) ∷ blobs) now
 holds_more f root blobs held now p bytes files there reads holds before index number base h =
     let q = bare_shard index number base in
@@ -171,7 +175,7 @@ holds_more f root blobs held now p bytes files there reads holds before index nu
 
 pub gathered_more : (f : Formats) (blobs : List (BlobName × Bytes)) (p : PrunedShard) (bytes : Bytes) (files : ShardFiles) (before : List PrunedShard) → f.shard_index.read bytes ≡ Some files
     → ((q : PrunedShard) → Has before q → p.index ≡ q.index → p.number ≡ q.number → ⊥) → AreGathered f blobs before → AreGathered f ((index_name p, bytes) ∷ blobs) (before ++ p ∷ [])
-gathered_more f blobs p bytes files before reads apart are q m = elim (has_push before p q m) [
+gathered_more f blobs p bytes files before reads apart are q m = elim (Has-append before p q m) [
   | inl earlier ↦
       let was = are q earlier in
       (was.0, ap (files_by f) (other_index p q bytes blobs (tests_apart p q (apart q earlier))) ∙ was.1)
@@ -181,7 +185,8 @@ gathered_more f blobs p bytes files before reads apart are q m = elim (has_push 
 -- ---- the shards one after another
 
 -- it may be fetched, where it is to be read
-pub can_fetch : (old mid : Ticket) (clean : Bool) (root : RootData) (uuids : List ℕ) (p : PrunedShard) → IsUnplanned old clean root uuids → HasRead old mid → IsToRead clean root uuids p.index p.number p.base → CanFetchShard mid (index_name p)
+pub can_fetch : (old mid : Ticket) (clean : Bool) (root : RootData) (uuids : List ℕ) (p : PrunedShard) → IsUnplanned old clean root uuids → HasRead old mid → IsToRead clean root uuids p.index p.number p.base
+    → CanFetchShard mid (index_name p)
 can_fetch old mid clean root uuids p free read h = subst (λ (t : Ticket). CanFetchShard t (index_name p)) (sym read.is) (record {
   out = free.out;
   unsettled = free.unsettled;
@@ -205,7 +210,8 @@ new_fetch shards s log who p fetches apart e has same =
     let names = fetch_same q.index q.number q.base p.index p.number p.base (subst (λ (x : Step). Repeats x (PruneStep (FetchShard (index_name p)))) is same) in
     apart q there (sym names.0) (sym names.1)
 
-told_more : (tells : Bool) (mid new : Ticket) (name : BlobName) (bytes : Bytes) (blobs : List (BlobName × Bytes)) → new ≡ fetching name (if tells then Some bytes else None) mid → (tells ≡ true → mid.read ≡ blobs) → tells ≡ true → new.read ≡ (name, bytes) ∷ blobs
+told_more : (tells : Bool) (mid new : Ticket) (name : BlobName) (bytes : Bytes) (blobs : List (BlobName × Bytes)) → new ≡ fetching name (if tells then Some bytes else None) mid → (tells ≡ true → mid.read ≡ blobs) → tells ≡ true
+    → new.read ≡ (name, bytes) ∷ blobs
 told_more true mid new name bytes blobs is so_far yes_is = ap (λ (t : Ticket). t.read) is ∙ ap (λ (read : List (BlobName × Bytes)). (name, bytes) ∷ read) (so_far refl)
 told_more false mid new name bytes blobs is so_far yes_is = absurd cc
 
@@ -226,8 +232,10 @@ none_so_far s log who unread none = record {
 }
 
 -- one index more
-pub more_so_far : (s : Start) (old mid new : List Moment) (who : ℕ) (before : List PrunedShard) (held now : List HeldShard) (p : PrunedShard) (files : ShardFiles) → IsSoFar s old mid who before held → Generation (ticket_of s old who).root p.index p.number p.base
-    → ((q : PrunedShard) → Has before q → p.index ≡ q.index → p.number ≡ q.number → ⊥) → HasFetched s (ticket_of s mid who) (ticket_of s new who) (index_name p) files → MadeOne s mid new who (PruneStep (FetchShard (index_name p))) → HasRead (ticket_of s mid who) (ticket_of s new who)
+pub more_so_far : (s : Start) (old mid new : List Moment) (who : ℕ) (before : List PrunedShard) (held now : List HeldShard) (p : PrunedShard) (files : ShardFiles) → IsSoFar s old mid who before held
+    → Generation (ticket_of s old who).root p.index p.number p.base
+    → ((q : PrunedShard) → Has before q → p.index ≡ q.index → p.number ≡ q.number → ⊥) → HasFetched s (ticket_of s mid who) (ticket_of s new who) (index_name p) files
+    → MadeOne s mid new who (PruneStep (FetchShard (index_name p))) → HasRead (ticket_of s mid who) (ticket_of s new who)
     → GrewBy s who mid new → Holds held now p.index p.number files → IsSoFar s old new who (before ++ p ∷ []) now
 more_so_far s old mid new who before held now p files so_far there apart fetched made read grew holds =
     let reads = reads_as s fetched.0 files fetched.2 in record {
@@ -236,15 +244,16 @@ more_so_far s old mid new who before held now p files so_far there apart fetched
       are_held = holds_more (formats_of s) (ticket_of s old who).root so_far.blobs held now p fetched.0 files there reads holds so_far.are_held;
       gathered = gathered_more (formats_of s) so_far.blobs p fetched.0 files before reads apart so_far.gathered;
       made = λ e has. ⊎_elim
-          (λ earlier. let (q, in_before, is) = so_far.made e earlier in (q, has_left before (p ∷ []) q in_before, is))
-          (λ last. (p, has_right before (p ∷ []) p (inl refl), last))
+          (λ earlier. let (q, in_before, is) = so_far.made e earlier in (q, Has-left before (p ∷ []) q in_before, is))
+          (λ last. (p, Has-right before (p ∷ []) p (inl refl), last))
           (made e has);
       read = read_on (ticket_of s old who) (ticket_of s mid who) (ticket_of s new who) so_far.read read;
       grew = grew_by_on s who old mid new so_far.grew grew;
     }
 
 -- all are gathered
-pub gathered_all : (s : Start) (old new : List Moment) (who : ℕ) (clean : Bool) (root : RootData) (uuids : List ℕ) (shards : List PrunedShard) (held : List HeldShard) → IsUnplanned (ticket_of s old who) clean root uuids → IsSoFar s old new who shards held
+pub gathered_all : (s : Start) (old new : List Moment) (who : ℕ) (clean : Bool) (root : RootData) (uuids : List ℕ) (shards : List PrunedShard) (held : List HeldShard) → IsUnplanned (ticket_of s old who) clean root uuids
+    → IsSoFar s old new who shards held
     → HasToRead clean root uuids shards
     → IsGathered s (ticket_of s new who) uuids held
 gathered_all s old new who clean root uuids shards held free so_far all =

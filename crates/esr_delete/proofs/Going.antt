@@ -23,7 +23,7 @@ use Rattle.esr_unit.specs.Shown.{Shown}
 use Rattle.esr_unit.specs.Refusals.{RefusesSo, IsMasterOut, delete_refused, delete_refused_in}
 use Rattle.esr_finish.specs.Refused.{IsPutRefused, HadLatestFault}
 use Rattle.esr_finish.specs.Went.{Worked as PutWorked}
-use Rattle.esr_finish.proofs.Stopping.{writing_works}
+use Rattle.esr_finish.specs.Stops.{writing_works}
 use Rattle.esr_delete.specs.Gathered.{HasRead}
 use Rattle.esr_delete.specs.Planned.{IsPruner}
 use Rattle.esr_delete.specs.Went.{Worked}
@@ -137,7 +137,8 @@ prune_shown {S} {F} {H} {T} e s old new who prune refusal uuids plan law out wor
     delete_refused {S = S} {F = F} {H = H} {T = T} e ⊥ s old new who (PruneStep prune) law refusal tt (λ deletes. refl) uuids plan work (master_out s new who uuids plan out work) h
 
 -- a page wasn't listed
-pub list_shown : {S F H T : Type 0} (e : Evidence S F H T) (s : Start) (old new : List Moment) (who : ℕ) (after : Option Bytes) (refusal : StepRefusal) → RefusesSo → (t : IsPruner (ticket_of s new who) true) → IsRefusedBy s old new who (ListStep after) refusal
+pub list_shown : {S F H T : Type 0} (e : Evidence S F H T) (s : Start) (old new : List Moment) (who : ℕ) (after : Option Bytes) (refusal : StepRefusal) → RefusesSo → (t : IsPruner (ticket_of s new who) true)
+    → IsRefusedBy s old new who (ListStep after) refusal
     → Shown {S = S} {F = F} {H = H} {T = T} hands.Delete e ⊥ s new who (troubles.Step refusal)
 list_shown {S} {F} {H} {T} e s old new who after refusal law t h =
     delete_refused {S = S} {F = F} {H = H} {T = T} e ⊥ s old new who (ListStep after) law refusal tt (λ deletes. refl) t.uuids t.plan t.work (master_out s new who t.uuids t.plan t.out t.work) h

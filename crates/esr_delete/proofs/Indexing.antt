@@ -2,16 +2,16 @@
 use Rattle.std.proofs.Common.{◌≡◌, ◌⊎◌, ◌<◌, ◌≤◌, ◌^◌, inl, inr, ⊎_elim, ℕ, zero, suc, ◌+◌, Bool, true, false, List, [], ◌∷◌, ◌++◌, map, length, take, get_or, Option, Some, None, refl, sym, ap, ◌∙◌, subst, arith}
 use Rattle.std.specs.Prelude.{if◌then◌else◌}
 use Rattle.std.proofs.lemmas.List.{length-map, length-take-le}
+use Rattle.std.proofs.lemmas.Bool.{cond-true, cond-false, cases_Bool}
+use Rattle.esr_model.specs.Lists.{Has-left, Has-right}
 use Rattle.esr_model.specs.Names.{BlobName, Latest, ShardIndex}
 use Rattle.esr_model.specs.Values.{Bytes, Has, RootSnap, RootData, ShardFiles, Formats}
 use Rattle.esr_model.specs.Delete.{PrunedShard, names_uuid, next_after, kept_count, left_snaps, left_uuids, uuids_of, surviving, is_index, index_bytes, files_by, files_read, left_text, pruned_blobs}
 use Rattle.esr_core.specs.World.{Ticket, Work, Swap, swap_of, swap}
 use Rattle.esr_core.specs.Pruning.{bare_shard, delete_swap}
 use Rattle.esr_core.specs.Allowed.{IsUnlisted}
-use Rattle.esr_core.proofs.DeletedRoots.{deleted_snapshots}
-use Rattle.esr_core.proofs.Plans.{of_root_apart, in_root, own_is}
-use Rattle.esr_core.proofs.Results.{choose_true, choose_false}
-use Rattle.esr_core.proofs.Deleting.{bool_told}
+use Rattle.esr_core.specs.Laws.DeleteRoots.{deleted_snapshots}
+use Rattle.esr_core.specs.Laws.DeletePlans.{of_root_apart, in_root, own_is}
 use Rattle.esr_shardidx.specs.Indices.{IndexValue}
 use Rattle.esr_formats.specs.Formats.{formats}
 use Rattle.esr_formats.specs.Shards.{shard_index_of, shard_index_kind}
@@ -21,8 +21,7 @@ use Rattle.esr_reach.specs.Held.{HeldShard, held_at}
 use Rattle.esr_desk.specs.Start.{Start, formats_of}
 use Rattle.esr_desk.specs.Conditions.{CanCommit}
 use Rattle.esr_finish.specs.Ticket.{MayStore, noted_with, Wrote}
-use Rattle.esr_finish.proofs.Swaps.{noted_before}
-use Rattle.esr_finish.proofs.Writing.{swaps_no_shard, has_left, has_right}
+use Rattle.esr_finish.specs.SwapBlobs.{noted_before, swaps_no_shard}
 use Rattle.esr_delete.specs.Planned.{IsDraft, Notes, NotesOwn, IsUnwritten, IsIndexOf}
 
 -- ---- one index
@@ -35,7 +34,8 @@ pub read_bare : (f : Formats) (blobs : List (BlobName × Bytes)) (p : PrunedShar
 read_bare f blobs p = ap (files_by f) (files_bare blobs p)
 
 -- the blobs of one shard
-kept_blobs : (f : Formats) (read : List (BlobName × Bytes)) (left : List ℕ) (id : ℕ) (p : PrunedShard) → p.kept ≡ true → pruned_blobs f read left id (p ∷ []) ≡ (ShardIndex p.index p.number id, left_text f left (files_read f read p)) ∷ []
+kept_blobs : (f : Formats) (read : List (BlobName × Bytes)) (left : List ℕ) (id : ℕ) (p : PrunedShard) → p.kept ≡ true
+    → pruned_blobs f read left id (p ∷ []) ≡ (ShardIndex p.index p.number id, left_text f left (files_read f read p)) ∷ []
 kept_blobs f read left id p kept = ap (λ (b : Bool). if b then (ShardIndex p.index p.number id, left_text f left (files_read f read p)) ∷ [] else []) kept
 
 no_blobs : (f : Formats) (read : List (BlobName × Bytes)) (left : List ℕ) (id : ℕ) (p : PrunedShard) → p.kept ≡ false → pruned_blobs f read left id (p ∷ []) ≡ []
@@ -101,8 +101,8 @@ pub notes_on : (s : Start) (a b c : Ticket) (xs ys : List (BlobName × Bytes)) �
 notes_on s a b c xs ys first second = record {
   wrote = second.wrote;
   from = λ tells x has. ⊎_elim
-      (λ before. ⊎_elim (λ old. inl old) (λ one. inr (has_left xs ys x one)) (first.from tells x (subst (λ (t : Ticket). Has t.wrote x) first.is before)))
-      (λ one. inr (has_right xs ys x one))
+      (λ before. ⊎_elim (λ old. inl old) (λ one. inr (Has-left xs ys x one)) (first.from tells x (subst (λ (t : Ticket). Has t.wrote x) first.is before)))
+      (λ one. inr (Has-right xs ys x one))
       (second.from tells x has);
   is =
       second.is
@@ -111,7 +111,8 @@ notes_on s a b c xs ys first second = record {
 }
 
 -- of the same snapshots
-pub notes_as : (s : Start) (a b : Ticket) (f : Formats) (read : List (BlobName × Bytes)) (us vs : List ℕ) (first : ℕ) (shards : List PrunedShard) → us ≡ vs → Notes s a b (pruned_blobs f read us first shards) → Notes s a b (pruned_blobs f read vs first shards)
+pub notes_as : (s : Start) (a b : Ticket) (f : Formats) (read : List (BlobName × Bytes)) (us vs : List ℕ) (first : ℕ) (shards : List PrunedShard) → us ≡ vs → Notes s a b (pruned_blobs f read us first shards)
+    → Notes s a b (pruned_blobs f read vs first shards)
 notes_as s a b f read us vs first shards same notes = subst (λ (ws : List ℕ). Notes s a b (pruned_blobs f read ws first shards)) same notes
 
 pub notes_none : (s : Start) (t : Ticket) → Notes s t t []
@@ -129,7 +130,8 @@ plus_none : (n : ℕ) → n ≡ n + 0
 plus_none n = omega arith
 
 -- the blobs of one shard more
-blobs_more : (f : Formats) (read : List (BlobName × Bytes)) (left : List ℕ) (first : ℕ) (xs : List PrunedShard) (p : PrunedShard) → pruned_blobs f read left first (xs ++ p ∷ []) ≡ pruned_blobs f read left first xs ++ pruned_blobs f read left (first + kept_count xs) (p ∷ [])
+blobs_more : (f : Formats) (read : List (BlobName × Bytes)) (left : List ℕ) (first : ℕ) (xs : List PrunedShard) (p : PrunedShard)
+    → pruned_blobs f read left first (xs ++ p ∷ []) ≡ pruned_blobs f read left first xs ++ pruned_blobs f read left (first + kept_count xs) (p ∷ [])
 blobs_more f read left first [] p = ap (λ (n : ℕ). pruned_blobs f read left n (p ∷ [])) (plus_none first)
 blobs_more f read left first (x ∷ xs) p =
     more_if x.kept (ShardIndex x.index x.number first, left_text f left (files_read f read x)) first (kept_count xs) (λ n. pruned_blobs f read left n xs) (λ n. pruned_blobs f read left n (xs ++ p ∷ [])) (λ n. pruned_blobs f read left n (p ∷ []))
@@ -177,7 +179,8 @@ has_room items shards first k id same less is range =
 
 -- ---- the next index is one of the plan
 
-has_if : {A : Type 0} (b : Bool) (x : A) (first count : ℕ) (here : ℕ → List A) (y : ℕ → A) → ((n : ℕ) → Has (here n) (y (n + count))) → Has (if b then x ∷ here (suc first) else here first) (y (first + (if b then suc count else count)))
+has_if : {A : Type 0} (b : Bool) (x : A) (first count : ℕ) (here : ℕ → List A) (y : ℕ → A) → ((n : ℕ) → Has (here n) (y (n + count)))
+    → Has (if b then x ∷ here (suc first) else here first) (y (first + (if b then suc count else count)))
 has_if {A} true x first count here y h = inr (subst (λ (n : ℕ). Has (here (suc first)) (y n)) (shifted first count) (h (suc first)))
 has_if false x first count here y h = h first
 
@@ -194,7 +197,8 @@ own_at f read left (x ∷ items) (suc k) first less kept =
     has_if (pruned_of x).kept (ShardIndex (pruned_of x).index (pruned_of x).number first, left_text f left (files_read f read (pruned_of x))) first (kept_count (map pruned_of (take k items))) (λ n. pruned_blobs f read left n (map pruned_of items))
     (λ n. (ShardIndex p.index p.number n, left_text f left (files_read f read p))) (λ n. own_at f read left items k n (omega arith) kept)
 
-own_there : (f : Formats) (read : List (BlobName × Bytes)) (left us : List ℕ) (items shards : List CodePruned) (k first id : ℕ) → left ≡ us → items ≡ shards → id ≡ first + kept_count (map pruned_of (take k items)) → k < length items → (pruned_of (get_or items k no_shard)).kept ≡ true
+own_there : (f : Formats) (read : List (BlobName × Bytes)) (left us : List ℕ) (items shards : List CodePruned) (k first id : ℕ) → left ≡ us → items ≡ shards → id ≡ first + kept_count (map pruned_of (take k items))
+    → k < length items → (pruned_of (get_or items k no_shard)).kept ≡ true
     → Has (pruned_blobs f read us first (map pruned_of shards)) (ShardIndex (pruned_of (get_or items k no_shard)).index (pruned_of (get_or items k no_shard)).number id, left_text f left (files_read f read (pruned_of (get_or items k no_shard))))
 own_there f read left us items shards k first id left_is same id_is less kept =
     let p = pruned_of (get_or items k no_shard) in
@@ -208,7 +212,8 @@ own_there f read left us items shards k first id left_is same id_is less kept =
 same_number : (i k g j l h : ℕ) → ShardIndex i k g ≡ ShardIndex j l h → g ≡ h
 same_number i k g j l h e = cc
 
-pub unnoted_next : (f : Formats) (read : List (BlobName × Bytes)) (left : List ℕ) (before : List PrunedShard) (first index number : ℕ) → Has (noted_with (pruned_blobs f read left first before) []) (ShardIndex index number (first + kept_count before)) → ⊥
+pub unnoted_next : (f : Formats) (read : List (BlobName × Bytes)) (left : List ℕ) (before : List PrunedShard) (first index number : ℕ)
+    → Has (noted_with (pruned_blobs f read left first before) []) (ShardIndex index number (first + kept_count before)) → ⊥
 unnoted_next f read left before first index number has =
     let name = ShardIndex index number (first + kept_count before) in
     noted_before (pruned_blobs f read left first before) [] name
@@ -223,9 +228,9 @@ unnoted_next f read left before first index number has =
 
 left_listed : (uuids : List ℕ) (ss : List RootSnap) → map (λ (s : RootSnap). s.uuid) (left_snaps uuids ss) ≡ left_uuids uuids (map (λ (s : RootSnap). s.uuid) ss)
 left_listed uuids [] = refl
-left_listed uuids (x ∷ ss) = elim (bool_told (names_uuid uuids x.uuid)) [
-  | inl b ↦ ap (map (λ (s : RootSnap). s.uuid)) (choose_true _ _ _ b) ∙ left_listed uuids ss ∙ sym (choose_true _ _ _ b)
-  | inr b ↦ ap (map (λ (s : RootSnap). s.uuid)) (choose_false _ _ _ b) ∙ ap (λ (us : List ℕ). x.uuid ∷ us) (left_listed uuids ss) ∙ sym (choose_false _ _ _ b)
+left_listed uuids (x ∷ ss) = elim (cases_Bool (names_uuid uuids x.uuid)) [
+  | inl b ↦ ap (map (λ (s : RootSnap). s.uuid)) (cond-true _ _ _ b) ∙ left_listed uuids ss ∙ sym (cond-true _ _ _ b)
+  | inr b ↦ ap (map (λ (s : RootSnap). s.uuid)) (cond-false _ _ _ b) ∙ ap (λ (us : List ℕ). x.uuid ∷ us) (left_listed uuids ss) ∙ sym (cond-false _ _ _ b)
 ]
 
 pub left_of_draft : (s : Start) (t : Ticket) (uuids : List ℕ) (held : List HeldShard) (shards : List PrunedShard) (first : ℕ) (root : RootData) → IsDraft s t uuids held shards first root → uuids_of root ≡ left_uuids uuids (uuids_of t.root)
@@ -238,11 +243,13 @@ not_latest : (i k g : ℕ) → ShardIndex i k g ≡ Latest → ⊥
 not_latest i k g e = cc
 
 -- the plan is its swap, and stays it
-pub plan_is : (s : Start) (t : Ticket) (held : List HeldShard) (shards : List PrunedShard) (first : ℕ) (root : RootData) (free : IsUnwritten s t held shards first root) → swap (formats_of s) t ≡ Some (delete_swap (formats_of s) t.clean t.root t.read free.uuids shards first)
+pub plan_is : (s : Start) (t : Ticket) (held : List HeldShard) (shards : List PrunedShard) (first : ℕ) (root : RootData) (free : IsUnwritten s t held shards first root)
+    → swap (formats_of s) t ≡ Some (delete_swap (formats_of s) t.clean t.root t.read free.uuids shards first)
 plan_is s t held shards first root free = ap (λ (w : Work). swap_of (formats_of s) w t.root) free.work
 
 -- the next one may be committed, where it is among the blobs of the plan and isn't noted
-can_commit : (s : Start) (t : Ticket) (change : Swap) (index number id : ℕ) (text : Bytes) → t.out ≡ true → t.settled ≡ false → IsUnlisted t → swap (formats_of s) t ≡ Some change → Has change.own (ShardIndex index number id, text) → (Has t.noted (ShardIndex index number id) → ⊥)
+can_commit : (s : Start) (t : Ticket) (change : Swap) (index number id : ℕ) (text : Bytes) → t.out ≡ true → t.settled ≡ false → IsUnlisted t → swap (formats_of s) t ≡ Some change → Has change.own (ShardIndex index number id, text)
+    → (Has t.noted (ShardIndex index number id) → ⊥)
     → CanCommit s t (ShardIndex index number id) text
 can_commit s t change index number id text out unsettled unlisted is own unnoted = record {
   out = out;
@@ -281,7 +288,8 @@ index_at s old held items shards k first id root left wrote free same less left_
       new = λ kept. unnoted;
     }
 
-pub index_of : (s : Start) (old mid : Ticket) (held : List HeldShard) (items shards : List CodePruned) (k first id : ℕ) (root : RootData) (left : List ℕ) (free : IsUnwritten s old held (map pruned_of shards) first root) → items ≡ shards → k < length items
+pub index_of : (s : Start) (old mid : Ticket) (held : List HeldShard) (items shards : List CodePruned) (k first id : ℕ) (root : RootData) (left : List ℕ) (free : IsUnwritten s old held (map pruned_of shards) first root) → items ≡ shards
+    → k < length items
     → left ≡ left_uuids free.uuids (uuids_of old.root) → id ≡ first + kept_count (map pruned_of (take k items)) → Notes s old mid (pruned_blobs (formats_of s) old.read left first (map pruned_of (take k items)))
     → Has (map pruned_of shards) (pruned_of (get_or items k no_shard)) → IsIndexOf s mid held left (pruned_of (get_or items k no_shard)) id
 index_of s old mid held items shards k first id root left free same less left_is id_is notes there =
@@ -290,8 +298,10 @@ index_of s old mid held items shards k first id root left free same less left_is
 -- ---- all of them
 
 -- one more of them was committed
-pub notes_more : (s : Start) (old mid new : Ticket) (items : List CodePruned) (k first id : ℕ) (left : List ℕ) (item : CodePruned) → map pruned_of (take (k + 1) items) ≡ map pruned_of (take k items) ++ pruned_of item ∷ [] → id ≡ first + kept_count (map pruned_of (take k items))
-    → Notes s old mid (pruned_blobs (formats_of s) old.read left first (map pruned_of (take k items))) → Notes s mid new (pruned_blobs (formats_of s) mid.read left id (pruned_of item ∷ [])) → Notes s old new (pruned_blobs (formats_of s) old.read left first (map pruned_of (take (k + 1) items)))
+pub notes_more : (s : Start) (old mid new : Ticket) (items : List CodePruned) (k first id : ℕ) (left : List ℕ) (item : CodePruned) → map pruned_of (take (k + 1) items) ≡ map pruned_of (take k items) ++ pruned_of item ∷ []
+    → id ≡ first + kept_count (map pruned_of (take k items))
+    → Notes s old mid (pruned_blobs (formats_of s) old.read left first (map pruned_of (take k items))) → Notes s mid new (pruned_blobs (formats_of s) mid.read left id (pruned_of item ∷ []))
+    → Notes s old new (pruned_blobs (formats_of s) old.read left first (map pruned_of (take (k + 1) items)))
 notes_more s old mid new items k first id left item more id_is first_notes second =
     let f = formats_of s in
     let before = map pruned_of (take k items) in
@@ -302,7 +312,8 @@ notes_more s old mid new items k first id left item more id_is first_notes secon
     subst (Notes s old new) (sym (blobs_more f old.read left first before p) ∙ ap (pruned_blobs f old.read left first) (sym more))
     (notes_on s old mid new (pruned_blobs f old.read left first before) (pruned_blobs f old.read left (first + kept_count before) (p ∷ [])) first_notes next)
 
-pub notes_all : (s : Start) (old new : Ticket) (held : List HeldShard) (shards : List PrunedShard) (first : ℕ) (root : RootData) (left : List ℕ) (free : IsUnwritten s old held shards first root) → left ≡ left_uuids free.uuids (uuids_of old.root)
+pub notes_all : (s : Start) (old new : Ticket) (held : List HeldShard) (shards : List PrunedShard) (first : ℕ) (root : RootData) (left : List ℕ) (free : IsUnwritten s old held shards first root)
+    → left ≡ left_uuids free.uuids (uuids_of old.root)
     → Notes s old new (pruned_blobs (formats_of s) old.read left first shards) → NotesOwn s old new
 notes_all s old new held shards first root left free left_is notes = record {
   change = delete_swap (formats_of s) old.clean old.root old.read free.uuids shards first;

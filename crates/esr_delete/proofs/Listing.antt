@@ -81,7 +81,8 @@ can_list old new pages after may is after_is = subst (λ (t : Ticket). CanList t
 pub more_listed : (old mid new : Ticket) (pages next : List Listed) (whole : Bool) → HasListed old mid pages false → new ≡ listing mid (page_of next) → is_short (page_of next) ≡ whole → HasListed old new (pages ++ next) whole
 more_listed old mid new pages next whole before own ends = own ∙ ap (λ (t : Ticket). listing t (page_of next)) before ∙ (λ j. record old { listed = pages_join pages next j; whole = ends j })
 
-pub more_found : (piece : Listed → List BlobName) (old new : List CodeName) (pages next blobs : List Listed) → blobs ≡ next → map name_of old ≡ flat_map piece pages → Pushed old new (flat_map piece blobs) → map name_of new ≡ flat_map piece (pages ++ next)
+pub more_found : (piece : Listed → List BlobName) (old new : List CodeName) (pages next blobs : List Listed) → blobs ≡ next → map name_of old ≡ flat_map piece pages → Pushed old new (flat_map piece blobs)
+    → map name_of new ≡ flat_map piece (pages ++ next)
 more_found piece old new pages next blobs same before pushed =
     pushed ∙ ap (λ (l : List BlobName). l ++ flat_map piece blobs) before ∙ ap (λ (l : List Listed). flat_map piece pages ++ flat_map piece l) same ∙ sym (flat_map-append piece pages next)
 
@@ -121,7 +122,8 @@ longer s old new who step reply h =
 
 -- ---- how far it went
 
-pub went_listed : (s : Start) (old new : List Moment) (who : ℕ) (pages : List Listed) (whole : Bool) → (may : IsLister (ticket_of s old who)) → GrewBy s who old new → HasListed (ticket_of s old who) (ticket_of s new who) pages whole → Went s old new who
+pub went_listed : (s : Start) (old new : List Moment) (who : ℕ) (pages : List Listed) (whole : Bool) → (may : IsLister (ticket_of s old who)) → GrewBy s who old new → HasListed (ticket_of s old who) (ticket_of s new who) pages whole
+    → Went s old new who
 went_listed s old new who pages whole may grew is = record { grew = grew; worked = worked_listed (ticket_of s old who) (ticket_of s new who) may.uuids may.plan (page_of pages) whole may.work is }
 
 pub lists_on : (old new : Ticket) (pages : List Listed) (whole : Bool) → IsLister old → HasListed old new pages whole → IsPruner new true

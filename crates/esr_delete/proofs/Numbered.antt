@@ -1,12 +1,11 @@
 -- The shards of a list of the code, one after another.
 use Rattle.std.proofs.Common.{◌≡◌, ◌<◌, inl, inr, ℕ, zero, suc, List, [], ◌∷◌, map, length, take, get_or, sym, ap, ◌∙◌, subst, arith}
+use Rattle.esr_model.specs.Loops.{has_at, item_is}
 use Rattle.esr_model.specs.Values.{Has, RootData}
 use Rattle.esr_model.specs.Delete.{PrunedShard}
 use Rattle.esr_core.specs.Pruning.{AreOfRoot}
 use Rattle.esr_results.specs.declared.pruned.PrunedShard.{PrunedShard as CodePruned}
 use Rattle.esr_results.specs.Pruned.{pruned_of, no_shard}
-use Rattle.esr_dooming.proofs.Loops.{item_is}
-use Rattle.esr_dooming.proofs.Laid.{has_at}
 
 -- the next one is one of them
 pub shard_in : (items shards : List CodePruned) (k : ℕ) → items ≡ shards → k < length items → Has (map pruned_of shards) (pruned_of (get_or items k no_shard))

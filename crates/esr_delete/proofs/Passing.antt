@@ -1,5 +1,6 @@
 -- What a removal, the settle and the end of a ticket were answered, and where the unit stops then.
 use Rattle.std.proofs.Common.{◌≡◌, ◌⊎◌, ◌≤◌, inl, inr, ⊎_elim, ℕ, Bool, true, false, List, ◌++◌, Option, Some, Result, Ok, Err, IfErr, OnErr, refl, sym, ap, ◌∙◌, subst, true≢false}
+use Rattle.esr_model.specs.Lists.{Has-either}
 use Rattle.esr_model.specs.Names.{BlobName}
 use Rattle.esr_model.specs.Values.{Has}
 use Rattle.esr_core.specs.World.{World, Ticket, Deleting, Swap}
@@ -7,7 +8,6 @@ use Rattle.esr_core.specs.Past.{is_counted, removal_names}
 use Rattle.esr_core.specs.Entry.{SettlePruned, RemoveDoomed, EndDelete, DroppedStep, Step, PruneStep, Reply, WasRemoved, HasEnded, Refusal, DepotFault, Refused, Moment}
 use Rattle.esr_core.specs.Allowed.{ByFailedSwap, ByDelete}
 use Rattle.esr_core.specs.Refusing.{MayRefuse, RemoveDoomedFault, RefusedSo}
-use Rattle.esr_reach.specs.Members.{has_either}
 use Rattle.esr_desk.specs.declared.refusal.EntryRefusal.{EntryRefusal}
 use Rattle.esr_desk.specs.declared.refusal.EntryRefusal.TheVariants as refusals
 use Rattle.esr_desk.specs.declared.refusal.StepRefusal.{StepRefusal}
@@ -27,7 +27,7 @@ use Rattle.esr_unit.specs.Fetch.{IsRefusedBy}
 use Rattle.esr_unit.specs.Shown.{Shown}
 use Rattle.esr_unit.specs.Refusals.{RefusesSo, last_refused, delete_refused}
 use Rattle.esr_finish.specs.Refused.{is_fault}
-use Rattle.esr_finish.proofs.Stopping.{IsBlock}
+use Rattle.esr_finish.specs.Stops.{IsBlock}
 use Rattle.esr_delete.specs.Refused.{Stops, IsRemovalRefused, IsStillOrEnded, IsLeftAt}
 use Rattle.esr_delete.specs.Removed.{IsSettledPlan, Removed, passed_by}
 use Rattle.esr_delete.proofs.Going.{prune_shown, master_out}
@@ -43,7 +43,8 @@ so_blocked w who step refusal never (inr may) = absurd (never may)
 abbrev pub IsDeletes : Ticket → Type 0
 IsDeletes t = (uuids : List ℕ) × (plan : Option Swap) × (t.work ≡ Deleting uuids plan)
 
-block_halts : (s : Start) (old new : List Moment) (who : ℕ) (step : Step) (x : EntryRefusal) → IsBlock (refusal_of x) → IsDeletes (ticket_of s new who) → Stepped s old new who step (Refused (refusal_of x)) → Grounds s new who (steps.Refused x)
+block_halts : (s : Start) (old new : List Moment) (who : ℕ) (step : Step) (x : EntryRefusal) → IsBlock (refusal_of x) → IsDeletes (ticket_of s new who) → Stepped s old new who step (Refused (refusal_of x))
+    → Grounds s new who (steps.Refused x)
     → Halts s new who (steps.Refused x)
 block_halts s old new who step (refusals.Deposed entry) block deletes h grounds = (step, record { front = h.front; image = h.image; is = h.is })
 block_halts s old new who step (refusals.Aborted op) block deletes h grounds = absurd (grounds.no_delete deletes.0 deletes.1 deletes.2)
@@ -133,20 +134,23 @@ same_err : (d e : StepRefusal) → ◌≡◌ {A = Result (Unit {0}) StepRefusal}
 same_err d e is = cc
 
 -- these are named, and what was named before still is
-more : (s : Start) (old new : List Moment) (who : ℕ) (names : List BlobName) (reply : Reply) → 1 ≤ who → is_counted reply ≡ true → Stepped s old new who (PruneStep (RemoveDoomed names)) reply → AreNamed s new who (names ++ removal_names (made_of s old who))
+more : (s : Start) (old new : List Moment) (who : ℕ) (names : List BlobName) (reply : Reply) → 1 ≤ who → is_counted reply ≡ true → Stepped s old new who (PruneStep (RemoveDoomed names)) reply
+    → AreNamed s new who (names ++ removal_names (made_of s old who))
 more s old new who names reply ticket counted h name has = ⊎_elim
     (λ (here : Has names name). removal_named s old new who names reply counted h name here)
     (λ (before : Has (removal_names (made_of s old who)) name). still_named s old new who (RemoveDoomed names) reply ticket h name before)
-    (has_either names (removal_names (made_of s old who)) name has)
+    (Has-either names (removal_names (made_of s old who)) name has)
 
-removed_as : (s : Start) (old new : List Moment) (who : ℕ) (names : List BlobName) (r : Result (Unit {0}) StepRefusal) (y : Unit {0}) → Passing r → passed_by false r ≡ Ok y → 1 ≤ who → Outcome s old new who (PruneStep (RemoveDoomed names)) (λ x. WasRemoved) r
+removed_as : (s : Start) (old new : List Moment) (who : ℕ) (names : List BlobName) (r : Result (Unit {0}) StepRefusal) (y : Unit {0}) → Passing r → passed_by false r ≡ Ok y → 1 ≤ who
+    → Outcome s old new who (PruneStep (RemoveDoomed names)) (λ x. WasRemoved) r
     → Removed false s old new who names
 removed_as s old new who names r y (Well x) is ticket h = record { reply = WasRemoved; step = h; more = more s old new who names WasRemoved ticket refl h; well = λ cleans. absurd (true≢false (sym cleans)) }
 removed_as s old new who names r y Failing is ticket h = record { reply = Refused DepotFault; step = h.0; more = more s old new who names (Refused DepotFault) ticket refl h.0; well = λ cleans. absurd (true≢false (sym cleans)) }
 removed_as s old new who names r y (Halting e same other) is ticket h = absurd (ok_err y e (sym is ∙ same))
 
 -- where it counts as made its names were named
-pub passed_removed : (clean : Bool) (s : Start) (old new : List Moment) (who : ℕ) (names : List BlobName) (r : Result (Unit {0}) StepRefusal) (y : Unit {0}) → 1 ≤ who → Ok y ≡ passed_by clean r → Outcome s old new who (PruneStep (RemoveDoomed names)) (λ x. WasRemoved) r
+pub passed_removed : (clean : Bool) (s : Start) (old new : List Moment) (who : ℕ) (names : List BlobName) (r : Result (Unit {0}) StepRefusal) (y : Unit {0}) → 1 ≤ who → Ok y ≡ passed_by clean r
+    → Outcome s old new who (PruneStep (RemoveDoomed names)) (λ x. WasRemoved) r
     → Removed clean s old new who names
 passed_removed false s old new who names r y ticket is h = removed_as s old new who names r y (passing r) (sym is) ticket h
 passed_removed true s old new who names (Ok x) y ticket is h = record { reply = WasRemoved; step = h; more = more s old new who names WasRemoved ticket refl h; well = λ cleans. refl }
@@ -201,7 +205,8 @@ was_refused s old new who names steps.Memory h = tt
 was_refused s old new who names steps.TurnsSpent h = h.1
 was_refused s old new who names (steps.Refused x) h = inr (refl, (old, names, h))
 
-pub passed_refused : (clean : Bool) (s : Start) (old new : List Moment) (who : ℕ) (names : List BlobName) (r : Result (Unit {0}) StepRefusal) (e : StepRefusal) → RefusesSo → IsSettledPlan (ticket_of s old who) → ticket_of s new who ≡ ticket_of s old who
+pub passed_refused : (clean : Bool) (s : Start) (old new : List Moment) (who : ℕ) (names : List BlobName) (r : Result (Unit {0}) StepRefusal) (e : StepRefusal) → RefusesSo → IsSettledPlan (ticket_of s old who)
+    → ticket_of s new who ≡ ticket_of s old who
     → Err e ≡ passed_by clean r → Outcome s old new who (PruneStep (RemoveDoomed names)) (λ x. WasRemoved) r → IsRemovalRefused clean s new who e
 passed_refused false s old new who names r e law over same is h =
     halts_refused s new who e (halted_as s old new who names r e law (subst IsDeletes (sym same) (over.uuids, Some over.plan, over.work)) (passing r) (sym is) h)

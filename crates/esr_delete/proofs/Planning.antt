@@ -9,7 +9,7 @@ use Rattle.esr_core.specs.World.{Ticket}
 use Rattle.esr_core.specs.Entry.{Step, PruneStep, PlanShards, Reply, Moment}
 use Rattle.esr_core.specs.Past.{Repeats}
 use Rattle.esr_core.specs.Pruning.{AreRead, AreOfRoot, AreWritable, pruned_shards, planned}
-use Rattle.esr_core.proofs.DeletedRoots.{one_found}
+use Rattle.esr_core.specs.Laws.DeleteRoots.{one_found}
 use Rattle.esr_formats.specs.Formats.{formats}
 use Rattle.esr_results.specs.declared.pruned.PrunedShard.{PrunedShard as CodePruned}
 use Rattle.esr_results.specs.Pruned.{pruned_of}
@@ -54,7 +54,8 @@ found s t clean root uuids held shards free g one exact of_root each some writab
       one_each = one;
     }))
 
-pub can_plan : (s : Start) (t : Ticket) (clean : Bool) (root : RootData) (uuids : List ℕ) (held : List HeldShard) (shards : List PrunedShard) → IsUnplanned t clean root uuids → (g : IsGathered s t uuids held) → AreFound s t.clean t.root uuids g.blobs held shards → CanPlan s t uuids shards
+pub can_plan : (s : Start) (t : Ticket) (clean : Bool) (root : RootData) (uuids : List ℕ) (held : List HeldShard) (shards : List PrunedShard) → IsUnplanned t clean root uuids → (g : IsGathered s t uuids held)
+    → AreFound s t.clean t.root uuids g.blobs held shards → CanPlan s t uuids shards
 can_plan s t clean root uuids held shards free g are = record {
   out = free.out;
   unsettled = free.unsettled;
@@ -81,7 +82,8 @@ plan_tells s old new who shards reply ticket fetches h e has =
     (λ last. subst (TellsStep t) (sym last) tt)
     (stepped_made s old new who (PruneStep (PlanShards shards)) reply ticket h e has)
 
-pub has_planned : (s : Start) (old new : Ticket) (given root : RootData) (uuids : List ℕ) (held : List HeldShard) (shards : List CodePruned) (first : ℕ) → given ≡ old.root → (g : IsGathered s old uuids held) → AreFound s old.clean old.root uuids g.blobs held (map pruned_of shards)
+pub has_planned : (s : Start) (old new : Ticket) (given root : RootData) (uuids : List ℕ) (held : List HeldShard) (shards : List CodePruned) (first : ℕ) → given ≡ old.root → (g : IsGathered s old uuids held)
+    → AreFound s old.clean old.root uuids g.blobs held (map pruned_of shards)
     → new ≡ planned (formats_of s) (map pruned_of shards) first old → root ≡ deleted_root given uuids (map pruned_of shards) first → first + length shards < 2 ^ 128 → HasPlanned s old new uuids held (map pruned_of shards) first root
 has_planned s old new given root uuids held shards first same g are own root_is range = record {
   draft = record {

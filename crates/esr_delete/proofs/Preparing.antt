@@ -8,9 +8,9 @@ use Rattle.esr_model.specs.Cleanup.{BlobSize, cleaned_names}
 use Rattle.esr_core.specs.World.{Ticket, Work, Deleting, Swap, swap}
 use Rattle.esr_core.specs.Entry.{Moment}
 use Rattle.esr_core.specs.Pruning.{AreOfRoot, pruned_shards, commands_by, delete_swap, doomed_as, dooms}
-use Rattle.esr_core.proofs.DeletedRoots.{one_found}
-use Rattle.esr_core.proofs.DoomedNames.{of_indices}
-use Rattle.esr_core.proofs.Plans.{own_is}
+use Rattle.esr_core.specs.Laws.DeleteRoots.{one_found}
+use Rattle.esr_core.specs.Laws.DoomNames.{of_indices}
+use Rattle.esr_core.specs.Laws.DeletePlans.{own_is}
 use Rattle.esr_reach.specs.Held.{HeldShard}
 use Rattle.esr_dooming.specs.Reading.{AreHeld}
 use Rattle.esr_desk.specs.Start.{Start, formats_of, ticket_of}
@@ -20,7 +20,7 @@ use Rattle.esr_desk.specs.Delete.Conditions.{CanSettleDelete}
 use Rattle.esr_finish.specs.Blobs.{root_blob}
 use Rattle.esr_finish.specs.Ticket.{MayPutRoot, noted_with, has_noted}
 use Rattle.esr_finish.specs.Went.{Went as PutWent}
-use Rattle.esr_finish.proofs.Swaps.{noted_before}
+use Rattle.esr_finish.specs.SwapBlobs.{noted_before}
 use Rattle.esr_delete.specs.Gathered.{IsUnplanned, HasRead}
 use Rattle.esr_delete.specs.Planned.{IsDraft, HasPlanned, NotesOwn, IsUnwritten, IsIndexed}
 use Rattle.esr_delete.specs.Ticket.{IsRooted, IsReady, HasWritten}
@@ -65,7 +65,8 @@ root_next s old mid held shards first root free notes =
     }
 
 -- what was drafted stays so, whatever the ticket plans and notes
-draft_on : (s : Start) (t : Ticket) (work : Work) (now drawn : ℕ) (noted : List BlobName) (wrote : List (BlobName × Bytes)) (uuids : List ℕ) (held : List HeldShard) (shards : List PrunedShard) (first : ℕ) (root : RootData) → IsDraft s t uuids held shards first root
+draft_on : (s : Start) (t : Ticket) (work : Work) (now drawn : ℕ) (noted : List BlobName) (wrote : List (BlobName × Bytes)) (uuids : List ℕ) (held : List HeldShard) (shards : List PrunedShard) (first : ℕ) (root : RootData)
+    → IsDraft s t uuids held shards first root
     → IsDraft s (record t { work = work; first = now; drawn = drawn; noted = noted; wrote = wrote }) uuids held shards first root
 draft_on s t work now drawn noted wrote uuids held shards first root d = record {
   blobs = d.blobs;
@@ -116,7 +117,8 @@ read_free old new clean root uuids free read = subst (λ (t : Ticket). IsUnplann
   unlisted = record { listed = free.unlisted.listed; whole = free.unlisted.whole };
 })
 
-pub unwritten : (s : Start) (old new : Ticket) (clean : Bool) (given root : RootData) (uuids : List ℕ) (held : List HeldShard) (shards : List PrunedShard) (first : ℕ) → IsUnplanned old clean given uuids → HasPlanned s old new uuids held shards first root
+pub unwritten : (s : Start) (old new : Ticket) (clean : Bool) (given root : RootData) (uuids : List ℕ) (held : List HeldShard) (shards : List PrunedShard) (first : ℕ) → IsUnplanned old clean given uuids
+    → HasPlanned s old new uuids held shards first root
     → IsUnwritten s new held shards first root
 unwritten s old new clean given root uuids held shards first free planned =
     let plan = delete_swap (formats_of s) old.clean old.root old.read uuids shards first in
@@ -318,13 +320,15 @@ module _ (s : Start) (t new : Ticket) (held : List HeldShard) (shards : List Pru
 
 -- ---- how far it went
 
-pub went_read : (s : Start) (old new : List Moment) (who : ℕ) (clean : Bool) (root : RootData) (uuids : List ℕ) → IsUnplanned (ticket_of s old who) clean root uuids → GrewBy s who old new → HasRead (ticket_of s old who) (ticket_of s new who) → Went s old new who
+pub went_read : (s : Start) (old new : List Moment) (who : ℕ) (clean : Bool) (root : RootData) (uuids : List ℕ) → IsUnplanned (ticket_of s old who) clean root uuids → GrewBy s who old new
+    → HasRead (ticket_of s old who) (ticket_of s new who) → Went s old new who
 went_read s old new who clean root uuids free grew read = record { grew = grew; worked = worked_read (ticket_of s old who) (ticket_of s new who) uuids None free.work read }
 
 pub went_kept : (s : Start) (old mid new : List Moment) (who : ℕ) → Went s old mid who → GrewBy s who mid new → ticket_of s new who ≡ ticket_of s mid who → Went s old new who
 went_kept s old mid new who went grew same = record { grew = grew_by_on s who old mid new went.grew grew; worked = subst (λ (t : Ticket). Worked (ticket_of s old who) t) (sym same) went.worked }
 
-pub went_planned : (s : Start) (old mid new : List Moment) (who : ℕ) (clean : Bool) (given root : RootData) (uuids : List ℕ) (held : List HeldShard) (shards : List PrunedShard) (first : ℕ) → Went s old mid who → IsUnplanned (ticket_of s mid who) clean given uuids
+pub went_planned : (s : Start) (old mid new : List Moment) (who : ℕ) (clean : Bool) (given root : RootData) (uuids : List ℕ) (held : List HeldShard) (shards : List PrunedShard) (first : ℕ) → Went s old mid who
+    → IsUnplanned (ticket_of s mid who) clean given uuids
     → GrewBy s who mid new → HasPlanned s (ticket_of s mid who) (ticket_of s new who) uuids held shards first root → Went s old new who
 went_planned s old mid new who clean given root uuids held shards first went free grew planned = record {
   grew = grew_by_on s who old mid new went.grew grew;

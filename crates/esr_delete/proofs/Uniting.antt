@@ -89,7 +89,8 @@ ended_unsettled old mid new unsettled worked ended = record {
   unsettled = ap (λ (t : Ticket). t.settled) (ended ∙ ap (λ (t : Ticket). record t { out = false }) worked.is) ∙ unsettled;
 }
 
-pub given_refused : {S F H T : Type 0} (e : Evidence S F H T) (s : Start) (old mid new : List Moment) (who : ℕ) (result : UnitRefusal) → (ticket_of s old who).out ≡ true → (ticket_of s old who).settled ≡ false → Worked (ticket_of s old who) (ticket_of s mid who)
+pub given_refused : {S F H T : Type 0} (e : Evidence S F H T) (s : Start) (old mid new : List Moment) (who : ℕ) (result : UnitRefusal) → (ticket_of s old who).out ≡ true → (ticket_of s old who).settled ≡ false
+    → Worked (ticket_of s old who) (ticket_of s mid who)
     → IsGivenUp hands.Delete e s mid new who result → IsUnitRefused e s old new who result
 given_refused e s old mid new who (units.Failed why) out unsettled worked h = (inl (ended_unsettled (ticket_of s old who) (ticket_of s mid who) (ticket_of s new who) unsettled worked h.0), h.1)
 given_refused e s old mid new who units.Stale out unsettled worked h = (inl (ended_unsettled (ticket_of s old who) (ticket_of s mid who) (ticket_of s new who) unsettled worked h.0), h.1)
@@ -125,7 +126,8 @@ left_at s log who refusal old mid new clean is (inl (inr settled)) =
     inl (ap (λ (t : Ticket). t.out) settled ∙ out, inr (record { written = mid; is_written = is.written; is = settled ∙ ap (λ (o : Bool). record mid { settled = true; out = o }) out }))
 left_at s log who refusal old mid new clean is (inr (cleans, ended, fell)) = inr (is.mode ∙ cleans, record { written = mid; is_written = is.written; is = ended }, fell)
 
-halted_as : {S F H T : Type 0} (e : Evidence S F H T) (s : Start) (old mid new : List Moment) (who : ℕ) (clean : Bool) (result : UnitRefusal) → IsDone s (ticket_of s old who) (ticket_of s mid who) clean → IsHalted clean e s mid new who result → IsUnitRefused e s old new who result
+halted_as : {S F H T : Type 0} (e : Evidence S F H T) (s : Start) (old mid new : List Moment) (who : ℕ) (clean : Bool) (result : UnitRefusal) → IsDone s (ticket_of s old who) (ticket_of s mid who) clean → IsHalted clean e s mid new who result
+    → IsUnitRefused e s old new who result
 halted_as e s old mid new who clean (units.Failed why) is h = (ended_at s (ticket_of s old who) (ticket_of s mid who) (ticket_of s new who) clean is h.0, h.1)
 halted_as e s old mid new who clean units.Stale is h = (ended_at s (ticket_of s old who) (ticket_of s mid who) (ticket_of s new who) clean is h.0, h.1)
 halted_as e s old mid new who clean (units.Stopped refusal) is h = (
@@ -133,7 +135,8 @@ halted_as e s old mid new who clean (units.Stopped refusal) is h = (
   subst (λ (c : Bool). Stops c s new who refusal) (sym is.mode) h.1,
 )
 
-pub halted : {S F H T : Type 0} (e : Evidence S F H T) (s : Start) (old mid new : List Moment) (who : ℕ) (clean : Bool) (root : RootData) (uuids : List ℕ) (result : UnitRefusal) → IsUnplanned (ticket_of s old who) clean root uuids → Worked (ticket_of s old who) (ticket_of s mid who)
+pub halted : {S F H T : Type 0} (e : Evidence S F H T) (s : Start) (old mid new : List Moment) (who : ℕ) (clean : Bool) (root : RootData) (uuids : List ℕ) (result : UnitRefusal) → IsUnplanned (ticket_of s old who) clean root uuids
+    → Worked (ticket_of s old who) (ticket_of s mid who)
     → HasWritten s (ticket_of s old who) (ticket_of s mid who) → IsHalted clean e s mid new who result → IsUnitRefused e s old new who result
 halted e s old mid new who clean root uuids result free worked written h =
     halted_as e s old mid new who clean result (record { out = free.out; unsettled = free.unsettled; mode = free.mode; worked = worked; written = written }) h

@@ -1,9 +1,10 @@
 -- The numbers of tickets rise, and no step is made under a number before it is given.
-use Rattle.std.proofs.Common.{◌≡◌, ◌⊎◌, ℕ, suc, ◌<◌, ◌≤◌, Bool, true, false, cond, Ordering, Less, Equal, Greater, is_eq, nat_cmp, List, [], ◌∷◌, ◌++◌, Option, Some, None, sym, ap, ◌∙◌, subst, refl, inl, inr, ⊎_elim, true≢false, arith}
+use Rattle.std.proofs.Common.{◌≡◌, ◌⊎◌, ℕ, suc, ◌<◌, ◌≤◌, Bool, true, false, cond, nat_cmp, List, [], ◌∷◌, ◌++◌, Option, Some, None, sym, ap, ◌∙◌, subst, refl, inl, inr, ⊎_elim, arith}
 use Rattle.std.specs.Ordering.{eq_by_cmp}
 use Rattle.std.specs.Cmp.{nat_cmp_total}
 use Rattle.std.specs.FinMap.{FinMap, nat_cmp-IsAntisymmetric}
 use Rattle.std.specs.FinMap as fin
+use Rattle.esr_core.specs.Laws.NumberMaps.{tied}
 use Rattle.esr_model.specs.Values.{Has, Formats}
 use Rattle.esr_model.specs.Image.{Image}
 use Rattle.esr_core.specs.World.{World, Op, ShardWork, Restoring, RestoreShard, Ticket, Reader}
@@ -33,11 +34,6 @@ some_same : {X : Type 0} {x y : X} → Some x ≡ Some y → x ≡ y
 some_same e = cc
 
 -- ---- maps
-
-tied : (r : Ordering) → is_eq r ≡ true → r ≡ Equal
-tied Less e = absurd (true≢false (sym e))
-tied Equal e = refl
-tied Greater e = absurd (true≢false (sym e))
 
 -- a key of a map after an insertion is the new one or was there
 key_was : {X : Type 0} (m : FinMap nat_cmp X) (k : ℕ) (v : X) (q : ℕ) (x : X) → fin.get (fin.insert m k v) q ≡ Some x → (q ≡ k) ⊎ (fin.get m q ≡ Some x)
@@ -177,7 +173,8 @@ next_after f w m ticket op unit gift is =
     ∙ next_given f w op unit (fin.get w.ops op) refl gift.gives
 
 -- so each ticket that was given is below it
-given_below : Changes → TakesGive → (f : Formats) (size : ℕ) (log : List Moment) (w : World) (m : Moment) (ticket op : ℕ) (unit : Given) → Numbered 1 w → IsLegal f size w log → Has log m → m.entry.reply ≡ Gave ticket op unit → ticket < (world_from f w log).next_ticket
+given_below : Changes → TakesGive → (f : Formats) (size : ℕ) (log : List Moment) (w : World) (m : Moment) (ticket op : ℕ) (unit : Given) → Numbered 1 w → IsLegal f size w log → Has log m → m.entry.reply ≡ Gave ticket op unit
+    → ticket < (world_from f w log).next_ticket
 given_below law takes f size [] w m ticket op unit n legal none is = absurd none
 given_below law takes f size (x ∷ log) w m ticket op unit n legal (inl same) is =
     let gift = takes f size w m ticket op unit (subst (Allowed f size w) same legal.0) is in
@@ -188,7 +185,8 @@ given_below law takes f size (x ∷ log) w m ticket op unit n legal (inl same) i
     omega (arith, number, next, more)
 given_below law takes f size (x ∷ log) w m ticket op unit n legal (inr has) is = given_below law takes f size log (after f w x) m ticket op unit (numbered_after 1 law f w x n) legal.1 has is
 
-pub below_next : Changes → TakesGive → (s : Start) (log : List Moment) (m : Moment) (ticket op : ℕ) (unit : Given) → Numbered 1 s.world → Legal s log → Has log m → m.entry.reply ≡ Gave ticket op unit → ticket < (world_of s log).next_ticket
+pub below_next : Changes → TakesGive → (s : Start) (log : List Moment) (m : Moment) (ticket op : ℕ) (unit : Given) → Numbered 1 s.world → Legal s log → Has log m → m.entry.reply ≡ Gave ticket op unit
+    → ticket < (world_of s log).next_ticket
 below_next law takes s log m ticket op unit n legal has is = given_below law takes (formats_of s) s.part_size log s.world m ticket op unit n legal has is
 
 -- ---- the history ends with it
@@ -206,7 +204,8 @@ has_either [] m x (inr none) = absurd none
 has_either (y ∷ log) m x (inl same) = inl (inl same)
 has_either (y ∷ log) m x (inr has) = ⊎_elim (λ before. inl (inr before)) (λ same. inr same) (has_either log m x has)
 
-pub none_made : Changes → Makers → TakesGive → (s : Start) (log : List Moment) (m : Moment) (ticket op : ℕ) (unit : Given) → Numbered 1 s.world → Legal s (log ++ m ∷ []) → m.entry.reply ≡ Gave ticket op unit → HasMadeNone (log ++ m ∷ []) ticket
+pub none_made : Changes → Makers → TakesGive → (s : Start) (log : List Moment) (m : Moment) (ticket op : ℕ) (unit : Given) → Numbered 1 s.world → Legal s (log ++ m ∷ []) → m.entry.reply ≡ Gave ticket op unit
+    → HasMadeNone (log ++ m ∷ []) ticket
 none_made law makers takes s log m ticket op unit n legal is x has by made =
     let f = formats_of s in
     let w = world_of s log in

@@ -1,5 +1,6 @@
 -- That a container in which a step failed isn't quiet.
 use Rattle.std.proofs.Common.{◌≡◌, ℕ, Bool, true, false, List, [], ◌∷◌, ◌++◌, refl, sym, subst, inl, inr}
+use Rattle.std.proofs.lemmas.Bool.{false_from_ne_true}
 use Rattle.esr_model.specs.Values.{Has}
 use Rattle.esr_core.specs.Entry.{Step, Refused, DepotFault, Moment}
 use Rattle.esr_desk.specs.declared.refusal.EntryRefusal.{EntryRefusal}
@@ -10,17 +11,13 @@ use Rattle.esr_desk.specs.Outcome.{Grounds, IsOfOp}
 use Rattle.esr_desk.specs.Last.{IsLast}
 use Rattle.esr_desk.specs.Evidence.{NeverFailed}
 
-is_false : (b : Bool) → (b ≡ true → ⊥) → b ≡ false
-is_false true never = absurd (never refl)
-is_false false never = refl
-
 has_here : (front : List Moment) (m : Moment) (back : List Moment) → Has (front ++ m ∷ back) m
 has_here [] m back = inl refl
 has_here (x ∷ front) m back = inr (has_here front m back)
 
 -- an entry tells that it failed
 pub unquiet : (quiet : Bool) (log front : List Moment) (m : Moment) (back : List Moment) → (quiet ≡ true → NeverFailed log) → log ≡ front ++ m ∷ back → m.entry.reply ≡ Refused DepotFault → quiet ≡ false
-unquiet quiet log front m back never is failed = is_false quiet (λ is_quiet. never is_quiet m (subst (λ (l : List Moment). Has l m) (sym is) (has_here front m back)) failed)
+unquiet quiet log front m back never is failed = false_from_ne_true quiet (λ is_quiet. never is_quiet m (subst (λ (l : List Moment). Has l m) (sym is) (has_here front m back)) failed)
 
 -- the last step does
 pub unquiet_last : (quiet : Bool) (log : List Moment) (who : ℕ) (step : Step) → (quiet ≡ true → NeverFailed log) → IsLast log who step (Refused DepotFault) → quiet ≡ false

@@ -1,22 +1,15 @@
 -- Names of the layout.
-use Rattle.std.proofs.Common.{◌≡◌, ◌<◌, ◌^◌, ℕ, zero, suc, List, [], ◌∷◌, ◌++◌, map, length, get_or, Option, Some, sym, ap, subst, inl, inr, arith}
+use Rattle.std.proofs.Common.{◌≡◌, ◌<◌, ◌^◌, ℕ, List, [], ◌∷◌, ◌++◌, Option, Some, subst}
 use Rattle.std.specs.Prelude.{IfSome}
 use Rattle.std.specs.List.{AllByRecursion}
 use Rattle.esr_names.specs.Layout.{IsName}
 use Rattle.esr_names.specs.declared.ids.Id.{Id}
 use Rattle.esr_names.specs.declared.blob.ShardId.{ShardId}
-use Rattle.esr_model.specs.Values.{Has}
 use Rattle.esr_names.specs.declared.blob.BlobName.TheVariants.{Root, Snap, Meta, IndexMeta, ShardSnap, ShardIndex}
 
 pub all_push : {A : Type 0} (P : A → Type 0) (xs : List A) (x : A) → AllByRecursion P xs → P x → AllByRecursion P (xs ++ x ∷ [])
 all_push P [] x all one = (one, tt)
 all_push P (y ∷ xs) x all one = (all.0, all_push P xs x all.1 one)
-
--- an item of a list
-pub has_at : {A B : Type 0} (f : A → B) (xs : List A) (i : ℕ) (x : A) → i < length xs → x ≡ get_or xs i x → Has (map f xs) (f x)
-has_at f [] i x less is = absurd (omega arith)
-has_at f (y ∷ ys) zero x less is = inl (ap f (sym is))
-has_at f (y ∷ ys) (suc i) x less is = inr (has_at f ys i x (omega arith) is)
 
 pub root_laid : (number : Option ℕ) (n : ℕ) → number ≡ Some n → IfSome number (λ m. m < 2 ^ 63) → IsName (Root n)
 unfolding IsName

@@ -1,22 +1,13 @@
 -- One piece after another is appended.
-use Rattle.std.proofs.Common.{◌≡◌, ℕ, suc, ◌+◌, ◌<◌, ◌≤◌, List, [], ◌∷◌, ◌++◌, map, length, take, get_or, Option, option_map, sym, ap, ◌∙◌, arith, append_assoc}
-use Rattle.std.proofs.lemmas.List.{append-nil, map_more, take_all, get_or_default, length-map, length-take-le}
+use Rattle.std.proofs.Common.{◌≡◌, ℕ, suc, ◌+◌, ◌<◌, List, [], ◌∷◌, ◌++◌, map, length, take, get_or, Option, option_map, sym, ap, ◌∙◌, arith, append_assoc}
+use Rattle.std.proofs.lemmas.List.{append-nil, length-map, length-take-le}
+use Rattle.esr_model.specs.Loops.{next, item_is}
 use Rattle.esr_names.specs.declared.ids.Id.{Id}
 use Rattle.esr_model.specs.Delete.{PrunedShard}
 use Rattle.esr_formats.specs.Ids.{number_of}
 use Rattle.esr_results.specs.declared.pruned.PrunedShard.{PrunedShard as CodePruned}
 use Rattle.esr_results.specs.Pruned.{pruned_of}
 use Rattle.esr_dooming.specs.Pieces.{Added, of_places}
-
-pub next : {A B : Type 0} (f : A → B) (xs : List A) (i : ℕ) (x : A) → i < length xs → x ≡ get_or xs i x → map f (take (i + 1) xs) ≡ map f (take i xs) ++ f x ∷ []
-next {A} {B} f xs i x less is = map_more f xs i x less ∙ ap (λ (y : A). map f (take i xs) ++ f y ∷ []) (sym is)
-
-pub all : {A B : Type 0} (f : A → B) (xs : List A) (i : ℕ) → length xs ≤ i → map f (take i xs) ≡ map f xs
-all f xs i past = ap (map f) (take_all i xs past)
-
--- an item that is read at a place of the list, at any default
-pub item_is : {A : Type 0} (xs : List A) (i : ℕ) (d : A) → i < length xs → get_or xs i d ≡ get_or xs i (get_or xs i d)
-item_is xs i d less = get_or_default xs i d (get_or xs i d) less
 
 -- one place more at the end
 places_push : {A : Type 0} (piece : ℕ → Option ℕ → List A) (first : ℕ) (gs : List (Option ℕ)) (g : Option ℕ) → of_places piece first (gs ++ g ∷ []) ≡ of_places piece first gs ++ piece (first + length gs) g

@@ -21,7 +21,7 @@ use Rattle.esr_model.specs.Delete.{PrunedShard, names_uuid, uuids_of, lists_file
 use Rattle.esr_reach.specs.Held.{HeldShard, held_at}
 use Rattle.esr_reach.specs.Listing.{is_listed}
 use Rattle.esr_reach.specs.Names.{Pushed}
-use Rattle.esr_reach.proofs.Pushing.{pushed_none, pushed_one, pushed_as}
+use Rattle.esr_reach.specs.NamePieces.{pushed_none, pushed_one, pushed_as}
 use Rattle.esr_results.specs.declared.pruned.PrunedShard.{PrunedShard as CodePruned}
 use Rattle.esr_results.specs.Pruned.{pruned_of}
 use Rattle.esr_dooming.specs.Pieces.{is_one, has_left_file, root_piece, root_count, snap_piece, meta_piece, metas_piece, list_piece, file_piece, held_piece, files_piece, shard_piece, snaps_names, gone_names}
@@ -106,7 +106,8 @@ shards_same f blobs held listed left (p ∷ shards) h =
 
 -- ---- of the code
 
-pub named_are : (root : CodeRoot) (uuids ids : List Id) (snaps : List CodeSnap) (indices : List CodeIndex) (named : ℕ → Bool) (first mid last : List CodeName) → ids ≡ uuids → snaps ≡ root.snapshots → indices ≡ root.indices → named ≡ is_one (map number_of ids)
+pub named_are : (root : CodeRoot) (uuids ids : List Id) (snaps : List CodeSnap) (indices : List CodeIndex) (named : ℕ → Bool) (first mid last : List CodeName) → ids ≡ uuids → snaps ≡ root.snapshots → indices ≡ root.indices
+    → named ≡ is_one (map number_of ids)
     → Pushed first mid (flat_map (snap_piece named) (map root_snap_of snaps)) → Pushed mid last (flat_map (metas_piece named) (map root_index_of indices)) → Pushed first last (snaps_names (map number_of uuids) (root_of root))
 named_are root uuids ids snaps indices named first mid last ids_is snaps_is indices_is named_is a b =
     let us : List ℕ = map number_of uuids in

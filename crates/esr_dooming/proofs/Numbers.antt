@@ -6,6 +6,7 @@ use Rattle.std.specs.Ordering.{nat_cmp, is_eq}
 use Rattle.std.specs.BTreeSet.{BTreeSet, contains, Updates}
 use Rattle.std.proofs.lemmas.Bool.{cases_Bool, ltb-true, eqb-true}
 use Rattle.std.proofs.lemmas.List.Folds.{list_any-append}
+use Rattle.esr_model.specs.Loops.{next, item_is}
 use Rattle.esr_names.specs.declared.ids.Id.{Id}
 use Rattle.esr_shardidx.specs.declared.index.SnapList.{SnapList as CodeList}
 use Rattle.esr_formats.specs.Ids.{number_of}
@@ -14,11 +15,10 @@ use Rattle.esr_model.specs.Values.{RootSnap, SnapList}
 use Rattle.esr_model.specs.Delete.{names_uuid}
 use Rattle.esr_reach.specs.Listing.{is_listed}
 use Rattle.esr_dooming.specs.Pieces.{is_one, has_left_file}
-use Rattle.esr_dooming.proofs.Loops.{next, item_is}
 
 -- ---- among the numbers of a list
 
-or_if : (a b c : Bool) → b ≡ c → (a || b) ≡ (if a then true else c)
+pub or_if : (a b c : Bool) → b ≡ c → (a || b) ≡ (if a then true else c)
 or_if true b c e = refl
 or_if false b c e = e
 

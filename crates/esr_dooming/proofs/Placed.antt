@@ -2,28 +2,29 @@
 use Rattle.std.proofs.Common.{◌≡◌, ◌⊎◌, ℕ, zero, suc, ◌+◌, ◌<◌, ◌≤◌, Bool, true, false, List, [], ◌∷◌, ◌++◌, map, flat_map, length, Option, Some, None, option_map, refl, sym, ap, ◌∙◌, subst, inl, inr, arith}
 use Rattle.std.specs.Prelude.{if◌then◌else◌}
 use Rattle.std.proofs.lemmas.List.{length-map}
+use Rattle.esr_model.specs.Lists.{Has-left, Has-right, Has-either, Has-mapped, Has-map}
 use Rattle.esr_names.specs.declared.ids.Id.{Id}
 use Rattle.esr_root.specs.Root.{Root}
 use Rattle.esr_root.specs.Indices.{AreIndices, IsIndex}
 use Rattle.esr_root.specs.declared.indices.RootIndex.{RootIndex as CodeIndex}
 use Rattle.esr_shardidx.specs.Indices.{IndexValue, IsShardIndex, survivors_of}
-use Rattle.esr_shardidx.proofs.Kept.{survivors_of-is}
+use Rattle.esr_shardidx.specs.KeptLists.{survivors_of-is}
 use Rattle.esr_formats.specs.Ids.{number_of, id_of}
 use Rattle.esr_formats.specs.Formats.{formats}
 use Rattle.esr_formats.specs.Roots.{root_of, root_index_of}
 use Rattle.esr_formats.specs.Shards.{shard_index_of, shard_index_kind}
-use Rattle.esr_formats.proofs.ShardTexts.{shard_index_reads_back}
+use Rattle.esr_formats.specs.ReadBack.{shard_index_reads_back}
 use Rattle.esr_model.specs.Names.{BlobName}
 use Rattle.esr_model.specs.Values.{Bytes, Has, RootIndex, RootData, ShardFiles, ReadsBack}
 use Rattle.esr_model.specs.Image.{Generation, at_shard, at_shard_of}
 use Rattle.esr_model.specs.Delete.{PrunedShard, names_uuid, left_uuids, uuids_of, index_bytes, is_index, files_by, surviving, gone_shards}
 use Rattle.esr_core.specs.Pruning.{is_touched, bare_shard, AreOfRoot, AreWritable}
-use Rattle.esr_core.proofs.DeletedRoots.{AreApart, one_found}
-use Rattle.esr_core.proofs.DoomedNames.{of_indices}
+use Rattle.esr_core.specs.Laws.DeleteRoots.{AreApart, one_found}
+use Rattle.esr_core.specs.Laws.DoomNames.{of_indices}
 use Rattle.esr_reach.specs.Held.{HeldShard, held_at, AreWhole}
 use Rattle.esr_reach.specs.Names.{AreOnce}
-use Rattle.esr_reach.specs.Members.{has_left, has_right, has_either, has_if, in_then, has_map, in_map, has_flat, in_flat, all_has}
-use Rattle.esr_reach.proofs.Apart.{indices_once, one_each}
+use Rattle.esr_reach.specs.Members.{has_if, in_then, has_flat, in_flat, all_has}
+use Rattle.esr_reach.specs.OnceEach.{indices_once, one_each}
 use Rattle.esr_results.specs.declared.pruned.PrunedShard.{PrunedShard as CodePruned}
 use Rattle.esr_results.specs.Pruned.{pruned_of}
 use Rattle.esr_dooming.specs.declared.prune.Loss.{Loss}
@@ -89,7 +90,7 @@ pub record IsAt (index number : ℕ) (gs : List (Option ℕ)) (p : PrunedShard) 
 
 places_has : (index : ℕ) (piece : ℕ → Option ℕ → List PrunedShard) → ArePieces index piece → (number : ℕ) (gs : List (Option ℕ)) (p : PrunedShard) → Has (of_places piece number gs) p → IsAt index number gs p
 places_has index piece are number [] p m = absurd m
-places_has index piece are number (g ∷ gs) p m = elim (has_either (piece number g) (of_places piece (suc number) gs) p m) [
+places_has index piece are number (g ∷ gs) p m = elim (Has-either (piece number g) (of_places piece (suc number) gs) p m) [
   | inl here ↦
       let own = piece_has index number g (piece number g) p (are number g) here in
       record { index_is = own.0; place = 0; number_is = own.1 ∙ plus_zero number; at = own.2 }
@@ -102,7 +103,7 @@ places_has index piece are number (g ∷ gs) p m = elim (has_either (piece numbe
 apart_both : (xs ys : List PrunedShard) → AreApart xs → AreApart ys → ((p q : PrunedShard) → Has xs p → Has ys q → p.index ≡ q.index → p.number ≡ q.number → ⊥) → AreApart (xs ++ ys)
 apart_both [] ys a b cross = b
 apart_both (x ∷ xs) ys a b cross = (
-  λ q m same number. elim (has_either xs ys q m) [ inl here ↦ a.0 q here same number | inr later ↦ cross x q (inl refl) later same number ],
+  λ q m same number. elim (Has-either xs ys q m) [ inl here ↦ a.0 q here same number | inr later ↦ cross x q (inl refl) later same number ],
   apart_both xs ys a.1 b (λ p q m n. cross p q (inr m) n),
 )
 
@@ -117,9 +118,10 @@ places_apart index piece are number (g ∷ gs) =
     omega (arith, own, there, number_same))
 
 -- what holds of each piece holds of all
-all_places : (P : PrunedShard → Type 0) (piece : ℕ → Option ℕ → List PrunedShard) → ((number : ℕ) (g : Option ℕ) (p : PrunedShard) → Has (piece number g) p → P p) → (number : ℕ) (gs : List (Option ℕ)) (p : PrunedShard) → Has (of_places piece number gs) p → P p
+all_places : (P : PrunedShard → Type 0) (piece : ℕ → Option ℕ → List PrunedShard) → ((number : ℕ) (g : Option ℕ) (p : PrunedShard) → Has (piece number g) p → P p) → (number : ℕ) (gs : List (Option ℕ)) (p : PrunedShard)
+    → Has (of_places piece number gs) p → P p
 all_places P piece each number [] p m = absurd m
-all_places P piece each number (g ∷ gs) p m = elim (has_either (piece number g) (of_places piece (suc number) gs) p m) [
+all_places P piece each number (g ∷ gs) p m = elim (Has-either (piece number g) (of_places piece (suc number) gs) p m) [
   | inl here ↦ each number g p here
   | inr later ↦ all_places P piece each (suc number) gs p later
 ]
@@ -129,11 +131,11 @@ in_read : (index number place base : ℕ) (gs : List (Option ℕ)) → at_shard 
 in_read index number place base [] at = absurd (none_some base at)
 in_read index number zero base (g ∷ gs) at =
     let here : one_shard index number base false ≡ one_shard index (number + 0) base false = ap (λ (n : ℕ). one_shard index n base false) (plus_zero number) in
-    has_left (read_place index number g) (of_places (read_place index) (suc number) gs) (one_shard index (number + 0) base false)
+    Has-left (read_place index number g) (of_places (read_place index) (suc number) gs) (one_shard index (number + 0) base false)
     (subst (λ (o : Option ℕ). Has (read_place index number o) (one_shard index (number + 0) base false)) (sym at) (inl here))
 in_read index number (suc place) base (g ∷ gs) at =
     let next : suc number + place ≡ number + suc place = omega arith in
-    has_right (read_place index number g) (of_places (read_place index) (suc number) gs) (one_shard index (number + suc place) base false)
+    Has-right (read_place index number g) (of_places (read_place index) (suc number) gs) (one_shard index (number + suc place) base false)
     (subst (λ (n : ℕ). Has (of_places (read_place index) (suc number) gs) (one_shard index n base false)) next (in_read index (suc number) place base gs at))
 
 -- ---- all indices
@@ -171,7 +173,7 @@ flat_apart test of are (x ∷ xs) once =
     let own : p.index ≡ x.id = (are.at x p m).1.index_is in
     let later = has_flat of xs q n in
     let other : q.index ≡ later.0.id = (are.at later.0 q later.2).1.index_is in
-    once.0 (subst (λ (i : ℕ). Has (map (λ (y : RootIndex). y.id) xs) i) (sym other ∙ sym same ∙ own) (in_map (λ (y : RootIndex). y.id) xs later.0 later.1)))
+    once.0 (subst (λ (i : ℕ). Has (map (λ (y : RootIndex). y.id) xs) i) (sym other ∙ sym same ∙ own) (Has-map (λ (y : RootIndex). y.id) xs later.0 later.1)))
 
 -- each with its generation, and apart
 of_root_by : (root : RootData) (ps : List PrunedShard) → ((p : PrunedShard) → Has ps p → Generation root p.index p.number p.base) → AreApart ps → AreOfRoot root ps
@@ -222,7 +224,8 @@ known_held : (named listed : ℕ → Bool) (loss : Loss) (index number base : �
 known_held named listed loss index number base None p m = absurd m
 known_held named listed loss index number base (Some was) p m = (was, refl)
 
-place_held : (named listed : ℕ → Bool) (loss : Loss) (held : List HeldShard) (index number : ℕ) (g : Option ℕ) (p : PrunedShard) → Has (place_piece named listed loss held index number g) p → (v : ShardFiles) × (held_at held p.index p.number ≡ Some v)
+place_held : (named listed : ℕ → Bool) (loss : Loss) (held : List HeldShard) (index number : ℕ) (g : Option ℕ) (p : PrunedShard) → Has (place_piece named listed loss held index number g) p
+    → (v : ShardFiles) × (held_at held p.index p.number ≡ Some v)
 place_held named listed loss held index number None p m = absurd m
 place_held named listed loss held index number (Some base) p m =
     let own = piece_has index number (Some base) (place_piece named listed loss held index number (Some base)) p (place_pieces named listed loss held index number (Some base)) m in
@@ -248,7 +251,7 @@ at_below (x ∷ gs) (suc k) g at = let below = at_below gs k g at in omega (arit
 
 pub place_few : (is : List CodeIndex) → AreIndices is → (x : RootIndex) → Has (map root_index_of is) x → (k g : ℕ) → at_shard x.generations k ≡ Some g → k < 1024
 place_few is rule x m k g at =
-    let found = has_map root_index_of is x m in
+    let found = Has-mapped root_index_of is x m in
     let each : IsIndex found.0 = all_has IsIndex is found.0 rule.each found.1 in
     let few : length found.0.generations ≤ 1024 = each.generations.few in
     let len : length x.generations ≡ length found.0.generations = ap (λ (y : RootIndex). length y.generations) (sym found.2) ∙ length-map found.0.generations (option_map number_of) in
@@ -283,7 +286,8 @@ pub record AreChosen (clean : Bool) (root : RootData) (uuids : List ℕ) (shards
 pub named_by : (uuids ids : List Id) (named : ℕ → Bool) → ids ≡ uuids → named ≡ is_one (map number_of ids) → named ≡ names_uuid (map number_of uuids)
 named_by uuids ids named same is = is ∙ ap (λ (us : List Id). is_one (map number_of us)) same ∙ of_ids (map number_of uuids)
 
-pub chosen : (clean : Bool) (test : List ℕ → Bool) (of : RootIndex → List PrunedShard) → AreOfIndex test of → (root : Root) (uuids : List ℕ) (shards : List PrunedShard) → ((us : List ℕ) → is_touched clean uuids us ≡ test us) → AreIndices root.indices
+pub chosen : (clean : Bool) (test : List ℕ → Bool) (of : RootIndex → List PrunedShard) → AreOfIndex test of → (root : Root) (uuids : List ℕ) (shards : List PrunedShard) → ((us : List ℕ) → is_touched clean uuids us ≡ test us)
+    → AreIndices root.indices
     → shards ≡ flat_map of (root_of root).indices → AreChosen clean (root_of root) uuids shards
 chosen clean test of are root uuids shards touched rule same =
     let once = indices_once root.indices rule in

@@ -3,16 +3,17 @@ use Rattle.std.proofs.Common.{◌≡◌, ◌<◌, ◌+◌, ℕ, zero, suc, Bool,
 use Rattle.std.specs.Prelude.{◌==◌, ◌&&◌, if◌then◌else◌}
 use Rattle.std.proofs.lemmas.Bool.{true≢false}
 use Rattle.std.proofs.lemmas.Bool.Decides.{eqb_tells}
+use Rattle.esr_model.specs.Lists.{Has-append, Has-left, Has-right, Has-map}
+use Rattle.esr_model.specs.Loops.{next}
 use Rattle.esr_model.specs.Values.{Has, ShardFiles}
 use Rattle.esr_model.specs.Delete.{PrunedShard, surviving}
 use Rattle.esr_reach.specs.Held.{HeldShard, held_at, Holds}
-use Rattle.esr_reach.specs.Members.{has_push, has_left, has_right, has_only, in_map}
+use Rattle.esr_reach.specs.Members.{has_only}
 use Rattle.esr_reach.specs.Names.{AreOnce}
 use Rattle.esr_results.specs.declared.pruned.PrunedShard.{PrunedShard as CodePruned}
 use Rattle.esr_results.specs.Pruned.{pruned_of}
 use Rattle.esr_dooming.specs.Reading.{AreHeldSome}
 use Rattle.esr_dooming.specs.Unreached.{place_of, Renewed}
-use Rattle.esr_dooming.proofs.Loops.{next}
 
 some_files : (a b : ShardFiles) → ◌≡◌ {A = Option ShardFiles} (Some a) (Some b) → a ≡ b
 some_files a b e = cc
@@ -44,7 +45,8 @@ renewed_none held p left gone = record {
   others = λ index number apart. refl;
 }
 
-pub renewed_one : (old new : List HeldShard) (p : PrunedShard) (left : List ℕ) (was : ShardFiles) → p.kept ≡ true → held_at old p.index p.number ≡ Some was → Holds old new p.index p.number (surviving left was) → Renewed old new (p ∷ []) left
+pub renewed_one : (old new : List HeldShard) (p : PrunedShard) (left : List ℕ) (was : ShardFiles) → p.kept ≡ true → held_at old p.index p.number ≡ Some was → Holds old new p.index p.number (surviving left was)
+    → Renewed old new (p ∷ []) left
 renewed_one old new p left was its at holds = record {
   kept = λ q files has kept q_at.
       let same : q ≡ p = has_only p q has in
@@ -70,7 +72,7 @@ still_held old mid shards p left first apart = first.others p.index p.number (λ
 
 renewed_more : (old mid new : List HeldShard) (shards : List PrunedShard) (p : PrunedShard) (left : List ℕ) → Renewed old mid shards left → Renewed mid new (p ∷ []) left → IsAside shards p → Renewed old new (shards ++ p ∷ []) left
 renewed_more old mid new shards p left first second apart = record {
-  kept = λ q was has kept at. elim (has_push shards p q has) [
+  kept = λ q was has kept at. elim (Has-append shards p q has) [
     | inl before ↦
         second.others q.index q.number
         (λ r one its index number.
@@ -83,8 +85,8 @@ renewed_more old mid new shards p left first second apart = record {
         second.kept q was (inl last) kept (still ∙ at)
   ];
   others = λ index number none.
-      second.others index number (λ r one its i n. none r (has_right shards (p ∷ []) r one) its i n)
-      ∙ first.others index number (λ r there its i n. none r (has_left shards (p ∷ []) r there) its i n);
+      second.others index number (λ r one its i n. none r (Has-right shards (p ∷ []) r one) its i n)
+      ∙ first.others index number (λ r there its i n. none r (Has-left shards (p ∷ []) r there) its i n);
 }
 
 -- ---- of a list of the code
@@ -101,10 +103,11 @@ aside_at (y ∷ items) once zero x less is q m index number = absurd m
 aside_at (y ∷ items) once (suc k) x less is q (inl here) index number =
     let p : PrunedShard = pruned_of x in
     let place : place_of p ≡ place_of (pruned_of y) = λ j. ((index ∙ sym (ap (λ (z : PrunedShard). z.index) here)) j, (number ∙ sym (ap (λ (z : PrunedShard). z.number) here)) j) in
-    once.0 (subst (Has (map place_of (map pruned_of items))) place (in_map place_of (map pruned_of items) p (item_in items k x (omega (arith, less)) is)))
+    once.0 (subst (Has (map place_of (map pruned_of items))) place (Has-map place_of (map pruned_of items) p (item_in items k x (omega (arith, less)) is)))
 aside_at (y ∷ items) once (suc k) x less is q (inr later) index number = aside_at items once.1 k x (omega (arith, less)) is q later index number
 
-pub still_some : (old mid : List HeldShard) (items : List CodePruned) (k : ℕ) (x : CodePruned) (left : List ℕ) → AreOnce (map place_of (map pruned_of items)) → AreHeldSome old (map pruned_of items) → k < length items → x ≡ get_or items k x
+pub still_some : (old mid : List HeldShard) (items : List CodePruned) (k : ℕ) (x : CodePruned) (left : List ℕ) → AreOnce (map place_of (map pruned_of items)) → AreHeldSome old (map pruned_of items) → k < length items
+    → x ≡ get_or items k x
     → Renewed old mid (map pruned_of (take k items)) left → (was : ShardFiles) × (held_at mid (pruned_of x).index (pruned_of x).number ≡ Some was)
 still_some old mid items k x left once some less is first =
     let (was, at) = some (pruned_of x) (item_in items k x less is) in
@@ -116,5 +119,6 @@ renewed_next old mid new items k x left once less is first second =
     subst (λ (shards : List PrunedShard). Renewed old new shards left) (sym (next pruned_of items k x less is))
     (renewed_more old mid new (map pruned_of (take k items)) (pruned_of x) left first second (aside_at items once k x less is))
 
-pub renewed_all : (old new : List HeldShard) (items : List CodePruned) (k : ℕ) (left : List ℕ) → map pruned_of (take k items) ≡ map pruned_of items → Renewed old new (map pruned_of (take k items)) left → Renewed old new (map pruned_of items) left
+pub renewed_all : (old new : List HeldShard) (items : List CodePruned) (k : ℕ) (left : List ℕ) → map pruned_of (take k items) ≡ map pruned_of items → Renewed old new (map pruned_of (take k items)) left
+    → Renewed old new (map pruned_of items) left
 renewed_all old new items k left whole renewed = subst (λ (shards : List PrunedShard). Renewed old new shards left) whole renewed

@@ -1,7 +1,8 @@
 -- What survives of a shard's index is what the definitions say.
 use Rattle.std.proofs.Common.{◌≡◌, ◌==◌, ◌||◌, Bool, true, false, cond, List, [], ◌∷◌, map, refl, ap, ◌∙◌}
-use Rattle.std.specs.Prelude.{filter, if◌then◌else◌}
+use Rattle.std.specs.Prelude.{filter}
 use Rattle.std.specs.List.{list_any}
+use Rattle.esr_dooming.proofs.Numbers.{or_if}
 use Rattle.esr_names.specs.declared.ids.Id.{Id}
 use Rattle.esr_shardidx.specs.declared.entry.FileEntry.{FileEntry as CodeEntry}
 use Rattle.esr_shardidx.specs.declared.index.SnapList.{SnapList as CodeList}
@@ -10,10 +11,6 @@ use Rattle.esr_formats.specs.Ids.{number_of}
 use Rattle.esr_formats.specs.Shards.{entry_of, snap_list_of, shard_index_of}
 use Rattle.esr_model.specs.Values.{SnapList}
 use Rattle.esr_model.specs.Delete.{names_uuid, lists_file, listed_lists, surviving}
-
-or_if : (a b c : Bool) → b ≡ c → (a || b) ≡ (if a then true else c)
-or_if true b c e = refl
-or_if false b c e = e
 
 ids_same : (u : Id) (us : List Id) → list_any (is_id u) us ≡ names_uuid (map number_of us) u.number
 ids_same u [] = refl

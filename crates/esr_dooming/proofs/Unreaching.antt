@@ -33,7 +33,8 @@ none_pushed names = sym (append-nil (map name_of names))
 
 -- ---- a page
 
-pub page_next : {A : Type 0} (f : A → List BlobName) (first old new : List CodeName) (page : List A) (i : ℕ) (x : A) → i < length page → x ≡ get_or page i x → Pushed first old (flat_map f (take i page)) → Pushed old new (f x) → Pushed first new (flat_map f (take (i + 1) page))
+pub page_next : {A : Type 0} (f : A → List BlobName) (first old new : List CodeName) (page : List A) (i : ℕ) (x : A) → i < length page → x ≡ get_or page i x → Pushed first old (flat_map f (take i page)) → Pushed old new (f x)
+    → Pushed first new (flat_map f (take (i + 1) page))
 page_next {A} f first old new page i x less is before more =
     let front : List A = take i page in
     let step : take (i + 1) page ≡ front ++ x ∷ [] = take_more page i x less ∙ ap (λ (y : A). front ++ y ∷ []) (sym is) in
@@ -46,7 +47,8 @@ page_all f first new page i past pushed = pushed ∙ ap (λ l. map name_of first
 -- ---- the other names
 
 -- one more of them, unless it is the root's
-rest_next : (n : ℕ) (items : List CodeName) (i : ℕ) (x : CodeName) (old new : List CodeName) → i < length items → x ≡ get_or items i x → map name_of old ≡ flat_map (rest_piece n) (map name_of (take i items)) → map name_of new ≡ map name_of old ++ rest_piece n (name_of x)
+rest_next : (n : ℕ) (items : List CodeName) (i : ℕ) (x : CodeName) (old new : List CodeName) → i < length items → x ≡ get_or items i x → map name_of old ≡ flat_map (rest_piece n) (map name_of (take i items))
+    → map name_of new ≡ map name_of old ++ rest_piece n (name_of x)
     → map name_of new ≡ flat_map (rest_piece n) (map name_of (take (i + 1) items))
 rest_next n items i x old new less is before more =
     let f : BlobName → List BlobName = rest_piece n in
@@ -55,17 +57,20 @@ rest_next n items i x old new less is before more =
     more ∙ ap (λ (l : List BlobName). l ++ f (name_of x)) before
     ∙ ap (λ (l : List BlobName). flat_map f (map name_of front) ++ l) (sym (append-nil (f (name_of x)))) ∙ sym (flat_map-append f (map name_of front) (name_of x ∷ [])) ∙ ap (flat_map f) (sym step)
 
-pub rest_pushed : (n : ℕ) (items : List CodeName) (i : ℕ) (x : CodeName) (old new : List CodeName) → i < length items → x ≡ get_or items i x → is_root n (name_of x) ≡ false → map name_of old ≡ flat_map (rest_piece n) (map name_of (take i items)) → new ≡ old ++ x ∷ []
+pub rest_pushed : (n : ℕ) (items : List CodeName) (i : ℕ) (x : CodeName) (old new : List CodeName) → i < length items → x ≡ get_or items i x → is_root n (name_of x) ≡ false
+    → map name_of old ≡ flat_map (rest_piece n) (map name_of (take i items)) → new ≡ old ++ x ∷ []
     → map name_of new ≡ flat_map (rest_piece n) (map name_of (take (i + 1) items))
 rest_pushed n items i x old new less is other before pushed =
     rest_next n items i x old new less is before (pushed_last old new x pushed ∙ ap (λ (b : Bool). map name_of old ++ (if b then [] else name_of x ∷ [])) (sym other))
 
-pub rest_passed : (n : ℕ) (items : List CodeName) (i : ℕ) (x : CodeName) (old new : List CodeName) → i < length items → x ≡ get_or items i x → is_root n (name_of x) ≡ true → map name_of old ≡ flat_map (rest_piece n) (map name_of (take i items)) → new ≡ old
+pub rest_passed : (n : ℕ) (items : List CodeName) (i : ℕ) (x : CodeName) (old new : List CodeName) → i < length items → x ≡ get_or items i x → is_root n (name_of x) ≡ true
+    → map name_of old ≡ flat_map (rest_piece n) (map name_of (take i items)) → new ≡ old
     → map name_of new ≡ flat_map (rest_piece n) (map name_of (take (i + 1) items))
 rest_passed n items i x old new less is own before same =
     rest_next n items i x old new less is before (ap (map name_of) same ∙ sym (append-nil (map name_of old)) ∙ ap (λ (b : Bool). map name_of old ++ (if b then [] else name_of x ∷ [])) (sym own))
 
-pub rest_all : (n : ℕ) (items names rest : List CodeName) (i : ℕ) → items ≡ names → length items ≤ i → map name_of rest ≡ flat_map (rest_piece n) (map name_of (take i items)) → map name_of rest ≡ flat_map (rest_piece n) (map name_of names)
+pub rest_all : (n : ℕ) (items names rest : List CodeName) (i : ℕ) → items ≡ names → length items ≤ i → map name_of rest ≡ flat_map (rest_piece n) (map name_of (take i items))
+    → map name_of rest ≡ flat_map (rest_piece n) (map name_of names)
 rest_all n items names rest i same past so_far = so_far ∙ ap (λ (l : List CodeName). flat_map (rest_piece n) (map name_of l)) (take_all i items past ∙ same)
 
 -- an item of a list

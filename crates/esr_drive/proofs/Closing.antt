@@ -185,7 +185,8 @@ waited_off given read s old mid new workers elects answer alone h grew only take
 }
 
 -- the desk came back with all entries
-pub sat_by : (s : Start) (before : List Moment) (lock : LockId) (first last : Seen) (new : List Moment) (workers elects : ℕ) (answer : Answer) → IsBack s before lock first last workers elects answer → new ≡ before ++ last.seen → last.mine ≡ places_from 0 last.seen
+pub sat_by : (s : Start) (before : List Moment) (lock : LockId) (first last : Seen) (new : List Moment) (workers elects : ℕ) (answer : Answer) → IsBack s before lock first last workers elects answer → new ≡ before ++ last.seen
+    → last.mine ≡ places_from 0 last.seen
     → HasSat s before new workers elects answer
 sat_by s before lock first last new workers elects answer back is mine = record {
   more = last.seen;

@@ -1,9 +1,10 @@
 -- Tickets come by takes alone, and one that has ended doesn't come back.
-use Rattle.std.proofs.Common.{◌≡◌, ◌⊎◌, ℕ, ◌<◌, ◌≤◌, Bool, true, false, true≢false, cond, Ordering, Less, Equal, Greater, is_eq, nat_cmp, List, [], ◌∷◌, ◌++◌, Option, Some, refl, sym, ap, ◌∙◌, subst, inl, inr, ⊎_elim, arith}
+use Rattle.std.proofs.Common.{◌≡◌, ◌⊎◌, ℕ, ◌<◌, ◌≤◌, Bool, true, false, true≢false, cond, nat_cmp, List, [], ◌∷◌, ◌++◌, Option, Some, refl, sym, ap, ◌∙◌, subst, inl, inr, ⊎_elim, arith}
 use Rattle.std.specs.Ordering.{eq_by_cmp}
 use Rattle.std.specs.Cmp.{nat_cmp_total}
 use Rattle.std.specs.FinMap.{FinMap, nat_cmp-IsAntisymmetric}
 use Rattle.std.specs.FinMap as fin
+use Rattle.esr_core.specs.Laws.NumberMaps.{tied}
 use Rattle.esr_model.specs.Values.{Formats}
 use Rattle.esr_model.specs.Image.{Image}
 use Rattle.esr_core.specs.World.{World, Reader, Ticket}
@@ -34,11 +35,6 @@ legal_rest f size [] b w h = h
 legal_rest f size (m ∷ a) b w h = legal_rest f size a b (after f w m) h.1
 
 -- ---- maps
-
-tied : (r : Ordering) → is_eq r ≡ true → r ≡ Equal
-tied Less e = absurd (true≢false (sym e))
-tied Equal e = refl
-tied Greater e = absurd (true≢false (sym e))
 
 -- after an insertion there is under a key what was put there, or what was there
 put_or_was : {X : Type 0} (m : FinMap nat_cmp X) (k : ℕ) (v : X) (q : ℕ) → ((q ≡ k) × (fin.get (fin.insert m k v) q ≡ Some v)) ⊎ (fin.get (fin.insert m k v) q ≡ fin.get m q)

@@ -71,7 +71,8 @@ module _ (laws : Laws) (s : Start) (alone : s.alone ≡ true) where
 
 -- ---- by the answer
 
-pub as_refused : (s : Start) (mid new : List Moment) (e : StepRefusal) (refusal : EntryRefusal) → e ≡ steps.Refused refusal → Refusing s mid new 0 ElectStep (told_refusal e) × Grounds s new 0 e → Stepped s mid new 0 ElectStep (Refused (refusal_of refusal))
+pub as_refused : (s : Start) (mid new : List Moment) (e : StepRefusal) (refusal : EntryRefusal) → e ≡ steps.Refused refusal → Refusing s mid new 0 ElectStep (told_refusal e) × Grounds s new 0 e
+    → Stepped s mid new 0 ElectStep (Refused (refusal_of refusal))
 as_refused s mid new e refusal is h = subst (λ (x : StepRefusal). Refusing s mid new 0 ElectStep (told_refusal x)) is h.0
 
 pub as_wanting : (s : Start) (mid new : List Moment) (e : StepRefusal) → e ≡ steps.Memory → Refusing s mid new 0 ElectStep (told_refusal e) × Grounds s new 0 e → Waited s mid new 0
@@ -108,15 +109,18 @@ elects_then times old mid new r all w = by_answer r (works_elect_none mid new w 
     by_answer (Err steps.TurnsSpent) is = at_most is
     by_answer (Err (steps.Refused refusal)) is = is
 
-pub tickets_then : (s : Start) (old mid new : List Moment) (r : Answer) → s.alone ≡ true → (NoneOut s old → NoneOut s mid) → OnOk r (s.alone ≡ true → NoneOut s mid → NoneOut s new) → OnOk r (NoneOut s old → NoReaderOut s old → NoneOut s new)
+pub tickets_then : (s : Start) (old mid new : List Moment) (r : Answer) → s.alone ≡ true → (NoneOut s old → NoneOut s mid) → OnOk r (s.alone ≡ true → NoneOut s mid → NoneOut s new)
+    → OnOk r (NoneOut s old → NoReaderOut s old → NoneOut s new)
 tickets_then s old mid new (Ok x) alone first second = λ tickets readers. second alone (first tickets)
 tickets_then s old mid new (Err e) alone first second = tt
 
-pub readers_then : (s : Start) (old mid new : List Moment) (r : Answer) → s.alone ≡ true → (NoReaderOut s old → NoReaderOut s mid) → OnOk r (s.alone ≡ true → NoReaderOut s mid → NoReaderOut s new) → OnOk r (NoneOut s old → NoReaderOut s old → NoReaderOut s new)
+pub readers_then : (s : Start) (old mid new : List Moment) (r : Answer) → s.alone ≡ true → (NoReaderOut s old → NoReaderOut s mid) → OnOk r (s.alone ≡ true → NoReaderOut s mid → NoReaderOut s new)
+    → OnOk r (NoneOut s old → NoReaderOut s old → NoReaderOut s new)
 readers_then s old mid new (Ok x) alone first second = λ tickets readers. second alone (first readers)
 readers_then s old mid new (Err e) alone first second = tt
 
-pub ready_then : (s : Start) (new : List Moment) (r : Answer) → ((log : List Moment) → Legal s log → IsLast log 0 TakeStep NothingReady → AnyReady (world_of s log) → ⊥) → Legal s new → OnOk r (IsLast new 0 TakeStep NothingReady) → OnOk r (AnyReady (world_of s new) → ⊥)
+pub ready_then : (s : Start) (new : List Moment) (r : Answer) → ((log : List Moment) → Legal s log → IsLast log 0 TakeStep NothingReady → AnyReady (world_of s log) → ⊥) → Legal s new → OnOk r (IsLast new 0 TakeStep NothingReady)
+    → OnOk r (AnyReady (world_of s new) → ⊥)
 ready_then s new (Ok x) law legal last = law new legal last
 ready_then s new (Err e) law legal last = tt
 

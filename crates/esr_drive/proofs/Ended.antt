@@ -62,7 +62,8 @@ delete_over s old new (inr late) = ap (λ (t : Ticket). t.out) late.1.is
 
 module _ {S F H T : Type 0} (e : Evidence S F H T) (s : Start) (old new : List Moment) (who : ℕ) where
   -- ... of a shard
-  pub upload_ended : (files : Option (List (Bytes × Bytes))) (result : Result (Unit {0}) UnitRefusal) → OnOk result (uploads.HasDone s old new who) → IfErr result (uploads.IsUnitRefused e files s old new who) → HasEnded result (ticket_of s new who)
+  pub upload_ended : (files : Option (List (Bytes × Bytes))) (result : Result (Unit {0}) UnitRefusal) → OnOk result (uploads.HasDone s old new who) → IfErr result (uploads.IsUnitRefused e files s old new who)
+      → HasEnded result (ticket_of s new who)
   upload_ended files (Ok x) done refused = ap (λ (t : Ticket). t.out) done.is
   upload_ended files (Err (units.Failed why)) done refused = ap (λ (t : Ticket). t.out) refused.0.2
   upload_ended files (Err (units.Stopped refusal)) done refused = tt

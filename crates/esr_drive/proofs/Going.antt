@@ -17,5 +17,6 @@ took_some s old new o u is h = subst (λ (x : Option Given). Stepped s old new 0
 pub called_none : (log : List Moment) (old new : List Call) (o : Option Given) → o ≡ None → new ≡ with_call log TakeStep (take_reply o) old → new ≡ with_call log TakeStep NothingReady old
 called_none log old new o is h = subst (λ (x : Option Given). new ≡ with_call log TakeStep (take_reply x) old) is h
 
-pub called_some : (log : List Moment) (old new : List Call) (o : Option Given) (u : Given) → o ≡ Some u → new ≡ with_call log TakeStep (take_reply o) old → new ≡ with_call log TakeStep (Gave u.ready.ticket u.ready.op (given_of u.ready)) old
+pub called_some : (log : List Moment) (old new : List Call) (o : Option Given) (u : Given) → o ≡ Some u → new ≡ with_call log TakeStep (take_reply o) old
+    → new ≡ with_call log TakeStep (Gave u.ready.ticket u.ready.op (given_of u.ready)) old
 called_some log old new o u is h = subst (λ (x : Option Given). new ≡ with_call log TakeStep (take_reply x) old) is h

@@ -115,13 +115,15 @@ module _ (laws : Laws) (s : Start) (old new : List Moment) (who : ℕ) (work : (
   )
 
   -- its term is over
-  pub late_over : (e : StepRefusal) → Refusing s old new who DroppedStep (told_refusal e) × Grounds s new who e → Left e → is_late e ≡ true → (ticket_of s old who).out ≡ true → CanFinish s new who × ((ticket_of s new who).work ≡ Drop)
+  pub late_over : (e : StepRefusal) → Refusing s old new who DroppedStep (told_refusal e) × Grounds s new who e → Left e → is_late e ≡ true → (ticket_of s old who).out ≡ true
+      → CanFinish s new who × ((ticket_of s new who).work ≡ Drop)
   late_over (steps.Refused (refusals.StaleTerm own now)) h left late out =
       (over s old new who DroppedStep own now tt (record { out = ap (λ (t : Ticket). t.out) left ∙ out; no_shard = λ (shard : IsShard (ticket_of s new who).work). subst IsShard (still_drop left) shard }) h.0, still_drop left)
   late_over e h left late out = absurd (true≢false (sym late))
 
 -- the end of a ticket whose term is over
-pub finish_halted : Laws → (s : Start) (old new : List Moment) (who : ℕ) (e : StepRefusal) → Refusing s old new who FinishStep (told_refusal e) × Grounds s new who e → ticket_of s new who ≡ ticket_of s old who → (ticket_of s old who).work ≡ Drop → IsHalted s new who e
+pub finish_halted : Laws → (s : Start) (old new : List Moment) (who : ℕ) (e : StepRefusal) → Refusing s old new who FinishStep (told_refusal e) × Grounds s new who e → ticket_of s new who ≡ ticket_of s old who
+    → (ticket_of s old who).work ≡ Drop → IsHalted s new who e
 finish_halted laws s old new who steps.Memory h kept work = tt
 finish_halted laws s old new who steps.TurnsSpent h kept work = h.1
 finish_halted laws s old new who (steps.Refused x) h kept work = (

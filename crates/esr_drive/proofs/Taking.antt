@@ -91,7 +91,8 @@ all_ended s log old new more is each others others_is = subst (EachOver s log) (
 pub ended_none : (s : Start) (log : List Moment) (calls : List Call) → AllEnded s log calls calls
 ended_none s log calls = all_ended s log calls calls [] (sym (append-nil calls)) (λ c k o u has. absurd has)
 
-pub ended_on : (s : Start) (mid new : List Moment) (count more : ℕ) (a b c : List Call) → ((k : ℕ) → IsOver s mid k → IsOver s new k) → TakeCalls count a b → TakeCalls more b c → AllEnded s mid a b → AllEnded s new b c → AllEnded s new a c
+pub ended_on : (s : Start) (mid new : List Moment) (count more : ℕ) (a b c : List Call) → ((k : ℕ) → IsOver s mid k → IsOver s new k) → TakeCalls count a b → TakeCalls more b c → AllEnded s mid a b → AllEnded s new b c
+    → AllEnded s new a c
 ended_on s mid new count more a b c over first second early late =
     all_ended s new a c (first.more ++ second.more) (second.is ∙ ap (λ (l : List Call). l ++ second.more) first.is ∙ append_assoc a first.more second.more)
     (λ x k o u has gave. ⊎_elim (λ (was : Has first.more x). over k (early first.more first.is x k o u was gave)) (λ (is : Has second.more x). late second.more second.is x k o u is gave) (has_both first.more second.more x has))

@@ -71,7 +71,8 @@ none_elected (Err steps.Memory) made none = omega (arith, none)
 none_elected (Err steps.TurnsSpent) made none = omega (arith, none)
 none_elected (Err (steps.Refused refusal)) made none = none
 
-pub worked_by : (s : Start) (log : List Moment) (old new : List Call) (answer : Answer) → old ≡ [] → WorkedCalls old new answer → OnOk answer (AllEnded (shared s) log old new) → IfErr answer (IsStopped (shared s) log) → AreWorked s log new 1 0 answer
+pub worked_by : (s : Start) (log : List Moment) (old new : List Call) (answer : Answer) → old ≡ [] → WorkedCalls old new answer → OnOk answer (AllEnded (shared s) log old new) → IfErr answer (IsStopped (shared s) log)
+    → AreWorked s log new 1 0 answer
 worked_by s log old new answer none w ended stopped =
     let is : new ≡ w.more = w.is ∙ ap (λ (l : List Call). l ++ w.more) none in
     subst (λ (calls : List Call). AreWorked s log calls 1 0 answer) (sym is) (record {
@@ -154,7 +155,8 @@ elected_by s log old new times answer none h stopped =
 pub none_called : (base : ℕ) (p old : Seen) → old ≡ p → p.mine ≡ [] → calls_in base old.seen old.mine ≡ []
 none_called base p old is none = ap (calls_in base old.seen) (ap (λ (q : Seen). q.mine) is ∙ none)
 
-pub back_by : (s : Start) (before : List Moment) (lock picked : LockId) (total : ℕ) (first last back : Seen) (workers elects : ℕ) (answer : Answer) → lock ≡ picked → first.left ≡ total → first.used ≡ 0 → back ≡ last → back.lock ≡ picked → back.left + back.used ≡ total → IsFit s before back
+pub back_by : (s : Start) (before : List Moment) (lock picked : LockId) (total : ℕ) (first last back : Seen) (workers elects : ℕ) (answer : Answer) → lock ≡ picked → first.left ≡ total → first.used ≡ 0 → back ≡ last
+    → back.lock ≡ picked → back.left + back.used ≡ total → IsFit s before back
     → AreWorked s (before ++ last.seen) (calls_in (length before) last.seen last.mine) workers elects answer → IsBack s before lock first back workers elects answer
 back_by s before lock picked total first last back workers elects answer lock_is left unused is own turns fit worked = record {
   own = own ∙ sym lock_is;

@@ -14,6 +14,9 @@ use std::marker::Brand;
 use std::sync::Wait;
 use std::thread::Threads;
 
+/// The desk that is back, and what is answered.
+type DeskBack<Q> = (Q, Result<(), StepRefusal>);
+
 /// The desk, once all passes were joined.
 fn close<Q: Sole, B: Since>(lock: TurnLock<Sitting<Q, B>>, pass: Pass<Sitting<Q, B>>) -> Q
     requires own { pass.lock ≡ lock }
@@ -27,22 +30,17 @@ fn close<Q: Sole, B: Since>(lock: TurnLock<Sitting<Q, B>>, pass: Pass<Sitting<Q,
 }
 
 /// Works with the crew at the lock, and closes it.
-fn work_at<
-    Q: Sole + Send,
-    S: Sources<Shard = Q::Shard>,
-    T: Targets<Target = Q::Target>,
-    G: Gate,
-    B: Since + Send + Sync,
-    R: Threads + Wait + Sync,
->(
+fn work_at<Q: Sole + Send, S, T, G: Gate, B: Since + Send + Sync, R: Threads + Wait + Sync>(
     rt: &R,
     alloc: Global,
     lock: TurnLock<Sitting<Q, B>>,
     pass: Pass<Sitting<Q, B>>,
     outside: &Outside<'_, S, T, G>,
     crew: Crew,
-) -> (Q, Result<(), StepRefusal>)
+) -> DeskBack<Q>
 where
+    S: Sources<Shard = Q::Shard>,
+    T: Targets<Target = Q::Target>,
     Q::Stage: Send,
     Q::Fetch: Send,
     requires some { 1 ≤ crew.workers }
@@ -62,7 +60,7 @@ fn work_one<Q: Sole, S: Sources<Shard = Q::Shard>, T: Targets<Target = Q::Target
     desk: Q,
     outside: &Outside<'_, S, T, G>,
     crew: Crew,
-) -> (Q, Result<(), StepRefusal>)
+) -> DeskBack<Q>
     requires { MayWait Q.start (S.told outside.now.sources.now) (T.told outside.now.targets.now) outside.now.part_size crew.workers }
     ensures { HasWaited Q.start (Q.seen desk) (Q.seen result.0) crew.workers crew.elections result.1 }
 {
@@ -88,13 +86,7 @@ fn sit_told<
     G: Gate,
     B: Since + Send + Sync,
     R: Threads + Wait + Sync,
->(
-    rt: &R,
-    alloc: Global,
-    desk: Q,
-    outside: &Outside<'_, S, T, G>,
-    crew: Crew,
-) -> (Q, Result<(), StepRefusal>)
+>(rt: &R, alloc: Global, desk: Q, outside: &Outside<'_, S, T, G>, crew: Crew) -> DeskBack<Q>
 where
     Q::Stage: Send,
     Q::Fetch: Send,

@@ -37,21 +37,16 @@ fn graver(one: Result<(), StepRefusal>, other: Result<(), StepRefusal>) -> Resul
 }
 
 /// Works until no unit is ready.
-fn worker_told<
-    Q: Sole,
-    S: Sources<Shard = Q::Shard>,
-    T: Targets<Target = Q::Target>,
-    G: Gate,
-    B: Since,
-    W: Share,
-    R: Wait + Sync,
->(
+fn worker_told<Q: Sole, S, T, G: Gate, B: Since, W: Share, R: Wait + Sync>(
     rt: &R,
     alloc: Global,
     lock: &TurnLock<Sitting<Q, B>>,
     pass: Pass<Sitting<Q, B>>,
     outside: &Outside<'_, S, T, G>,
 ) -> Back<Q, B>
+where
+    S: Sources<Shard = Q::Shard>,
+    T: Targets<Target = Q::Target>,
     requires picked { (lock.now ≡ W.lock) × (pass.left ≡ W.total) }
     requires new { IsNewPass Q.start B.before lock.now (2 ^ 33) pass }
     requires workable { IsWorkable Q.start (S.told outside.now.sources.now) (T.told outside.now.targets.now) outside.now.part_size }
@@ -69,20 +64,16 @@ fn worker_told<
     (desk.into_pass(), answer)
 }
 
-fn worker<
-    Q: Sole,
-    S: Sources<Shard = Q::Shard>,
-    T: Targets<Target = Q::Target>,
-    G: Gate,
-    B: Since,
-    R: Wait + Sync,
->(
+fn worker<Q: Sole, S, T, G: Gate, B: Since, R: Wait + Sync>(
     rt: &R,
     alloc: Global,
     lock: &TurnLock<Sitting<Q, B>>,
     pass: Pass<Sitting<Q, B>>,
     outside: &Outside<'_, S, T, G>,
 ) -> Back<Q, B>
+where
+    S: Sources<Shard = Q::Shard>,
+    T: Targets<Target = Q::Target>,
     requires new { IsNewPass Q.start B.before lock.now (2 ^ 33) pass }
     requires workable { IsWorkable Q.start (S.told outside.now.sources.now) (T.told outside.now.targets.now) outside.now.part_size }
     ensures { IsBack Q.start B.before lock.now pass result.0 1 0 result.1 }
@@ -147,14 +138,7 @@ fn elector<Q: Sole, B: Since, R: Wait + Sync>(
 }
 
 /// Works with so many workers, each in a thread of its own.
-fn drive<
-    Q: Sole + Send,
-    S: Sources<Shard = Q::Shard>,
-    T: Targets<Target = Q::Target>,
-    G: Gate,
-    B: Since + Send + Sync,
-    R: Threads + Wait + Sync,
->(
+fn drive<Q: Sole + Send, S, T, G: Gate, B: Since + Send + Sync, R: Threads + Wait + Sync>(
     rt: &R,
     alloc: Global,
     lock: &TurnLock<Sitting<Q, B>>,
@@ -163,6 +147,8 @@ fn drive<
     workers: u32,
 ) -> Back<Q, B>
 where
+    S: Sources<Shard = Q::Shard>,
+    T: Targets<Target = Q::Target>,
     Q::Stage: Send,
     Q::Fetch: Send,
     requires some { 1 ≤ workers }
@@ -195,14 +181,7 @@ where
 }
 
 /// Works with a crew: its workers, and a thread that elects.
-pub(crate) fn drive_and_elect<
-    Q: Sole + Send,
-    S: Sources<Shard = Q::Shard>,
-    T: Targets<Target = Q::Target>,
-    G: Gate,
-    B: Since + Send + Sync,
-    R: Threads + Wait + Sync,
->(
+pub(crate) fn drive_and_elect<Q: Sole + Send, S, T, G: Gate, B, R: Threads + Wait + Sync>(
     rt: &R,
     alloc: Global,
     lock: &TurnLock<Sitting<Q, B>>,
@@ -211,6 +190,9 @@ pub(crate) fn drive_and_elect<
     crew: Crew,
 ) -> Back<Q, B>
 where
+    S: Sources<Shard = Q::Shard>,
+    T: Targets<Target = Q::Target>,
+    B: Since + Send + Sync,
     Q::Stage: Send,
     Q::Fetch: Send,
     requires some { 1 ≤ crew.workers }

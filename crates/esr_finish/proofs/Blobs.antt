@@ -23,7 +23,8 @@ pub global_blob_is : (s : Start) (info : Info) (uuid : Id) (text : Bytes) → uu
 unfolding formats
 global_blob_is s info uuid text same is = ap (λ (u : Id). (Meta u.number, text)) same ∙ ap (λ (b : Bytes). (Meta info.uuid.number, b)) is
 
-pub index_blob_is : (s : Start) (index : IndexRef) (uuid : ℕ) (text : Bytes) → text ≡ index_meta_kind.text (record { index = ref_of_code index; uuid = uuid }) → (IndexMeta index.id.number uuid, text) ≡ index_blob (formats_of s) uuid (ref_of_code index)
+pub index_blob_is : (s : Start) (index : IndexRef) (uuid : ℕ) (text : Bytes) → text ≡ index_meta_kind.text (record { index = ref_of_code index; uuid = uuid })
+    → (IndexMeta index.id.number uuid, text) ≡ index_blob (formats_of s) uuid (ref_of_code index)
 unfolding formats
 index_blob_is s index uuid text is = ap (λ (b : Bytes). (IndexMeta index.id.number uuid, b)) is
 

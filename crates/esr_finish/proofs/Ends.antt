@@ -31,6 +31,7 @@ use Rattle.esr_unit.specs.Fetch.{IsRefusedBy, LeavesCalls}
 use Rattle.esr_finish.specs.Ticket.{MayWrite, IsWritten}
 use Rattle.esr_finish.specs.Went.{Went, Worked}
 use Rattle.esr_finish.specs.Refused.{EndsAsMaster, EndsAs, CanGiveUp, HasFailedAs, HasEndedUnsettled, IsGivenUp, IsSwapRefused, IsHalted, IsUnitRefused, is_fault}
+use Rattle.esr_finish.specs.Stops.{unsettled_same}
 use Rattle.esr_finish.proofs.Runs.{worked_to}
 use Rattle.esr_finish.proofs.Stopping.{halts_stops}
 
@@ -79,7 +80,8 @@ failed_as hands.Unit e s log who why b cause failed = (cause, failed)
 failed_as hand e s log who why b cause failed = failed
 
 -- it was given up
-pub given_up : {S F H T : Type 0} (hand : Hand) (e : Evidence S F H T) (s : Start) (old mid new : List Moment) (who : ℕ) (ending : Ending S F H T) (result : UnitRefusal) → CanGiveUp hand (ticket_of s old who) → ticket_of s mid who ≡ ticket_of s old who → EndsAs hand ending
+pub given_up : {S F H T : Type 0} (hand : Hand) (e : Evidence S F H T) (s : Start) (old mid new : List Moment) (who : ℕ) (ending : Ending S F H T) (result : UnitRefusal) → CanGiveUp hand (ticket_of s old who)
+    → ticket_of s mid who ≡ ticket_of s old who → EndsAs hand ending
     → EndingShown hand e ⊥ s mid who ending → GivenUp hand e s mid new who ending result → IsGivenUp hand e s old new who result
 given_up {S} {F} {H} {T} hand e s old mid new who (endings.Failed why b) (units.Failed told) may same cause shown given =
     subst (λ (w : Why). IsGivenUp {S = S} {F = F} {H = H} {T = T} hand e s old new who (units.Failed w)) (sym given.0) (
@@ -120,13 +122,9 @@ fault_halts : {S F H T : Type 0} (e : Evidence S F H T) (s : Start) (old new : L
 fault_halts e s old new who (steps.Refused refusals.DepotFault) fault left h = (left, record { front = h.front; image = h.image; is = h.is })
 fault_halts e s old new who refusal fault left h = absurd (true≢false (sym fault))
 
--- for another refusal it hasn't
-pub unsettled_same : (gone : Ticket → Type 0) (refusal : StepRefusal) (t u : Ticket) → is_fault refusal ≡ false → LeftBy {X = Unit {0}} gone (Err refusal) t u → u ≡ t
-unsettled_same gone (steps.Refused refusals.DepotFault) t u other left = absurd (true≢false other)
-unsettled_same gone refusal t u other left = left
-
 -- an early end is one at the settle
-given_halted : {S F H T : Type 0} (e : Evidence S F H T) (s : Start) (old mid new : List Moment) (who : ℕ) (result : UnitRefusal) → ticket_of s mid who ≡ ticket_of s old who → IsGivenUp hands.Unit e s mid new who result → IsHalted e s old new who result
+given_halted : {S F H T : Type 0} (e : Evidence S F H T) (s : Start) (old mid new : List Moment) (who : ℕ) (result : UnitRefusal) → ticket_of s mid who ≡ ticket_of s old who → IsGivenUp hands.Unit e s mid new who result
+    → IsHalted e s old new who result
 given_halted e s old mid new who (units.Failed why) same (ended, failed) = (ended ∙ ap (λ (t : Ticket). record t { out = false }) same, failed)
 given_halted e s old mid new who units.Stale same (ended, stale) = (ended ∙ ap (λ (t : Ticket). record t { out = false }) same, stale)
 given_halted e s old mid new who (units.Stopped refusal) same (kept, halts) = (inl (kept ∙ same), halts_stops s new who refusal halts)
@@ -182,7 +180,8 @@ halted_refused e s old mid new who info root (units.Stopped refusal) may went wr
       stops,
     )
 
-pub settle_refused : {S F H T : Type 0} (e : Evidence S F H T) (s : Start) (old mid new : List Moment) (who : ℕ) (info : SnapInfo) (root : RootData) (result : Result (Unit {0}) UnitRefusal) → MayWrite s (ticket_of s old who) info root → Went s old mid who
+pub settle_refused : {S F H T : Type 0} (e : Evidence S F H T) (s : Start) (old mid new : List Moment) (who : ℕ) (info : SnapInfo) (root : RootData) (result : Result (Unit {0}) UnitRefusal) → MayWrite s (ticket_of s old who) info root
+    → Went s old mid who
     → IsWritten (formats_of s) (ticket_of s old who) (ticket_of s mid who) → IfErr result (IsHalted e s mid new who) → IfErr result (λ x. IsUnitRefused e s old new who x)
 settle_refused e s old mid new who info root (Ok x) may went written h = tt
 settle_refused e s old mid new who info root (Err x) may went written h = halted_refused e s old mid new who info root x may went written h

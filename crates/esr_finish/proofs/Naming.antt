@@ -14,7 +14,7 @@ use Rattle.esr_desk.specs.Start.{Start, formats_of, ticket_of}
 use Rattle.esr_finish.specs.Blobs.{info_blob, global_blob}
 use Rattle.esr_finish.specs.Ticket.{IsUnnoted, Puts, Wrote}
 use Rattle.esr_finish.proofs.Indices.{blobs_of}
-use Rattle.esr_finish.proofs.Swaps.{noted_before}
+use Rattle.esr_finish.specs.SwapBlobs.{noted_before}
 
 -- ---- ids
 
@@ -86,7 +86,8 @@ global_new s old new who info none wrote =
     apart : (u : ℕ) → Snap u ≡ Meta u → ⊥
     apart u e = cc
 
-pub indices_new : (s : Start) (old mid new : List Moment) (who : ℕ) (info : values.SnapInfo) → (ticket_of s old who).noted ≡ [] → Puts s old mid who (info_blob (formats_of s) info ∷ []) → Puts s mid new who (global_blob (formats_of s) info ∷ [])
+pub indices_new : (s : Start) (old mid new : List Moment) (who : ℕ) (info : values.SnapInfo) → (ticket_of s old who).noted ≡ [] → Puts s old mid who (info_blob (formats_of s) info ∷ [])
+    → Puts s mid new who (global_blob (formats_of s) info ∷ [])
     → (id : ℕ) → IsUnnoted (ticket_of s new who) (IndexMeta id info.uuid)
 indices_new s old mid new who info none first second id =
     let name = IndexMeta id info.uuid in

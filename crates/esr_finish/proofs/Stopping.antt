@@ -2,7 +2,7 @@
 use Rattle.std.proofs.Common.{◌≡◌, ◌≢◌, inl, inr, ℕ, true, false, List, refl, sym, ap, ◌∙◌, true≢false}
 use Rattle.esr_model.specs.Names.{BlobName, Latest}
 use Rattle.esr_core.specs.World.{World, Work, Shard, Finalize, Deleting, Drop}
-use Rattle.esr_core.specs.Entry.{Step, BeginStep, CommitStep, LatestStep, RaiseStep, SettleStep, FinishStep, Refusal, DeposedAt, AbortedBy, DepotFault, NameTaken, GenerationsSpent, StaleTerm, Refused, Moment}
+use Rattle.esr_core.specs.Entry.{Step, FinishStep, Refusal, DeposedAt, AbortedBy, DepotFault, NameTaken, GenerationsSpent, StaleTerm, Refused, Moment}
 use Rattle.esr_core.specs.After.{is_latest}
 use Rattle.esr_core.specs.Allowed.{ByFailedSwap, ByDelete}
 use Rattle.esr_core.specs.Refusing.{MayRefuse, BeginFault, CommitFault, CommitTaken, LatestFault, RaiseFault, RaiseStale, RaiseSpent, SettleFault, SettleStale, RefusedSo}
@@ -25,9 +25,10 @@ use Rattle.esr_unit.specs.declared.ending.Ending.TheVariants as endings
 use Rattle.esr_unit.specs.Ending.{ending_at, ending_by}
 use Rattle.esr_unit.specs.Fetch.{IsRefusedBy}
 use Rattle.esr_unit.specs.Shown.{Shown}
-use Rattle.esr_unit.specs.Refusals.{RefusesSo, IsWork, IsMasterOut, last_refused, stepped_had, unit_refused_in}
+use Rattle.esr_unit.specs.Refusals.{RefusesSo, IsMasterOut, last_refused, stepped_had, unit_refused_in}
 use Rattle.esr_finish.specs.Ticket.{IsUnsettledMaster}
 use Rattle.esr_finish.specs.Refused.{IsWriting, IsPutRefused, EndsAsMaster, CanGiveUp, Stops, is_fault}
+use Rattle.esr_finish.specs.Stops.{writing_works, IsBlock}
 use Rattle.esr_finish.proofs.Swaps.{no_master_shard}
 
 -- ---- a step that writes
@@ -37,7 +38,8 @@ other_than_latest Latest other = absurd (other refl)
 other_than_latest name other = refl
 
 -- it was refused, and for another reason than the container where it is one on `index.latest`
-pub writing_refused : {S : Type 0} (F : Type 0) (s : Start) (faults : S → ℕ) (old new : List Moment) (who : ℕ) (step : Step) (refusal : StepRefusal) → IsWriting step → (refusal ≡ steps.Refused refusals.DepotFault → is_of_latest step ≡ false)
+pub writing_refused : {S : Type 0} (F : Type 0) (s : Start) (faults : S → ℕ) (old new : List Moment) (who : ℕ) (step : Step) (refusal : StepRefusal) → IsWriting step
+    → (refusal ≡ steps.Refused refusals.DepotFault → is_of_latest step ≡ false)
     → IsRefusedBy s old new who step refusal → IsPutRefused {S = S} {F = F} s faults new who (troubles.Step refusal)
 writing_refused F s faults old new who step steps.Memory writes matters h = (tt, h.1)
 writing_refused F s faults old new who step steps.TurnsSpent writes matters h = (tt, h.1)
@@ -46,15 +48,6 @@ writing_refused F s faults old new who step (steps.Refused x) writes matters h =
     fault_only : (e : EntryRefusal) → refusal_of e ≡ DepotFault → e ≡ refusals.DepotFault
     fault_only refusals.DepotFault same = refl
     fault_only e same = absurd cc
-
--- it is work of a unit
-pub writing_works : (step : Step) → IsWriting step → IsWork step
-writing_works (BeginStep name) writes = tt
-writing_works (CommitStep name) writes = tt
-writing_works LatestStep writes = tt
-writing_works RaiseStep writes = tt
-writing_works SettleStep writes = tt
-writing_works step writes = absurd writes
 
 -- ---- what ends the unit
 
@@ -127,12 +120,6 @@ master_out s log who t = record { out = t.fails.out; no_shard = no_master_shard 
 
 -- ---- the end was refused
 
--- before the step is looked at
-abbrev pub IsBlock : Refusal → Type 0
-IsBlock (DeposedAt place) = Unit {0}
-IsBlock (AbortedBy op) = Unit {0}
-IsBlock refusal = ⊥
-
 finish_block : (w : World) (who : ℕ) (refusal : Refusal) → RefusedSo w who FinishStep refusal → IsBlock refusal
 finish_block w who refusal (inl (ByFailedSwap place deposed)) = tt
 finish_block w who refusal (inl (ByDelete op deposed aborted)) = tt
@@ -150,7 +137,8 @@ finish_aborted hands.Delete e s old new who op may h of = absurd (of.no_delete m
 finish_aborted hand e s old new who op may h of = absurd may
 
 -- that ends a unit whose term is over
-finish_entry : {S F H T : Type 0} (hand : Hand) (e : Evidence S F H T) (s : Start) (old new : List Moment) (who : ℕ) (x : EntryRefusal) → CanGiveUp hand (ticket_of s new who) → IsBlock (refusal_of x) → Stepped s old new who FinishStep (Refused (refusal_of x)) → Grounds s new who (steps.Refused x)
+finish_entry : {S F H T : Type 0} (hand : Hand) (e : Evidence S F H T) (s : Start) (old new : List Moment) (who : ℕ) (x : EntryRefusal) → CanGiveUp hand (ticket_of s new who) → IsBlock (refusal_of x)
+    → Stepped s old new who FinishStep (Refused (refusal_of x)) → Grounds s new who (steps.Refused x)
     → Shown {S = S} {F = F} {H = H} {T = T} hand e ⊥ s new who (troubles.Step (steps.Refused x))
 finish_entry hand e s old new who (refusals.Deposed entry) may block h grounds = (FinishStep, record { front = h.front; image = h.image; is = h.is })
 finish_entry {S} {F} {H} {T} hand e s old new who (refusals.Aborted op) may block h grounds = finish_aborted {S = S} {F = F} {H = H} {T = T} hand e s old new who op may h grounds
@@ -175,7 +163,8 @@ finish_ends s old new who steps.TurnsSpent law h = ((λ same. cc), tt)
 finish_ends {S} {F} {H} {T} s old new who (steps.Refused x) law h = finish_entry_ends {S = S} {F = F} {H = H} {T = T} x (finish_refused law s old new who (refusal_of x) h.0)
 
 -- a ticket that has settled is aborted by no delete
-settled_entry : (s : Start) (old new : List Moment) (who : ℕ) (x : EntryRefusal) → IsBlock (refusal_of x) → (ticket_of s new who).settled ≡ true → Stepped s old new who FinishStep (Refused (refusal_of x)) → Grounds s new who (steps.Refused x)
+settled_entry : (s : Start) (old new : List Moment) (who : ℕ) (x : EntryRefusal) → IsBlock (refusal_of x) → (ticket_of s new who).settled ≡ true → Stepped s old new who FinishStep (Refused (refusal_of x))
+    → Grounds s new who (steps.Refused x)
     → Stops s new who (steps.Refused x)
 settled_entry s old new who (refusals.Deposed entry) block settled h grounds = (FinishStep, record { front = h.front; image = h.image; is = h.is })
 settled_entry s old new who (refusals.Aborted op) block settled h grounds = absurd (true≢false (sym settled ∙ grounds.unsettled))

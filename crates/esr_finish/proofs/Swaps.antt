@@ -19,18 +19,10 @@ use Rattle.esr_desk.specs.Start.{Start, formats_of, ticket_of}
 use Rattle.esr_desk.specs.Conditions.{CanSettle, CanFail, CanFinish, IsUnpruned}
 use Rattle.esr_desk.specs.Taken.{fresh, TookWork}
 use Rattle.esr_finish.specs.Blobs.{index_blob}
-use Rattle.esr_finish.specs.Ticket.{HasSwap, IsUnsettledMaster, MayWrite, MayPutRoot, noted_with, has_noted, Wrote, IsWritten}
+use Rattle.esr_finish.specs.Ticket.{HasSwap, IsUnsettledMaster, MayWrite, MayPutRoot, has_noted, Wrote, IsWritten}
 use Rattle.esr_finish.specs.Went.{Worked}
+use Rattle.esr_finish.specs.SwapBlobs.{noted_before}
 use Rattle.esr_finish.proofs.Writing.{swap_stays}
-
--- a name of none of the blobs was noted before
-pub noted_before : (blobs : List (BlobName × Bytes)) (noted : List BlobName) (name : BlobName) → ((b : BlobName × Bytes) → Has blobs b → b.0 ≡ name → ⊥) → Has (noted_with blobs noted) name → Has noted name
-noted_before [] noted name other has = has
-noted_before (x ∷ blobs) noted name other has = before (noted_before blobs (x.0 ∷ noted) name (λ b later. other b (inr later)) has)
-  where
-    before : Has (x.0 ∷ noted) name → Has noted name
-    before (inl here) = absurd (other x (inl refl) here)
-    before (inr later) = later
 
 -- no metadata has the name of a root
 no_index_root : (f : Formats) (uuid : ℕ) (refs : List IndexRef) (n : ℕ) (b : BlobName × Bytes) → Has (map (λ (r : IndexRef). index_blob f uuid r) refs) b → b.0 ≡ Root n → ⊥
@@ -131,7 +123,8 @@ final_fails a b work new op copy info shards work_is took worked =
     }
 
 -- it is one of a finalization that hasn't settled
-pub final_master : (a b : Ticket) (work : Work) (new : Option code.Root) (op : ℕ) (copy : Copied) (info : Info) (shards : List ShardResult) → work ≡ works.Finalize info shards → TookWork work new op copy a → Worked a b → IsUnsettledMaster b
+pub final_master : (a b : Ticket) (work : Work) (new : Option code.Root) (op : ℕ) (copy : Copied) (info : Info) (shards : List ShardResult) → work ≡ works.Finalize info shards → TookWork work new op copy a → Worked a b
+    → IsUnsettledMaster b
 final_master a b work new op copy info shards work_is took worked =
     let (term, made, t_is, root_is) = subst (λ (w : Work). TookWork w new op copy a) work_is took in
     record {

@@ -1,27 +1,22 @@
 -- A ticket whose swap's blobs are put one after another.
-use Rattle.std.proofs.Common.{◌≡◌, ◌≢◌, inl, inr, ⊎_elim, ℕ, List, [], ◌∷◌, ◌++◌, Option, Some, None, refl, sym, ap, ◌∙◌, subst, true≢false}
+use Rattle.std.proofs.Common.{◌≡◌, ◌≢◌, inl, inr, ⊎_elim, ℕ, List, [], ◌∷◌, ◌++◌, refl, sym, ap, ◌∙◌, subst, true≢false}
+use Rattle.esr_model.specs.Lists.{Has-left, Has-right}
 use Rattle.esr_model.specs.Names.{BlobName, Root, Latest}
-use Rattle.esr_model.specs.Values.{Bytes, Has, RootData, Formats}
-use Rattle.esr_core.specs.World.{Work, Shard, Ticket, Swap, swap_of}
+use Rattle.esr_model.specs.Values.{Bytes, Has, RootData}
+use Rattle.esr_core.specs.World.{Ticket, Swap}
 use Rattle.esr_core.specs.Allowed.{IsMetadata}
 use Rattle.esr_desk.specs.Start.{Start, formats_of}
 use Rattle.esr_desk.specs.Conditions.{CanCommit}
 use Rattle.esr_finish.specs.Blobs.{root_blob}
 use Rattle.esr_finish.specs.Ticket.{HasSwap, MayStore, MayPut, MayPutRoot, noted_with, Wrote, raised_to}
 use Rattle.esr_finish.specs.Went.{Worked}
+use Rattle.esr_finish.specs.SwapBlobs.{swaps_no_shard}
 
 -- a ticket that has worked has its swap still
 pub swap_stays : (s : Start) (a b : Ticket) (change : Swap) → Worked a b → HasSwap s a change → HasSwap s b change
 swap_stays s a b change worked has = subst (λ (t : Ticket). HasSwap s t change) (sym worked.is) (record { out = has.out; is = has.is; unsettled = has.unsettled })
 
 -- ---- one blob
-
--- what has a swap is no shard
-pub swaps_no_shard : (f : Formats) (work : Work) (root : RootData) (change : Swap) → swap_of f work root ≡ Some change → (index number : ℕ) → work ≡ Shard index number → ⊥
-swaps_no_shard f work root change is index number shard = none change (subst (λ (w : Work). swap_of f w root ≡ Some change) shard is)
-  where
-    none : (x : Swap) → ◌≡◌ {A = Option Swap} None (Some x) → ⊥
-    none x same = cc
 
 may_commit : (s : Start) (t : Ticket) (b : BlobName × Bytes) → MayPut s t (b ∷ []) → b.0 ≢ Latest → IsMetadata b.0 → CanCommit s t b.0 b.1
 may_commit s t b may stored metadata = record {
@@ -74,21 +69,12 @@ noted_with-append : (xs ys : List (BlobName × Bytes)) (noted : List BlobName) �
 noted_with-append [] ys noted = refl
 noted_with-append (x ∷ xs) ys noted = noted_with-append xs ys (x.0 ∷ noted)
 
-pub has_left : {A : Type 0} (xs ys : List A) (y : A) → Has xs y → Has (xs ++ ys) y
-has_left [] ys y none = absurd none
-has_left (x ∷ xs) ys y (inl here) = inl here
-has_left (x ∷ xs) ys y (inr later) = inr (has_left xs ys y later)
-
-pub has_right : {A : Type 0} (xs ys : List A) (y : A) → Has ys y → Has (xs ++ ys) y
-has_right [] ys y has = has
-has_right (x ∷ xs) ys y has = inr (has_right xs ys y has)
-
 pub wrote_on : (a b c : Ticket) (xs ys : List (BlobName × Bytes)) → Wrote a b xs → Wrote b c ys → Wrote a c (xs ++ ys)
 wrote_on a b c xs ys first second = record {
   wrote = second.wrote;
   from = λ x has. ⊎_elim
-      (λ before. ⊎_elim (λ old. inl old) (λ one. inr (has_left xs ys x one)) (first.from x (subst (λ (t : Ticket). Has t.wrote x) first.is before)))
-      (λ one. inr (has_right xs ys x one))
+      (λ before. ⊎_elim (λ old. inl old) (λ one. inr (Has-left xs ys x one)) (first.from x (subst (λ (t : Ticket). Has t.wrote x) first.is before)))
+      (λ one. inr (Has-right xs ys x one))
       (second.from x has);
   is =
       second.is

@@ -5,17 +5,11 @@ use Rattle.esr_json.specs.declared.refusal.Reason.{Reason}
 use Rattle.esr_json.specs.declared.refusal.ReadRefusal.{ReadRefusal}
 use Rattle.esr_json.specs.declared.refusal.ReadRefusal.TheVariants as refusals
 use Rattle.esr_json.specs.Steps.{Gives}
-use Rattle.esr_model.specs.Values.{Bytes, ReadsBack}
+use Rattle.esr_model.specs.Values.{Bytes}
 use Rattle.esr_formats.specs.Kinds.{kind_by, IsRead}
 
 pub text-kind_by : {C V : Type 0} (code : V → C) (model : C → V) (text : C → Bytes) (from : Bytes → Result C Reason) (c : C) → code (model c) ≡ c → (kind_by code model text from).text (model c) ≡ text c
 text-kind_by code model text from c same = ap text same
-
-pub ReadsBack-kind_by : {C V : Type 0} (code : V → C) (model : C → V) (text : C → Bytes) (from : Bytes → Result C Reason) (c : C) → code (model c) ≡ c → from (text c) ≡ Ok c
-    → ReadsBack (kind_by code model text from) (model c)
-ReadsBack-kind_by {C} {V} code model text from c same back =
-    let answer : Result C Reason → Option V = λ r. option_map model (result_ok r) in
-    ap (λ (x : C). answer (from (text x))) same ∙ ap answer back
 
 pub IsRead-kind_by : {C V : Type 0} (code : V → C) (model : C → V) (text : C → Bytes) (from : Bytes → Result C Reason) (bytes : Bytes) (r : Result C ReadRefusal) → Gives (λ c. c) r (from bytes)
     → IsRead (kind_by code model text from) model bytes r

@@ -1,9 +1,7 @@
 -- A value of the code is found again from the value that it is.
-use Rattle.std.proofs.Common.{◌≡◌, zero, suc, ℤ, pos, negsuc, ◌≤ℤ◌, List, [], ◌∷◌, map, Option, Some, None, option_map, refl, ap, ap₂, ◌∙◌, arith}
+use Rattle.std.proofs.Common.{◌≡◌, zero, suc, ℤ, pos, negsuc, ◌≤ℤ◌, List, map, Option, Some, None, option_map, refl, ap, ap₂, ◌∙◌, arith}
 use Rattle.std.proofs.lemmas.Int.{ints}
 use Rattle.esr_names.specs.declared.ids.Id.{Id}
-use Rattle.esr_names.specs.declared.blob.BlobName.{BlobName as CodeName}
-use Rattle.esr_names.specs.declared.blob.BlobName.TheVariants as code
 use Rattle.esr_names.specs.declared.index_ref.IndexRef.{IndexRef as CodeRef}
 use Rattle.esr_root.specs.declared.snaps.RootSnap.{RootSnap as CodeSnap}
 use Rattle.esr_root.specs.declared.indices.RootIndex.{RootIndex as CodeIndex}
@@ -14,43 +12,21 @@ use Rattle.esr_record.specs.declared.op.RecordOp.{RecordOp}
 use Rattle.esr_record.specs.Record.{Record, AreNumbers, IsRecord}
 use Rattle.esr_meta.specs.Info.{Info}
 use Rattle.esr_shardidx.specs.declared.entry.FileEntry.{FileEntry as CodeEntry}
-use Rattle.esr_shardidx.specs.declared.index.SnapList.{SnapList as CodeList}
 use Rattle.esr_shardidx.specs.Snapshots.{SnapValue}
-use Rattle.esr_shardidx.specs.Indices.{IndexValue}
 use Rattle.esr_formats.specs.Infos.{info_of_code, code_info}
-use Rattle.esr_formats.specs.Shards.{entry_of, snap_list_of, shard_snap_of, shard_index_of, code_entry, code_snap_list, code_shard_snap, code_shard_index}
+use Rattle.esr_formats.specs.Shards.{shard_snap_of, code_shard_snap}
 use Rattle.esr_formats.specs.Ids.{number_of, id_of}
-use Rattle.esr_formats.specs.Names.{name_of, code_name}
 use Rattle.esr_formats.specs.Refs.{ref_of_code, code_ref}
 use Rattle.esr_formats.specs.Roots.{root_snap_of, root_index_of, root_of, code_root_snap, code_root_index, code_root}
 use Rattle.esr_formats.specs.Clusters.{count_of, last_of, work_of_code, op_of, cluster_of, code_work, code_op, code_cluster}
-
-pub map_back : {A B : Type 0} (f : A → B) (g : B → A) → ((x : A) → g (f x) ≡ x) → (xs : List A) → map g (map f xs) ≡ xs
-map_back f g back [] = refl
-map_back {A} f g back (x ∷ xs) = ap₂ (λ (y : A) (ys : List A). y ∷ ys) (back x) (map_back f g back xs)
+use Rattle.esr_formats.specs.ReadBack.{map_back, ids_back, entries_back}
 
 option_back : {A B : Type 0} (f : A → B) (g : B → A) → ((x : A) → g (f x) ≡ x) → (o : Option A) → option_map g (option_map f o) ≡ o
 option_back f g back None = refl
 option_back f g back (Some x) = ap Some (back x)
 
-pub ids_back : (us : List Id) → map id_of (map number_of us) ≡ us
-ids_back us = map_back number_of id_of (λ u. refl) us
-
 pub refs_back : (rs : List CodeRef) → map code_ref (map ref_of_code rs) ≡ rs
 refs_back rs = map_back ref_of_code code_ref (λ r. refl) rs
-
-pub name_back : (name : CodeName) → code_name (name_of name) ≡ name
-name_back (code.Root n) = refl
-name_back code.Latest = refl
-name_back (code.Snap u) = refl
-name_back (code.Meta u) = refl
-name_back (code.IndexMeta i u) = refl
-name_back (code.ShardSnap s u) = refl
-name_back (code.ShardIndex s g) = refl
-name_back (code.Whole s x) = refl
-name_back (code.Part s x k) = refl
-name_back (code.TestMaster v) = refl
-name_back (code.TestNode v w) = refl
 
 root_index_back : (i : CodeIndex) → code_root_index (root_index_of i) ≡ i
 root_index_back i =
@@ -95,16 +71,5 @@ info_back i =
     let made : List CodeRef → Info = λ rs. record { bytes = i.bytes; files = i.files; indices = rs; moment = i.moment; name = i.name; state = i.state; uuid = i.uuid } in
     ap made (refs_back i.indices)
 
-pub entries_back : (es : List CodeEntry) → map code_entry (map entry_of es) ≡ es
-entries_back es = map_back entry_of code_entry (λ e. refl) es
-
-snap_list_back : (l : CodeList) → code_snap_list (snap_list_of l) ≡ l
-snap_list_back l = let made : List Id → CodeList = λ us. record { files = us; uuid = l.uuid } in ap made (ids_back l.files)
-
 pub shard_snap_back : (s : SnapValue) → code_shard_snap (shard_snap_of s) ≡ s
 shard_snap_back s = let made : List CodeEntry → SnapValue = λ es. record { files = es; uuid = s.uuid } in ap made (entries_back s.files)
-
-pub shard_index_back : (v : IndexValue) → code_shard_index (shard_index_of v) ≡ v
-shard_index_back v =
-    let made : List CodeEntry → List CodeList → IndexValue = λ es ls. record { files = es; snapshots = ls } in
-    ap₂ made (entries_back v.files) (map_back snap_list_of code_snap_list snap_list_back v.snapshots)

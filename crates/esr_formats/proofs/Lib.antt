@@ -1,7 +1,7 @@
 pub mod ByKind
 pub mod Inverses
-pub mod MetaTexts
 pub mod NameRules
+pub mod MetaTexts
 pub mod NameTexts
 pub mod RecordTexts
 pub mod RootTexts

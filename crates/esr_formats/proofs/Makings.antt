@@ -1,7 +1,7 @@
 -- What a finalization writes of a snapshot that can be made reads back.
 use Rattle.std.proofs.Common.{◌≡◌, ◌≢◌, ℕ, ◌<◌, ◌^◌, ◌==◌, ◌||◌, Bool, true, false, None, inl, inr, refl, sym, subst, ◌⊎◌, ⊎_elim, List, [], ◌∷◌, ◌++◌, ◌+◌, length, drop, get_or, map, bytes_eq, arith, Option}
 use Rattle.std.specs.List.{list_any, AllByRecursion}
-use Rattle.std.proofs.lemmas.Bool.{eqb-true}
+use Rattle.std.proofs.lemmas.Bool.{eqb-true, false_from_ne_true}
 use Rattle.std.proofs.lemmas.List.{at_drop_more}
 use Rattle.std.proofs.lemmas.Slice.Eq.{bytes_eq-Decides}
 use Rattle.esr_names.specs.declared.ids.Id.{Id}
@@ -35,10 +35,6 @@ either_false : (x y : Bool) → x ≡ false → y ≡ false → (x || y) ≡ fal
 either_false true y a b = absurd cc
 either_false false y a b = b
 
-not_true : (b : Bool) → (b ≡ true → ⊥) → b ≡ false
-not_true true h = absurd (h refl)
-not_true false h = refl
-
 -- those before have none of the names and ids of the rest
 abbrev AreFree : List CodeRef → List CodeRef → Type 0
 AreFree before rs = (q : IndexRef) → Has (map ref_of_code rs) q → (b : IndexRef) → Has (map ref_of_code before) b → (q.name ≢ b.name) × (q.id ≢ b.id)
@@ -47,8 +43,8 @@ none_clashes : (r : CodeRef) (before : List CodeRef) → ((b : IndexRef) → Has
 none_clashes r [] apart = refl
 none_clashes r (b ∷ bs) apart =
     let here = apart (ref_of_code b) (inl refl) in
-    let name : bytes_eq b.name r.name ≡ false = not_true _ (λ h. here.0 (sym ((bytes_eq-Decides b.name r.name).0 h))) in
-    let id : (b.id.number == r.id.number) ≡ false = not_true _ (λ h. here.1 (sym (eqb-true b.id.number r.id.number h))) in
+    let name : bytes_eq b.name r.name ≡ false = false_from_ne_true _ (λ h. here.0 (sym ((bytes_eq-Decides b.name r.name).0 h))) in
+    let id : (b.id.number == r.id.number) ≡ false = false_from_ne_true _ (λ h. here.1 (sym (eqb-true b.id.number r.id.number h))) in
     either_false (clashes r b) (list_any (clashes r) bs) (either_false _ _ name id) (none_clashes r bs (λ c has. apart c (inr has)))
 
 has_before : (before : List CodeRef) (r : CodeRef) (b : IndexRef) → Has (map ref_of_code (before ++ r ∷ [])) b → Has (map ref_of_code before) b ⊎ (ref_of_code r ≡ b)
@@ -86,7 +82,8 @@ index_back uuid rs q fits refs has =
     subst (λ (x : IndexRef). ReadsBack index_meta_kind (record { index = x; uuid = uuid.number })) found.2
     (index_meta_reads_back m (record { id = one.id; name = one.name; least = one.least; most = one.most; uuid = fits }))
 
-pub makings_write_back : (known : Bytes → Bytes → ℕ → Bool) (told : Bytes → Bytes → ℕ → Option (List (Bytes × Bytes))) (name : Bytes) (uuid : Id) (moment : ℕ) (rs : List CodeRef) → snap_name_fault name ≡ None → uuid.number < 2 ^ 128 → moment < 2 ^ 64
+pub makings_write_back : (known : Bytes → Bytes → ℕ → Bool) (told : Bytes → Bytes → ℕ → Option (List (Bytes × Bytes))) (name : Bytes) (uuid : Id) (moment : ℕ) (rs : List CodeRef) → snap_name_fault name ≡ None
+    → uuid.number < 2 ^ 128 → moment < 2 ^ 64
     → AllByRecursion IsRuled rs → AreApart (map ref_of_code rs) → WritesBack (formats known told) name uuid.number moment (map ref_of_code rs)
 unfolding formats
 makings_write_back known told name uuid moment rs rule fits early ruled apart =

@@ -2,22 +2,23 @@
 use Rattle.std.proofs.Common.{◌≡◌, List, [], ◌∷◌, ◌++◌, Ok, refl, arith}
 use Rattle.std.specs.List.{AllByRecursion}
 use Rattle.esr_names.specs.declared.index_ref.IndexRef.{IndexRef}
-use Rattle.esr_names.proofs.IdTexts.{IsUtf8-id_text}
+use Rattle.esr_names.specs.IdTextLaws.{IsUtf8-id_text}
 use Rattle.esr_json.specs.declared.key.Key.TheVariants as keys
 use Rattle.esr_json.specs.Plain.{IsPlain}
-use Rattle.esr_json.proofs.Plain.{parsed-compact_text}
-use Rattle.esr_json.proofs.PlainParts.{IsUtf8-key_text, ItemsArePlain-map}
+use Rattle.esr_json.specs.PlainTexts.{parsed-compact_text}
+use Rattle.esr_json.specs.PlainValues.{IsUtf8-key_text, ItemsArePlain-map}
 use Rattle.esr_meta.specs.declared.global.GlobalMeta.{GlobalMeta}
 use Rattle.esr_names.specs.Indices.{ref_data, indices_data, IsRef, AreRefs}
 use Rattle.esr_meta.specs.Info.{Info, IsInfo, info_data, info_text, info_from}
 use Rattle.esr_meta.specs.Global.{IsGlobal, global_data, global_text, global_from}
 use Rattle.esr_meta.specs.Index.{Index, IsIndexMeta, index_meta_data, index_meta_text, index_meta_from}
-use Rattle.esr_meta.proofs.RoundTrip.{info_of-info_data, info_plain, global_of-global_data, global_plain, index_meta_of-index_meta_data, index_meta_plain}
+use Rattle.esr_meta.specs.RoundTrip.{info_of-info_data, info_plain, global_of-global_data, global_plain, index_meta_of-index_meta_data, index_meta_plain}
 use Rattle.esr_model.specs.Values.{ReadsBack}
 use Rattle.esr_formats.specs.Infos.{info_of_code, code_info, info_kind}
 use Rattle.esr_formats.specs.Globals.{global_of_code, code_global, global_kind}
 use Rattle.esr_formats.specs.IndexMetas.{index_meta_of, code_index_meta, index_meta_kind}
-use Rattle.esr_formats.proofs.ByKind.{text-kind_by, ReadsBack-kind_by}
+use Rattle.esr_formats.specs.ReadBack.{ReadsBack-kind_by}
+use Rattle.esr_formats.proofs.ByKind.{text-kind_by}
 use Rattle.esr_formats.proofs.Inverses.{info_back}
 use Rattle.esr_formats.proofs.NameRules.{snap_name_utf8, index_name_utf8}
 

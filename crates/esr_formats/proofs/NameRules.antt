@@ -4,16 +4,12 @@ use Rattle.std.specs.Prelude.{slice_index}
 use Rattle.std.specs.List.{list_any}
 use Rattle.std.specs.Option.{option_or}
 use Rattle.std.specs.Str.{IsUtf8, IsAscii}
-use Rattle.std.proofs.lemmas.Bool.{ltb-false}
+use Rattle.std.proofs.lemmas.Bool.{ltb-false, or_parts}
 use Rattle.std.proofs.lemmas.Str.{IsUtf8-from_ascii}
 use Rattle.esr_names.specs.NameRule.{byte_rule, fault_at, byte_fault, name_fault, snap_name_fault, index_name_fault}
 use Rattle.esr_names.specs.declared.name.BadName.{BadName}
 use Rattle.esr_names.specs.declared.name.Rule.{Rule}
 use Rattle.esr_names.specs.declared.name.Rule.TheVariants.{Empty, TooLong, First, Outside}
-
-neither : (x y : Bool) → (x || y) ≡ false → (x ≡ false) × (y ≡ false)
-neither true y h = absurd cc
-neither false y h = (refl, h)
 
 not_taken : {A : Type 0} (b : Bool) (x : A) (rest : Option A) → cond b (Some x) rest ≡ None → (b ≡ false) × (rest ≡ None)
 not_taken true x rest h = absurd cc
@@ -28,7 +24,7 @@ bytes_ascii i [] h k = omega arith
 bytes_ascii i (c ∷ cs) h zero =
     let here = later_fault i (byte_rule c) (byte_fault (i + 1) cs) h in
     let outside = not_taken (nat_lt c 33 || nat_lt 126 c) Outside _ here.0 in
-    let most : c ≤ 126 = ltb-false 126 c (neither (nat_lt c 33) (nat_lt 126 c) outside.0).1 in
+    let most : c ≤ 126 = ltb-false 126 c (or_parts (nat_lt c 33) (nat_lt 126 c) outside.0).1 in
     omega arith
 bytes_ascii i (c ∷ cs) h (suc k) = bytes_ascii (i + 1) cs (later_fault i (byte_rule c) (byte_fault (i + 1) cs) h).1 k
 

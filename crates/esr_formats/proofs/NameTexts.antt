@@ -1,7 +1,7 @@
 -- The text of a name of the layout is UTF-8, and reads as the name.
 use Rattle.std.proofs.Common.{◌≡◌, ℕ, ◌<◌, ◌^◌, Bool, true, false, ◌&&◌, cond, List, ◌++◌, codes, Option, Some, None, option_map, IfSome, IsUtf8, bytes_eq, refl, sym, ap, subst, ◌∙◌, arith}
 use Rattle.std.specs.Prelude.{decimal, option_and_then}
-use Rattle.std.proofs.lemmas.Bool.{and_parts, lt-ltb, ltb-true}
+use Rattle.std.proofs.lemmas.Bool.{and_parts, ltb-true}
 use Rattle.std.proofs.lemmas.Slice.Eq.{bytes_eq-Decides}
 use Rattle.std.proofs.lemmas.Fmt.{IsAscii-decimal}
 use Rattle.std.proofs.lemmas.Str.{IsUtf8-append, IsUtf8-from_ascii}
@@ -12,12 +12,11 @@ use Rattle.esr_names.specs.declared.blob.BlobName.{BlobName as CodeName}
 use Rattle.esr_names.specs.declared.blob.BlobName.TheVariants as code
 use Rattle.esr_names.specs.Layout.{text_of_id, below, name_text, IsName, HasIds}
 use Rattle.esr_names.specs.Reading as reading
-use Rattle.esr_names.proofs.IdTexts.{IsUtf8-id_text}
-use Rattle.esr_names.proofs.Inverse.{name_of-name_text}
+use Rattle.esr_names.specs.IdTextLaws.{IsUtf8-id_text}
 use Rattle.esr_model.specs.Names.{BlobName}
-use Rattle.esr_model.specs.Values.{Bytes, ReadsBack}
+use Rattle.esr_model.specs.Values.{Bytes}
 use Rattle.esr_formats.specs.Names.{name_of, is_of_layout, checked_name, read_name, name_kind}
-use Rattle.esr_formats.proofs.Inverses.{name_back}
+use Rattle.esr_formats.specs.ReadBack.{name_back, read_name-name_text}
 
 -- ---- UTF-8
 
@@ -60,24 +59,6 @@ name_text_utf8 (code.TestNode v w) fits =
 
 -- ---- the names of the layout
 
-both : (x y : Bool) → x ≡ true → y ≡ true → (x && y) ≡ true
-both true y a b = b
-both false y a b = a
-
-is_of_layout-from : (name : CodeName) → HasIds name → IsName name → is_of_layout name ≡ true
-unfolding is_of_layout HasIds IsName
-is_of_layout-from (code.Root n) ids fits = lt-ltb _ _ fits
-is_of_layout-from code.Latest ids fits = refl
-is_of_layout-from (code.Snap u) ids fits = lt-ltb _ _ ids
-is_of_layout-from (code.Meta u) ids fits = lt-ltb _ _ ids
-is_of_layout-from (code.IndexMeta i u) ids fits = both _ _ (lt-ltb _ _ ids.0) (lt-ltb _ _ ids.1)
-is_of_layout-from (code.ShardSnap s u) ids fits = both _ _ (both _ _ (lt-ltb _ _ ids.0) (lt-ltb _ _ ids.1)) (lt-ltb _ _ fits)
-is_of_layout-from (code.ShardIndex s g) ids fits = both _ _ (both _ _ (lt-ltb _ _ ids.0) (lt-ltb _ _ ids.1)) (lt-ltb _ _ fits)
-is_of_layout-from (code.Whole s x) ids fits = both _ _ (both _ _ (lt-ltb _ _ ids.0) (lt-ltb _ _ ids.1)) (lt-ltb _ _ fits)
-is_of_layout-from (code.Part s x k) ids fits = both _ _ (both _ _ (lt-ltb _ _ ids.0) (lt-ltb _ _ ids.1)) (both _ _ (lt-ltb _ _ fits.0) (lt-ltb _ _ fits.1))
-is_of_layout-from (code.TestMaster v) ids fits = lt-ltb _ _ ids
-is_of_layout-from (code.TestNode v w) ids fits = both _ _ (lt-ltb _ _ ids) (lt-ltb _ _ fits)
-
 two_ids : (x y z : Bool) → ((x && y) && z) ≡ true → (x ≡ true) × (y ≡ true) × (z ≡ true)
 two_ids true true z h = (refl, refl, h)
 two_ids true false z h = absurd cc
@@ -98,14 +79,6 @@ is_of_layout-says (code.TestMaster v) h = (ltb-true _ _ h, tt)
 is_of_layout-says (code.TestNode v w) h = let p = and_parts _ _ h in (ltb-true _ _ p.0, ltb-true _ _ p.1)
 
 -- ---- reading
-
--- the text of a name of the layout reads as the name
-pub read_name-name_text : (name : CodeName) → HasIds name → IsName name → read_name (name_text name) ≡ Some name
-unfolding read_name
-read_name-name_text name ids fits =
-    let kept : Bool → Option CodeName = λ b. cond b (Some name) None in
-    ap (option_and_then (checked_name (name_text name))) (name_of-name_text name ids fits)
-    ∙ ap kept (both _ _ (is_of_layout-from name ids fits) ((bytes_eq-Decides (name_text name) (name_text name)).1 refl))
 
 kept_is : {A : Type 0} (b : Bool) (x y : A) → cond b (Some x) None ≡ Some y → (b ≡ true) × (x ≡ y)
 kept_is true x y h = (refl, cc)
@@ -152,8 +125,3 @@ exact bytes (Some name) a says h = let same : name_of name ≡ a = cc in ap name
 pub name_kind-exact : (bytes : Bytes) (a : BlobName) → name_kind.read bytes ≡ Some a → name_kind.text a ≡ bytes
 unfolding name_kind
 name_kind-exact bytes a h = exact bytes (read_name bytes) a (λ name is. (read_name-says bytes name is).2) h
-
-pub name_reads_back : (name : CodeName) → HasIds name → IsName name → ReadsBack name_kind (name_of name)
-unfolding name_kind
-name_reads_back name ids fits =
-    ap (λ (n : CodeName). option_map name_of (read_name (name_text n))) (name_back name) ∙ ap (option_map name_of) (read_name-name_text name ids fits)

@@ -4,11 +4,11 @@ use Rattle.std.specs.List.{AllByRecursion}
 use Rattle.std.proofs.lemmas.Int.{ints}
 use Rattle.json.proofs.Printed.Utf8.{IsUtf8-are_ascii}
 use Rattle.esr_names.specs.declared.ids.Id.{Id}
-use Rattle.esr_names.proofs.IdTexts.{IsUtf8-id_text}
+use Rattle.esr_names.specs.IdTextLaws.{IsUtf8-id_text}
 use Rattle.esr_json.specs.declared.key.Key.TheVariants as keys
 use Rattle.esr_json.specs.Plain.{IsPlain}
-use Rattle.esr_json.proofs.Plain.{parsed-compact_text}
-use Rattle.esr_json.proofs.PlainParts.{IsUtf8-key_text, IsWhole-of_integer, ItemsArePlain-map}
+use Rattle.esr_json.specs.PlainTexts.{parsed-compact_text}
+use Rattle.esr_json.specs.PlainValues.{IsUtf8-key_text, IsWhole-of_integer, ItemsArePlain-map}
 use Rattle.esr_names.specs.Indices.{id_data}
 use Rattle.esr_record.specs.declared.op.OpWork.{OpWork}
 use Rattle.esr_record.specs.declared.op.OpWork.TheVariants as works
@@ -17,10 +17,11 @@ use Rattle.esr_record.specs.Op.{IsMaking, IsWork, IsOp, AreOps}
 use Rattle.esr_record.specs.Record.{Record, AreNumbers, IsRecord}
 use Rattle.esr_record.specs.Reading.{record_from}
 use Rattle.esr_record.specs.Text.{work_data, op_data, record_data, record_text}
-use Rattle.esr_record.proofs.RoundTrip.{record_of-record_data, record_plain}
+use Rattle.esr_record.specs.RoundTrip.{record_of-record_data, record_plain}
 use Rattle.esr_model.specs.Values.{ReadsBack}
 use Rattle.esr_formats.specs.Clusters.{cluster_of, code_cluster, cluster_kind}
-use Rattle.esr_formats.proofs.ByKind.{text-kind_by, ReadsBack-kind_by}
+use Rattle.esr_formats.specs.ReadBack.{ReadsBack-kind_by}
+use Rattle.esr_formats.proofs.ByKind.{text-kind_by}
 use Rattle.esr_formats.proofs.Inverses.{cluster_back}
 use Rattle.esr_formats.proofs.NameRules.{snap_name_utf8}
 use Rattle.esr_formats.proofs.MetaTexts.{indices_are_plain}

@@ -11,3 +11,4 @@ pub mod Shards
 pub mod Clusters
 pub mod Formats
 pub mod Reasons
+pub mod ReadBack

@@ -3,8 +3,9 @@ use Rattle.std.specs.Prelude.{◌≡◌, ℕ, Bool, true, false, ◌==◌, ◌||
 use Rattle.std.specs.Result.{result_ok}
 use Rattle.std.specs.List.{list_all}
 use Rattle.std.proofs.Common.{◌⊎◌, inl, inr, refl, sym, ap, ◌∙◌, subst, cond, eq-eqb, ⊎_elim}
-use Rattle.std.proofs.lemmas.Bool.{cases_Bool, true≢false}
+use Rattle.std.proofs.lemmas.Bool.{cases_Bool, true≢false, or_left, or_right}
 use Rattle.std.proofs.lemmas.List.Folds.{list_any-append}
+use Rattle.esr_model.specs.Lists.{Has-append}
 use Rattle.serde_json.specs.Data.{Data}
 use Rattle.esr_names.specs.declared.ids.Id.{Id}
 use Rattle.esr_json.specs.declared.key.Key.TheVariants as keys
@@ -54,20 +55,6 @@ AreOnce is = (i j : CodeIndex) → Has is i → Has is j → i.id ≡ j.id → i
 abbrev AreSeen : List Id → List CodeIndex → Type 0
 AreSeen ids is = (i : CodeIndex) → Has is i → has_id i.id ids ≡ true
 
-has_push : {A : Type 0} (xs : List A) (y z : A) → Has (xs ++ y ∷ []) z → Has xs z ⊎ (y ≡ z)
-has_push [] y z (inl last) = inr last
-has_push [] y z (inr none) = absurd none
-has_push (x ∷ xs) y z (inl here) = inl (inl here)
-has_push (x ∷ xs) y z (inr later) = ⊎_elim (λ h. inl (inr h)) (λ last. inr last) (has_push xs y z later)
-
-or_left : (x y : Bool) → x ≡ true → (x || y) ≡ true
-or_left true y h = refl
-or_left false y h = absurd cc
-
-or_right : (x y : Bool) → y ≡ true → (x || y) ≡ true
-or_right true y h = refl
-or_right false y h = h
-
 seen_more : (ids : List Id) (u v : Id) → has_id u ids ≡ true → has_id u (ids ++ v ∷ []) ≡ true
 seen_more ids u v h = list_any-append (λ w. same_id w u) ids (v ∷ []) ∙ or_left (has_id u ids) (has_id u (v ∷ [])) h
 
@@ -80,15 +67,15 @@ once_push ids is x seen once fresh i j has_i has_j same =
     ⊎_elim
     (λ i_before. ⊎_elim (λ j_before. once i j i_before j_before same)
     (λ j_last. absurd (true≢false (sym (seen i i_before) ∙ ap (λ u. has_id u ids) (same ∙ sym (ap (λ (k : CodeIndex). k.id) j_last)) ∙ fresh)))
-    (has_push is x j has_j))
+    (Has-append is x j has_j))
     (λ i_last. ⊎_elim (λ j_before. absurd (true≢false (sym (seen j j_before) ∙ ap (λ u. has_id u ids) (sym same ∙ sym (ap (λ (k : CodeIndex). k.id) i_last)) ∙ fresh)))
     (λ j_last. sym i_last ∙ j_last)
-    (has_push is x j has_j))
-    (has_push is x i has_i)
+    (Has-append is x j has_j))
+    (Has-append is x i has_i)
 
 seen_push : (ids : List Id) (is : List CodeIndex) (x : CodeIndex) → AreSeen ids is → AreSeen (ids ++ x.id ∷ []) (is ++ x ∷ [])
 seen_push ids is x seen i has_i =
-    ⊎_elim (λ before. seen_more ids i.id x.id (seen i before)) (λ last. subst (λ (k : CodeIndex). has_id k.id (ids ++ x.id ∷ []) ≡ true) last (seen_last ids x.id)) (has_push is x i has_i)
+    ⊎_elim (λ before. seen_more ids i.id x.id (seen i before)) (λ last. subst (λ (k : CodeIndex). has_id k.id (ids ++ x.id ∷ []) ≡ true) last (seen_last ids x.id)) (Has-append is x i has_i)
 
 kept_once : (ids : List Id) (is : List CodeIndex) (x : CodeIndex) → AreSeen ids is → AreOnce is → has_id x.id ids ≡ false → AreSeen (ids ++ x.id ∷ []) (kept is x) × AreOnce (kept is x)
 kept_once ids is x seen once fresh = elim (cases_Bool (length x.snapshots == 0)) [

@@ -154,7 +154,8 @@ module _ {s : Start} {before : List Moment} {pass turn : Seen} {value : List Mom
   pub end_restore_on : (files bytes : ℕ) → CanEndRestore (shared s) (reader_of s (before ++ pass.seen) who) files bytes → CanEndRestore s (reader_of s value who) files bytes
   end_restore_on files bytes h = subst (λ (q : Reader). CanEndRestore s q files bytes) same_reader (end_restore_alike s (reader_of s (before ++ pass.seen) who) files bytes h)
 
-  pub filled_on : {S F H T : Type 0} (e : Evidence S F H T) (files bytes : ℕ) (target : RestoredTarget T) → IsFilled e (shared s) (reader_of s (before ++ pass.seen) who) files bytes target → IsFilled e s (reader_of s value who) files bytes target
+  pub filled_on : {S F H T : Type 0} (e : Evidence S F H T) (files bytes : ℕ) (target : RestoredTarget T) → IsFilled e (shared s) (reader_of s (before ++ pass.seen) who) files bytes target
+      → IsFilled e s (reader_of s value who) files bytes target
   filled_on e files bytes target h = subst (λ (q : Reader). IsFilled e s q files bytes target) same_reader (filled_alike s (reader_of s (before ++ pass.seen) who) files bytes e target h)
 
   pub drop_on : CanDrop (ticket_of s (before ++ pass.seen) who) → CanDrop (ticket_of s value who)
@@ -206,20 +207,25 @@ module _ {s : Start} {before : List Moment} {pass turn : Seen} {value : List Mom
   -- ---- what a step is, and what it makes of the ticket
 
   -- it adds an entry of the ticket, or none
-  pub step_came : {X : Type 0} (value' : List Moment) (step : Step) (ok : X → Reply) (result : Result X StepRefusal) (told : Bool) → ((x : X) → given_by (ok x) ≡ None) → told ≡ was_told result → Outcome s value value' who step ok result → Came before turn value' told
+  pub step_came : {X : Type 0} (value' : List Moment) (step : Step) (ok : X → Reply) (result : Result X StepRefusal) (told : Bool) → ((x : X) → given_by (ok x) ≡ None) → told ≡ was_told result
+      → Outcome s value value' who step ok result → Came before turn value' told
   step_came value' step ok result told none is d = came s before pass turn value t value' who step ok result told (λ some. own_ticket (length before) pass.seen pass.mine who mine) none is d
 
-  pub step_shown : {X : Type 0} {value' : List Moment} {new : Seen} → Homed before turn value' new → (step : Step) (ok : X → Reply) (result : Result X StepRefusal) → Outcome s value value' who step ok result → Outcome (shared s) (before ++ pass.seen) (before ++ new.seen) who step ok result
+  pub step_shown : {X : Type 0} {value' : List Moment} {new : Seen} → Homed before turn value' new → (step : Step) (ok : X → Reply) (result : Result X StepRefusal) → Outcome s value value' who step ok result
+      → Outcome (shared s) (before ++ pass.seen) (before ++ new.seen) who step ok result
   step_shown {X} {value'} {new} h step ok result d = outcome s before pass turn value t value' new who step ok result (λ some. own_ticket (length before) pass.seen pass.mine who mine) h.whole d
 
-  pub step_calls : {X : Type 0} {value' : List Moment} {new : Seen} → Homed before turn value' new → (step : Step) (ok : X → Reply) (result : Result X StepRefusal) → Outcome s value value' who step ok result → calls_in (length before) new.seen new.mine ≡ calls_in (length before) pass.seen pass.mine
+  pub step_calls : {X : Type 0} {value' : List Moment} {new : Seen} → Homed before turn value' new → (step : Step) (ok : X → Reply) (result : Result X StepRefusal) → Outcome s value value' who step ok result
+      → calls_in (length before) new.seen new.mine ≡ calls_in (length before) pass.seen pass.mine
   step_calls {X} {value'} {new} h step ok result d = calls_ticket s before pass turn value t value' new who step ok result mine.some h d
 
   -- from what it stood at to what it had seen of it
-  pub ticket_back : {value' : List Moment} {new : Seen} → Homed before turn value' new → (P : Ticket → Ticket → Type 0) → P (ticket_of s value who) (ticket_of s value' who) → P (ticket_of s (before ++ pass.seen) who) (ticket_of s (before ++ new.seen) who)
+  pub ticket_back : {value' : List Moment} {new : Seen} → Homed before turn value' new → (P : Ticket → Ticket → Type 0) → P (ticket_of s value who) (ticket_of s value' who)
+      → P (ticket_of s (before ++ pass.seen) who) (ticket_of s (before ++ new.seen) who)
   ticket_back {value'} {new} h P p = subst (λ (u : Ticket). P u (ticket_of s (before ++ new.seen) who)) (sym same_ticket) (subst (λ (log : List Moment). P (ticket_of s value who) (ticket_of s log who)) (sym h.whole) p)
 
-  pub reader_back : {value' : List Moment} {new : Seen} → Homed before turn value' new → (P : Reader → Reader → Type 0) → P (reader_of s value who) (reader_of s value' who) → P (reader_of s (before ++ pass.seen) who) (reader_of s (before ++ new.seen) who)
+  pub reader_back : {value' : List Moment} {new : Seen} → Homed before turn value' new → (P : Reader → Reader → Type 0) → P (reader_of s value who) (reader_of s value' who)
+      → P (reader_of s (before ++ pass.seen) who) (reader_of s (before ++ new.seen) who)
   reader_back {value'} {new} h P p = subst (λ (q : Reader). P q (reader_of s (before ++ new.seen) who)) (sym same_reader) (subst (λ (log : List Moment). P (reader_of s value who) (reader_of s log who)) (sym h.whole) p)
 
 -- ---- answers

@@ -1,51 +1,28 @@
 -- The history of the desk under the lock begins as it did.
-use Rattle.std.proofs.Common.{◌≡◌, ℕ, ◌+◌, ◌-◌, List, [], ◌∷◌, ◌++◌, length, drop, Option, Some, None, Result, Ok, Err, sym, ap, ◌∙◌, subst, append-nil, append_assoc, length-append, arith}
+use Rattle.std.proofs.Common.{◌≡◌, ℕ, ◌+◌, ◌-◌, Bool, false, List, [], ◌∷◌, ◌++◌, length, drop, sym, ap, ◌∙◌, subst, ⊎_elim, append-nil, append_assoc, length-append, arith}
 use Rattle.std.proofs.Math.Seq.{drop-append_seam}
 use Rattle.esr_turns.specs.Histories.{StartsWith}
-use Rattle.esr_core.specs.Entry.{Step, Reply, Refusal, Refused, Moment}
+use Rattle.esr_turns.specs.Tickets.{MayAdd}
+use Rattle.esr_core.specs.Entry.{Moment}
 use Rattle.esr_desk.specs.declared.hand.Hand.{Hand}
-use Rattle.esr_desk.specs.declared.refusal.StepRefusal.{StepRefusal}
-use Rattle.esr_desk.specs.Refusals.{told_refusal}
-use Rattle.esr_desk.specs.Start.{Start}
-use Rattle.esr_desk.specs.Calls.{Call, calls_at, HasTaken, IsMine}
-use Rattle.esr_desk.specs.Outcome.{Waited, Stepped, Refusing, Outcome}
+use Rattle.esr_desk.specs.Calls.{Call, HasTaken, IsMine}
+use Rattle.esr_handle.specs.Owned.{ticket_of_moment, ticket_given}
+use Rattle.esr_handle.specs.Turned.{Seen, Came}
 
-begins_more : (before old new more : List Moment) → new ≡ old ++ more → StartsWith old before → StartsWith new before
-begins_more before old new more is h = (h.0 ++ more, is ∙ ap (λ (log : List Moment). log ++ more) h.1 ∙ append_assoc before h.0 more)
+-- where a turn comes to its end
+pub begins_came : (before : List Moment) (turn : Seen) (value : List Moment) (told : Bool) → Came before turn value told → StartsWith value before
+begins_came before turn value told came = ⊎_elim
+    (λ (same : (value ≡ before ++ turn.seen) × (told ≡ false)). (turn.seen, same.0))
+    (λ (more : (m : Moment) × (value ≡ (before ++ turn.seen) ++ m ∷ []) × MayAdd ticket_of_moment ticket_given turn.seen turn.mine m). (turn.seen ++ more.0 ∷ [], more.1 ∙ append_assoc before turn.seen (more.0 ∷ [])))
+    came
 
-module _ (s : Start) (before old new : List Moment) (who : ℕ) (begins : StartsWith old before) where
-  begins_waited : Waited s old new who → StartsWith new before
-  begins_waited w = begins_more before old new w.others w.grew begins
+-- ---- what the desk has called, as its whole history says
 
-  begins_stepped : (step : Step) (reply : Reply) → Stepped s old new who step reply → StartsWith new before
-  begins_stepped step reply h =
-      begins_more before h.front new (record { entry = record { who = who; step = step; reply = reply }; image = h.image } ∷ []) h.is
-      (begins_more before old h.front h.waited.others h.waited.grew begins)
+pub mine_of_desk : {calls all : List Call} (ticket : ℕ) → calls ≡ all → HasTaken all ticket → HasTaken calls ticket
+mine_of_desk ticket own mine = subst (λ (calls : List Call). HasTaken calls ticket) (sym own) mine
 
-  begins_refusing : (step : Step) (refusal : Option Refusal) → Refusing s old new who step refusal → StartsWith new before
-  begins_refusing step None h = begins_waited h
-  begins_refusing step (Some refusal) h = begins_stepped step (Refused refusal) h
-
-  pub begins_after : {X : Type 0} (step : Step) (ok : X → Reply) (result : Result X StepRefusal) → Outcome s old new who step ok result → StartsWith new before
-  begins_after step ok (Ok x) h = begins_stepped step (ok x) h
-  begins_after step ok (Err e) h = begins_refusing step (told_refusal e) h.0
-
--- ---- what the desk under the lock has called, as its whole history says
-
-all_calls : {calls : List Call} (log whole : List Moment) → calls ≡ calls_at 0 log → log ≡ whole → calls ≡ calls_at 0 whole
-all_calls log whole own view = own ∙ ap (calls_at 0) view
-
-pub mine_of_desk : {calls : List Call} (log whole : List Moment) (ticket : ℕ) → calls ≡ calls_at 0 log → log ≡ whole → HasTaken (calls_at 0 whole) ticket → HasTaken calls ticket
-mine_of_desk log whole ticket own view mine = subst (λ (calls : List Call). HasTaken calls ticket) (sym (all_calls log whole own view)) mine
-
-pub mine_of_hand : {calls : List Call} (log whole : List Moment) (hand : Hand) (who : ℕ) → calls ≡ calls_at 0 log → log ≡ whole → IsMine hand (calls_at 0 whole) who → IsMine hand calls who
-mine_of_hand log whole hand who own view mine = subst (λ (calls : List Call). IsMine hand calls who) (sym (all_calls log whole own view)) mine
-
-pub calls_by : {old new : List Call} (log whole after : List Moment) (f : List Call → List Call) → old ≡ calls_at 0 log → log ≡ whole → new ≡ calls_at 0 after → new ≡ f old → calls_at 0 after ≡ f (calls_at 0 whole)
-calls_by log whole after f own view so is = sym so ∙ is ∙ ap f (all_calls log whole own view)
-
-pub calls_stay : {old new : List Call} (log whole after : List Moment) → old ≡ calls_at 0 log → log ≡ whole → new ≡ calls_at 0 after → new ≡ old → calls_at 0 after ≡ calls_at 0 whole
-calls_stay log whole after own view so is = calls_by log whole after (λ (calls : List Call). calls) own view so is
+pub mine_of_hand : {calls all : List Call} (hand : Hand) (who : ℕ) → calls ≡ all → IsMine hand all who → IsMine hand calls who
+mine_of_hand hand who own mine = subst (λ (calls : List Call). IsMine hand calls who) (sym own) mine
 
 -- ---- as the desk is put into the lock
 

@@ -1,19 +1,19 @@
 -- The steps of each hand in a turn: what they ask, and what they make of who makes them.
-use Rattle.std.proofs.Common.{◌≡◌, ℕ, true, List, ◌++◌, length, Option, Some, None, Err, refl, sym, subst}
+use Rattle.std.proofs.Common.{◌≡◌, ℕ, true, false, List, ◌++◌, length, Option, Some, None, Result, Ok, Err, OnOk, refl, sym, subst}
 use Rattle.esr_model.specs.Names.{BlobName}
 use Rattle.esr_model.specs.Values.{Has}
 use Rattle.esr_core.specs.World.{Reader}
-use Rattle.esr_core.specs.Entry.{Why, Step, Reply, Entry, Moment}
+use Rattle.esr_core.specs.Entry.{Why, Step, Entry, Moment}
 use Rattle.esr_core.specs.Past.{Repeats}
 use Rattle.esr_desk.specs.declared.hand.Hand.{Hand}
 use Rattle.esr_desk.specs.declared.hand.Hand.TheVariants as hands
 use Rattle.esr_desk.specs.declared.fault.By.{By}
-use Rattle.esr_desk.specs.declared.refusal.StepRefusal.TheVariants as steps
+use Rattle.esr_desk.specs.declared.refusal.StepRefusal.{StepRefusal}
 use Rattle.esr_desk.specs.Start.{Start}
 use Rattle.esr_desk.specs.Own.{Own, own_of, reader_of}
 use Rattle.esr_desk.specs.Once.{IsFresh}
 use Rattle.esr_desk.specs.Made.{waited_made}
-use Rattle.esr_desk.specs.Calls.{Call, calls_at, HasTaken, IsMine, called_by}
+use Rattle.esr_desk.specs.Calls.{calls_at, HasTaken, IsMine}
 use Rattle.esr_desk.specs.Evidence.{Evidence}
 use Rattle.esr_desk.specs.Hands.{MayFetch, MayFail}
 use Rattle.esr_desk.specs.Outcome.{Waited, fetch_reply}
@@ -30,20 +30,10 @@ pub fetch_none : {F : Type 0} (o : Option F) → given_by (fetch_reply o) ≡ No
 fetch_none None = refl
 fetch_none (Some f) = refl
 
--- where no turn is left, or no memory, no call is made
-pub spent : {X : Type 0} (hand : Hand) (log : List Moment) (step : Step) (ok : X → Reply) (calls : List Call) → calls ≡ called_by {X = X} hand log step ok (Err steps.TurnsSpent) calls
-spent hands.Unit log step ok calls = refl
-spent hands.Delete log step ok calls = refl
-spent hands.Restore log step ok calls = refl
-spent hands.Check log step ok calls = refl
-spent hands.Verify log step ok calls = refl
-
-pub wanting : {X : Type 0} (hand : Hand) (log : List Moment) (step : Step) (ok : X → Reply) (calls : List Call) → calls ≡ called_by {X = X} hand log step ok (Err steps.Memory) calls
-wanting hands.Unit log step ok calls = refl
-wanting hands.Delete log step ok calls = refl
-wanting hands.Restore log step ok calls = refl
-wanting hands.Check log step ok calls = refl
-wanting hands.Verify log step ok calls = refl
+-- others make steps, so nothing is said of how long the history is
+pub few_shared : {X : Type 0} (result : Result X StepRefusal) (few : Type 0) → OnOk result (false ≡ true → few)
+few_shared (Ok x) few = λ e. absurd (not_alone e)
+few_shared (Err e) few = tt
 
 read_alike : (s : Start) (q : Reader) (name : BlobName) → CanRead (shared s) q name → CanRead s q name
 read_alike s q name h = record { out = h.out; may = h.may }
@@ -81,7 +71,8 @@ module _ {s : Start} {before : List Moment} {pass turn : Seen} {value : List Mom
   fetch_on hands.Check name mine h = absurd (not_alone h.0.alone)
   fetch_on hands.Verify name mine h = absurd (not_alone h.0.alone)
 
-  pub fetch_fresh : (hand : Hand) (name : BlobName) (step : Step) → IsMine hand (calls_in (length before) pass.seen pass.mine) who → MayFetch hand (shared s) (before ++ pass.seen) who name → IsFresh (shared s) (before ++ pass.seen) who step → IsFresh s value who step
+  pub fetch_fresh : (hand : Hand) (name : BlobName) (step : Step) → IsMine hand (calls_in (length before) pass.seen pass.mine) who → MayFetch hand (shared s) (before ++ pass.seen) who name → IsFresh (shared s) (before ++ pass.seen) who step
+      → IsFresh s value who step
   fetch_fresh hands.Unit name step mine may h = fresh_ticket mine step h
   fetch_fresh hands.Delete name step mine may h = fresh_ticket mine step h
   fetch_fresh hands.Restore name step mine may h = fresh_ticket mine step h
@@ -89,7 +80,8 @@ module _ {s : Start} {before : List Moment} {pass turn : Seen} {value : List Mom
   fetch_fresh hands.Verify name step mine may h = absurd (not_alone may.0.alone)
 
   -- what a fetch makes of who fetches
-  pub fetch_own : (hand : Hand) (name : BlobName) (new : List Moment) (home : Seen) (P : Own → Own → Type 0) → IsMine hand (calls_in (length before) pass.seen pass.mine) who → MayFetch hand (shared s) (before ++ pass.seen) who name → Homed before turn new home
+  pub fetch_own : (hand : Hand) (name : BlobName) (new : List Moment) (home : Seen) (P : Own → Own → Type 0) → IsMine hand (calls_in (length before) pass.seen pass.mine) who → MayFetch hand (shared s) (before ++ pass.seen) who name
+      → Homed before turn new home
       → P (own_of s value who) (own_of s new who) → P (own_of s (before ++ pass.seen) who) (own_of s (before ++ home.seen) who)
   fetch_own hands.Unit name new home P mine may homed p = own_new mine new home P homed p
   fetch_own hands.Delete name new home P mine may homed p = own_new mine new home P homed p

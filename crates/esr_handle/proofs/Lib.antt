@@ -4,3 +4,4 @@ mod Growing
 mod Conditions
 mod Showing
 mod Hands
+mod Seats

@@ -1,6 +1,7 @@
 -- Entries at places, and which of them are of an own ticket.
-use Rattle.std.proofs.Common.{◌≡◌, ◌≢◌, ◌⊎◌, ℕ, zero, suc, ◌+◌, ◌<◌, ◌≤◌, eq-eqb, ne_eqb, cond, List, [], ◌∷◌, ◌++◌, length, Bool, Option, Some, None, refl, sym, ap, ◌∙◌, subst, inl, inr, ⊎_elim, append_assoc, append-nil, arith}
+use Rattle.std.proofs.Common.{◌≡◌, ◌≢◌, ℕ, zero, suc, ◌+◌, ◌<◌, ◌≤◌, eq-eqb, ne_eqb, cond, List, [], ◌∷◌, ◌++◌, length, Bool, Option, Some, None, refl, sym, ap, ◌∙◌, subst, inl, inr, ⊎_elim, append_assoc, append-nil, arith}
 use mathlib.Core.Logic.{dite}
+use Rattle.esr_model.specs.Lists.{Has-left, Has-right, Has-either}
 use native.Mathlib.Decide.{dec_le}
 use Rattle.esr_model.specs.Values.{Has}
 use Rattle.esr_turns.specs.Places.{times}
@@ -16,22 +17,6 @@ none_some x e = cc
 pub some_same : {X : Type 0} (x y : X) → Some x ≡ Some y → x ≡ y
 some_same x y e = cc
 
--- ---- members of lists
-
-pub has_left : {A : Type 0} (xs ys : List A) (a : A) → Has xs a → Has (xs ++ ys) a
-has_left [] ys a h = absurd h
-has_left (x ∷ xs) ys a (inl same) = inl same
-has_left (x ∷ xs) ys a (inr h) = inr (has_left xs ys a h)
-
-pub has_right : {A : Type 0} (xs ys : List A) (a : A) → Has ys a → Has (xs ++ ys) a
-has_right [] ys a h = h
-has_right (x ∷ xs) ys a h = inr (has_right xs ys a h)
-
-pub has_either : {A : Type 0} (xs ys : List A) (a : A) → Has (xs ++ ys) a → Has xs a ⊎ Has ys a
-has_either [] ys a h = inr h
-has_either (x ∷ xs) ys a (inl same) = inl (inl same)
-has_either (x ∷ xs) ys a (inr h) = ⊎_elim (λ before. inl (inr before)) (λ after. inr after) (has_either xs ys a h)
-
 -- ---- places
 
 pub times_both : (k : ℕ) (xs ys : List ℕ) → times k (xs ++ ys) ≡ times k xs + times k ys
@@ -43,9 +28,6 @@ first_is x = ap (λ (b : Bool). cond b 1 0 + 0) (eq-eqb x x refl)
 
 pub times_first : (x : ℕ) (xs : List ℕ) → 0 < times x (x ∷ xs)
 times_first x xs = let one = first_is x in let both = times_both x (x ∷ []) xs in omega arith
-
-pub times_last : (x : ℕ) (xs : List ℕ) → 0 < times x (xs ++ x ∷ [])
-times_last x xs = let both = times_both x xs (x ∷ []) in let some = times_first x [] in omega arith
 
 times_other : (k x : ℕ) → x < k → times k (x ∷ []) ≡ 0
 times_other k x less = ap (λ (b : Bool). cond b 1 0 + 0) (ne_eqb x k (λ same. omega (arith, less, same)))
@@ -145,7 +127,7 @@ calls_places base log (x ∷ mine) c has = ⊎_elim
     (λ (rest : Has (calls_in base log mine) c).
     let there = calls_places base log mine c rest in
     (there.0, (let some : 0 < times there.0 mine = there.1 in let both = times_both there.0 (x ∷ []) mine in omega arith), there.2))
-    (has_either (call_in base log x) (calls_in base log mine) c has)
+    (Has-either (call_in base log x) (calls_in base log mine) c has)
 
 -- a ticket that was taken is an own one
 pub own_ticket : (base : ℕ) (log : List Moment) (mine : List ℕ) (who : ℕ) → HasTaken (calls_in base log mine) who → IsOwn log mine who
@@ -157,15 +139,15 @@ own_ticket base log mine who h =
 
 call_among : (base : ℕ) (log : List Moment) (i : ℕ) (c : Call) → Has (call_in base log i) c → Has (calls_at base log) c
 call_among base [] i c has = absurd has
-call_among base (m ∷ log) zero c has = has_left (call_at base m.entry) (calls_at (base + 1) log) c has
-call_among base (m ∷ log) (suc i) c has = has_right (call_at base m.entry) (calls_at (base + 1) log) c (call_among (base + 1) log i c has)
+call_among base (m ∷ log) zero c has = Has-left (call_at base m.entry) (calls_at (base + 1) log) c has
+call_among base (m ∷ log) (suc i) c has = Has-right (call_at base m.entry) (calls_at (base + 1) log) c (call_among (base + 1) log i c has)
 
 calls_front : (place : ℕ) (log more : List Moment) (c : Call) → Has (calls_at place log) c → Has (calls_at place (log ++ more)) c
 calls_front place [] more c has = absurd has
 calls_front place (x ∷ log) more c has = ⊎_elim
-    (λ (here : Has (call_at place x.entry) c). has_left (call_at place x.entry) (calls_at (place + 1) (log ++ more)) c here)
-    (λ (rest : Has (calls_at (place + 1) log) c). has_right (call_at place x.entry) (calls_at (place + 1) (log ++ more)) c (calls_front (place + 1) log more c rest))
-    (has_either (call_at place x.entry) (calls_at (place + 1) log) c has)
+    (λ (here : Has (call_at place x.entry) c). Has-left (call_at place x.entry) (calls_at (place + 1) (log ++ more)) c here)
+    (λ (rest : Has (calls_at (place + 1) log) c). Has-right (call_at place x.entry) (calls_at (place + 1) (log ++ more)) c (calls_front (place + 1) log more c rest))
+    (Has-either (call_at place x.entry) (calls_at (place + 1) log) c has)
 
 calls_back : (place : ℕ) (before log : List Moment) (c : Call) → Has (calls_at (place + length before) log) c → Has (calls_at place (before ++ log)) c
 calls_back place [] log c has = subst (λ (n : ℕ). Has (calls_at n log) c) (same place) has
@@ -173,7 +155,7 @@ calls_back place [] log c has = subst (λ (n : ℕ). Has (calls_at n log) c) (sa
     same : (n : ℕ) → n + 0 ≡ n
     same n = omega arith
 calls_back place (x ∷ before) log c has =
-    has_right (call_at place x.entry) (calls_at (place + 1) (before ++ log)) c
+    Has-right (call_at place x.entry) (calls_at (place + 1) (before ++ log)) c
     (calls_back (place + 1) before log c (subst (λ (n : ℕ). Has (calls_at n log) c) (same place (length before)) has))
   where
     same : (n k : ℕ) → n + suc k ≡ n + 1 + k

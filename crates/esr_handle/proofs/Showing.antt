@@ -102,7 +102,8 @@ module _ {S F H T : Type 0} (e : Evidence S F H T) (s : Start) (log : List Momen
   restore_alike why b h = absurd h
 
 -- a cause that is shown to a worker
-pub shown_whole : {S F H T : Type 0} (hand : Hand) (e : Evidence S F H T) (s : Start) (calls : List Call) (old value : List Moment) (who : ℕ) (why : Why) (b : By S F H T) → IsMine hand calls who → MayFail hand (shared s) old who → Waited (shared s) old value who
+pub shown_whole : {S F H T : Type 0} (hand : Hand) (e : Evidence S F H T) (s : Start) (calls : List Call) (old value : List Moment) (who : ℕ) (why : Why) (b : By S F H T) → IsMine hand calls who → MayFail hand (shared s) old who
+    → Waited (shared s) old value who
     → IsShown hand e (shared s) old who why b → IsShown hand e s value who why b
 shown_whole hands.Unit e s calls old value who why b mine may w h = unit_alike e s value who why b (shown_on hands.Unit e (shared s) calls old value who why b mine may w h)
 shown_whole hands.Delete e s calls old value who why b mine may w h = delete_alike e s value who why b (shown_on hands.Delete e (shared s) calls old value who why b mine may w h)

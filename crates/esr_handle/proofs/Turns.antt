@@ -2,6 +2,7 @@
 use Rattle.std.proofs.Common.{◌≡◌, ◌≢◌, ℕ, zero, suc, ◌+◌, ◌-◌, ◌<◌, ◌≤◌, ◌^◌, lt-ltb, le-ltb, cond, List, [], ◌∷◌, ◌++◌, length, drop, drop_at, Bool, true, false, not, Option, Some, None, Result, Ok, Err, IfOk, IfSome, refl, sym, ap, ◌∙◌, subst, inl, inr, ⊎_elim, length-append, append_assoc, append-nil, arith}
 use Rattle.std.proofs.lemmas.List.{append_cancel_left}
 use Rattle.std.specs.FinMap as fin
+use Rattle.esr_model.specs.Lists.{Has-right}
 use Rattle.esr_model.specs.Values.{Has, Formats}
 use Rattle.esr_model.specs.Image.{Image}
 use Rattle.esr_turns.specs.Histories.{said, StartsWith, Grows, gained}
@@ -28,7 +29,7 @@ use Rattle.esr_desk.specs.Calls.{Call, call_of, call_at, calls_at, with_call, Ha
 use Rattle.esr_desk.specs.Outcome.{Waited, Stepped, Refusing, IsOfOp, Grounds, Outcome, take_reply}
 use Rattle.esr_handle.specs.Owned.{ticket_of_moment, given_by, ticket_given, IsOwn, AreBelow, calls_in}
 use Rattle.esr_handle.specs.Turned.{shared, Seen, IsFit, IsSeat, IsLent, Turned, was_told, Came, Homed}
-use Rattle.esr_handle.proofs.Owned.{none_some, some_same, has_right, was_given, ticket_is, own_longer, none_own, own_ticket, taken_among, calls_longer, calls_more, below_longer, below_last}
+use Rattle.esr_handle.proofs.Owned.{none_some, some_same, was_given, ticket_is, own_longer, none_own, own_ticket, taken_among, calls_longer, calls_more, below_longer, below_last}
 
 -- what a step leaves, and which numbers tickets have
 abbrev pub Frames : Type 0
@@ -95,7 +96,7 @@ module _ (s : Start) (before : List Moment) (pass turn : Seen) (value : List Mom
   given_before : (i ticket : ℕ) → said ticket_given pass.seen i ≡ Some ticket → ticket < (world_of s (before ++ pass.seen)).next_ticket
   given_before i ticket is =
       let entry = was_given pass.seen i ticket is in
-      below_next s (before ++ pass.seen) entry.0 ticket entry.2.0 entry.2.1 numbered fit.legal (has_right before pass.seen entry.0 entry.1) entry.2.2
+      below_next s (before ++ pass.seen) entry.0 ticket entry.2.0 entry.2.1 numbered fit.legal (Has-right before pass.seen entry.0 entry.1) entry.2.2
 
   has_waited : (who : ℕ) → (1 ≤ who → IsOwn pass.seen pass.mine who) → Waited (shared s) (before ++ pass.seen) value who
   has_waited who own = record {
@@ -123,7 +124,7 @@ module _ (s : Start) (before : List Moment) (pass turn : Seen) (value : List Mom
   given_now : (i ticket : ℕ) → said ticket_given turn.seen i ≡ Some ticket → ticket < (world_of s value).next_ticket
   given_now i ticket is =
       let entry = was_given turn.seen i ticket is in
-      below_next s value entry.0 ticket entry.2.0 entry.2.1 numbered legal (subst (λ (log : List Moment). Has log entry.0) (sym is_whole) (has_right before turn.seen entry.0 entry.1)) entry.2.2
+      below_next s value entry.0 ticket entry.2.0 entry.2.1 numbered legal (subst (λ (log : List Moment). Has log entry.0) (sym is_whole) (Has-right before turn.seen entry.0 entry.1)) entry.2.2
 
   pub is_turned : Turned s before pass turn value
   is_turned = record {
@@ -139,7 +140,8 @@ module _ (s : Start) (before : List Moment) (pass turn : Seen) (value : List Mom
     given = given_now;
   }
 
-pub is_lent : (s : Start) (before : List Moment) (lock own : LockId) (total : ℕ) (pass turn : Seen) → IsSeat s before lock total own false pass → turn.lock ≡ own → StartsWith turn.seen pass.seen → turn.mine ≡ pass.mine → (turn.left + 1 ≡ pass.left) × (turn.used ≡ pass.used + 1) → IsLent s lock total own turn
+pub is_lent : (s : Start) (before : List Moment) (lock own : LockId) (total : ℕ) (pass turn : Seen) → IsSeat s before lock total own false pass → turn.lock ≡ own → StartsWith turn.seen pass.seen → turn.mine ≡ pass.mine
+    → (turn.left + 1 ≡ pass.left) × (turn.used ≡ pass.used + 1) → IsLent s lock total own turn
 is_lent s before lock own total pass turn seat own_is starts same turns =
     let longer : length turn.seen ≡ length pass.seen + length starts.0 = ap length starts.1 ∙ length-append pass.seen starts.0 in
     let all : pass.left + pass.used ≡ total = seat.turns in
@@ -159,7 +161,8 @@ is_lent s before lock own total pass turn seat own_is starts same turns =
 pub stays : (s : Start) (before seen : List Moment) (who : ℕ) → Legal s (before ++ seen) → Waited (shared s) (before ++ seen) (before ++ seen) who
 stays s before seen who legal = record { others = []; grew = sym (append-nil (before ++ seen)); alone = λ some. refl; besides = λ some m none by made. none; nobody = λ not. refl; legal = legal }
 
-pub spends : (s : Start) (before : List Moment) (lock own : LockId) (total : ℕ) (is_over : Bool) (pass : Seen) → IsSeat s before lock total own is_over pass → is_over ≡ false → pass.left ≡ 0 → 2 ^ 33 ≤ s.earlier_turns + length (before ++ pass.seen)
+pub spends : (s : Start) (before : List Moment) (lock own : LockId) (total : ℕ) (is_over : Bool) (pass : Seen) → IsSeat s before lock total own is_over pass → is_over ≡ false → pass.left ≡ 0
+    → 2 ^ 33 ≤ s.earlier_turns + length (before ++ pass.seen)
 spends s before lock own total is_over pass seat going none =
     let longer : length (before ++ pass.seen) ≡ length before + length pass.seen = length-append before pass.seen in
     let all : pass.left + pass.used ≡ total = seat.turns in
@@ -249,7 +252,8 @@ module _ (before : List Moment) (turn : Seen) (value : List Moment) where
         (λ (more : (m : Moment) × (value ≡ (before ++ turn.seen) ++ m ∷ []) × MayAdd ticket_of_moment ticket_given turn.seen turn.mine m). ap length (seen ∙ rest_more more.0 more.1) ∙ length-append turn.seen (more.0 ∷ []))
         came
 
-    pub is_seated : (s : Start) (lock own : LockId) (total : ℕ) (told : Bool) → IsLent s lock total own turn → Came before turn value told → pass.lock ≡ own → (pass.left ≡ turn.left) × (pass.used ≡ turn.used) → Legal s value → (s.quiet ≡ true → NeverFailed value)
+    pub is_seated : (s : Start) (lock own : LockId) (total : ℕ) (told : Bool) → IsLent s lock total own turn → Came before turn value told → pass.lock ≡ own → (pass.left ≡ turn.left) × (pass.used ≡ turn.used) → Legal s value
+        → (s.quiet ≡ true → NeverFailed value)
         → IsSeat s before lock total own (not told) pass
     is_seated s lock own total told lent came own_is turns legal never = record {
       own_is = own_is;
@@ -288,9 +292,6 @@ grounds_shared s log new who (steps.Refused (refusals.Aborted by)) same h =
 grounds_shared s log new who (steps.Refused refusal) same h = tt
 
 module _ (s : Start) (before : List Moment) (pass turn : Seen) (value : List Moment) (t : Turned s before pass turn value) where
-  pub waited_ticket : (who : ℕ) → HasTaken (calls_in (length before) pass.seen pass.mine) who → Waited (shared s) (before ++ pass.seen) value who
-  waited_ticket who taken = t.waited who (λ some. own_ticket (length before) pass.seen pass.mine who taken)
-
   -- who 0 is no ticket
   pub no_ticket : 1 ≤ 0 → IsOwn pass.seen pass.mine 0
   no_ticket some = absurd (omega (arith, some))
@@ -325,7 +326,8 @@ module _ (s : Start) (before : List Moment) (pass turn : Seen) (value : List Mom
   came_not : (new : List Moment) (who : ℕ) (told : Bool) → told ≡ false → Waited s value new who → Came before turn new told
   came_not new who told untold w = inl (same_log s value new who t.alone w ∙ t.whole, untold)
 
-  pub came : {X : Type 0} (new : List Moment) (who : ℕ) (step : Step) (ok : X → Reply) (result : Result X StepRefusal) (told : Bool) → (1 ≤ who → IsOwn pass.seen pass.mine who) → ((x : X) → given_by (ok x) ≡ None) → told ≡ was_told result → Outcome s value new who step ok result
+  pub came : {X : Type 0} (new : List Moment) (who : ℕ) (step : Step) (ok : X → Reply) (result : Result X StepRefusal) (told : Bool) → (1 ≤ who → IsOwn pass.seen pass.mine who) → ((x : X) → given_by (ok x) ≡ None)
+      → told ≡ was_told result → Outcome s value new who step ok result
       → Came before turn new told
   came new who step ok (Ok x) told own none is h = came_by new who step (ok x) told own (gives_none (ok x) (none x)) h
   came new who step ok (Err steps.Memory) told own none is h = came_not new who told is h.0
@@ -371,7 +373,8 @@ module _ (s : Start) (before : List Moment) (pass turn : Seen) (value : List Mom
     outcome_by step ok (Ok x) h = stepped step (ok x) h
     outcome_by step ok (Err e) h = (refusing step (told_refusal e) h.0, grounds_shared s new (before ++ home.seen) who e (sym whole) h.1)
 
-  pub outcome : {X : Type 0} (new : List Moment) (home : Seen) (who : ℕ) (step : Step) (ok : X → Reply) (result : Result X StepRefusal) → (1 ≤ who → IsOwn pass.seen pass.mine who) → before ++ home.seen ≡ new → Outcome s value new who step ok result
+  pub outcome : {X : Type 0} (new : List Moment) (home : Seen) (who : ℕ) (step : Step) (ok : X → Reply) (result : Result X StepRefusal) → (1 ≤ who → IsOwn pass.seen pass.mine who) → before ++ home.seen ≡ new
+      → Outcome s value new who step ok result
       → Outcome (shared s) (before ++ pass.seen) (before ++ home.seen) who step ok result
   outcome new home who step ok result own whole h = outcome_by new home who own whole step ok result h
 
@@ -444,7 +447,8 @@ module _ (s : Start) (before : List Moment) (pass turn : Seen) (value : List Mom
       → calls_in (length before) home.seen home.mine ≡ called (before ++ home.seen) step ok result (calls_in (length before) pass.seen pass.mine)
   calls_client new home step ok result homed h = calls_client_by new home homed step ok result h
 
-  pub calls_hand : {X : Type 0} (hand : Hand) (new : List Moment) (home : Seen) (who : ℕ) (step : Step) (ok : X → Reply) (result : Result X StepRefusal) → IsMine hand (calls_in (length before) pass.seen pass.mine) who → Homed before turn new home → Outcome s value new who step ok result
+  pub calls_hand : {X : Type 0} (hand : Hand) (new : List Moment) (home : Seen) (who : ℕ) (step : Step) (ok : X → Reply) (result : Result X StepRefusal) → IsMine hand (calls_in (length before) pass.seen pass.mine) who
+      → Homed before turn new home → Outcome s value new who step ok result
       → calls_in (length before) home.seen home.mine ≡ called_by hand (before ++ home.seen) step ok result (calls_in (length before) pass.seen pass.mine)
   calls_hand hand new home who step ok result mine homed h = calls_hand_by new home homed hand who step ok result mine h
 
@@ -453,9 +457,10 @@ module _ (s : Start) (before : List Moment) (pass turn : Seen) (value : List Mom
 taken_last : (place ticket op : ℕ) (unit : Given) (calls new : List Call) → 1 ≤ ticket → new ≡ calls ++ record { place = place; entry = record { who = 0; step = TakeStep; reply = Gave ticket op unit } } ∷ [] → HasTaken new ticket
 taken_last place ticket op unit calls new some is =
     let call : Call = record { place = place; entry = record { who = 0; step = TakeStep; reply = Gave ticket op unit } } in
-    record { place = place; op = op; unit = unit; some = some; taken = subst (λ (l : List Call). Has l call) (sym is) (has_right calls (call ∷ []) call (inl refl)) }
+    record { place = place; op = op; unit = unit; some = some; taken = subst (λ (l : List Call). Has l call) (sym is) (Has-right calls (call ∷ []) call (inl refl)) }
 
-pub taken_home : (log : List Moment) (calls new all : List Call) (result : Result (Option Taken) StepRefusal) → new ≡ called log TakeStep take_reply result calls → IfOk result (λ o. IfSome o (λ u. HasTaken all u.ready.ticket)) → IfOk result (λ o. IfSome o (λ u. HasTaken new u.ready.ticket))
+pub taken_home : (log : List Moment) (calls new all : List Call) (result : Result (Option Taken) StepRefusal) → new ≡ called log TakeStep take_reply result calls → IfOk result (λ o. IfSome o (λ u. HasTaken all u.ready.ticket))
+    → IfOk result (λ o. IfSome o (λ u. HasTaken new u.ready.ticket))
 taken_home log calls new all (Ok None) is taken = tt
 taken_home log calls new all (Ok (Some u)) is taken = taken_last (length log - 1) u.ready.ticket u.ready.op (given_of u.ready) calls new taken.some is
 taken_home log calls new all (Err e) is taken = tt

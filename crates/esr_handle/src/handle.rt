@@ -11,14 +11,14 @@ ghost use Rattle.esr_desk.specs.Restore.Conditions.{CanEndRestore};
 ghost use Rattle.esr_desk.specs.Restore.Targets.{IsFilled, refused_of};
 ghost use Rattle.esr_desk.specs.Shown.{IsShown};
 ghost use Rattle.esr_handle.specs.Owned.{calls_in};
-ghost use Rattle.esr_handle.specs.Turned.{shared, IsFit};
+ghost use Rattle.esr_handle.specs.Turned.{shared, was_told, IsFit};
 
-use crate::seat::Seat;
-use crate::steps::Steps;
+use crate::seat::{Place, Seat, TurnEnd, is_told};
 use crate::{Share, Since, Sitting};
-use esr_depot::{Commit, Listing};
+use esr_depot::Listing;
 use esr_desk::{
-    Attempt, Basis, Desk, Failure, Named, NewBlob, Planned, RestoreEnd, Sole, Unended, Unit, Who,
+    Attempt, Basis, Desk, Done, Failure, Named, NewBlob, Planned, Put, RestoreEnd, Sole, Unended,
+    Unit, Who, each_ticket_is_given_once,
 };
 use esr_names::{BlobName, Id};
 use esr_results::ShardResult;
@@ -105,23 +105,30 @@ impl<'a, Q: Sole, B: Since, W: Share, R: Wait + Sync> Desk for Handle<'a, Q, B, 
     }
 
     fn take(&mut self, alloc: Global) -> Attempt<Option<Unit>> {
-        let seat = self.seat.take().unwrap();
-        let (seat, answer) = seat.take(alloc);
-        drop(self.seat.replace(seat));
+        each_ticket_is_given_once();
+        let mut lent = self.seat.begin_turn()?;
+        let answer = lent.desk.take(alloc);
+        let is_told = is_told(&answer);
+        let end = TurnEnd { lent, is_told };
+        self.seat.end_turn(end);
         answer
     }
 
     fn elect(&mut self, alloc: Global) -> Attempt<u64> {
-        let seat = self.seat.take().unwrap();
-        let (seat, answer) = seat.elect(alloc);
-        drop(self.seat.replace(seat));
+        let mut lent = self.seat.begin_turn()?;
+        let answer = lent.desk.elect(alloc);
+        let is_told = is_told(&answer);
+        let end = TurnEnd { lent, is_told };
+        self.seat.end_turn(end);
         answer
     }
 
     fn fetch(&mut self, alloc: Global, who: Who, name: BlobName) -> Attempt<Option<Self::Fetch>> {
-        let seat = self.seat.take().unwrap();
-        let (seat, answer) = seat.fetch(alloc, who, name);
-        drop(self.seat.replace(seat));
+        let mut lent = self.seat.begin_turn()?;
+        let answer = lent.desk.fetch(alloc, who, name);
+        let is_told = is_told(&answer);
+        let end = TurnEnd { lent, is_told };
+        self.seat.end_turn(end);
         answer
     }
 
@@ -129,7 +136,7 @@ impl<'a, Q: Sole, B: Since, W: Share, R: Wait + Sync> Desk for Handle<'a, Q, B, 
         &mut self,
         alloc: Global,
         failure: Failure<Q::Stage, Q::Fetch, Q::Shard, Q::Target>,
-    ) -> Attempt<()>
+    ) -> Done
         requires mine { IsMine failure.who.hand (calls_in (length B.before) self.old.pass.seen self.old.pass.mine) failure.who.number }
         requires may { MayFail failure.who.hand (shared Q.start) (B.before ++ self.old.pass.seen) failure.who.number }
         requires shown { IsShown failure.who.hand (evidence Q.Stage.faults Q.Fetch.faults Q.Shard.faults Q.Target.faults Q.Shard.told Q.Target.told)
@@ -140,98 +147,116 @@ impl<'a, Q: Sole, B: Since, W: Share, R: Wait + Sync> Desk for Handle<'a, Q, B, 
         ensures calls { calls_in (length B.before) self.new.pass.seen self.new.pass.mine
             ≡ called_by failure.who.hand (B.before ++ self.new.pass.seen) (fail_step failure.who.hand (why_of failure.why)) (λ _. HasEnded) result (calls_in (length B.before) self.old.pass.seen self.old.pass.mine) }
     {
-        let seat = self.seat.take().unwrap();
-        let (seat, answer) = seat.fail(alloc, failure);
-        drop(self.seat.replace(seat));
+        let mut lent = match self.seat.begin_turn() {
+            Ok(lent) => lent,
+            Err(refusal) => {
+                drop(failure);
+                return Err(refusal);
+            }
+        };
+        let answer = lent.desk.fail(alloc, failure);
+        let is_told = is_told(&answer);
+        let end = TurnEnd { lent, is_told };
+        self.seat.end_turn(end);
         answer
     }
 
     fn draw(&mut self, alloc: Global, ticket: u64, count: u64) -> Attempt<Id> {
-        let seat = self.seat.take().unwrap();
-        let (seat, answer) = seat.draw(alloc, ticket, count);
-        drop(self.seat.replace(seat));
+        let mut lent = self.seat.begin_turn()?;
+        let answer = lent.desk.draw(alloc, ticket, count);
+        let is_told = is_told(&answer);
+        let end = TurnEnd { lent, is_told };
+        self.seat.end_turn(end);
         answer
     }
 
     fn begin(&mut self, alloc: Global, ticket: u64, blob: NewBlob) -> Attempt<Named<Self::Stage>> {
-        let seat = self.seat.take().unwrap();
-        let (seat, answer) = seat.begin(alloc, ticket, blob);
-        drop(self.seat.replace(seat));
+        let mut lent = self.seat.begin_turn()?;
+        let answer = lent.desk.begin(alloc, ticket, blob);
+        let is_told = is_told(&answer);
+        let end = TurnEnd { lent, is_told };
+        self.seat.end_turn(end);
         answer
     }
 
-    fn commit(
-        &mut self,
-        alloc: Global,
-        ticket: u64,
-        name: BlobName,
-        stage: Self::Stage,
-    ) -> Attempt<Commit> {
-        let seat = self.seat.take().unwrap();
-        let (seat, answer) = seat.commit(alloc, ticket, name, stage);
-        drop(self.seat.replace(seat));
+    fn commit(&mut self, alloc: Global, ticket: u64, name: BlobName, stage: Self::Stage) -> Put {
+        let mut lent = self.seat.begin_turn()?;
+        let answer = lent.desk.commit(alloc, ticket, name, stage);
+        let is_told = is_told(&answer);
+        let end = TurnEnd { lent, is_told };
+        self.seat.end_turn(end);
         answer
     }
 
-    fn latest(
-        &mut self,
-        alloc: Global,
-        ticket: u64,
-        name: BlobName,
-        stage: Self::Stage,
-    ) -> Attempt<()> {
-        let seat = self.seat.take().unwrap();
-        let (seat, answer) = seat.latest(alloc, ticket, name, stage);
-        drop(self.seat.replace(seat));
+    fn latest(&mut self, alloc: Global, ticket: u64, name: BlobName, stage: Self::Stage) -> Done {
+        let mut lent = self.seat.begin_turn()?;
+        let answer = lent.desk.latest(alloc, ticket, name, stage);
+        let is_told = is_told(&answer);
+        let end = TurnEnd { lent, is_told };
+        self.seat.end_turn(end);
         answer
     }
 
     fn raise(&mut self, alloc: Global, ticket: u64) -> Attempt<u64> {
-        let seat = self.seat.take().unwrap();
-        let (seat, answer) = seat.raise(alloc, ticket);
-        drop(self.seat.replace(seat));
+        let mut lent = self.seat.begin_turn()?;
+        let answer = lent.desk.raise(alloc, ticket);
+        let is_told = is_told(&answer);
+        let end = TurnEnd { lent, is_told };
+        self.seat.end_turn(end);
         answer
     }
 
-    fn settle(&mut self, alloc: Global, ticket: u64, root: &RootData) -> Attempt<()> {
-        let seat = self.seat.take().unwrap();
-        let (seat, answer) = seat.settle(alloc, ticket, root);
-        drop(self.seat.replace(seat));
+    fn settle(&mut self, alloc: Global, ticket: u64, root: &RootData) -> Done {
+        let mut lent = self.seat.begin_turn()?;
+        let answer = lent.desk.settle(alloc, ticket, root);
+        let is_told = is_told(&answer);
+        let end = TurnEnd { lent, is_told };
+        self.seat.end_turn(end);
         answer
     }
 
     fn plan(&mut self, alloc: Global, ticket: u64, basis: &Basis<'_>) -> Attempt<Planned> {
-        let seat = self.seat.take().unwrap();
-        let (seat, answer) = seat.plan(alloc, ticket, basis);
-        drop(self.seat.replace(seat));
+        let mut lent = self.seat.begin_turn()?;
+        let answer = lent.desk.plan(alloc, ticket, basis);
+        let is_told = is_told(&answer);
+        let end = TurnEnd { lent, is_told };
+        self.seat.end_turn(end);
         answer
     }
 
     fn list(&mut self, alloc: Global, ticket: u64, after: Option<&str>) -> Attempt<Listing> {
-        let seat = self.seat.take().unwrap();
-        let (seat, answer) = seat.list(alloc, ticket, after);
-        drop(self.seat.replace(seat));
+        let mut lent = self.seat.begin_turn()?;
+        let answer = lent.desk.list(alloc, ticket, after);
+        let is_told = is_told(&answer);
+        let end = TurnEnd { lent, is_told };
+        self.seat.end_turn(end);
         answer
     }
 
-    fn settle_delete(&mut self, alloc: Global, ticket: u64, root: &RootData) -> Attempt<()> {
-        let seat = self.seat.take().unwrap();
-        let (seat, answer) = seat.settle_delete(alloc, ticket, root);
-        drop(self.seat.replace(seat));
+    fn settle_delete(&mut self, alloc: Global, ticket: u64, root: &RootData) -> Done {
+        let mut lent = self.seat.begin_turn()?;
+        let answer = lent.desk.settle_delete(alloc, ticket, root);
+        let is_told = is_told(&answer);
+        let end = TurnEnd { lent, is_told };
+        self.seat.end_turn(end);
         answer
     }
 
-    fn remove(&mut self, alloc: Global, ticket: u64, names: &Seq<BlobName>) -> Attempt<()> {
-        let seat = self.seat.take().unwrap();
-        let (seat, answer) = seat.remove(alloc, ticket, names);
-        drop(self.seat.replace(seat));
+    fn remove(&mut self, alloc: Global, ticket: u64, names: &Seq<BlobName>) -> Done {
+        let mut lent = self.seat.begin_turn()?;
+        let answer = lent.desk.remove(alloc, ticket, names);
+        let is_told = is_told(&answer);
+        let end = TurnEnd { lent, is_told };
+        self.seat.end_turn(end);
         answer
     }
 
-    fn end_shard(&mut self, alloc: Global, ticket: u64, outcome: &ShardResult) -> Attempt<()> {
-        let seat = self.seat.take().unwrap();
-        let (seat, answer) = seat.end_shard(alloc, ticket, outcome);
-        drop(self.seat.replace(seat));
+    fn end_shard(&mut self, alloc: Global, ticket: u64, outcome: &ShardResult) -> Done {
+        let mut lent = self.seat.begin_turn()?;
+        let answer = lent.desk.end_shard(alloc, ticket, outcome);
+        let is_told = is_told(&answer);
+        let end = TurnEnd { lent, is_told };
+        self.seat.end_turn(end);
         answer
     }
 
@@ -251,37 +276,63 @@ impl<'a, Q: Sole, B: Since, W: Share, R: Wait + Sync> Desk for Handle<'a, Q, B, 
         ensures target { IfErr result (λ u. u.target ≡ done.target) }
         ensures calls { calls_in (length B.before) self.new.pass.seen self.new.pass.mine ≡ calls_in (length B.before) self.old.pass.seen self.old.pass.mine }
     {
-        let seat = self.seat.take().unwrap();
-        let (seat, answer) = seat.end_restore(alloc, done);
-        drop(self.seat.replace(seat));
+        let mut lent = match self.seat.begin_turn() {
+            Ok(lent) => lent,
+            Err(refusal) => {
+                let target = done.target;
+                return Err(Unended { refusal, target });
+            }
+        };
+        let answer = lent.desk.end_restore(alloc, done);
+        let is_told = is_end_told(&answer);
+        let end = TurnEnd { lent, is_told };
+        self.seat.end_turn(end);
         answer
     }
 
-    fn end_delete(&mut self, alloc: Global, ticket: u64) -> Attempt<()> {
-        let seat = self.seat.take().unwrap();
-        let (seat, answer) = seat.end_delete(alloc, ticket);
-        drop(self.seat.replace(seat));
+    fn end_delete(&mut self, alloc: Global, ticket: u64) -> Done {
+        let mut lent = self.seat.begin_turn()?;
+        let answer = lent.desk.end_delete(alloc, ticket);
+        let is_told = is_told(&answer);
+        let end = TurnEnd { lent, is_told };
+        self.seat.end_turn(end);
         answer
     }
 
-    fn end_drop(&mut self, alloc: Global, ticket: u64) -> Attempt<()> {
-        let seat = self.seat.take().unwrap();
-        let (seat, answer) = seat.end_drop(alloc, ticket);
-        drop(self.seat.replace(seat));
+    fn end_drop(&mut self, alloc: Global, ticket: u64) -> Done {
+        let mut lent = self.seat.begin_turn()?;
+        let answer = lent.desk.end_drop(alloc, ticket);
+        let is_told = is_told(&answer);
+        let end = TurnEnd { lent, is_told };
+        self.seat.end_turn(end);
         answer
     }
 
-    fn end_cleanup(&mut self, alloc: Global, ticket: u64) -> Attempt<()> {
-        let seat = self.seat.take().unwrap();
-        let (seat, answer) = seat.end_cleanup(alloc, ticket);
-        drop(self.seat.replace(seat));
+    fn end_cleanup(&mut self, alloc: Global, ticket: u64) -> Done {
+        let mut lent = self.seat.begin_turn()?;
+        let answer = lent.desk.end_cleanup(alloc, ticket);
+        let is_told = is_told(&answer);
+        let end = TurnEnd { lent, is_told };
+        self.seat.end_turn(end);
         answer
     }
 
-    fn finish(&mut self, alloc: Global, ticket: u64) -> Attempt<()> {
-        let seat = self.seat.take().unwrap();
-        let (seat, answer) = seat.finish(alloc, ticket);
-        drop(self.seat.replace(seat));
+    fn finish(&mut self, alloc: Global, ticket: u64) -> Done {
+        let mut lent = self.seat.begin_turn()?;
+        let answer = lent.desk.finish(alloc, ticket);
+        let is_told = is_told(&answer);
+        let end = TurnEnd { lent, is_told };
+        self.seat.end_turn(end);
         answer
+    }
+}
+
+// Whether the history tells the end of a restore.
+fn is_end_told<T: Drop>(answer: &Result<(), Unended<T>>) -> bool
+    ensures { result ≡ was_told (refused_of answer.now) }
+{
+    match answer {
+        Ok(()) => true,
+        Err(unended) => is_told::<()>(&Err(unended.refusal)),
     }
 }

@@ -1,14 +1,11 @@
 //! The desk of a worker: a desk that is alone stands behind a lock, and each worker steps in turns of it.
 #![tactic(auto)]
 
-mod desk;
 mod event;
 mod handle;
-mod in_turn;
 mod seat;
 mod since;
 mod sitting;
-mod steps;
 
 pub use event::Event;
 pub use handle::Handle;

@@ -1,12 +1,13 @@
 //! A worker's pass at its lock, and a turn of it.
-ghost use Rattle.std.specs.Prelude.{◌≡◌, ◌+◌, ◌<◌, ◌≤◌, ◌^◌, ◌++◌, length, Bool, false, not};
+ghost use Rattle.std.specs.Prelude.{◌≡◌, ◌+◌, ◌<◌, ◌≤◌, ◌^◌, ◌++◌, length, Bool, true, false, not, None, is_some, IfOk, IfErr, OnErr};
+ghost use Rattle.esr_desk.specs.Outcome.{Grounds};
+ghost use Rattle.esr_desk.specs.Refusals.{told_refusal};
 ghost use Rattle.esr_desk.specs.Start.{Legal};
-ghost use Rattle.esr_handle.specs.Turned.{was_told, IsFit, IsLent, Turned, Came, Homed};
+ghost use Rattle.esr_handle.specs.Turned.{was_told, shared, or_no_seat, IsFit, IsLent, Turned, Came, Homed};
 
-use crate::sitting::Lawful;
 use crate::{Share, Since, Sitting};
 use esr_desk::{Desk, Sole, StepRefusal, each_ticket_is_given_once};
-use esr_turns::{Held, Pass, TurnLock};
+use esr_turns::{Held, Pass, Turn, TurnLock};
 use std::marker::{Model, PhantomData};
 use std::sync::Wait;
 
@@ -34,11 +35,13 @@ impl<'a, Q: Sole, B: Since, W: Share, R> Model for Seat<'a, Q, B, W, R> {
     ghost invariant = { λ s. IsSeat Q.start B.before W.lock W.total s.lock.now s.is_over s.pass };
 }
 
-/// A turn of a worker.
+/// A turn of a worker, with the desk out of the lock.
 pub(crate) struct Lent<'a, Q: Sole, B: Since, W: Share, R> {
     lock: &'a TurnLock<Sitting<Q, B>>,
     rt: &'a R,
-    pub(crate) held: Held<Sitting<Q, B>>,
+    pub(crate) desk: Q,
+    base: u64,
+    turn: Turn<Sitting<Q, B>>,
     of: PhantomData<W>,
 }
 
@@ -77,7 +80,7 @@ impl<'a, Q: Sole, B: Since, W: Share, R> Seat<'a, Q, B, W, R> {
     }
 }
 
-/// The turns of a worker. (Its methods are those of a trait, since the steps of a trait call them.)
+/// The turns of a worker.
 pub(crate) trait Turns {
     type Lent;
 
@@ -115,53 +118,81 @@ impl<'a, Q: Sole, B: Since, W: Share, R: Wait> Turns for Seat<'a, Q, B, W, R> {
 
     fn turn(self) -> Lent<'a, Q, B, W, R>
         requires { (0 < self.pass.left) × (self.is_over ≡ false) }
-        ensures lent { IsLent Q.start W.lock W.total result.lock.now result.held.turn }
-        ensures turned { Turned Q.start B.before self.entry.pass result.held.turn result.held.value }
+        ensures lent { IsLent Q.start W.lock W.total result.lock.now result.turn }
+        ensures turned { Turned Q.start B.before self.entry.pass result.turn (Q.seen result.desk) }
+        ensures base { result.base ≡ length B.before }
     {
         esr_core::each_step_leaves_the_others();
         each_ticket_is_given_once();
         let Seat { lock, rt, pass, .. } = self;
         let held = lock.turn(rt, pass);
-        held.value.is_legal();
+        let Held { value, turn } = held;
+        let Sitting { desk, base, of: _ } = value;
+        desk.is_legal();
         Lent {
             lock,
             rt,
-            held,
+            desk,
+            base,
+            turn,
             of: PhantomData,
         }
     }
 }
 
-/// The end of a turn.
+/// The end of a turn: at most one entry came, and where none did, `is_told` says so.
+pub(crate) struct TurnEnd<'a, Q: Sole, B: Since, W: Share, R> {
+    pub(crate) lent: Lent<'a, Q, B, W, R>,
+    pub(crate) is_told: bool,
+}
+
+impl<'a, Q: Sole, B: Since, W: Share, R> Model for TurnEnd<'a, Q, B, W, R> {
+    ghost use Rattle.std.specs.Prelude.{◌≡◌, List, length, Bool, true};
+    ghost use Rattle.std.specs.Coded.{codes};
+    ghost use Rattle.esr_depot.specs.Image.{blobs_code};
+    ghost use Rattle.esr_core.specs.Entry.{Moment};
+    ghost use Rattle.esr_handle.specs.Turned.{Seen, IsLent, Came};
+
+    ghost Value = { Seen × List Moment × Bool };
+
+    ghost coded = { Prim.hlevel (codes, blobs_code) };
+
+    ghost view = { λ e. (e.lent.turn, Q.seen e.lent.desk, e.is_told) };
+
+    ghost invariant = { λ e. IsLent Q.start W.lock W.total e.lent.lock.now e.lent.turn × (e.lent.base ≡ length B.before) × (Q.start.alone ≡ true) × Came B.before e.lent.turn (Q.seen e.lent.desk) e.is_told };
+}
+
+/// Brings the desk home.
 pub(crate) trait Ends {
     type Seat;
 
-    ghost may_end: { Self → Bool → Type 0 };
-
-    /// Gives the desk back. `is_told` says that an entry came.
-    fn home(self, is_told: bool) -> Self::Seat
-        requires { may_end self is_told };
+    fn home(self) -> Self::Seat;
 }
 
-impl<'a, Q: Sole, B: Since, W: Share, R> Ends for Lent<'a, Q, B, W, R> {
+impl<'a, Q: Sole, B: Since, W: Share, R> Ends for TurnEnd<'a, Q, B, W, R> {
     type Seat = Seat<'a, Q, B, W, R>;
 
-    ghost may_end = { λ t is_told. IsLent Q.start W.lock W.total t.lock.now t.held.turn × Came B.before t.held.turn t.held.value is_told };
-
-    fn home(self, is_told: bool) -> Seat<'a, Q, B, W, R>
-        requires { IsLent Q.start W.lock W.total self.lock.now self.held.turn × Came B.before self.held.turn self.held.value is_told }
-        ensures pass { Homed B.before self.entry.held.turn self.entry.held.value result.pass }
-        ensures over { result.is_over ≡ not is_told }
+    fn home(self) -> Seat<'a, Q, B, W, R>
+        ensures pass { Homed B.before self.entry.0 self.entry.1 result.pass }
+        ensures over { result.is_over ≡ not self.entry.2 }
     {
+        let TurnEnd { lent, is_told } = self;
         let Lent {
             lock,
             rt,
-            held,
+            desk,
+            base,
+            turn,
             of: _,
-        } = self;
-        held.value.is_legal();
-        held.value.never_fails();
-        let pass = lock.home(held);
+        } = lent;
+        desk.is_legal();
+        desk.never_fails();
+        let value = Sitting {
+            desk,
+            base,
+            of: PhantomData,
+        };
+        let pass = lock.home(Held { value, turn });
         Seat {
             lock,
             rt,
@@ -169,6 +200,58 @@ impl<'a, Q: Sole, B: Since, W: Share, R> Ends for Lent<'a, Q, B, W, R> {
             is_over: !is_told,
             of: PhantomData,
         }
+    }
+}
+
+/// Where a worker sits between its turns. (Its methods are those of a trait, since the steps of a trait call them.)
+pub(crate) trait Place {
+    type Lent;
+
+    type End;
+
+    ghost may_begin: { Self → Type 0 };
+
+    /// Waits for its turn, in which it has no seat. It is refused where it is over or has no turn left.
+    fn begin_turn(&mut self) -> Result<Self::Lent, StepRefusal>
+        requires { may_begin self.old };
+
+    /// Gives the desk back.
+    fn end_turn(&mut self, end: Self::End);
+}
+
+impl<'a, Q: Sole, B: Since, W: Share, R: Wait> Place for Option<Seat<'a, Q, B, W, R>> {
+    type Lent = Lent<'a, Q, B, W, R>;
+
+    type End = TurnEnd<'a, Q, B, W, R>;
+
+    ghost may_begin = { λ o. is_some o ≡ true };
+
+    fn begin_turn(&mut self) -> Result<Lent<'a, Q, B, W, R>, StepRefusal>
+        requires { is_some self.old ≡ true }
+        ensures lent { IfOk result (λ l. IsLent Q.start W.lock W.total l.lock.now l.turn) }
+        ensures turned { IfOk result (λ l. Turned Q.start B.before (or_no_seat self.old).pass l.turn (Q.seen l.desk)) }
+        ensures base { IfOk result (λ l. l.base ≡ length B.before) }
+        ensures kept { OnErr result (self.new ≡ self.old) }
+        ensures legal { OnErr result (Legal Q.start (B.before ++ (or_no_seat self.old).pass.seen)) }
+        ensures grounds { IfErr result (λ e. (told_refusal e ≡ None) × Grounds (shared Q.start) (B.before ++ (or_no_seat self.old).pass.seen) 0 e) }
+    {
+        let seat = self.take().unwrap();
+        if seat.is_over() {
+            drop(self.replace(seat));
+            return Err(StepRefusal::Memory);
+        }
+        if seat.left() == 0 {
+            drop(self.replace(seat));
+            return Err(StepRefusal::TurnsSpent);
+        }
+        Ok(seat.turn())
+    }
+
+    fn end_turn(&mut self, end: TurnEnd<'a, Q, B, W, R>)
+        ensures full { is_some self.new ≡ true }
+        ensures pass { Homed B.before end.entry.0 end.entry.1 (or_no_seat self.new).pass }
+    {
+        drop(self.replace(end.home()));
     }
 }
 

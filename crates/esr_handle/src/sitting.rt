@@ -16,8 +16,8 @@ const TURNS: u64 = 1 << 40;
 /// A desk that is alone, as a lock guards it. Contracts see its whole history; the lock counts the entries since it was put in.
 pub struct Sitting<Q: Sole, B: Since> {
     pub(crate) desk: Q,
-    base: u64,
-    of: PhantomData<B>,
+    pub(crate) base: u64,
+    pub(crate) of: PhantomData<B>,
 }
 
 impl<Q: Sole, B: Since> Model for Sitting<Q, B> {
@@ -80,7 +80,7 @@ impl<Q: Sole, B: Since> Sitting<Q, B> {
     }
 }
 
-/// A desk under a lock keeps the law. (A trait's method, since the steps of a trait call it.)
+/// A desk under a lock keeps the law.
 pub trait Lawful {
     fn is_legal(&self);
 }

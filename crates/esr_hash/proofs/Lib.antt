@@ -1,1 +1,1 @@
-pub mod Digests
+pub mod LowerDigits

@@ -1,3 +1,4 @@
 pub mod Digits
 pub mod Fed
 pub mod Prints
+pub mod DigitLaws

@@ -1,5 +1,11 @@
-pub mod Access
-pub mod Named
-pub mod Plain
-pub mod Shallow
 pub mod Steps
+pub mod Access
+pub mod Plain
+pub mod Named
+pub mod Shallow
+pub mod PlainTexts
+pub mod InOrder
+pub mod Items
+pub mod Members
+pub mod PlainValues
+pub mod ShallowValues

@@ -40,7 +40,7 @@ pub fn text(value: &Value, key: Key) -> Result<&str, Reason>
 }
 
 /// A member that is an object, with its own members in byte order of their names.
-#[tactic(auto, using(crate::proofs::Lists::members_listed), unfolding(crate::specs::Access::members_at))]
+#[tactic(auto, using(crate::specs::Items::members_listed), unfolding(crate::specs::Access::members_at))]
 pub fn members(value: &Value, key: Key) -> Result<&Map<String, Value>, Reason>
     ensures { seen (λ m. map entry_view m.now.entries) result ≡ members_at key (view value.now) }
 {
@@ -50,7 +50,7 @@ pub fn members(value: &Value, key: Key) -> Result<&Map<String, Value>, Reason>
 }
 
 /// A member that is a list.
-#[tactic(auto, using(crate::proofs::Lists::items_listed), unfolding(crate::specs::Access::items_at))]
+#[tactic(auto, using(crate::specs::Items::items_listed), unfolding(crate::specs::Access::items_at))]
 pub fn items(value: &Value, key: Key) -> Result<&[Value], Reason>
     ensures { seen (λ s. map view s.now) result ≡ items_at key (view value.now) }
 {

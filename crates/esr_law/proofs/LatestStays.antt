@@ -2,6 +2,7 @@
 use Rattle.std.proofs.Common.{◌≡◌, ◌≢◌, ◌⊎◌, ℕ, suc, ◌<◌, ◌≤◌, Bool, true, false, true≢false, List, [], ◌∷◌, ◌++◌, Option, Some, refl, sym, ap, ◌∙◌, subst, inl, inr, arith}
 use Rattle.std.specs.FinMap as fin
 use Rattle.std.specs.Cmp.Lexicographic.{nat_list_cmp_total}
+use Rattle.esr_model.specs.Lists.{Has-either}
 use Rattle.esr_model.specs.Names.{BlobName, Latest}
 use Rattle.esr_model.specs.Values.{Bytes, Has, ReadsBack, Formats}
 use Rattle.esr_model.specs.Cleanup.{BlobSize, IsPageOf}
@@ -23,7 +24,7 @@ use Rattle.esr_core.specs.Allowed as allowed
 use Rattle.esr_core.specs.Allowed.{Told, latest_text, Puts, RemovesDoomed, PruneAllows, Allows, IsBlocked, Allowed}
 use Rattle.esr_core.specs.History.{world_from, is_settle}
 use Rattle.esr_core.specs.Cleaned.{IsLastDrop}
-use Rattle.esr_core.specs.UnitSteps.{other_unit, settle_unit}
+use Rattle.esr_core.specs.Laws.UnitSteps.{other_unit, settle_unit}
 use Rattle.esr_law.specs.Cleanups.{IsGivenCleanup, IsEndedCleanup}
 use Rattle.esr_law.specs.Latest.{HasLatest}
 use Rattle.esr_law.proofs.Maps.{some_same, none_some, get_put, get_kept}
@@ -114,11 +115,6 @@ latest_stays f w step now (NewBlob name bytes is stored absent same) no_put no_r
     ap (λ (x : Blobs). fin.get x (f.names.text Latest)) same ∙ get_kept nat_list_cmp_total w.blobs (f.names.text name) bytes (f.names.text Latest) b absent there
 latest_stays f w step now (NewLatest bytes is back same) no_put no_removal b there = absurd (no_put is)
 latest_stays f w step now (Removal names is removes) no_put no_removal b there = removes.others (f.names.text Latest) b there (no_removal names is)
-
-has_either : {A : Type 0} (xs ys : List A) (x : A) → Has (xs ++ ys) x → Has xs x ⊎ Has ys x
-has_either [] ys x h = inr h
-has_either (z ∷ xs) ys x (inl is) = inl (inl is)
-has_either (z ∷ xs) ys x (inr h) = elim (has_either xs ys x h) [ inl before ↦ inl (inr before) | inr later ↦ inr later ]
 
 module _ (f : Formats) (size : ℕ) (laws : ChangeLaws f size) (w : World) (m : Moment) (s : KnownStep f size w m) (k : ℕ) (t : Ticket) (there : fin.get w.tickets k ≡ Some t) (c : IsCleaning t) (first : k ≢ 0) (live : IsLive w t) (st : PutState f w k t) where
   now_blobs : (after f w m).blobs ≡ s.image.blobs
@@ -247,7 +243,7 @@ module _ (f : Formats) (size : ℕ) (laws : ChangeLaws f size) (w : World) (m : 
     own_state v at after_live (OnPage from page step reply from_is told got safe) =
         subst (PutState f (after f w m) k) (some_same (listing t page) v (sym got ∙ ap (fin.get (after f w m).tickets) mine ∙ at))
         (record {
-          backs = λ b listed. elim (has_either t.listed page b listed) [ inl before ↦ st.backs b before | inr now ↦ paged b now ];
+          backs = λ b listed. elim (Has-either t.listed page b listed) [ inl before ↦ st.backs b before | inr now ↦ paged b now ];
           tests = tests_now;
           put = own_put (listing t page) (λ n is. is);
           settled = λ done. let old = st.settled done in (old.0, old.1, safe ∙ old.2);

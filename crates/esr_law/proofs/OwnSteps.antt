@@ -2,6 +2,7 @@
 use Rattle.std.proofs.Common.{◌≡◌, ◌⊎◌, ℕ, suc, List, Bool, true, false, Option, Some, None, refl, sym, ap, ◌∙◌, subst, inl, inr}
 use Rattle.std.specs.Prelude.{if◌then◌else◌}
 use Rattle.std.specs.FinMap as fin
+use Rattle.esr_core.specs.Laws.NumberMaps.{same_in}
 use Rattle.esr_model.specs.Names.{BlobName}
 use Rattle.esr_model.specs.Values.{Bytes, SnapInfo, ShardResult, Formats}
 use Rattle.esr_model.specs.Shelf.{Command}
@@ -16,7 +17,7 @@ use Rattle.esr_core.specs.Entry.{Prune, Step, AskStep, TakeStep, DrawStep, Begin
 use Rattle.esr_core.specs.After.{with_given, committing, fetching, told_blob, delete_settled_by, delete_settled, delete_failed_by, delete_failed, failed_by, failed_of, dropped_of, is_stale, has_text, is_latest, tried, raised, answered}
 use Rattle.esr_core.specs.Allowed as allowed
 use Rattle.esr_core.specs.Allowed.{Told, SettlesDeletion, PruneAllows, Allows}
-use Rattle.esr_law.proofs.Maps.{some_same, none_some, put_in}
+use Rattle.esr_law.proofs.Maps.{some_same, none_some}
 
 -- a cleanup's ticket
 pub record IsCleaning (t : Ticket) : Type 0 where
@@ -74,7 +75,7 @@ module _ (f : Formats) (size : ℕ) (w : World) where
     kept_by : (g : Ticket → Ticket) → (g t).listed ≡ t.listed → (g t).whole ≡ t.whole → ((g t).raised ≡ t.raised) ⊎ (t.raised ≡ None) → (g t).settled ≡ t.settled → (o : Option Ticket) → o ≡ Some t → KeptOn w k t (with_given w k g o)
     kept_by g listed whole raise settled None is = absurd (none_some t is)
     kept_by g listed whole raise settled (Some u) is =
-        subst (λ (x : Ticket). KeptOn w k t (with_given w k g (Some x))) (sym (some_same u t is)) (record { v = g t; at = put_in w.tickets k (g t); listed = listed; whole = whole; raised = raise; settled = settled; safe = refl })
+        subst (λ (x : Ticket). KeptOn w k t (with_given w k g (Some x))) (sym (some_same u t is)) (record { v = g t; at = same_in w.tickets k (g t); listed = listed; whole = whole; raised = raise; settled = settled; safe = refl })
 
     kept_with : (up : World) → KeptOn w k t up → (next pending : ℕ) → KeptOn w k t (record up { next_id = next; pending = pending })
     kept_with up h next pending = record { v = h.v; at = h.at; listed = h.listed; whole = h.whole; raised = h.raised; settled = h.settled; safe = h.safe }
@@ -88,7 +89,7 @@ module _ (f : Formats) (size : ℕ) (w : World) where
 
     -- the ticket over
     over : KeptOn w k t (with_ticket w k (record t { out = false }))
-    over = record { v = record t { out = false }; at = put_in w.tickets k (record t { out = false }); listed = refl; whole = refl; raised = inl refl; settled = refl; safe = refl }
+    over = record { v = record t { out = false }; at = same_in w.tickets k (record t { out = false }); listed = refl; whole = refl; raised = inl refl; settled = refl; safe = refl }
 
     put_kept : (name : BlobName) (b : Option Bytes) → KeptOn w k t (with_given w k (committing name b) (fin.get w.tickets k))
     put_kept name None = kept_by (committing name None) refl refl (inl refl) refl (fin.get w.tickets k) there
@@ -100,13 +101,13 @@ module _ (f : Formats) (size : ℕ) (w : World) where
 
     paged : (page : List BlobSize) (o : Option Ticket) → o ≡ Some t → (fin.get (with_given w k (λ (x : Ticket). listing x page) o).tickets k ≡ Some (listing t page)) × ((with_given w k (λ (x : Ticket). listing x page) o).safe ≡ w.safe)
     paged page None is = absurd (none_some t is)
-    paged page (Some u) is = (put_in w.tickets k (listing u page) ∙ ap (λ (x : Ticket). Some (listing x page)) (some_same u t is), refl)
+    paged page (Some u) is = (same_in w.tickets k (listing u page) ∙ ap (λ (x : Ticket). Some (listing x page)) (some_same u t is), refl)
 
     -- the settle
     settled_by : (o : Option Swap) (p : Option ℕ) (s : Swap) (n : ℕ) → o ≡ Some s → p ≡ Some n → (fin.get (delete_settled_by f w k t o p).tickets k ≡ Some (record t { settled = true })) × ((delete_settled_by f w k t o p).safe ≡ suc n)
     settled_by None p s n is at = absurd (none_some s is)
     settled_by (Some x) None s n is at = absurd (none_some n at)
-    settled_by (Some x) (Some m) s n is at = (put_in w.tickets k (record t { settled = true }), ap suc (some_same m n at))
+    settled_by (Some x) (Some m) s n is at = (same_in w.tickets k (record t { settled = true }), ap suc (some_same m n at))
 
     settled_up : (s : SettlesDeletion f w k) (o : Option Ticket) → o ≡ Some t → (fin.get (delete_settled f w k o).tickets k ≡ Some (record t { settled = true })) × ((delete_settled f w k o).safe ≡ suc s.n)
     settled_up s None is = absurd (none_some t is)
@@ -124,7 +125,7 @@ module _ (f : Formats) (size : ℕ) (w : World) where
       where
         by_op : (x : Option Deletion) → KeptOn w k t (delete_failed_by w k t x)
         by_op None = kept
-        by_op (Some x) = record { v = record t { out = false }; at = put_in w.tickets k (record t { out = false }); listed = refl; whole = refl; raised = inl refl; settled = refl; safe = refl }
+        by_op (Some x) = record { v = record t { out = false }; at = same_in w.tickets k (record t { out = false }); listed = refl; whole = refl; raised = inl refl; settled = refl; safe = refl }
 
     failure_over : (o : Option Ticket) → o ≡ Some t → KeptOn w k t (failed_of w k o)
     failure_over None is = absurd (none_some t is)
@@ -132,12 +133,12 @@ module _ (f : Formats) (size : ℕ) (w : World) where
       where
         by_op : (x : Option Op) → KeptOn w k t (failed_by w k t x)
         by_op None = kept
-        by_op (Some x) = record { v = record t { out = false }; at = put_in w.tickets k (record t { out = false }); listed = refl; whole = refl; raised = inl refl; settled = refl; safe = refl }
+        by_op (Some x) = record { v = record t { out = false }; at = same_in w.tickets k (record t { out = false }); listed = refl; whole = refl; raised = inl refl; settled = refl; safe = refl }
 
     drop_over : (o : Option Ticket) → o ≡ Some t → KeptOn w k t (dropped_of w k o)
     drop_over None is = absurd (none_some t is)
     drop_over (Some u) is =
-        subst (λ (x : Ticket). KeptOn w k t (dropped_of w k (Some x))) (sym (some_same u t is)) (record { v = record t { out = false }; at = put_in w.tickets k (record t { out = false }); listed = refl; whole = refl; raised = inl refl; settled = refl; safe = refl })
+        subst (λ (x : Ticket). KeptOn w k t (dropped_of w k (Some x))) (sym (some_same u t is)) (record { v = record t { out = false }; at = same_in w.tickets k (record t { out = false }); listed = refl; whole = refl; raised = inl refl; settled = refl; safe = refl })
 
     raise_kept : (u : Ticket) → IsOut w k u → u.raised ≡ None → KeptOn w k t (raised w k)
     raise_kept u out once =

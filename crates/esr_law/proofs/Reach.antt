@@ -2,24 +2,18 @@
 use Rattle.std.proofs.Common.{◌≡◌, ◌≢◌, ◌⊎◌, ℕ, zero, suc, Bool, true, false, List, [], ◌∷◌, refl, sym, ap, ◌∙◌, subst, inl, inr}
 use Rattle.std.specs.Prelude.{leb, if◌then◌else◌}
 use Rattle.std.proofs.lemmas.Bool.Decides.{eqb_tells}
+use Rattle.esr_model.specs.Lists.{pairs_has}
 use Rattle.esr_model.specs.Names.{BlobName, Root, IndexMeta, Snap, Meta, ShardSnap, ShardIndex, File}
 use Rattle.esr_model.specs.Values.{Bytes, Has, RootSnap, RootIndex, RootData, FileEntry, Kind, Formats}
 use Rattle.esr_model.specs.Shelf.{Shelved}
 use Rattle.esr_model.specs.Parts.{part_names, parts_from, part_count}
-use Rattle.esr_model.specs.Image.{AllPairs, At, Present, Reads, SnapStands, RootStands, Stands, Picked, RootIs}
+use Rattle.esr_model.specs.Image.{At, Present, Reads, SnapStands, RootStands, Stands, Picked, RootIs}
 use Rattle.esr_model.specs.Reach.{Reached, ReachSnap, ReachMeta, ReachIndexMeta, ReachIndex, ReachShardSnap, ReachPart}
 use Rattle.esr_core.specs.World.{World, HeldIn}
 use Rattle.esr_core.specs.Ids.{Law}
 use Rattle.esr_core.specs.Allowed.{InReach}
 use Rattle.esr_law.specs.Reach.{RefusesUnlisted, IsUnlistedMeta, HoldsListedReach, HoldsReach}
 use Rattle.esr_law.proofs.Maps.{some_same}
-
--- a member of the first list has one of the second
-pair_of : {A B : Type 0} (R : A → B → Type 0) (xs : List A) (ys : List B) (x : A) → AllPairs R xs ys → Has xs x → (y : B) × R x y
-pair_of R [] ys x pairs h = absurd h
-pair_of R (z ∷ xs) [] x pairs h = absurd pairs
-pair_of R (z ∷ xs) (y ∷ ys) x pairs (inl is) = (y, subst (λ a. R a y) is pairs.0)
-pair_of R (z ∷ xs) (y ∷ ys) x pairs (inr h) = pair_of R xs ys x pairs.1 h
 
 -- the uuid is listed, or not
 abbrev IsListedIn : List RootSnap → ℕ → Type 0
@@ -50,7 +44,7 @@ module _ (f : Formats) (w : World) where
   reached_there root shelf stands Q known name reached = by name reached
     where
       of : (s : RootSnap) → Has root.snapshots s → (x : Shelved) × SnapStands f (HeldIn f w) root s x
-      of s h = pair_of (SnapStands f (HeldIn f w) root) root.snapshots shelf s stands.snapshots h
+      of s h = pairs_has (SnapStands f (HeldIn f w) root) root.snapshots shelf s stands.snapshots h
 
       by : (name : BlobName) → Reached f (At f w.blobs) root name → Present f w.blobs name ⊎ Q name
       by name (ReachSnap s h) = let z = (of s h).1 in inl (present (Snap s.uuid) f.info z.info z.info_reads)
@@ -74,7 +68,7 @@ module _ (f : Formats) (w : World) where
           let z = stands.indices i k g gen in
           let one = one_value (ShardIndex i k g) f.shard_index z.held held z.held_reads reads in
           let file = z.files e (subst (λ h. Has h.files e) (sym one) has_e) in
-          let piece = pair_of (HeldIn f w) (part_names i k e) file.1.parts name file.1.there has_part in
+          let piece = pairs_has (HeldIn f w) (part_names i k e) file.1.parts name file.1.there has_part in
           inl (piece.0, piece.1.0)
 
   -- the safe root stands, and its own name is there

@@ -6,7 +6,7 @@ use Rattle.esr_model.specs.Shelf.{ShelfShard, Shelved}
 use Rattle.esr_model.specs.Places.{shelf_places}
 use Rattle.esr_model.specs.Image.{Image, FileStands, ShardStands, SnapStands, IndexStands, RootStands, Stands, Picked, RootIs, At}
 use Rattle.esr_model.specs.Kept.{Recorded, Kept}
-use Rattle.esr_core.proofs.Reading.{AllPairs-with}
+use Rattle.esr_model.specs.Lists.{AllPairs-with}
 use Rattle.esr_law.specs.Digests.{retold}
 
 module _ (f : Formats) (known : Bytes → Bytes → ℕ → Bool) (told : Bytes → Bytes → ℕ → Option (List (Bytes × Bytes))) where

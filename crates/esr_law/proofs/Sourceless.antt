@@ -10,7 +10,7 @@ use Rattle.esr_core.specs.Changes.{IsReaders, IsUnits, Maker, ClientStep, Reader
 use Rattle.esr_core.specs.History.{IsLegal, TellsHandedOut}
 use Rattle.esr_core.specs.Sources.{HonestUploads}
 use Rattle.esr_core.specs.Tracked.{Tracked}
-use Rattle.esr_core.proofs.Blocked.{blocked_stays}
+use Rattle.esr_core.specs.Laws.Asides.{blocked_stays}
 use Rattle.esr_law.specs.Digests.{AskNoSnapshot, AreClones}
 
 -- each step has its maker, unless it was not looked at

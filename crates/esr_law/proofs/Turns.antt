@@ -2,6 +2,7 @@
 use Rattle.std.proofs.Common.{◌≡◌, ◌≢◌, ◌⊎◌, ℕ, suc, ◌<◌, ◌≤◌, [], false, Option, Some, None, refl, sym, ap, ◌∙◌, inl, inr, arith}
 use Rattle.std.proofs.lemmas.Bool.Decides.{eqb_tells}
 use Rattle.std.specs.FinMap as fin
+use Rattle.esr_core.specs.Laws.NumberMaps.{same_in}
 use Rattle.esr_model.specs.Values.{Formats}
 use Rattle.esr_model.specs.Image.{Image}
 use Rattle.esr_core.specs.World.{World, Ticket}
@@ -14,7 +15,6 @@ use Rattle.esr_core.specs.Entry.{Given, GivenCleanup, Step, TakeStep, Refusal, R
 use Rattle.esr_core.specs.After.{answered, after}
 use Rattle.esr_core.specs.Allowed.{Blocks, ByFailedSwap, ByDelete, IsBlocked, Allows, Allowed}
 use Rattle.esr_law.specs.Cleanups.{IsGivenCleanup}
-use Rattle.esr_law.proofs.Maps.{put_in}
 use Rattle.esr_law.proofs.OwnSteps.{IsCleaning, Own, own_step}
 
 -- the core's laws of steps, over any container
@@ -86,7 +86,7 @@ handed_out f size laws w m k tracked a given =
       op = given.op;
       step = gave.step_is;
       next = gave.number;
-      at = ap (λ (x : World). fin.get x.tickets k) made ∙ ap (fin.get (fin.insert w.tickets w.next_ticket (cleaning_ticket w given.op))) gave.number ∙ put_in w.tickets w.next_ticket (cleaning_ticket w given.op);
+      at = ap (λ (x : World). fin.get x.tickets k) made ∙ ap (fin.get (fin.insert w.tickets w.next_ticket (cleaning_ticket w given.op))) gave.number ∙ same_in w.tickets w.next_ticket (cleaning_ticket w given.op);
       safe = ap (λ (x : World). x.safe) made;
       first = λ zero. let one : 1 ≤ w.next_ticket = tracked.first_ticket in let is : k ≡ w.next_ticket = gave.number in omega (arith, one, is, zero);
     }

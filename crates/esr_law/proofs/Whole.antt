@@ -6,7 +6,7 @@ use Rattle.esr_model.specs.Image.{Image, Blobs, At, Picked}
 use Rattle.esr_model.specs.Kept.{Kept}
 use Rattle.esr_core.specs.Allowed.{IsWhole}
 use Rattle.esr_core.specs.Left.{safe_of, safe_by}
-use Rattle.esr_core.proofs.Agreeing.{stands_agrees}
+use Rattle.esr_core.specs.Laws.RootAgreement.{stands_agrees}
 use Rattle.esr_law.specs.Digests.{IsWholeByDigests}
 
 picked_whole : (f : Formats) (blobs : Blobs) (safe : ℕ) (shelf : List Shelved) → Picked f (At f blobs) safe shelf → IsWhole f blobs safe

@@ -11,6 +11,7 @@ use Rattle.esr_formats.specs.Names.{name_kind}
 use Rattle.esr_script.specs.declared.item.Item.{Item}
 use Rattle.esr_script.specs.declared.item.Item.TheVariants as items
 use Rattle.esr_script.specs.declared.item.ScriptLine.{ScriptLine}
+use Rattle.esr_script.specs.Kinds.{verb_text}
 use Rattle.esr_report.specs.Replies.{Reply, Made, Deleted, Restored, Cleaned, Term, Waited, Listed, Checked, Verified, Refused, Failed, Aborted, Deposed, replies}
 use Rattle.esr_report.specs.Status.{Ending, AllOk, SomeRefused, SwapFailed, BlobDamaged, NumbersSpent, ending}
 
@@ -102,18 +103,16 @@ reply_text item (Failed why op) = codes " failed " ++ why_text why ++ op_text op
 reply_text item (Aborted by) = codes " aborted " ++ decimal by ++ codes "\n"
 reply_text item Deposed = codes " deposed\n"
 
+-- the name that follows a command's verb, if one does
+abbrev pub name_text : Item → Text
+name_text (items.Snapshot name indices) = codes " " ++ name
+name_text (items.Clone source name indices) = codes " " ++ name
+name_text (items.Restore name place) = codes " " ++ name
+name_text item = []
+
 -- a command's beginning, its number aside
-abbrev pub item_text : Item → Text
-item_text (items.Snapshot name indices) = codes " snapshot " ++ name
-item_text (items.Clone source name indices) = codes " clone " ++ name
-item_text (items.Delete names) = codes " delete"
-item_text (items.Restore name place) = codes " restore " ++ name
-item_text items.Cleanup = codes " cleanup"
-item_text items.Failover = codes " failover"
-item_text items.Wait = codes " wait"
-item_text items.List = codes " list"
-item_text items.Check = codes " check"
-item_text items.Verify = codes " verify"
+unfoldable pub item_text : Item → Text
+item_text item = codes " " ++ verb_text item ++ name_text item
 
 unfoldable pub line_text : ScriptLine → Reply → Text
 line_text line reply = decimal line.number ++ item_text line.item ++ reply_text line.item reply

@@ -5,7 +5,7 @@ ghost use Rattle.esr_formats.specs.Names.{name_kind, name_of};
 ghost use Rattle.esr_formats.specs.Roots.{root_snap_of};
 ghost use Rattle.esr_desk.specs.Refusals.{refusal_of};
 ghost use Rattle.esr_desk.specs.Entries.{why_of};
-ghost use Rattle.esr_lines.specs.Lines.{why_text, name_at, index_at, refusal_text, state_text, snap_text, item_text, last_line};
+ghost use Rattle.esr_lines.specs.Lines.{why_text, name_at, index_at, refusal_text, state_text, snap_text, name_text, item_text, last_line};
 ghost use Rattle.esr_report.specs.Code.{ending_of};
 
 use esr_desk::{EntryRefusal, Why};
@@ -179,34 +179,36 @@ pub fn push_snap(out: &mut Bytes, snap: &RootSnap) -> Result<(), AllocError>
     push(out, b"\n")
 }
 
-fn push_item(out: &mut Bytes, item: &Item) -> Result<(), AllocError>
-    ensures { OnOk result (out.new ≡ out.old ++ item_text item.now) }
+/// Appends a word after a space.
+fn push_word(out: &mut Bytes, word: &str) -> Result<(), AllocError>
+    ensures { OnOk result (out.new ≡ out.old ++ (codes " " ++ word.now)) }
+{
+    push(out, b" ")?;
+    push(out, word.as_bytes())
+}
+
+/// Appends the name that follows a command's verb, if one does.
+fn push_name(out: &mut Bytes, item: &Item) -> Result<(), AllocError>
+    ensures { OnOk result (out.new ≡ out.old ++ name_text item.now) }
 {
     match item {
-        Item::Snapshot { name, indices: _ } => {
-            push(out, b" snapshot ")?;
-            push(out, name.as_str().as_bytes())
-        }
+        Item::Snapshot { name, indices: _ } => push_word(out, name.as_str()),
         Item::Clone {
             source: _,
             name,
             indices: _,
-        } => {
-            push(out, b" clone ")?;
-            push(out, name.as_str().as_bytes())
-        }
-        Item::Delete { names: _ } => push(out, b" delete"),
-        Item::Restore { name, place: _ } => {
-            push(out, b" restore ")?;
-            push(out, name.as_str().as_bytes())
-        }
-        Item::Cleanup => push(out, b" cleanup"),
-        Item::Failover => push(out, b" failover"),
-        Item::Wait => push(out, b" wait"),
-        Item::List => push(out, b" list"),
-        Item::Check => push(out, b" check"),
-        Item::Verify => push(out, b" verify"),
+        } => push_word(out, name.as_str()),
+        Item::Restore { name, place: _ } => push_word(out, name.as_str()),
+        _ => Ok(()),
     }
+}
+
+#[tactic(auto, unfolding(crate::specs::Lines::item_text))]
+fn push_item(out: &mut Bytes, item: &Item) -> Result<(), AllocError>
+    ensures { OnOk result (out.new ≡ out.old ++ item_text item.now) }
+{
+    push_word(out, item.verb())?;
+    push_name(out, item)
 }
 
 /// Appends the line after the commands' lines, if there is one.

@@ -1,3 +1,4 @@
 pub mod Info
 pub mod Global
 pub mod Index
+pub mod RoundTrip

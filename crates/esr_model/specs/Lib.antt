@@ -11,3 +11,5 @@ pub mod Finalize
 pub mod Delete
 pub mod Cleanup
 pub mod Uploads
+pub mod Lists
+pub mod Loops

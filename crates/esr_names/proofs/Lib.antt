@@ -1,5 +1,3 @@
 pub mod Front
 pub mod IdTexts
-pub mod Inverse
 pub mod Distinct
-pub mod RefTexts

@@ -20,9 +20,11 @@ use Rattle.esr_formats.specs.Ids.{number_of}
 use Rattle.esr_formats.specs.Roots.{root_index_of}
 use Rattle.esr_model.specs.Values.{Bytes, RootIndex}
 use Rattle.esr_newroot.specs.Named.{index_named, ref_named}
-use Rattle.esr_newroot.proofs.Choices.{chosen, passed, same_names, named_so, other_names, differ, flipped, equals, above}
+use Rattle.esr_newroot.specs.ByteTests.{named_so, differ, flipped}
+use Rattle.esr_newroot.proofs.Choices.{chosen, passed, same_names, other_names, equals, above}
 use Rattle.esr_newroot.proofs.Rising.{Rises, IsBelow, below_all, below_none}
-use Rattle.esr_newroot.proofs.Refs.{by_refs, at_ref, by_one, one_name}
+use Rattle.esr_newroot.specs.RefLists.{one_name}
+use Rattle.esr_newroot.proofs.Refs.{by_refs, at_ref, by_one}
 
 -- ---- the code's rule of names, by the definitions' values
 

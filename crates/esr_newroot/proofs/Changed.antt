@@ -15,7 +15,8 @@ use Rattle.esr_formats.specs.Roots.{root_index_of}
 use Rattle.esr_model.specs.Values.{Bytes, RootIndex}
 use Rattle.esr_model.specs.Image.{at_shard, at_shard_of}
 use Rattle.esr_newroot.specs.Named.{index_named}
-use Rattle.esr_newroot.proofs.Choices.{chosen, passed, same_names, other_names, differ}
+use Rattle.esr_newroot.specs.ByteTests.{differ}
+use Rattle.esr_newroot.proofs.Choices.{chosen, passed, same_names, other_names}
 use Rattle.esr_newroot.proofs.Named.{some_is, none_some}
 
 abbrev numbers : List (Option Id) → List (Option ℕ)

@@ -4,7 +4,7 @@ use Rattle.std.specs.Prelude.{if◌then◌else◌}
 use Rattle.std.specs.Option.{option_or}
 use Rattle.std.specs.List.{AllByRecursion, IsDistinct}
 use Rattle.std.specs.Str.{bytes_eq}
-use Rattle.std.proofs.lemmas.Bool.{cases_Bool, eqb-true, eq-eqb}
+use Rattle.std.proofs.lemmas.Bool.{cases_Bool, eqb-true, eq-eqb, false_from_ne_true}
 use Rattle.std.proofs.lemmas.List.{map-append}
 use Rattle.esr_names.specs.declared.index_ref.IndexRef.{IndexRef as CodeRef}
 use Rattle.esr_names.specs.Indices.{AreRefs}
@@ -22,12 +22,14 @@ use Rattle.esr_model.specs.Places.{sorted_by}
 use Rattle.esr_model.specs.Finalize.{merged, ref_of, with_ref, has_id, new_indices, finalized_indices, named_first, finalized_root}
 use Rattle.esr_newroot.specs.NewRoot.{MayFinalize}
 use Rattle.esr_newroot.specs.Named.{index_named, ref_named, done_in, Becomes}
-use Rattle.esr_newroot.proofs.Choices.{chosen, passed, is_false, same_names, other_names, differ}
+use Rattle.esr_newroot.specs.ByteTests.{differ}
+use Rattle.esr_newroot.proofs.Choices.{chosen, passed, same_names, other_names}
 use Rattle.esr_newroot.proofs.Named.{named_has, has_named, named-append, named-map, named-sorted}
 use Rattle.esr_newroot.proofs.Rising.{AreApart, apart_rising, same_rising, rises-sorted}
 use Rattle.esr_newroot.proofs.Merged.{merged-missing, merged-padded}
 use Rattle.esr_newroot.proofs.Added.{added, rises_of}
-use Rattle.esr_newroot.proofs.Refs.{one_name, all_weaken, names_distinct, ids_distinct, at_ref, ref_has, ref_none, ref_apart, has_of, id_none, id_some}
+use Rattle.esr_newroot.specs.RefLists.{one_name, all_weaken, names_distinct, ids_distinct}
+use Rattle.esr_newroot.proofs.Refs.{at_ref, ref_has, ref_none, ref_apart, has_of, id_none, id_some}
 use Rattle.esr_newroot.proofs.Growing.{olds, snap_is, grown_named}
 
 -- ---- the indices that come in
@@ -42,7 +44,7 @@ id_there (y ∷ old) x (inr h) = elim (cases_Bool (y.id == x.id)) [
 
 id_elsewhere : (old : List RootIndex) (id : ℕ) → ((x : RootIndex) → Has old x → x.id ≢ id) → has_id old id ≡ false
 id_elsewhere [] id h = refl
-id_elsewhere (y ∷ old) id h = passed true (has_id old id) (is_false (y.id == id) (λ e. h y (inl refl) (eqb-true y.id id e))) ∙ id_elsewhere old id (λ x there. h x (inr there))
+id_elsewhere (y ∷ old) id h = passed true (has_id old id) (false_from_ne_true (y.id == id) (λ e. h y (inl refl) (eqb-true y.id id e))) ∙ id_elsewhere old id (λ x there. h x (inr there))
 
 -- a new index of the snapshot
 abbrev new_of : Info → List ShardResult → CodeRef → RootIndex

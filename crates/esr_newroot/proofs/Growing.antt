@@ -2,7 +2,7 @@
 use Rattle.std.proofs.Common.{◌≡◌, ◌≢◌, ℕ, ◌-◌, ◌≤◌, false, List, [], ◌∷◌, length, map, replicate, Option, Some, None, refl, sym, ap, ◌∙◌, subst, arith, inl, inr}
 use Rattle.std.specs.List.{list_any, AllByRecursion}
 use Rattle.std.specs.Cmp.{both_ways}
-use Rattle.std.proofs.lemmas.Bool.{eqb-true, eq-eqb}
+use Rattle.std.proofs.lemmas.Bool.{eqb-true, eq-eqb, false_from_ne_true}
 use Rattle.std.proofs.lemmas.List.{length-append, length-replicate}
 use Rattle.esr_names.specs.declared.index_ref.IndexRef.{IndexRef as CodeRef}
 use Rattle.esr_names.specs.Indices.{AreRefs}
@@ -21,9 +21,11 @@ use Rattle.esr_core.specs.Tracked.{IsOneIndex}
 use Rattle.esr_model.specs.Values.{Bytes, Has, RootSnap, RootIndex, ShardResult}
 use Rattle.esr_newroot.specs.NewRoot.{MayFinalize}
 use Rattle.esr_newroot.specs.Named.{index_named, ref_named, IsReady}
-use Rattle.esr_newroot.proofs.Choices.{is_false, same_names, named_so, other_names}
+use Rattle.esr_newroot.specs.ByteTests.{named_so}
+use Rattle.esr_newroot.proofs.Choices.{same_names, other_names}
 use Rattle.esr_newroot.proofs.Added.{added, named-with_each}
-use Rattle.esr_newroot.proofs.Refs.{all_has, names_distinct, ids_distinct, refs_few, at_ref, ref_some, has_of}
+use Rattle.esr_newroot.specs.RefLists.{names_distinct, ids_distinct}
+use Rattle.esr_newroot.proofs.Refs.{all_has, refs_few, at_ref, ref_some, has_of}
 use Rattle.esr_newroot.proofs.Shards.{each_shard}
 
 -- the indices of a root, as the definitions see them
@@ -40,7 +42,7 @@ fresh_of : (info : Info) (ss : List CodeSnap) → ((s : RootSnap) → Has (map r
 fresh_of info [] h = refl
 fresh_of info (s ∷ ss) h =
     let own = h (root_snap_of s) (inl refl) in
-    rw (other_names s.name info.name own.0, is_false (same_id s.uuid info.uuid) (λ e. own.1 (eqb-true s.uuid.number info.uuid.number e))) (fresh_of info ss (λ t there. h t (inr there)))
+    rw (other_names s.name info.name own.0, false_from_ne_true (same_id s.uuid info.uuid) (λ e. own.1 (eqb-true s.uuid.number info.uuid.number e))) (fresh_of info ss (λ t there. h t (inr there)))
 
 fits_of : (q : CodeRef) (is : List CodeIndex) → ((x : RootIndex) → Has (map root_index_of is) x → IsOneIndex q.name q.id.number x.name x.id) → Fits is q
 fits_of q [] h = tt

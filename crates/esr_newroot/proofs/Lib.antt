@@ -3,8 +3,8 @@ pub mod Named
 pub mod Rising
 pub mod Merged
 pub mod Changed
-pub mod Added
 pub mod Refs
+pub mod Added
 pub mod Steps
 pub mod Shards
 pub mod Growing

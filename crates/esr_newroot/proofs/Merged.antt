@@ -1,18 +1,14 @@
 -- The generations of an index, with those of some results.
-use Rattle.std.proofs.Common.{◌≡◌, ◌≢◌, ℕ, zero, suc, pred, ◌+◌, ◌-◌, ◌<◌, Bool, true, false, ◌&&◌, ◌==◌, List, [], ◌∷◌, ◌++◌, length, set, replicate, Option, Some, None, refl, sym, ap, ◌∙◌, subst, arith, inl, inr}
-use Rattle.std.proofs.lemmas.Bool.{cases_Bool, eqb-true, eq-eqb, true≢false}
+use Rattle.std.proofs.Common.{◌≡◌, ◌≢◌, ℕ, zero, suc, pred, ◌+◌, ◌-◌, ◌<◌, true, false, ◌&&◌, ◌==◌, List, [], ◌∷◌, ◌++◌, length, set, replicate, Option, Some, None, refl, sym, ap, ◌∙◌, subst, arith, inl, inr}
+use Rattle.std.proofs.lemmas.Bool.{cases_Bool, eqb-true, eq-eqb, true≢false, and_parts, false_from_ne_true}
 use Rattle.esr_model.specs.Values.{ShardResult}
 use Rattle.esr_model.specs.Image.{at_shard}
 use Rattle.esr_model.specs.Finalize.{larger, done_at, merged}
-use Rattle.esr_newroot.proofs.Choices.{chosen, passed, is_false}
+use Rattle.esr_newroot.proofs.Choices.{chosen, passed}
 
 pub larger_none : (g : Option ℕ) → larger g None ≡ g
 larger_none None = refl
 larger_none (Some g) = refl
-
-both : (a b : Bool) → (a && b) ≡ true → (a ≡ true) × (b ≡ true)
-both true b e = (refl, e)
-both false b e = absurd (true≢false (sym e))
 
 -- ---- a result more
 
@@ -22,7 +18,7 @@ done_there r rs id k index shard = chosen (Some r.generation) (done_at rs id k) 
 pub done_elsewhere : (r : ShardResult) (rs : List ShardResult) (id k : ℕ) → (r.index ≡ id → r.shard ≡ k → ⊥) → done_at (r ∷ rs) id k ≡ done_at rs id k
 done_elsewhere r rs id k apart =
     passed (Some r.generation) (done_at rs id k)
-    (is_false ((r.index == id) && (r.shard == k)) (λ e. let h = both (r.index == id) (r.shard == k) e in apart (eqb-true r.index id h.0) (eqb-true r.shard k h.1)))
+    (false_from_ne_true ((r.index == id) && (r.shard == k)) (λ e. let h = and_parts (r.index == id) (r.shard == k) e in apart (eqb-true r.index id h.0) (eqb-true r.shard k h.1)))
 
 -- ---- the lists
 

@@ -12,7 +12,8 @@ use Rattle.esr_model.specs.Values.{Bytes, Has, RootIndex}
 use Rattle.esr_model.specs.Places.{by_order, put_by, sorted_by}
 use Rattle.esr_model.specs.Finalize.{named_first}
 use Rattle.esr_newroot.specs.Named.{index_named}
-use Rattle.esr_newroot.proofs.Choices.{chosen, passed, same_names, named_so, above}
+use Rattle.esr_newroot.specs.ByteTests.{named_so}
+use Rattle.esr_newroot.proofs.Choices.{chosen, passed, same_names, above}
 
 pub some_is : {A : Type 0} {x y : A} → Some x ≡ Some y → x ≡ y
 some_is e = cc

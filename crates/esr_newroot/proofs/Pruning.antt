@@ -8,7 +8,7 @@ use Rattle.std.specs.Str.{bytes_eq}
 use Rattle.std.specs.declared.cmp.Ordering.{Ordering}
 use Rattle.std.specs.declared.cmp.Ordering.TheVariants.{Less}
 use Rattle.std.proofs.lemmas.Bool.{cases_Bool, true≢false, eqb-true, eq-eqb}
-use Rattle.std.proofs.lemmas.List.{append-nil, get_or_default, length-map, length-set, map-set, drop_all}
+use Rattle.std.proofs.lemmas.List.{append-nil, length-map, length-set, map-set, drop_all}
 use Rattle.esr_names.specs.declared.ids.Id.{Id}
 use Rattle.esr_root.specs.Ids.{has_id}
 use Rattle.esr_root.specs.Generations.{padded, with_generation}
@@ -23,7 +23,7 @@ use Rattle.esr_model.specs.Values.{Bytes, Has, RootSnap, RootIndex, RootData}
 use Rattle.esr_model.specs.Delete.{names_uuid, left_snaps, PrunedShard, next_after, own_id, left_uuids, left_index, left_indices, left_root, fresh_in, set_fresh, renewed, deleted_root}
 use Rattle.esr_results.specs.declared.pruned.PrunedShard.{PrunedShard as CodePruned}
 use Rattle.esr_results.specs.Pruned.{pruned_of, IsPlaced, ArePlaced}
-use Rattle.esr_newroot.proofs.Choices.{named_so, below}
+use Rattle.esr_newroot.specs.ByteTests.{named_so, below}
 
 -- ---- without some snapshots
 
@@ -177,10 +177,6 @@ renewed_none root r shard to none r_is =
 
 -- ---- a loop over some list
 
--- an item that is read at a place of the list, at any default
-pub item_is : {A : Type 0} (xs : List A) (k : ℕ) (d : A) → k < length xs → get_or xs k d ≡ get_or xs k (get_or xs k d)
-item_is xs k d low = get_or_default xs k d (get_or xs k d) low
-
 pub next_item : {A : Type 0} (xs : List A) (k : ℕ) (x : A) → k < length xs → x ≡ get_or xs k x → drop k xs ≡ x ∷ drop (k + 1) xs
 next_item {A} xs k x low is = let split : drop k xs ≡ get_or xs k x ∷ drop (k + 1) xs = rw add-one (drop-cons xs k x low) in split ∙ ap (λ (y : A). y ∷ drop (k + 1) xs) (sym is)
 
@@ -272,8 +268,10 @@ renews_one root uuids shards first i next old new x after low is new_is after_is
     by_kept false e = let le = h.most in omega (arith, e, le)
 
 -- the shard at hand has its place
-pub placed_here : (root : RootData) (uuids : List ℕ) (shards : List CodePruned) (first i next : ℕ) (old : RootData) (x : CodePruned) → i < length shards → x ≡ get_or shards i x → Renews root uuids shards first i next old → IsPlaced old (pruned_of x)
+pub placed_here : (root : RootData) (uuids : List ℕ) (shards : List CodePruned) (first i next : ℕ) (old : RootData) (x : CodePruned) → i < length shards → x ≡ get_or shards i x → Renews root uuids shards first i next old
+    → IsPlaced old (pruned_of x)
 placed_here root uuids shards first i next old x low is h = h.placed (pruned_of x) (subst (λ (ps : List PrunedShard). Has ps (pruned_of x)) (sym (ap (map pruned_of) (next_item shards i x low is))) (inl refl))
 
-pub renews_all : (root : RootData) (uuids : List ℕ) (shards : List CodePruned) (first i next : ℕ) (new : RootData) → length shards ≤ i → Renews root uuids shards first i next new → new ≡ deleted_root root uuids (map pruned_of shards) first
+pub renews_all : (root : RootData) (uuids : List ℕ) (shards : List CodePruned) (first i next : ℕ) (new : RootData) → length shards ≤ i → Renews root uuids shards first i next new
+    → new ≡ deleted_root root uuids (map pruned_of shards) first
 renews_all root uuids shards first i next new past h = ap (λ (ps : List CodePruned). renewed next (map pruned_of ps) new) (sym (drop_all i shards past)) ∙ h.rest

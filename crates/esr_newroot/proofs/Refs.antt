@@ -1,71 +1,25 @@
 -- References to indices whose names and ids differ.
-use Rattle.std.proofs.Common.{◌≡◌, ◌≢◌, ℕ, Bool, false, ◌==◌, List, [], ◌∷◌, ◌++◌, map, Option, Some, None, refl, sym, ap, ◌∙◌, subst, inl, inr}
+use Rattle.std.proofs.Common.{◌≡◌, ◌≢◌, ℕ, false, ◌==◌, List, [], ◌∷◌, ◌++◌, map, Option, Some, None, refl, sym, ap, ◌∙◌, subst, inl, inr}
 use Rattle.std.specs.Prelude.{if◌then◌else◌, ◌≤◌}
-use Rattle.std.specs.List.{list_any, AllByRecursion, IsDistinct}
+use Rattle.std.specs.List.{AllByRecursion, IsDistinct}
 use Rattle.std.specs.Str.{bytes_eq}
-use Rattle.std.proofs.lemmas.Bool.{cases_Bool, eqb-true, eq-eqb}
+use Rattle.std.proofs.lemmas.Bool.{cases_Bool, eqb-true, eq-eqb, false_from_ne_true}
 use Rattle.esr_names.specs.declared.index_ref.IndexRef.{IndexRef}
-use Rattle.esr_names.specs.Indices.{clashes, AreRefs}
-use Rattle.esr_root.specs.Ids.{same_id}
+use Rattle.esr_names.specs.Indices.{AreRefs}
 use Rattle.esr_formats.specs.Refs.{ref_of_code}
 use Rattle.esr_model.specs.Values.{Bytes, Has, RootIndex}
 use Rattle.esr_model.specs.Finalize.{ref_of}
 use Rattle.esr_newroot.specs.Named.{ref_named}
-use Rattle.esr_newroot.proofs.Choices.{chosen, passed, same_names, named_so, other_names, differ, or_false, is_false}
+use Rattle.esr_newroot.specs.ByteTests.{named_so, differ}
+use Rattle.esr_newroot.specs.RefLists.{one_name, one_id, all_weaken, other_later}
+use Rattle.esr_newroot.proofs.Choices.{chosen, passed, same_names, other_names}
 use Rattle.esr_newroot.proofs.Named.{some_is, none_some}
 
-abbrev pub one_name : IndexRef → IndexRef → Bool
-one_name p q = bytes_eq p.name q.name
-
-abbrev pub one_id : IndexRef → IndexRef → Bool
-one_id p q = same_id p.id q.id
-
 -- ---- lists that keep their rule
-
-has_last : (before : List IndexRef) (q : IndexRef) → Has (before ++ q ∷ []) q
-has_last [] q = inl refl
-has_last (p ∷ before) q = inr (has_last before q)
-
-has_more : (before : List IndexRef) (p q : IndexRef) → Has before p → Has (before ++ q ∷ []) p
-has_more [] p q h = absurd h
-has_more (x ∷ before) p q (inl e) = inl e
-has_more (x ∷ before) p q (inr h) = inr (has_more before p q h)
-
-no_clash : (q p : IndexRef) (before : List IndexRef) → Has before p → list_any (clashes q) before ≡ false → clashes q p ≡ false
-no_clash q p [] h e = absurd h
-no_clash q p (x ∷ before) (inl is) e = subst (λ (z : IndexRef). clashes q z ≡ false) is (or_false (clashes q x) (list_any (clashes q) before) e).0
-no_clash q p (x ∷ before) (inr h) e = no_clash q p before h (or_false (clashes q x) (list_any (clashes q) before) e).1
-
--- none of the later ones clashes with one before them
-clear : (p : IndexRef) (before qs : List IndexRef) → Has before p → AreRefs before qs → AllByRecursion (λ q. clashes q p ≡ false) qs
-clear p before [] h a = tt
-clear p before (q ∷ qs) h a = (no_clash q p before h a.1, clear p (before ++ q ∷ []) qs (has_more before p q h) a.2)
-
-pub all_weaken : {A : Type 0} (P Q : A → Type 0) → ((x : A) → P x → Q x) → (xs : List A) → AllByRecursion P xs → AllByRecursion Q xs
-all_weaken P Q f [] h = tt
-all_weaken P Q f (x ∷ xs) h = (f x h.0, all_weaken P Q f xs h.1)
-
-distinct_by : (e : IndexRef → IndexRef → Bool) → ((p q : IndexRef) → clashes q p ≡ false → e p q ≡ false) → (before qs : List IndexRef) → AreRefs before qs → IsDistinct e qs
-unfolding IsDistinct
-distinct_by e f before [] a = tt
-distinct_by e f before (q ∷ qs) a =
-    (all_weaken (λ r. clashes r q ≡ false) (λ r. e q r ≡ false) (λ r. f q r) qs (clear q (before ++ q ∷ []) qs (has_last before q) a.2), distinct_by e f (before ++ q ∷ []) qs a.2)
-
--- one of the later ones differs
-pub other_later : (e : IndexRef → IndexRef → Bool) (p : IndexRef) (qs : List IndexRef) (q : IndexRef) → Has qs q → AllByRecursion (λ r. e p r ≡ false) qs → e p q ≡ false
-other_later e p [] q h a = absurd h
-other_later e p (r ∷ qs) q (inl is) a = subst (λ (z : IndexRef). e p z ≡ false) is a.0
-other_later e p (r ∷ qs) q (inr h) a = other_later e p qs q h a.1
 
 pub all_has : (P : IndexRef → Type 0) (qs : List IndexRef) → ((q : IndexRef) → Has qs q → P q) → AllByRecursion P qs
 all_has P [] f = tt
 all_has P (q ∷ qs) f = (f q (inl refl), all_has P qs (λ p h. f p (inr h)))
-
-pub names_distinct : (qs : List IndexRef) → AreRefs [] qs → IsDistinct one_name qs
-names_distinct qs a = distinct_by one_name (λ p q c. (or_false (bytes_eq p.name q.name) (p.id.number == q.id.number) c).0) [] qs a
-
-pub ids_distinct : (qs : List IndexRef) → AreRefs [] qs → IsDistinct one_id qs
-ids_distinct qs a = distinct_by one_id (λ p q c. (or_false (bytes_eq p.name q.name) (p.id.number == q.id.number) c).1) [] qs a
 
 pub refs_few : (before qs : List IndexRef) → AreRefs before qs → AllByRecursion (λ q. q.shards ≤ 1024) qs
 refs_few before [] a = tt
@@ -141,7 +95,7 @@ has_of (p ∷ qs) q (inr h) = inr (has_of qs q h)
 pub id_none : (id : ℕ) (qs : List IndexRef) → ((q : IndexRef) → Has qs q → q.id.number ≢ id) → ref_of (map ref_of_code qs) id ≡ None
 id_none id [] h = refl
 id_none id (q ∷ qs) h =
-    passed (Some (ref_of_code q)) (ref_of (map ref_of_code qs) id) (is_false (q.id.number == id) (λ e. h q (inl refl) (eqb-true q.id.number id e)))
+    passed (Some (ref_of_code q)) (ref_of (map ref_of_code qs) id) (false_from_ne_true (q.id.number == id) (λ e. h q (inl refl) (eqb-true q.id.number id e)))
     ∙ id_none id qs (λ p there. h p (inr there))
 
 pub id_some : (qs : List IndexRef) (q : IndexRef) → IsDistinct one_id qs → Has qs q → ref_of (map ref_of_code qs) q.id.number ≡ Some (ref_of_code q)

@@ -14,7 +14,8 @@ use Rattle.esr_model.specs.Values.{Bytes, RootIndex}
 use Rattle.esr_model.specs.Places.{by_order, put_by, sorted_by}
 use Rattle.esr_model.specs.Finalize.{named_first}
 use Rattle.esr_newroot.specs.Named.{index_named}
-use Rattle.esr_newroot.proofs.Choices.{chosen, passed, named_so, same_names, flipped, equals, below, above}
+use Rattle.esr_newroot.specs.ByteTests.{named_so, flipped, below}
+use Rattle.esr_newroot.proofs.Choices.{chosen, passed, same_names, equals, above}
 use Rattle.esr_newroot.proofs.Named.{some_is, none_some, named-sorted}
 
 abbrev pub name_order : RootIndex → RootIndex → Ordering

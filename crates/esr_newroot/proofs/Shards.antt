@@ -10,7 +10,7 @@ use Rattle.esr_model.specs.Places.{numbered, places}
 use Rattle.esr_model.specs.Finalize.{done_at}
 use Rattle.esr_newroot.specs.Named.{AreShardsOf}
 use Rattle.esr_newroot.proofs.Merged.{done_elsewhere}
-use Rattle.esr_newroot.proofs.Refs.{one_id, other_later}
+use Rattle.esr_newroot.specs.RefLists.{one_id, other_later}
 
 -- an index and a shard
 abbrev pub Key : Type 0

@@ -20,7 +20,8 @@ use Rattle.esr_newroot.specs.Named.{index_named, ref_named, with_done, done_in, 
 use Rattle.esr_newroot.proofs.Choices.{chosen, passed, same_names}
 use Rattle.esr_newroot.proofs.Merged.{length-merged, merged-no_results, merged-one, merged-then, merged-other}
 use Rattle.esr_newroot.proofs.Changed.{with_set, generation_named, set_named}
-use Rattle.esr_newroot.proofs.Refs.{by_refs, at_ref, by_one, one_name, all_weaken}
+use Rattle.esr_newroot.specs.RefLists.{one_name, all_weaken}
+use Rattle.esr_newroot.proofs.Refs.{by_refs, at_ref, by_one}
 
 with_generations : RootIndex → List (Option ℕ) → RootIndex
 with_generations y gs = record { name = y.name; id = y.id; snapshots = y.snapshots; generations = gs }

@@ -1,2 +1,4 @@
 pub mod NewRoot
 pub mod Named
+pub mod ByteTests
+pub mod RefLists

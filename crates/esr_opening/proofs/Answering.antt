@@ -82,7 +82,8 @@ says_as found whole (Err e) agree h = blames_on found whole e (λ o fails. agree
 
 -- ---- an error that is passed on
 
-pub passed : {F A B : Type 0} (faults : F → ℕ) (held : Option Held) (x y : ℕ) (whole : Held → Result B Obstacle) (f : A → B) (r : Result A (OpenRefusal F)) (e : OpenRefusal F) → IsErrAnd r (λ s. s ≡ e) → Refuses faults held x y whole e
+pub passed : {F A B : Type 0} (faults : F → ℕ) (held : Option Held) (x y : ℕ) (whole : Held → Result B Obstacle) (f : A → B) (r : Result A (OpenRefusal F)) (e : OpenRefusal F) → IsErrAnd r (λ s. s ≡ e)
+    → Refuses faults held x y whole e
     → Answers faults held x y whole (part f r)
 passed faults held x y whole f (Ok v) e is h = absurd is
 passed faults held x y whole f (Err s) e is h = subst (λ t. Refuses faults held x y whole t) (sym is) h

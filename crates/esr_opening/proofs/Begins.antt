@@ -12,7 +12,7 @@ use Rattle.esr_record.specs.Record.{Record}
 use Rattle.esr_root.specs.Root.{Root}
 use Rattle.esr_meta.specs.Info.{Info}
 use Rattle.esr_formats.specs.Clusters.{cluster_of, cluster_kind}
-use Rattle.esr_ops.specs.Plan.{Plan, RestorePlan, seat_of, restore_plan, reader_seat, IsPlanOf}
+use Rattle.esr_ops.specs.Plan.{Plan, RestorePlan, seat_out, restore_plan, reader_out, IsPlanOf}
 use Rattle.esr_opening.specs.Found.{Obstacle, Damage, found}
 use Rattle.esr_opening.specs.Hindrances.{IsNoDamage}
 use Rattle.esr_opening.specs.Opening.{IsKeptOf, world_in, opened_text, IsInOrder, IsLeftOf, IsOpening, IsAsBefore, SparesKept, IsOpenRefused}
@@ -39,12 +39,12 @@ plan_is held cluster root = record {
   ops = refl;
   deletes = refl;
   completed = refl;
-  seats = λ k. fin.get-empty nat_cmp k ∙ ap (option_map seat_of) (sym (fin.get-empty nat_cmp k));
+  seats = λ k. fin.get-empty nat_cmp k ∙ ap seat_out (sym (fin.get-empty nat_cmp k));
   next_op = refl;
   next_ticket = refl;
   restores = λ o. fin.get-empty nat_cmp o ∙ ap (option_map restore_plan) (sym (fin.get-empty nat_cmp o));
   restore_count = fin.len-empty nat_cmp RestorePlan ∙ sym (fin.len-empty nat_cmp Restoring);
-  readers = λ k. fin.get-empty nat_cmp k ∙ ap (option_map reader_seat) (sym (fin.get-empty nat_cmp k));
+  readers = λ k. fin.get-empty nat_cmp k ∙ ap reader_out (sym (fin.get-empty nat_cmp k));
 }
 
 kept_is : (held : Option Held) (cluster next : Record) (root : Root) (infos : List Info) (plan : Plan) → next ≡ next_term cluster → plan ≡ plan_of cluster
@@ -58,7 +58,8 @@ kept_is held cluster next root infos plan is list = record {
 
 -- ---- what a crash leaves
 
-left_by : (before mid after : Look) (cluster next : Record) (root : Root) → next ≡ next_term cluster → IsAsBefore before mid → LeavesOnly mid after (MayHave (now mid) (text_of next)) → LeavesOnly before after (IsLeftOf (now before) cluster root)
+left_by : (before mid after : Look) (cluster next : Record) (root : Root) → next ≡ next_term cluster → IsAsBefore before mid → LeavesOnly mid after (MayHave (now mid) (text_of next))
+    → LeavesOnly before after (IsLeftOf (now before) cluster root)
 left_by before mid after cluster next root is as_before left =
     let P : Held → Type 0 = IsLeftOf (now before) cluster root in
     let first : LeavesOnly before mid P = record { later = as_before.left.later; each = λ i h. inl (as_before.left.each i h); before = λ t i le h. ⊎_elim (λ was. inl was) (λ is. inr (inl is)) (as_before.left.before t i le h) } in
@@ -71,7 +72,8 @@ left_by before mid after cluster next root is as_before left =
 -- ---- the answers
 
 pub begun : (before mid after : Look) (x y : ℕ) (cluster next : Record) (root : Root) (infos : List Info) (plan : Plan) → Looked before mid x y → ((i : Held) → now before ≡ Some i → found i ≡ Ok (cluster, root)) → IsFit cluster root
-    → AreInfosIn (now before) root root.snapshots infos → IsInOrder (world_in (now before) cluster root) → next ≡ next_term cluster → plan ≡ plan_of cluster → now after ≡ swap_known (now mid) (text_of next) → after.clock ≤ 2 ^ 64 - 1 → mid.clock ≤ before.clock + (3 + length root.snapshots) → after.clock ≤ mid.clock + 1 → LeavesOnly mid after (MayHave (now mid) (text_of next))
+    → AreInfosIn (now before) root root.snapshots infos → IsInOrder (world_in (now before) cluster root) → next ≡ next_term cluster → plan ≡ plan_of cluster → now after ≡ swap_known (now mid) (text_of next)
+    → after.clock ≤ 2 ^ 64 - 1 → mid.clock ≤ before.clock + (3 + length root.snapshots) → after.clock ≤ mid.clock + 1 → LeavesOnly mid after (MayHave (now mid) (text_of next))
     → IsOpening before after (record { cluster = next; root = root; infos = infos; plan = plan; next = first_id next.term })
 begun before mid after x y cluster next root infos plan looked finds fit listed order is list swapped bounded reads swap left =
     let put : now after ≡ swap_known (now before) (opened_text cluster root) = swapped ∙ ap (λ (o : Option Held). swap_known o (text_of next)) looked.kept.same ∙ ap (swap_known (now before)) (ap text_of is ∙ text_is cluster root) in
@@ -104,7 +106,8 @@ as_before_on : (a b c : Look) → IsAsBefore a b → IsAsBefore b c → IsAsBefo
 as_before_on a b c first second = (looked_on a b c 0 0 0 (record { kept = first; later = omega arith }) (record { kept = second; later = omega arith })).kept
 
 -- the term didn't begin
-pub not_begun : {F : Type 0} (faults : F → ℕ) (before mid after : Look) (x y z : ℕ) (cluster next : Record) (root : Root) (e : OpenRefusal F) → Looked before mid x y → ((i : Held) → now before ≡ Some i → found i ≡ Ok (cluster, root)) → IsFit cluster root
+pub not_begun : {F : Type 0} (faults : F → ℕ) (before mid after : Look) (x y z : ℕ) (cluster next : Record) (root : Root) (e : OpenRefusal F) → Looked before mid x y
+    → ((i : Held) → now before ≡ Some i → found i ≡ Ok (cluster, root)) → IsFit cluster root
     → IsInOrder (world_in (now before) cluster root) → next ≡ next_term cluster → LeavesOnly mid after (MayHave (now mid) (text_of next)) → NotBegun mid after y z e → IsOpenRefused faults before after x z e
 not_begun faults before mid after x y z cluster next root refusals.Memory looked finds fit order is left h = as_before_on before mid after looked.kept h
 not_begun faults before mid after x y z cluster next root (refusals.DepotFault fetch) looked finds fit order is left h = (

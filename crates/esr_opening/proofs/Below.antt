@@ -2,7 +2,6 @@
 use Rattle.std.proofs.Common.{◌≡◌, ◌⊎◌, inl, inr, ℕ, zero, suc, ◌<◌, Bool, true, false, ◌==◌, List, [], ◌∷◌, ◌++◌, map, Option, Some, None, option_map, length, drop, get_or, ◌+◌, refl, sym, ap, ◌∙◌, subst, ⊎_elim, nat_lt}
 use Rattle.std.specs.Prelude.{if◌then◌else◌}
 use Rattle.std.proofs.lemmas.Bool.{cases_Bool, ltb-true, lt-ltb}
-use Rattle.esr_names.specs.declared.ids.Id.{Id}
 use Rattle.esr_root.specs.declared.snaps.RootSnap.{RootSnap as CodeSnap}
 use Rattle.esr_root.specs.declared.indices.RootIndex.{RootIndex as CodeIndex}
 use Rattle.esr_model.specs.Values.{Has, RootSnap, RootIndex, RootData, IsOneEach}
@@ -10,11 +9,11 @@ use Rattle.esr_model.specs.Image.{index_at, at_shard, at_shard_of}
 use Rattle.esr_model.specs.Kept.{RootIds}
 use Rattle.esr_formats.specs.Ids.{number_of}
 use Rattle.std.proofs.lemmas.List.{drop_more}
+use Rattle.esr_model.specs.Lists.{Has-left, Has-right, Has-either}
 use Rattle.esr_root.specs.Root.{Root}
 use Rattle.esr_formats.specs.Roots.{root_of, root_snap_of, root_index_of}
 use Rattle.esr_opening.specs.Foreign.{generation_ids, index_ids, snapshot_ids, root_ids, first_from}
-use Rattle.esr_opening.proofs.Members.{in_left, in_right, in_either}
-use Rattle.esr_agreement.proofs.Served.{index_found}
+use Rattle.esr_agreement.specs.AgreementTests.{index_found}
 
 -- ---- none is at the bound or above it
 
@@ -42,7 +41,7 @@ uuid_in (x ∷ xs) s (inr later) = inr (uuid_in xs s later)
 pub index_in : (xs : List RootIndex) (x : RootIndex) → Has xs x → Has (index_ids xs) x.id
 index_in [] x none = absurd none
 index_in (y ∷ ys) x (inl here) = inl (ap (λ (z : RootIndex). z.id) here)
-index_in (y ∷ ys) x (inr later) = inr (in_right (generation_ids y.generations) (index_ids ys) x.id (index_in ys x later))
+index_in (y ∷ ys) x (inr later) = inr (Has-right (generation_ids y.generations) (index_ids ys) x.id (index_in ys x later))
 
 pub generation_in_list : (gs : List (Option ℕ)) (k g : ℕ) → at_shard gs k ≡ Some g → Has (generation_ids gs) g
 generation_in_list [] k g h = absurd cc
@@ -57,10 +56,10 @@ generation_in_indices (x ∷ xs) i k g h =
     elim (cases_Bool (x.id == i)) [
       | inl same ↦
           let here : at_shard x.generations k ≡ Some g = sym (ap (λ (b : Bool). at_shard_of (if b then Some x else index_at xs i) k) same) ∙ h in
-          inr (in_left (generation_ids x.generations) (index_ids xs) g (generation_in_list x.generations k g here))
+          inr (Has-left (generation_ids x.generations) (index_ids xs) g (generation_in_list x.generations k g here))
       | inr other ↦
           let later : at_shard_of (index_at xs i) k ≡ Some g = sym (ap (λ (b : Bool). at_shard_of (if b then Some x else index_at xs i) k) other) ∙ h in
-          inr (in_right (generation_ids x.generations) (index_ids xs) g (generation_in_indices xs i k g later))
+          inr (Has-right (generation_ids x.generations) (index_ids xs) g (generation_in_indices xs i k g later))
     ]
 
 -- ---- whose they are
@@ -80,7 +79,7 @@ generation_of (Some g ∷ gs) id (inr later) = let k = generation_of gs id later
 index_of : (xs : List RootIndex) (id : ℕ) → Has (index_ids xs) id → (x : RootIndex) × Has xs x × ((x.id ≡ id) ⊎ Has (generation_ids x.generations) id)
 index_of [] id none = absurd none
 index_of (x ∷ xs) id (inl here) = (x, inl refl, inl here)
-index_of (x ∷ xs) id (inr later) = elim (in_either (generation_ids x.generations) (index_ids xs) id later) [
+index_of (x ∷ xs) id (inr later) = elim (Has-either (generation_ids x.generations) (index_ids xs) id later) [
   | inl own ↦ (x, inl refl, inr own)
   | inr rest ↦ let i = index_of xs id rest in (i.0, inr i.1, i.2)
 ]
@@ -94,7 +93,7 @@ index_id_below root bound one ids id x has (inr generation) =
     ids.generations x.id k.0 id (ap (λ (o : Option RootIndex). at_shard_of o k.0) (y.1 ∙ ap (λ (z : RootIndex). Some z) same) ∙ k.1)
 
 id_below : (root : RootData) (bound : ℕ) → IsOneEach root.indices → RootIds root bound → (id : ℕ) → Has (root_ids root) id → id < bound
-id_below root bound one ids id has = elim (in_either (snapshot_ids root.snapshots) (index_ids root.indices) id has) [
+id_below root bound one ids id has = elim (Has-either (snapshot_ids root.snapshots) (index_ids root.indices) id has) [
   | inl uuid ↦ let s = uuid_of root.snapshots id uuid in subst (λ n. n < bound) s.2 (ids.snapshots s.0 s.1)
   | inr index ↦ let x = index_of root.indices id index in index_id_below root bound one ids id x.0 x.1 x.2
 ]
@@ -133,7 +132,8 @@ at_index bound is k i less there =
 pub found_here : (bound : ℕ) (is : List CodeIndex) (k : ℕ) (i : CodeIndex) (id : ℕ) → k < length is → i ≡ get_or is k i → Some id ≡ first_from bound (own_ids i) → Some id ≡ first_from bound (ids_of (drop k is))
 found_here bound is k i id less there here = sym (at_index bound is k i less there ∙ ap (λ (o : Option ℕ). or_else o (first_from bound (ids_of (drop (k + 1) is)))) (sym here))
 
-pub none_here : (bound : ℕ) (is : List CodeIndex) (k : ℕ) (i : CodeIndex) → k < length is → i ≡ get_or is k i → None ≡ first_from bound (own_ids i) → first_from bound (ids_of (drop k is)) ≡ first_from bound (ids_of (drop (k + 1) is))
+pub none_here : (bound : ℕ) (is : List CodeIndex) (k : ℕ) (i : CodeIndex) → k < length is → i ≡ get_or is k i → None ≡ first_from bound (own_ids i)
+    → first_from bound (ids_of (drop k is)) ≡ first_from bound (ids_of (drop (k + 1) is))
 none_here bound is k i less there here = at_index bound is k i less there ∙ ap (λ (o : Option ℕ). or_else o (first_from bound (ids_of (drop (k + 1) is)))) (sym here)
 
 abbrev uuids_of : List CodeSnap → List ℕ

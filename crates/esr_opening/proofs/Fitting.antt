@@ -1,21 +1,18 @@
 -- A record and a root that can be opened: their ids, names and numbers.
 use Rattle.std.proofs.Common.{◌≡◌, ◌⊎◌, inl, inr, ℕ, suc, ◌+◌, ◌<◌, ◌≤◌, true, false, cond, eqb, ℤ, pos, negsuc, ◌≤ℤ◌, List, [], ◌∷◌, ◌++◌, length, map, Option, Some, None, Result, Ok, Err, refl, sym, ap, ◌∙◌, subst, arith, eq-eqb, nat_cmp, Ordering}
 use Rattle.std.specs.Prelude.{if◌then◌else◌}
-use Rattle.std.specs.Ordering.{is_eq}
 use Rattle.std.specs.FinMap.{FinMap}
 use Rattle.std.specs.FinMap as fin
-use Rattle.std.specs.Str.{bytes_eq}
 use Rattle.std.specs.declared.cmp.Ordering.TheVariants.{Less}
 use Rattle.std.proofs.lemmas.Bool.{eqb-true, true≢false}
 use Rattle.std.proofs.lemmas.Int.{ints}
-use Rattle.esr_names.specs.declared.ids.Id.{Id}
+use Rattle.esr_model.specs.Lists.{Has-mapped, Has-map, Has-left, Has-right}
 use Rattle.esr_model.specs.Values.{Has, RootSnap, RootIndex, RootData, RecordWork, DeletingOf, ClusterRecord, ReadsBack}
-use Rattle.esr_model.specs.Image.{Generation}
 use Rattle.esr_model.specs.Kept.{first_id, RootIds}
 use Rattle.esr_core.specs.World.{Op, Deletion, opened, record_of, record_ops, work_of, kept_deletes, numbered_deletes}
 use Rattle.esr_core.specs.Tracked.{Tracked, IsOneIndex}
 use Rattle.esr_core.specs.Ranked.{Ranked}
-use Rattle.esr_core.proofs.Lists.{numbered_from}
+use Rattle.esr_core.specs.Laws.DeleteNumbers.{numbered_from}
 use Rattle.esr_depot.specs.Image.{Image as Held, Blobs}
 use Rattle.esr_record.specs.Record.{Record}
 use Rattle.esr_record.specs.declared.op.RecordOp.{RecordOp}
@@ -30,7 +27,7 @@ use Rattle.esr_root.specs.declared.indices.RootIndex.{RootIndex as CodeIndex}
 use Rattle.esr_formats.specs.Ids.{number_of}
 use Rattle.esr_formats.specs.Roots.{root_of, root_snap_of, root_index_of}
 use Rattle.esr_formats.specs.Clusters.{count_of, work_of_code, op_of, cluster_of, cluster_kind}
-use Rattle.esr_newroot.proofs.Choices.{named_so, below}
+use Rattle.esr_newroot.specs.ByteTests.{named_so, below}
 use Rattle.esr_ops.specs.Deletes.{deletion_entry, kept_delete, kept_from}
 use Rattle.esr_ops.specs.Inside.{numbers_of, Rise}
 use Rattle.esr_ops.specs.Entries.{find-cons, get_from, get_put, same_maps}
@@ -39,7 +36,7 @@ use Rattle.esr_opening.specs.Foreign.{snapshot_ids, index_ids, root_ids, first_f
 use Rattle.esr_opening.specs.Found.{Obstacle, ◌>>=◌, known_by, known_ids, safe_number}
 use Rattle.esr_opening.specs.Opening.{known_blobs, world_in, IsInOrder}
 use Rattle.esr_opening.specs.Terms.{IsFit, is_delete, kept_ops, kept_of, AreFew, next_term}
-use Rattle.esr_opening.proofs.Members.{mapped, has_map, in_left, in_right, all_has, pass_has, any_has, apart_has, rising_has}
+use Rattle.esr_opening.proofs.Members.{all_has, pass_has, any_has, apart_has, rising_has}
 use Rattle.esr_opening.proofs.Below.{all_below, uuid_in, index_in, generation_in_indices}
 
 -- ---- steps that were Ok
@@ -67,25 +64,25 @@ id_below cluster root fit id h = all_below (bound_of cluster) (root_ids (root_of
 
 uuid_below : (cluster : Record) (root : Root) → IsFit cluster root → (s : RootSnap) → Has (root_of root).snapshots s → s.uuid < bound_of cluster
 uuid_below cluster root fit s h =
-    id_below cluster root fit s.uuid (in_left (snapshot_ids (root_of root).snapshots) (index_ids (root_of root).indices) s.uuid (uuid_in (root_of root).snapshots s h))
+    id_below cluster root fit s.uuid (Has-left (snapshot_ids (root_of root).snapshots) (index_ids (root_of root).indices) s.uuid (uuid_in (root_of root).snapshots s h))
 
 index_below : (cluster : Record) (root : Root) → IsFit cluster root → (id : ℕ) → Has (index_ids (root_of root).indices) id → id < bound_of cluster
-index_below cluster root fit id h = id_below cluster root fit id (in_right (snapshot_ids (root_of root).snapshots) (index_ids (root_of root).indices) id h)
+index_below cluster root fit id h = id_below cluster root fit id (Has-right (snapshot_ids (root_of root).snapshots) (index_ids (root_of root).indices) id h)
 
 -- a snapshot of an index is listed
 listed : (root : Root) → IsRoot root → (x : RootIndex) (u : ℕ) → Has (root_of root).indices x → Has x.snapshots u → (s : RootSnap) × Has (root_of root).snapshots s × (s.uuid ≡ u)
 listed root rules x u has_x has_u =
-    let i = mapped root_index_of root.indices x has_x in
-    let v = mapped number_of i.0.snapshots u (subst (λ (y : RootIndex). Has y.snapshots u) (sym i.2) has_u) in
+    let i = Has-mapped root_index_of root.indices x has_x in
+    let v = Has-mapped number_of i.0.snapshots u (subst (λ (y : RootIndex). Has y.snapshots u) (sym i.2) has_u) in
     let passes = pass_has (lists root.snapshots) i.0.snapshots v.0 (all_has (IsListed root.snapshots) root.indices i.0 rules.listed i.1) v.1 in
     let s = any_has (λ (z : CodeSnap). same_id z.uuid v.0) root.snapshots passes in
-    (root_snap_of s.0, has_map root_snap_of root.snapshots s.0 s.1, eqb-true s.0.uuid.number v.0.number s.2 ∙ v.2)
+    (root_snap_of s.0, Has-map root_snap_of root.snapshots s.0 s.1, eqb-true s.0.uuid.number v.0.number s.2 ∙ v.2)
 
 -- one name to each id, and one id to each name
 one_index : (root : Root) → IsRoot root → (x y : RootIndex) → Has (root_of root).indices x → Has (root_of root).indices y → IsOneIndex x.name x.id y.name y.id
 one_index root rules x y has_x has_y =
-    let i = mapped root_index_of root.indices x has_x in
-    let j = mapped root_index_of root.indices y has_y in
+    let i = Has-mapped root_index_of root.indices x has_x in
+    let j = Has-mapped root_index_of root.indices y has_y in
     record {
       one_name = λ same.
           let ids : i.0.id.number ≡ j.0.id.number = ap (λ (z : RootIndex). z.id) i.2 ∙ same ∙ sym (ap (λ (z : RootIndex). z.id) j.2) in

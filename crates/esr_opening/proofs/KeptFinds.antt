@@ -36,7 +36,7 @@ use Rattle.esr_opening.specs.declared.refusal.Why.TheVariants.{Disagrees}
 use Rattle.esr_names.specs.declared.blob.BlobName.TheVariants as code
 use Rattle.esr_opening.proofs.Below.{none_foreign}
 use Rattle.esr_opening.proofs.Fitting.{entries_none}
-use Rattle.esr_agreement.proofs.Served.{holds_test}
+use Rattle.esr_agreement.specs.AgreementTests.{holds_test}
 use Rattle.esr_opening.proofs.Shards.{standing_agrees}
 use Rattle.esr_opening.proofs.Steps.{record_there, record_absent, then_ok, whole_there, both_of, found_root}
 
@@ -91,7 +91,8 @@ record SafeFound (blobs : Blobs) (safe : ℤ) (bound : ℕ) : Type 0 where
   whole : whole_root_in blobs safe ≡ Ok root
   below : first_from bound (root_ids (root_of root)) ≡ None
 
-safe_found : (known : Bytes → Bytes → ℕ → Bool) (told : Bytes → Bytes → ℕ → Option (List (Bytes × Bytes))) (blobs : Blobs) (safe : ℤ) (bound : ℕ) (shelf : List Shelved) → Picked (formats known told) (At (formats known told) blobs) (count_of safe) shelf
+safe_found : (known : Bytes → Bytes → ℕ → Bool) (told : Bytes → Bytes → ℕ → Option (List (Bytes × Bytes))) (blobs : Blobs) (safe : ℤ) (bound : ℕ) (shelf : List Shelved)
+    → Picked (formats known told) (At (formats known told) blobs) (count_of safe) shelf
     → ((root : RootData) → RootIs (formats known told) (At (formats known told) blobs) (count_of safe) root → RootIds root bound) → SafeFound blobs safe bound
 unfolding formats
 safe_found known told blobs (negsuc n) bound shelf picked ids = record { root = empty_root; whole = refl; below = refl }
@@ -123,7 +124,8 @@ then_stops (Ok x) cluster root h = tt
 
 -- ---- all of it
 
-all_but_stops : (i : Held) (cluster : Record) (root : Root) → record_in i.blobs i.text ≡ Ok cluster → whole_root_in i.blobs cluster.safe ≡ Ok root → first_from (first_id (suc cluster.term)) (root_ids (root_of root)) ≡ None → IfErr (found i) IsNoDamage
+all_but_stops : (i : Held) (cluster : Record) (root : Root) → record_in i.blobs i.text ≡ Ok cluster → whole_root_in i.blobs cluster.safe ≡ Ok root → first_from (first_id (suc cluster.term)) (root_ids (root_of root)) ≡ None
+    → IfErr (found i) IsNoDamage
 all_but_stops i cluster root there whole below =
     let ids : known_ids root (safe_number cluster.safe) cluster.term ≡ Ok tt = ap (known_by (safe_number cluster.safe)) below in
     let own : own_checks cluster root ≡ has_term cluster.term = then_ok (known_ids root (safe_number cluster.safe) cluster.term) (λ x. has_term cluster.term) tt ids in

@@ -6,6 +6,7 @@ use Rattle.std.specs.List.{IsDistinct}
 use Rattle.std.specs.Result.{result_ok}
 use Rattle.std.proofs.lemmas.Bool.{true≢false}
 use Rattle.std.proofs.lemmas.List.{take_more, take_all}
+use Rattle.esr_model.specs.Lists.{Has-mapped, Has-map}
 use Rattle.esr_names.specs.declared.index_ref.IndexRef.{IndexRef as CodeRef}
 use Rattle.esr_model.specs.Names.{Snap, Latest}
 use Rattle.esr_model.specs.Values.{Bytes, Has, IndexRef, RootSnap, ReadsBack}
@@ -24,14 +25,13 @@ use Rattle.esr_formats.specs.Refs.{ref_of_code}
 use Rattle.esr_formats.specs.Roots.{root_of, root_snap_of}
 use Rattle.esr_formats.specs.Infos.{info_of_code, info_kind}
 use Rattle.esr_formats.specs.Formats.{formats}
-use Rattle.esr_newroot.proofs.Refs.{one_id, ids_distinct, other_later}
+use Rattle.esr_newroot.specs.RefLists.{one_id, ids_distinct, other_later}
 use Rattle.esr_progress.specs.Infos.{AreInfosOf}
 use Rattle.esr_agreement.specs.Agreement.{agrees, Agrees}
 use Rattle.esr_opening.specs.Found.{Obstacle, read_as, info_name, agreed}
 use Rattle.esr_opening.specs.Listed.{IsInfoOf, AreListed, AreInfosIn}
 use Rattle.esr_opening.specs.Opening.{world_in, is_told}
-use Rattle.esr_opening.proofs.Members.{mapped, has_map}
-use Rattle.esr_agreement.proofs.Served.{test_holds}
+use Rattle.esr_agreement.specs.AgreementTests.{test_holds}
 use Rattle.esr_opening.proofs.Opens.{read_some}
 use Rattle.esr_opening.proofs.Steps.{ok_same}
 
@@ -44,7 +44,7 @@ apart_by (q ∷ qs) d = (other q qs (λ p has. other_later one_id q qs p has d.0
   where
     other : (q : CodeRef) (qs : List CodeRef) → ((p : CodeRef) → Has qs p → one_id q p ≡ false) → (r : IndexRef) → Has (map ref_of_code qs) r → q.id.number ≢ r.id
     other q qs differ r has same =
-        let p = mapped ref_of_code qs r has in
+        let p = Has-mapped ref_of_code qs r has in
         let ids : q.id.number ≡ p.0.id.number = same ∙ sym (ap (λ (x : IndexRef). x.id) p.2) in
         true≢false (sym (eq-eqb q.id.number p.0.id.number ids) ∙ differ p.0 p.1)
 
@@ -61,7 +61,8 @@ not_latest : (u : ℕ) → Snap u ≢ Latest
 not_latest u h = cc
 
 -- what was fetched under its name reads as it
-info_there : (blobs : Blobs) (s : CodeSnap) (info : Info) (name : Bytes) (bytes : Option Bytes) (known : Bytes → Bytes → ℕ → Bool) (told : Bytes → Bytes → ℕ → Option (List (Bytes × Bytes))) → ReadsBack name_kind (Snap s.uuid.number) → name ≡ info_name s
+info_there : (blobs : Blobs) (s : CodeSnap) (info : Info) (name : Bytes) (bytes : Option Bytes) (known : Bytes → Bytes → ℕ → Bool) (told : Bytes → Bytes → ℕ → Option (List (Bytes × Bytes)))
+    → ReadsBack name_kind (Snap s.uuid.number) → name ≡ info_name s
     → ◌≡◌ {A = Result (Option Bytes) Obstacle} (Ok (fin.get blobs name)) (Ok bytes) → read_as info_from name bytes ≡ Ok info
     → Reads (At (formats known told) blobs) (Snap s.uuid.number) (formats known told).info (info_of_code info)
 unfolding formats
@@ -98,7 +99,8 @@ pairs_push R [] (b ∷ ys) x y pairs one = absurd pairs
 pairs_push R (a ∷ xs) [] x y pairs one = absurd pairs
 pairs_push R (a ∷ xs) (b ∷ ys) x y pairs one = (pairs.0, pairs_push R xs ys x y pairs.1 one)
 
-pub pairs_more : {A B : Type 0} (R : A → B → Type 0) (xs : List A) (ys zs : List B) (i : ℕ) (x : A) (y : B) → i < length xs → x ≡ get_or xs i x → AllPairs R (take i xs) ys → R x y → zs ≡ ys ++ y ∷ [] → AllPairs R (take (i + 1) xs) zs
+pub pairs_more : {A B : Type 0} (R : A → B → Type 0) (xs : List A) (ys zs : List B) (i : ℕ) (x : A) (y : B) → i < length xs → x ≡ get_or xs i x → AllPairs R (take i xs) ys → R x y → zs ≡ ys ++ y ∷ []
+    → AllPairs R (take (i + 1) xs) zs
 pairs_more {A} {B} R xs ys zs i x y less is pairs one more =
     subst (λ (l : List B). AllPairs R (take (i + 1) xs) l) (sym more)
     (subst (λ (l : List A). AllPairs R l (ys ++ y ∷ [])) (sym (take_more xs i x less ∙ ap (λ (z : A). take i xs ++ z ∷ []) (sym is))) (pairs_push R (take i xs) ys x y pairs one))
@@ -128,7 +130,8 @@ within root s info agree apart = record {
   apart = apart;
 }
 
-in_info : (held : Option Held) (cluster : Record) (root : Root) (s : CodeSnap) (info : Info) (known : Bytes → Bytes → ℕ → Bool) (told : Bytes → Bytes → ℕ → Option (List (Bytes × Bytes))) → IsInfoOf held root s info → is_told held ≡ true
+in_info : (held : Option Held) (cluster : Record) (root : Root) (s : CodeSnap) (info : Info) (known : Bytes → Bytes → ℕ → Bool) (told : Bytes → Bytes → ℕ → Option (List (Bytes × Bytes))) → IsInfoOf held root s info
+    → is_told held ≡ true
     → IsInInfo (formats known told) (world_in held cluster root) info.uuid.number (map ref_of_code info.indices)
 in_info None cluster root s info known told is tells = absurd cc
 in_info (Some i) cluster root s info known told is tells =
@@ -137,13 +140,13 @@ in_info (Some i) cluster root s info known told is tells =
 pub listed_of : (held : Option Held) (root : Root) (infos : List Info) → AreInfosIn held root root.snapshots infos → AreListed (root_of root) infos
 listed_of held root infos pairs info has =
     let s = first_of (IsInfoOf held root) root.snapshots infos pairs info has in
-    (root_snap_of s.0, has_map root_snap_of root.snapshots s.0 s.1, s.2.agrees.uuid_is)
+    (root_snap_of s.0, Has-map root_snap_of root.snapshots s.0 s.1, s.2.agrees.uuid_is)
 
 pub infos_of : (held : Option Held) (cluster : Record) (root : Root) (infos : List Info) (known : Bytes → Bytes → ℕ → Bool) (told : Bytes → Bytes → ℕ → Option (List (Bytes × Bytes))) → AreInfosIn held root root.snapshots infos
     → AreInfosOf (formats known told) (world_in held cluster root) (is_told held) infos
 infos_of held cluster root infos known told pairs = record {
   there = λ snap has.
-      let s = mapped root_snap_of root.snapshots snap has in
+      let s = Has-mapped root_snap_of root.snapshots snap has in
       let i = second_of (IsInfoOf held root) root.snapshots infos pairs s.0 s.1 in
       (i.0, i.1, i.2.agrees.uuid_is ∙ ap (λ (x : RootSnap). x.uuid) s.2);
   each = λ info has.

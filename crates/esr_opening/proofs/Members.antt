@@ -1,35 +1,10 @@
 -- Members of lists.
-use Rattle.std.proofs.Common.{◌≡◌, ◌⊎◌, inl, inr, ℕ, Bool, true, false, ◌&&◌, ◌||◌, List, [], ◌∷◌, ◌++◌, map, refl, sym, ap, ◌∙◌, subst}
+use Rattle.std.proofs.Common.{◌≡◌, ◌⊎◌, inl, inr, Bool, true, false, ◌&&◌, ◌||◌, List, [], ◌∷◌, refl, sym, ap, ◌∙◌, subst}
 use Rattle.std.specs.List.{AllByRecursion, list_all, list_any, IsDistinct}
 use Rattle.std.specs.List.Sorted.{IsStrictlySortedBy}
 use Rattle.std.specs.declared.cmp.Ordering.{Ordering}
 use Rattle.std.specs.declared.cmp.Ordering.TheVariants.{Less}
-use Rattle.std.proofs.lemmas.Bool.{cases_Bool}
 use Rattle.esr_model.specs.Values.{Has}
-
-pub mapped : {A B : Type 0} (f : A → B) (xs : List A) (y : B) → Has (map f xs) y → (x : A) × Has xs x × (f x ≡ y)
-mapped f [] y none = absurd none
-mapped f (x ∷ xs) y (inl here) = (x, inl refl, here)
-mapped f (x ∷ xs) y (inr later) = let m = mapped f xs y later in (m.0, inr m.1, m.2)
-
-pub has_map : {A B : Type 0} (f : A → B) (xs : List A) (x : A) → Has xs x → Has (map f xs) (f x)
-has_map f [] x none = absurd none
-has_map f (y ∷ ys) x (inl here) = inl (ap f here)
-has_map f (y ∷ ys) x (inr later) = inr (has_map f ys x later)
-
-pub in_left : {A : Type 0} (xs ys : List A) (x : A) → Has xs x → Has (xs ++ ys) x
-in_left [] ys x none = absurd none
-in_left (y ∷ xs) ys x (inl here) = inl here
-in_left (y ∷ xs) ys x (inr later) = inr (in_left xs ys x later)
-
-pub in_right : {A : Type 0} (xs ys : List A) (x : A) → Has ys x → Has (xs ++ ys) x
-in_right [] ys x there = there
-in_right (y ∷ xs) ys x there = inr (in_right xs ys x there)
-
-pub in_either : {A : Type 0} (xs ys : List A) (x : A) → Has (xs ++ ys) x → Has xs x ⊎ Has ys x
-in_either [] ys x has = inr has
-in_either (y ∷ xs) ys x (inl here) = inl (inl here)
-in_either (y ∷ xs) ys x (inr later) = elim (in_either xs ys x later) [ inl left ↦ inl (inr left) | inr right ↦ inr right ]
 
 -- ---- what holds of each
 

@@ -19,7 +19,7 @@ use Rattle.esr_formats.specs.Formats.{formats}
 use Rattle.esr_formats.specs.Names.{name_kind}
 use Rattle.esr_formats.specs.Roots.{root_of, root_kind}
 use Rattle.esr_formats.specs.Clusters.{count_of, cluster_of, cluster_kind}
-use Rattle.esr_formats.proofs.NameTexts.{name_reads_back}
+use Rattle.esr_formats.specs.ReadBack.{name_reads_back}
 use Rattle.esr_opening.specs.Found.{Obstacle, Damage, ◌>>=◌, readable, read_as, empty_record, without_record, record_in, root_name, root_in, infos_in, safe_number, known_ids, has_term, checked, found}
 use Rattle.esr_opening.specs.Opening.{image_of, known_blobs, world_in}
 use Rattle.esr_opening.specs.Terms.{own_checks, whole_root_in, IsFit}
@@ -65,7 +65,8 @@ root_is known told blobs (negsuc n) root most there = let same : empty_root ≡ 
 
 -- ---- the record
 
-no_text : (known : Bytes → Bytes → ℕ → Bool) (told : Bytes → Bytes → ℕ → Option (List (Bytes × Bytes))) (i : Held) (cluster : Record) (root : Root) → i.text ≡ None → empty_record ≡ cluster → root_in i.blobs cluster.safe ≡ Ok root
+no_text : (known : Bytes → Bytes → ℕ → Bool) (told : Bytes → Bytes → ℕ → Option (List (Bytes × Bytes))) (i : Held) (cluster : Record) (root : Root) → i.text ≡ None → empty_record ≡ cluster
+    → root_in i.blobs cluster.safe ≡ Ok root
     → Opened (formats known told) (image_of i) (opened i.blobs (cluster_of cluster) (root_of root))
 no_text known told i cluster root none empty there =
     let at_start : root_in i.blobs empty_record.safe ≡ Ok root = ap (λ (c : Record). root_in i.blobs c.safe) empty ∙ there in
@@ -108,7 +109,8 @@ parts i cluster root is =
     second_same : (a b : Record) (x y : Root) → ◌≡◌ {A = Result (Record × Root) Obstacle} (Ok (a, x)) (Ok (b, y)) → x ≡ y
     second_same a b x y h = ap (λ (p : Record × Root). p.1) (ok_pair (a, x) (b, y) h)
 
-pub found_opens : (held : Option Held) (i : Held) (known : Bytes → Bytes → ℕ → Bool) (told : Bytes → Bytes → ℕ → Option (List (Bytes × Bytes))) (cluster : Record) (root : Root) → IsFit cluster root → held ≡ Some i → found i ≡ Ok (cluster, root)
+pub found_opens : (held : Option Held) (i : Held) (known : Bytes → Bytes → ℕ → Bool) (told : Bytes → Bytes → ℕ → Option (List (Bytes × Bytes))) (cluster : Record) (root : Root) → IsFit cluster root → held ≡ Some i
+    → found i ≡ Ok (cluster, root)
     → Opened (formats known told) (image_of i) (world_in held cluster root)
 found_opens held i known told cluster root fit here is =
     let at = parts i cluster root is in

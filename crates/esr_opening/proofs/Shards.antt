@@ -2,13 +2,13 @@
 use Rattle.std.proofs.Common.{◌≡◌, inl, inr, ℕ, zero, suc, ◌+◌, ◌<◌, Bool, true, false, List, [], ◌∷◌, refl, sym, ap, subst, arith}
 use Rattle.std.specs.Prelude.{if◌then◌else◌}
 use Rattle.std.proofs.lemmas.Bool.{cases_Bool}
+use Rattle.esr_model.specs.Lists.{Has-left, Has-right}
 use Rattle.esr_model.specs.Names.{BlobName}
 use Rattle.esr_model.specs.Values.{Bytes, Has, IndexRef, RootSnap, RootData, Formats}
 use Rattle.esr_model.specs.Shelf.{ShelfShard, Shelved}
 use Rattle.esr_model.specs.Places.{numbered, places, comes_first, put_by, sorted_by, shelf_places}
 use Rattle.esr_model.specs.Image.{AllPairs, Generation, ShardStands, SnapStands}
 use Rattle.esr_agreement.specs.Agreement.{Agrees}
-use Rattle.esr_opening.proofs.Members.{in_left, in_right}
 
 -- ---- places
 
@@ -22,8 +22,8 @@ in_own r k less = let same : 0 + k ≡ k = omega arith in subst (λ (m : ℕ). H
 
 in_places : (refs : List IndexRef) (r : IndexRef) (k : ℕ) → Has refs r → k < r.shards → Has (places refs) (r, k)
 in_places [] r k none less = absurd none
-in_places (q ∷ refs) r k (inl here) less = in_left (numbered q 0 q.shards) (places refs) (r, k) (subst (λ (p : IndexRef). Has (numbered p 0 p.shards) (r, k)) (sym here) (in_own r k less))
-in_places (q ∷ refs) r k (inr later) less = in_right (numbered q 0 q.shards) (places refs) (r, k) (in_places refs r k later less)
+in_places (q ∷ refs) r k (inl here) less = Has-left (numbered q 0 q.shards) (places refs) (r, k) (subst (λ (p : IndexRef). Has (numbered p 0 p.shards) (r, k)) (sym here) (in_own r k less))
+in_places (q ∷ refs) r k (inr later) less = Has-right (numbered q 0 q.shards) (places refs) (r, k) (in_places refs r k later less)
 
 -- ---- put in order
 

@@ -1,9 +1,9 @@
 -- Shards of one index and number stay of one state.
 use Rattle.std.proofs.Common.{◌≡◌, List, map, sym, ap, ◌∙◌}
+use Rattle.esr_model.specs.Lists.{Has-mapped}
 use Rattle.esr_ops.specs.declared.shard.ShardState.{ShardState as CodeState}
 use Rattle.esr_ops.specs.declared.shard.OpenShard.{OpenShard}
 use Rattle.esr_ops.specs.Shards.{AreAlike}
-use Rattle.esr_ops.specs.Lists.{Has-mapped}
 
 -- after a change of states alone that goes by state
 pub alike_by : (g : OpenShard → CodeState) → ((a b : OpenShard) → a.shard.index.number ≡ b.shard.index.number → a.shard.number ≡ b.shard.number → a.state ≡ b.state → g a ≡ g b)

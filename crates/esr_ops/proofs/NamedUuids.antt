@@ -81,7 +81,8 @@ all-same f g same [] = refl
 all-same f g same (x ∷ xs) = λ j. same x j && all-same f g same xs j
 
 -- those of all that are listed are just the others
-listed_same : (p : ℕ → Bool) (all uuids : List Id) (a b : Bool) → a ≡ list_all (λ (u : Id). p u.number && names_uuid (map number_of all) u.number) uuids → b ≡ list_all (λ (u : Id). not (p u.number) || names_uuid (map number_of uuids) u.number) all
+listed_same : (p : ℕ → Bool) (all uuids : List Id) (a b : Bool) → a ≡ list_all (λ (u : Id). p u.number && names_uuid (map number_of all) u.number) uuids
+    → b ≡ list_all (λ (u : Id). not (p u.number) || names_uuid (map number_of uuids) u.number) all
     → (a && b) ≡ name_the_same (filter p (map number_of all)) (map number_of uuids)
 listed_same p all uuids a b first second =
     let each = first ∙ sym (all-numbers (λ (u : ℕ). p u && names_uuid (map number_of all) u) uuids) ∙ sym (all-same (names_uuid (filter p (map number_of all))) (λ (u : ℕ). p u && names_uuid (map number_of all) u) (names-filter p (map number_of all)) (map number_of uuids)) in
@@ -89,12 +90,14 @@ listed_same p all uuids a b first second =
     λ j. each j && back j
 
 -- the one test passed, and the other decides
-pub listed_so : (p : ℕ → Bool) (all uuids : List Id) (a b : Bool) → a ≡ true → a ≡ list_all (λ (u : Id). p u.number && names_uuid (map number_of all) u.number) uuids → b ≡ list_all (λ (u : Id). not (p u.number) || names_uuid (map number_of uuids) u.number) all
+pub listed_so : (p : ℕ → Bool) (all uuids : List Id) (a b : Bool) → a ≡ true → a ≡ list_all (λ (u : Id). p u.number && names_uuid (map number_of all) u.number) uuids
+    → b ≡ list_all (λ (u : Id). not (p u.number) || names_uuid (map number_of uuids) u.number) all
     → b ≡ name_the_same (filter p (map number_of all)) (map number_of uuids)
 listed_so p all uuids a b passed first second = sym (ap (λ (c : Bool). c && b) passed) ∙ listed_same p all uuids a b first second
 
 -- the one test didn't pass
-pub listed_not : (p : ℕ → Bool) (all uuids : List Id) (a : Bool) → a ≡ false → a ≡ list_all (λ (u : Id). p u.number && names_uuid (map number_of all) u.number) uuids → false ≡ name_the_same (filter p (map number_of all)) (map number_of uuids)
+pub listed_not : (p : ℕ → Bool) (all uuids : List Id) (a : Bool) → a ≡ false → a ≡ list_all (λ (u : Id). p u.number && names_uuid (map number_of all) u.number) uuids
+    → false ≡ name_the_same (filter p (map number_of all)) (map number_of uuids)
 listed_not p all uuids a failed first =
     let b : Bool = list_all (λ (u : Id). not (p u.number) || names_uuid (map number_of uuids) u.number) all in
     sym (ap (λ (c : Bool). c && b) failed) ∙ listed_same p all uuids a b first refl

@@ -18,7 +18,8 @@ use Rattle.esr_formats.specs.Ids.{number_of}
 use Rattle.esr_results.specs.Results.{result_of}
 use Rattle.std.proofs.lemmas.Bool.Decides.{eqb_tells}
 use Rattle.std.specs.Prelude.{IfSome}
-use Rattle.esr_ops.specs.Lists.{Has-mapped, Has-map, all_member}
+use Rattle.esr_model.specs.Lists.{Has-mapped, Has-map}
+use Rattle.esr_ops.specs.Lists.{all_member}
 use Rattle.esr_ops.specs.Most.{most_like, most_more}
 use Rattle.esr_ops.proofs.Lists.{all_mapped}
 use Rattle.esr_ops.proofs.Alike.{alike_by}
@@ -140,7 +141,8 @@ pub most_open : (shard : ShardId) (x : OpenShard) → IsMost (IsDoneOpen shard x
 most_open shard x = most_by shard x x.state refl
 
 -- of the definitions' shards too
-pub most_works : (refs : List CodeRef) (places : List Bytes) (xs : List OpenShard) (shard : ShardId) (a : Option ℕ) → IsMost (Among xs (IsDoneOpen shard)) a → IsMost (Among (map (work_of_shard refs places) xs) (IsDoneAt shard.index.number shard.number)) a
+pub most_works : (refs : List CodeRef) (places : List Bytes) (xs : List OpenShard) (shard : ShardId) (a : Option ℕ) → IsMost (Among xs (IsDoneOpen shard)) a
+    → IsMost (Among (map (work_of_shard refs places) xs) (IsDoneAt shard.index.number shard.number)) a
 most_works refs places xs shard a h = most_like _ _ a
     (λ g d. (work_of_shard refs places d.0, Has-map (work_of_shard refs places) xs d.0 d.1, record { r = d.2.r; state = d.2.state; index_is = d.2.index_is; number_is = d.2.number_is; generation_is = d.2.generation_is }))
     (λ g d. let (x, m, is) = Has-mapped (work_of_shard refs places) xs d.0 d.1 in
@@ -168,7 +170,8 @@ module _ (op : Op) (uuid : Id) (shard : ShardId) (name place : Bytes) where
   work_of_one None source_is uuid_is s h = (source_is, uuid_is, h.0, h.1, h.2, h.3)
   work_of_one (Some source) source_is uuid_is s h = (source_is, uuid_is, h.0, h.1, h.2)
 
-  pub parts_given : (source : Option Id) → op.source ≡ option_map number_of source → uuid.number ≡ op.uuid → (o : Option ShardWork) → IfSome o (λ s. AreParts s shard name place) → IfSome o (λ s. IsShardWork op s (work_by_source source uuid shard name place))
+  pub parts_given : (source : Option Id) → op.source ≡ option_map number_of source → uuid.number ≡ op.uuid → (o : Option ShardWork) → IfSome o (λ s. AreParts s shard name place)
+      → IfSome o (λ s. IsShardWork op s (work_by_source source uuid shard name place))
   parts_given source source_is uuid_is None h = tt
   parts_given source source_is uuid_is (Some s) h = work_of_one source source_is uuid_is s h
 

@@ -2,6 +2,7 @@
 use Rattle.std.proofs.Common.{◌≡◌, ℕ, Bool, true, false, cond, ◌||◌, ◌&&◌, eqb, List, [], ◌∷◌, map, refl, sym, ap, ◌∙◌, subst, ◌<◌}
 use Rattle.std.specs.Prelude.{◌==◌}
 use Rattle.std.specs.List.{list_any}
+use Rattle.esr_model.specs.Lists.{Has-mapped}
 use Rattle.esr_names.specs.declared.blob.ShardId.{ShardId}
 use Rattle.esr_names.specs.declared.index_ref.IndexRef.{IndexRef as CodeRef}
 use Rattle.esr_model.specs.Values.{Bytes}
@@ -12,7 +13,7 @@ use Rattle.esr_ops.specs.declared.shard.ShardState.TheVariants as states
 use Rattle.esr_ops.specs.declared.shard.OpenShard.{OpenShard}
 use Rattle.esr_ops.specs.Shards.{state_of, waits, waits_on, is_open_waiting, given_open, marked_open, marked_state, AreShards}
 use Rattle.esr_ops.specs.Restores.{work_of_read, LiesIn, IsOpenRestore, is_waiting}
-use Rattle.esr_ops.specs.Lists.{Has-mapped, all_member}
+use Rattle.esr_ops.specs.Lists.{all_member}
 use Rattle.esr_ops.proofs.Lists.{all_mapped}
 use Rattle.esr_ops.proofs.Alike.{alike_by}
 

@@ -4,8 +4,8 @@ use Rattle.std.specs.Cmp.{nat_cmp_total, unsigned_tied}
 use Rattle.std.specs.FinMap.{FinMap, nat_cmp-IsAntisymmetric}
 use Rattle.std.specs.FinMap as fin
 use Rattle.std.proofs.lemmas.Bool.Decides.{eqb_tells}
+use Rattle.std.proofs.lemmas.Option.{same_Some, none-some}
 use Rattle.esr_model.specs.Values.{Has}
-use Rattle.esr_ops.specs.Lists.{some_same, none_some}
 
 pub eqb_is : (a b : ℕ) → eqb a b ≡ true → a ≡ b
 eqb_is a b e = elim (eqb_tells a b) [ inl t ↦ t.1 | inr t ↦ absurd (true≢false (sym e ∙ t.0)) ]
@@ -23,9 +23,9 @@ module _ {A : Type 0} where
 
   -- what is found is an entry
   pub find-member : (q : ℕ) (es : List (ℕ × A)) (v : A) → fin.find nat_cmp q es ≡ Some v → Has es (q, v)
-  find-member q [] v e = absurd (none_some v e)
+  find-member q [] v e = absurd (none-some v e)
   find-member q (x ∷ es) v e = elim (eqb_tells q x.0) [
-    | inl t ↦ inl (λ i. (sym t.1 i, some_same x.1 v (sym (find-here q x es (sym t.1)) ∙ e) i))
+    | inl t ↦ inl (λ i. (sym t.1 i, same_Some x.1 v (sym (find-here q x es (sym t.1)) ∙ e) i))
     | inr t ↦ inr (find-member q es v (sym (find-past q x es (λ s. t.1 (sym s))) ∙ e))
   ]
 

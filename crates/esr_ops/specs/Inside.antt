@@ -1,40 +1,21 @@
 -- The plan that a list of ops is, and what holds of each such list.
-use Rattle.std.specs.Prelude.{◌<◌, ◌≤◌, ◌^◌, ℕ, suc, List, [], ◌∷◌, Option, Some, None, map, length}
-use Rattle.std.specs.Ordering.{nat_cmp}
+use Rattle.std.specs.Prelude.{◌<◌, ◌≤◌, ◌^◌, ℕ, List, [], ◌∷◌, map}
 use Rattle.std.specs.FinMap as fin
 use Rattle.esr_model.specs.Values.{Has}
 use Rattle.esr_core.specs.World.{Op, Deletion}
-use Rattle.esr_ops.specs.declared.unit.Slot.{Slot}
-use Rattle.esr_ops.specs.Plan.{Plan, Seat, ReaderSeat, RestorePlan}
-use Rattle.esr_ops.specs.Seats.{seat_in, reader_in}
+use Rattle.esr_ops.specs.Plan.{Plan, RestorePlan, TicketMaps}
 
--- what f tells of each, by its number
-abbrev pub slot_entry : {B : Type 0} → Option B → ℕ → List (ℕ × B) → List (ℕ × B)
-slot_entry None n rest = rest
-slot_entry (Some x) n rest = (n, x) ∷ rest
-
-abbrev pub slot_entries : {A B : Type 0} → (A → Option B) → ℕ → List A → List (ℕ × B)
-slot_entries f n [] = []
-slot_entries f n (s ∷ slots) = slot_entry (f s) n (slot_entries f (suc n) slots)
-
--- tickets are numbered from 1 on, restores' among them
-abbrev pub seats_with : List Slot → fin.FinMap nat_cmp Seat
-seats_with slots = fin.from_entries (slot_entries seat_in 1 slots)
-
-abbrev pub readers_with : List Slot → fin.FinMap nat_cmp ReaderSeat
-readers_with slots = fin.from_entries (slot_entries reader_in 1 slots)
-
-abbrev pub plan_with : List (ℕ × Op) → List (ℕ × Deletion) → List ℕ → List Slot → ℕ → List (ℕ × RestorePlan) → Plan
-plan_with ops deletes completed slots next_op restores =
+abbrev pub plan_with : List (ℕ × Op) → List (ℕ × Deletion) → List ℕ → TicketMaps → ℕ → List (ℕ × RestorePlan) → Plan
+plan_with ops deletes completed tickets next_op restores =
     record {
       ops = fin.from_entries ops;
       deletes = fin.from_entries deletes;
       completed = completed;
-      seats = seats_with slots;
+      seats = tickets.seats;
       restores = fin.from_entries restores;
-      readers = readers_with slots;
+      readers = tickets.readers;
       next_op = next_op;
-      next_ticket = suc (length slots);
+      next_ticket = tickets.next;
     }
 
 abbrev pub numbers_of : {A : Type 0} → List (ℕ × A) → List ℕ

@@ -1,5 +1,5 @@
 -- Laws of lists: their members, and what holds of each.
-use Rattle.std.proofs.Common.{◌≡◌, ◌⊎◌, ℕ, zero, suc, ◌+◌, ◌≤◌, Bool, true, false, cond, List, [], ◌∷◌, ◌++◌, Option, Some, None, map, length, refl, sym, ap, ◌∙◌, subst, inl, inr, true≢false, arith, slice_get, ltb, ◌<◌, get_or, drop, add-one, drop-cons}
+use Rattle.std.proofs.Common.{◌≡◌, ℕ, zero, suc, ◌+◌, ◌≤◌, Bool, true, false, cond, List, [], ◌∷◌, Option, Some, None, map, length, refl, sym, ap, ◌∙◌, subst, inl, inr, true≢false, arith, slice_get, ltb, ◌<◌, get_or, drop, add-one, drop-cons}
 use Rattle.std.specs.List.{AllByRecursion, position, position_or_len, prefix_len}
 use Rattle.std.specs.Prelude.{not}
 use Rattle.std.proofs.lemmas.List.{length-map}
@@ -8,38 +8,8 @@ use Rattle.std.proofs.lemmas.Bool.{cases_lt}
 use Rattle.esr_model.specs.Values.{Has, Bytes}
 use Rattle.std.specs.Str.{bytes_eq}
 use Rattle.std.specs.Cmp.Lexicographic.{texts_ties}
+use Rattle.std.proofs.lemmas.Option.{same_Some, none-some}
 use Rattle.esr_model.specs.Uploads.{same_bytes}
-
-pub some_same : {A : Type 0} (x y : A) → Some x ≡ Some y → x ≡ y
-some_same x y e = cc
-
-pub none_some : {A : Type 0} (x : A) → ◌≡◌ {A = Option A} None (Some x) → ⊥
-none_some x e = cc
-
-pub Has-map : {A B : Type 0} (g : A → B) (xs : List A) (x : A) → Has xs x → Has (map g xs) (g x)
-Has-map g [] x h = h
-Has-map g (y ∷ ys) x (inl e) = inl (ap g e)
-Has-map g (y ∷ ys) x (inr h) = inr (Has-map g ys x h)
-
--- the member of a map comes from one of the list
-pub Has-mapped : {A B : Type 0} (g : A → B) (xs : List A) (y : B) → Has (map g xs) y → (x : A) × Has xs x × (g x ≡ y)
-Has-mapped g [] y h = absurd h
-Has-mapped g (x ∷ xs) y (inl e) = (x, inl refl, e)
-Has-mapped g (x ∷ xs) y (inr h) = let (z, m, e) = Has-mapped g xs y h in (z, inr m, e)
-
-pub Has-left : {A : Type 0} (xs ys : List A) (x : A) → Has xs x → Has (xs ++ ys) x
-Has-left [] ys x h = absurd h
-Has-left (y ∷ xs) ys x (inl e) = inl e
-Has-left (y ∷ xs) ys x (inr h) = inr (Has-left xs ys x h)
-
-pub Has-right : {A : Type 0} (xs ys : List A) (x : A) → Has ys x → Has (xs ++ ys) x
-Has-right [] ys x h = h
-Has-right (y ∷ xs) ys x h = inr (Has-right xs ys x h)
-
-pub Has-either : {A : Type 0} (xs ys : List A) (x : A) → Has (xs ++ ys) x → Has xs x ⊎ Has ys x
-Has-either [] ys x h = inr h
-Has-either (z ∷ xs) ys x (inl e) = inl (inl e)
-Has-either (z ∷ xs) ys x (inr h) = elim (Has-either xs ys x h) [ inl m ↦ inl (inr m) | inr m ↦ inr m ]
 
 pub all_member : {A : Type 0} (P : A → Type 0) (xs : List A) → AllByRecursion P xs → (x : A) → Has xs x → P x
 all_member P [] h x m = absurd m
@@ -48,8 +18,8 @@ all_member P (y ∷ ys) h x (inr m) = all_member P ys h.1 x m
 
 -- an element by its place is a member
 pub Has-at : {A : Type 0} (xs : List A) (i : ℕ) (x : A) → slice_get xs i ≡ Some x → Has xs x
-Has-at [] i x e = absurd (none_some x e)
-Has-at (y ∷ ys) zero x e = inl (some_same y x e)
+Has-at [] i x e = absurd (none-some x e)
+Has-at (y ∷ ys) zero x e = inl (same_Some y x e)
 Has-at (y ∷ ys) (suc i) x e = inr (Has-at ys i x e)
 
 -- ---- the first place at which a test passes
@@ -72,7 +42,7 @@ module _ {A : Type 0} (p : A → Bool) where
   long (y ∷ ys) h x m = longer y x ys (p y) refl h (λ le there. long ys le x there) m
 
   missed : (b : Bool) (n : ℕ) → ◌≡◌ {A = Option ℕ} (cond b (Some n) None) None → b ≡ false
-  missed true n e = absurd (none_some n (sym e))
+  missed true n e = absurd (none-some n (sym e))
   missed false n e = refl
 
   -- there is none at which it passes

@@ -5,10 +5,10 @@ use Rattle.std.specs.FinMap as fin
 use Rattle.std.specs.FinMap.Entries.{below_all}
 use Rattle.std.proofs.lemmas.Bool.Decides.{Decides-ltb}
 use Rattle.std.proofs.lemmas.List.{map-append}
+use Rattle.esr_model.specs.Lists.{Has-either, Has-map}
 use Rattle.esr_model.specs.Values.{Has}
 use Rattle.esr_ops.specs.Inside.{numbers_of, Rise, AreNumbers}
 use Rattle.esr_ops.specs.Entries.{get_from, same_maps, find-here, find-past, find-member}
-use Rattle.esr_ops.specs.Lists.{Has-either, Has-map}
 
 -- ---- the numbers after a change
 

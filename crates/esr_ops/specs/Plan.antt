@@ -1,5 +1,5 @@
 -- The list of open ops and their tickets: that part of a world which tells of no blob and no id.
-use Rattle.std.specs.Prelude.{◌≡◌, ℕ, Bool, List, [], Option, option_map, map}
+use Rattle.std.specs.Prelude.{◌≡◌, ℕ, Bool, List, [], Option, Some, None, option_map, map, if◌then◌else◌}
 use Rattle.std.specs.Ordering.{nat_cmp}
 use Rattle.std.specs.FinMap.{FinMap}
 use Rattle.std.specs.FinMap as fin
@@ -17,7 +17,7 @@ pub data UnitKind : Type 0 where
   OfDelete : UnitKind
   OfDrop : UnitKind
 
--- what the list of ops keeps of a ticket; a cleanup's is that of a delete, in its mode
+-- what the list of ops keeps of a ticket that is out; a cleanup's is that of a delete, in its mode
 pub record Seat : Type 0 where
   pub kind : UnitKind
   pub clean : Bool
@@ -25,7 +25,6 @@ pub record Seat : Type 0 where
   pub term : ℕ
   pub raised : Option ℕ
   pub settled : Bool
-  pub out : Bool
 
 -- the seat that a seat of the code is
 abbrev pub kind_of_code : SeatKind → UnitKind
@@ -35,22 +34,27 @@ kind_of_code kinds.Delete = OfDelete
 kind_of_code kinds.Drop = OfDrop
 
 abbrev pub seat_of_code : CodeSeat → Seat
-seat_of_code s = record { kind = kind_of_code s.kind; clean = s.clean; op = s.op; term = s.term; raised = s.raised; settled = s.settled; out = s.out }
+seat_of_code s = record { kind = kind_of_code s.kind; clean = s.clean; op = s.op; term = s.term; raised = s.raised; settled = s.settled }
 
 -- what it keeps of a restore's ticket
 pub record ReaderSeat : Type 0 where
   pub op : ℕ
   pub index : ℕ
   pub number : ℕ
-  pub out : Bool
 
 abbrev pub reader_of_code : CodeReader → ReaderSeat
-reader_of_code q = record { op = q.op; index = q.shard.index.number; number = q.shard.number; out = q.out }
+reader_of_code q = record { op = q.op; index = q.shard.index.number; number = q.shard.number }
 
 -- what it keeps of an open restore: a shard is pending, out, or given up once its ticket has ended
 pub record RestorePlan : Type 0 where
   pub uuid : ℕ
   pub shards : List ShardWork
+
+-- the tickets that are out, those of restores apart, and the number of the next one
+pub record TicketMaps : Type 0 where
+  pub seats : FinMap nat_cmp Seat
+  pub readers : FinMap nat_cmp ReaderSeat
+  pub next : ℕ
 
 pub record Plan : Type 0 where
   -- open snapshots and open deletes, by number
@@ -58,8 +62,9 @@ pub record Plan : Type 0 where
   pub deletes : FinMap nat_cmp Deletion
   -- the numbers of snapshots in the order in which they completed
   pub completed : List ℕ
+  -- the tickets that are out
   pub seats : FinMap nat_cmp Seat
-  -- open restores, under the numbering of ops, and their tickets, under that of tickets
+  -- open restores, under the numbering of ops, and their tickets that are out, under that of tickets
   pub restores : FinMap nat_cmp RestorePlan
   pub readers : FinMap nat_cmp ReaderSeat
   pub next_op : ℕ
@@ -76,7 +81,12 @@ kind_of (Deleting uuids swap) = OfDelete
 kind_of Drop = OfDrop
 
 abbrev pub seat_of : Ticket → Seat
-seat_of t = record { kind = kind_of t.work; clean = t.clean; op = t.op; term = t.term; raised = t.raised; settled = t.settled; out = t.out }
+seat_of t = record { kind = kind_of t.work; clean = t.clean; op = t.op; term = t.term; raised = t.raised; settled = t.settled }
+
+-- it is kept while the ticket is out
+abbrev pub seat_out : Option Ticket → Option Seat
+seat_out None = None
+seat_out (Some t) = if t.out then Some (seat_of t) else None
 
 abbrev pub read_state : ReadState → ShardState
 read_state Unread = Pending
@@ -91,19 +101,23 @@ abbrev pub restore_plan : Restoring → RestorePlan
 restore_plan r = record { uuid = r.uuid; shards = map (read_work r.place) r.shards }
 
 abbrev pub reader_seat : Reader → ReaderSeat
-reader_seat q = record { op = q.op; index = q.index; number = q.number; out = q.out }
+reader_seat q = record { op = q.op; index = q.index; number = q.number }
+
+abbrev pub reader_out : Option Reader → Option ReaderSeat
+reader_out None = None
+reader_out (Some q) = if q.out then Some (reader_seat q) else None
 
 -- the plan is that of the world
 pub record IsPlanOf (w : World) (p : Plan) : Type 0 where
   pub ops : p.ops ≡ w.ops
   pub deletes : p.deletes ≡ w.deletes
   pub completed : p.completed ≡ w.completed
-  pub seats : (k : ℕ) → fin.get p.seats k ≡ option_map seat_of (fin.get w.tickets k)
+  pub seats : (k : ℕ) → fin.get p.seats k ≡ seat_out (fin.get w.tickets k)
   pub next_op : p.next_op ≡ w.next_op
   pub next_ticket : p.next_ticket ≡ w.next_ticket
   pub restores : (o : ℕ) → fin.get p.restores o ≡ option_map restore_plan (fin.get w.restores o)
   pub restore_count : fin.len p.restores ≡ fin.len w.restores
-  pub readers : (k : ℕ) → fin.get p.readers k ≡ option_map reader_seat (fin.get w.readers k)
+  pub readers : (k : ℕ) → fin.get p.readers k ≡ reader_out (fin.get w.readers k)
 
 -- a world with this plan, this root and the next id, in this term
 pub record IsAskedIn (p : Plan) (root : RootData) (term next : ℕ) (w : World) : Type 0 where

@@ -1,41 +1,15 @@
 -- Laws of tests over lists, and of the first place at which one passes.
-use Rattle.std.proofs.Common.{◌≡◌, ◌≢◌, ◌⊎◌, ℕ, suc, zero, ◌<◌, Bool, true, false, ◌&&◌, ◌||◌, List, [], ◌∷◌, Some, length, get_or, take, refl, sym, ap, ◌∙◌, inl, inr, true≢false, arith, cond, ◌++◌, ◌+◌}
-use Rattle.std.specs.Prelude.{not, slice_get}
+use Rattle.std.proofs.Common.{◌≡◌, ◌≢◌, ℕ, suc, zero, ◌<◌, Bool, true, false, List, [], ◌∷◌, Some, length, get_or, take, refl, sym, ap, ◌∙◌, inl, inr, true≢false, arith, cond, ◌++◌, ◌+◌}
+use Rattle.std.specs.Prelude.{slice_get}
 use Rattle.std.specs.List.{list_any, position}
 use Rattle.std.proofs.lemmas.List.Quantifiers.{position-Some}
-use Rattle.std.proofs.lemmas.Option.{slice_get-get_or, get_or_from_slice_get}
+use Rattle.std.proofs.lemmas.Option.{slice_get-get_or, get_or_from_slice_get, none-some}
+use Rattle.std.proofs.lemmas.Bool.{or_cases, or_left, or_right}
 use Rattle.esr_model.specs.Values.{Has}
 use Rattle.esr_model.specs.Shelf.{names_uuid}
 use Rattle.esr_core.specs.Deletes.{with_uuid}
-use Rattle.esr_ops.specs.Lists.{none_some}
 
 -- ---- tests over lists
-
-pub or_true : (a b : Bool) → (a || b) ≡ true → (a ≡ true) ⊎ (b ≡ true)
-or_true true b e = inl refl
-or_true false b e = inr e
-
-pub or_left : (a b : Bool) → a ≡ true → (a || b) ≡ true
-or_left a b e = ap (λ c. c || b) e
-
-pub or_right : (a b : Bool) → b ≡ true → (a || b) ≡ true
-or_right true b e = refl
-or_right false b e = e
-
-pub both_true : (a b : Bool) → a ≡ true → b ≡ true → (a && b) ≡ true
-both_true a b p q = λ i. p i && q i
-
-pub and_true : (a b : Bool) → (a && b) ≡ true → (a ≡ true) × (b ≡ true)
-and_true true b e = (refl, e)
-and_true false b e = absurd (true≢false (sym e))
-
-pub not_true : (b : Bool) → not b ≡ true → b ≡ false
-not_true true e = absurd (true≢false (sym e))
-not_true false e = refl
-
-pub is_true : (b : Bool) → (b ≡ false → ⊥) → b ≡ true
-is_true true h = refl
-is_true false h = absurd (h refl)
 
 pub clash : (b : Bool) → b ≡ true → b ≡ false → ⊥
 clash b p q = true≢false (sym p ∙ q)
@@ -43,7 +17,7 @@ clash b p q = true≢false (sym p ∙ q)
 module _ {A : Type 0} (p : A → Bool) where
   pub any_true : (xs : List A) → list_any p xs ≡ true → (x : A) × Has xs x × (p x ≡ true)
   any_true [] e = absurd (true≢false (sym e))
-  any_true (x ∷ xs) e = elim (or_true (p x) (list_any p xs) e) [ inl h ↦ (x, inl refl, h) | inr h ↦ let (y, m, is) = any_true xs h in (y, inr m, is) ]
+  any_true (x ∷ xs) e = elim (or_cases (p x) (list_any p xs) e) [ inl h ↦ (x, inl refl, h) | inr h ↦ let (y, m, is) = any_true xs h in (y, inr m, is) ]
 
   pub any_here : (xs : List A) (x : A) → Has xs x → p x ≡ true → list_any p xs ≡ true
   any_here [] x m e = absurd m
@@ -72,7 +46,7 @@ first_place p xs i x e there =
     (ap p (sym (get_or_from_slice_get xs i x x there)) ∙ here, λ z m. let (k, below, is) = place_below xs i z m in ap p (sym (get_or_from_slice_get xs k z x is)) ∙ before k below)
 
 pub place_within : {A : Type 0} (p : A → Bool) (xs : List A) (i : ℕ) → position p xs ≡ Some i → (i < length xs) × ((x : A) × (slice_get xs i ≡ Some x))
-place_within p [] i e = absurd (none_some i e)
+place_within p [] i e = absurd (none-some i e)
 place_within p (y ∷ xs) i e = let lt = (position-Some p (y ∷ xs) i y e).0 in (lt, (get_or (y ∷ xs) i y, slice_get-get_or (y ∷ xs) i y lt))
 
 -- a uuid that is there isn't appended

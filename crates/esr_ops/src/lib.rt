@@ -15,6 +15,5 @@ pub use delete::{OpenDelete, names, push_between, push_new};
 pub use open_op::{OpenOp, later};
 pub use refusal::Refusal;
 pub use restore::OpenRestore;
-pub use seats::{op_is_swapped, op_is_taken, slot_at, swap_is_out, unit_is_out};
 pub use shard::{OpenShard, ShardState};
-pub use unit::{Copied, ReaderSeat, ReadyUnit, Seat, SeatKind, Slot, Work};
+pub use unit::{Copied, ReaderSeat, ReadyUnit, Seat, SeatKind, Work};

@@ -101,8 +101,8 @@ pub enum SeatKind {
     Drop,
 }
 
-/// What is kept of a ticket: its unit, whether it is a cleanup, its op, the term in which it was given, the generation that it
-/// raised, whether it has settled, and whether it is out. A cleanup has the kind of a delete.
+/// What is kept of a ticket while it is out: its unit, whether it is a cleanup, its op, the term in which it was given, the
+/// generation that it raised, and whether it has settled. A cleanup has the kind of a delete.
 #[derive(Clone, Copy, PartialEq, Eq)]
 pub struct Seat {
     pub kind: SeatKind,
@@ -111,22 +111,13 @@ pub struct Seat {
     pub term: u64,
     pub raised: Option<u64>,
     pub settled: bool,
-    pub out: bool,
 }
 
-/// What is kept of a restore's ticket: its op, its shard, and whether it is out. It belongs to no term.
+/// What is kept of a restore's ticket while it is out: its op and its shard. It belongs to no term.
 #[derive(Clone, Copy, PartialEq, Eq)]
 pub struct ReaderSeat {
     pub op: u64,
     pub shard: ShardId,
-    pub out: bool,
-}
-
-/// What is kept under a number: of a ticket, or of a restore's.
-#[derive(Clone, Copy, PartialEq, Eq)]
-pub enum Slot {
-    Ticket(Seat),
-    Reader(ReaderSeat),
 }
 
 impl SeatKind {

@@ -1,6 +1,6 @@
 -- What holds of a list as far as a loop has come.
-use Rattle.std.proofs.Common.{◌≡◌, ◌⊎◌, ℕ, zero, suc, ◌+◌, ◌<◌, ◌≤◌, Bool, true, false, List, [], ◌∷◌, ◌++◌, map, length, take, get_or, Option, Some, None, refl, sym, ap, ◌∙◌, subst, inl, inr, arith}
-use Rattle.std.proofs.lemmas.List.{map_more, take_all, get_or_default}
+use Rattle.std.proofs.Common.{◌≡◌, ℕ, suc, ◌+◌, ◌<◌, ◌≤◌, Bool, true, false, List, [], ◌∷◌, ◌++◌, map, length, take, get_or, Option, Some, None, refl, sym, ap, subst, inl, inr}
+use Rattle.esr_model.specs.Loops.{next, all, has_at, item_is, every_more}
 use Rattle.esr_model.specs.Values.{Has}
 use Rattle.esr_plain.specs.Exactly.{IsExactly}
 use Rattle.esr_model.specs.Image.{AllPairs}
@@ -29,57 +29,7 @@ exact_some {A} P o x is exact = let at : IsExactly P (Some x) = subst (IsExactly
 pub exact_none : {A : Type 0} (P : A → Type 0) (o : Option A) → o ≡ None → IsExactly P o → (x : A) → P x → ⊥
 exact_none {A} P o is exact = let at : IsExactly P None = subst (IsExactly P) is exact in at
 
--- ---- members
-
-pub has_push : {A : Type 0} (xs : List A) (y z : A) → Has (xs ++ y ∷ []) z → Has xs z ⊎ (y ≡ z)
-has_push [] y z (inl last) = inr last
-has_push [] y z (inr none) = absurd none
-has_push (x ∷ xs) y z (inl here) = inl (inl here)
-has_push (x ∷ xs) y z (inr later) = elim (has_push xs y z later) [ inl before ↦ inl (inr before) | inr last ↦ inr last ]
-
-pub has_left : {A : Type 0} (xs ys : List A) (z : A) → Has xs z → Has (xs ++ ys) z
-has_left [] ys z none = absurd none
-has_left (x ∷ xs) ys z (inl here) = inl here
-has_left (x ∷ xs) ys z (inr later) = inr (has_left xs ys z later)
-
-pub has_right : {A : Type 0} (xs ys : List A) (z : A) → Has ys z → Has (xs ++ ys) z
-has_right [] ys z has = has
-has_right (x ∷ xs) ys z has = inr (has_right xs ys z has)
-
-pub has_either : {A : Type 0} (xs ys : List A) (z : A) → Has (xs ++ ys) z → Has xs z ⊎ Has ys z
-has_either [] ys z has = inr has
-has_either (x ∷ xs) ys z (inl here) = inl (inl here)
-has_either (x ∷ xs) ys z (inr later) = elim (has_either xs ys z later) [ inl left ↦ inl (inr left) | inr right ↦ inr right ]
-
 -- ---- one more
-
-pub next : {A B : Type 0} (f : A → B) (xs : List A) (i : ℕ) (x : A) → i < length xs → x ≡ get_or xs i x → map f (take (i + 1) xs) ≡ map f (take i xs) ++ f x ∷ []
-next {A} {B} f xs i x less is = map_more f xs i x less ∙ ap (λ (y : A). map f (take i xs) ++ f y ∷ []) (sym is)
-
-pub all : {A B : Type 0} (f : A → B) (xs : List A) (i : ℕ) → length xs ≤ i → map f (take i xs) ≡ map f xs
-all f xs i past = ap (map f) (take_all i xs past)
-
--- the one at a place is of the list
-pub has_at : {A B : Type 0} (f : A → B) (xs : List A) (i : ℕ) (x : A) → i < length xs → x ≡ get_or xs i x → Has (map f xs) (f x)
-has_at f [] i x less is = absurd (omega arith)
-has_at f (y ∷ ys) zero x less is = inl (ap f (sym is))
-has_at f (y ∷ ys) (suc i) x less is = inr (has_at f ys i x (omega arith) is)
-
--- an item that is read at a place of the list, at any default
-pub item_is : {A : Type 0} (xs : List A) (i : ℕ) (d : A) → i < length xs → get_or xs i d ≡ get_or xs i (get_or xs i d)
-item_is xs i d less = get_or_default xs i d (get_or xs i d) less
-
--- what holds of each so far holds of each with the next
-pub every_more : {A B : Type 0} (P : B → Type 0) (f : A → B) (xs : List A) (i : ℕ) (x : A) → i < length xs → x ≡ get_or xs i x
-    → ((y : B) → Has (map f (take i xs)) y → P y) → P (f x) → (y : B) → Has (map f (take (i + 1) xs)) y → P y
-every_more {A} {B} P f xs i x less is each one y has =
-    elim (has_push (map f (take i xs)) (f x) y (subst (λ (zs : List B). Has zs y) (next f xs i x less is) has)) [
-      | inl before ↦ each y before
-      | inr last ↦ subst P last one
-    ]
-
-pub every_all : {A B : Type 0} (P : B → Type 0) (f : A → B) (xs : List A) (i : ℕ) → length xs ≤ i → ((y : B) → Has (map f (take i xs)) y → P y) → (y : B) → Has (map f xs) y → P y
-every_all {A} {B} P f xs i past each y has = each y (subst (λ (zs : List B). Has zs y) (sym (all f xs i past)) has)
 
 -- the same of an item that is read at a place, at any default
 pub has_read : {A B : Type 0} (f : A → B) (xs : List A) (i : ℕ) (d : A) → i < length xs → Has (map f xs) (f (get_or xs i d))

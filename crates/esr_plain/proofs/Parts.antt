@@ -67,7 +67,8 @@ module _ (shard : ShardId) (e : CodeEntry) (some : 1 ≤ e.part_size) where
     | inr cut ↦ many k cut (subst (λ (n : ℕ). k < n) (count_same e.print.len e.part_size some) less)
   ]
     where
-      one : (k : ℕ) → leb e.print.len e.part_size ≡ true → k < 1 → take (k + 1) (part_names shard.index.number shard.number (entry_of e)) ≡ take k (part_names shard.index.number shard.number (entry_of e)) ++ name_of (code_part_name shard e k) ∷ []
+      one : (k : ℕ) → leb e.print.len e.part_size ≡ true → k < 1
+          → take (k + 1) (part_names shard.index.number shard.number (entry_of e)) ≡ take k (part_names shard.index.number shard.number (entry_of e)) ++ name_of (code_part_name shard e k) ∷ []
       one zero whole below = rw whole refl
       one (suc k) whole below = absurd (omega arith)
 
@@ -140,7 +141,8 @@ IsThere has shard e k parts = AllPairs has (take k (part_names shard.index.numbe
 abbrev pub begun_none : (shard : ShardId) (e : CodeEntry) → Begun shard e 0 []
 begun_none shard e = record { parts = []; joined = refl; full = tt; each = λ less. tt }
 
-abbrev pub begun_more : (shard : ShardId) (e : CodeEntry) (k : ℕ) (bytes p : Bytes) → k < code_part_count e.print.len e.part_size → (k + 1 < code_part_count e.print.len e.part_size → length p ≡ e.part_size) → Begun shard e k bytes → Begun shard e (k + 1) (bytes ++ p)
+abbrev pub begun_more : (shard : ShardId) (e : CodeEntry) (k : ℕ) (bytes p : Bytes) → k < code_part_count e.print.len e.part_size → (k + 1 < code_part_count e.print.len e.part_size → length p ≡ e.part_size) → Begun shard e k bytes
+    → Begun shard e (k + 1) (bytes ++ p)
 begun_more shard e k bytes p less cut begun = record {
   parts = begun.parts ++ p ∷ [];
   joined = concat_push begun.parts p ∙ ap (λ (b : Bytes). b ++ p) begun.joined;
@@ -148,13 +150,15 @@ begun_more shard e k bytes p less cut begun = record {
   each = λ more. each_push e.part_size begun.parts p (begun.each less) (cut more);
 }
 
-pub there_more : (has : BlobName → Bytes → Type 0) (shard : ShardId) (e : CodeEntry) → 1 ≤ e.part_size → (k : ℕ) (parts : List Bytes) (p : Bytes) → k < code_part_count e.print.len e.part_size → has (name_of (code_part_name shard e k)) p
+pub there_more : (has : BlobName → Bytes → Type 0) (shard : ShardId) (e : CodeEntry) → 1 ≤ e.part_size → (k : ℕ) (parts : List Bytes) (p : Bytes) → k < code_part_count e.print.len e.part_size
+    → has (name_of (code_part_name shard e k)) p
     → IsThere has shard e k parts → IsThere has shard e (k + 1) (parts ++ p ∷ [])
 there_more has shard e some k parts p less one there =
     subst (λ (names : List BlobName). AllPairs has names (parts ++ p ∷ [])) (sym (names_next shard e some k less)) (pairs_push has (take k (part_names shard.index.number shard.number (entry_of e))) parts (name_of (code_part_name shard e k)) p there one)
 
 -- all parts are there
-pub joined_all : (has : BlobName → Bytes → Type 0) (shard : ShardId) (e : CodeEntry) → 1 ≤ e.part_size → (k : ℕ) (bytes : Bytes) (begun : Begun shard e k bytes) → IsThere has shard e k begun.parts → k ≡ code_part_count e.print.len e.part_size
+pub joined_all : (has : BlobName → Bytes → Type 0) (shard : ShardId) (e : CodeEntry) → 1 ≤ e.part_size → (k : ℕ) (bytes : Bytes) (begun : Begun shard e k bytes) → IsThere has shard e k begun.parts
+    → k ≡ code_part_count e.print.len e.part_size
     → IsJoined has shard.index.number shard.number (entry_of e) bytes
 joined_all has shard e some k bytes begun there done = record {
   parts = begun.parts;
@@ -173,7 +177,8 @@ joined_absent has shard e some k less none bytes joined =
     (pairs_get has (part_names shard.index.number shard.number (entry_of e)) joined.parts k name [] within joined.there))
 
 -- a part before the last hasn't the part size
-pub joined_uncut : (has : BlobName → Bytes → Type 0) → IsOne has → (shard : ShardId) (e : CodeEntry) → 1 ≤ e.part_size → (k : ℕ) (p : Bytes) → k < code_part_count e.print.len e.part_size → has (name_of (code_part_name shard e k)) p
+pub joined_uncut : (has : BlobName → Bytes → Type 0) → IsOne has → (shard : ShardId) (e : CodeEntry) → 1 ≤ e.part_size → (k : ℕ) (p : Bytes) → k < code_part_count e.print.len e.part_size
+    → has (name_of (code_part_name shard e k)) p
     → ((k + 1 < code_part_count e.print.len e.part_size → length p ≡ e.part_size) → ⊥) → (bytes : Bytes) → IsJoined has shard.index.number shard.number (entry_of e) bytes → ⊥
 joined_uncut has one shard e some k p less there uncut bytes joined =
     let within : k < length (part_names shard.index.number shard.number (entry_of e)) = omega (arith, length-names shard e some) in
@@ -197,5 +202,6 @@ parts_pushed shard e some k first old new n less is made so_far =
     ∙ append_assoc (map name_of first) (take k names) (name_of n ∷ [])
     ∙ ap (λ (m : CodeName). map name_of first ++ (take k names ++ name_of m ∷ [])) is ∙ ap (λ (l : List BlobName). map name_of first ++ l) (sym (names_next shard e some k less))
 
-pub parts_done : (shard : ShardId) (e : CodeEntry) → 1 ≤ e.part_size → (k : ℕ) → code_part_count e.print.len e.part_size ≤ k → take k (part_names shard.index.number shard.number (entry_of e)) ≡ part_names shard.index.number shard.number (entry_of e)
+pub parts_done : (shard : ShardId) (e : CodeEntry) → 1 ≤ e.part_size → (k : ℕ) → code_part_count e.print.len e.part_size ≤ k
+    → take k (part_names shard.index.number shard.number (entry_of e)) ≡ part_names shard.index.number shard.number (entry_of e)
 parts_done shard e some k past = take_all k (part_names shard.index.number shard.number (entry_of e)) (omega (arith, past, length-names shard e some))

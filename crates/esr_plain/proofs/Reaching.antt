@@ -1,6 +1,8 @@
 -- Names that are joined: which they are.
 use Rattle.std.proofs.Common.{◌≡◌, ◌⊎◌, ◌↔◌, ℕ, zero, suc, ◌+◌, ◌<◌, ◌≤◌, List, [], ◌∷◌, ◌++◌, map, length, take, get_or, Option, Some, None, refl, sym, ap, ◌∙◌, subst, inl, inr, append_assoc}
 use Rattle.std.proofs.lemmas.List.{map-append}
+use Rattle.esr_model.specs.Lists.{Has-append, Has-left, Has-right, Has-either}
+use Rattle.esr_model.specs.Loops.{next, all, item_is}
 use Rattle.esr_names.specs.declared.blob.BlobName.{BlobName as CodeName}
 use Rattle.esr_formats.specs.Names.{name_of}
 use Rattle.esr_model.specs.Names.{BlobName, ShardSnap, ShardIndex}
@@ -9,7 +11,6 @@ use Rattle.esr_model.specs.Image.{IsOne, Reads, Generation, at_shard, at_shard_o
 use Rattle.esr_model.specs.Reach.{Reached, ReachSnap, ReachMeta, ReachIndexMeta, ReachIndex, ReachShardSnap, ReachPart}
 use Rattle.esr_plain.specs.Reach.{AreNames, AreOnce, HasList, OfSome, OfList, OfHeld, OfShard, OfPlace, OfShards, OfRoot}
 use Rattle.esr_plain.proofs.Blobs.{reads_one}
-use Rattle.esr_plain.proofs.Loops.{next, all, item_is, has_push, has_left, has_right, has_either}
 use Rattle.esr_plain.proofs.Standing.{index_found, index_there}
 
 -- these are the names of which it holds
@@ -30,8 +31,8 @@ are_two n m name = (
 
 pub are_both : (P Q : BlobName → Type 0) (first more : List BlobName) → Are first P → Are more Q → Are (first ++ more) (λ name. P name ⊎ Q name)
 are_both P Q first more ps qs name = (
-  λ has. elim (has_either first more name has) [ inl left ↦ inl ((ps name).0 left) | inr right ↦ inr ((qs name).0 right) ],
-  λ is. elim is [ inl p ↦ has_left first more name ((ps name).1 p) | inr q ↦ has_right first more name ((qs name).1 q) ],
+  λ has. elim (Has-either first more name has) [ inl left ↦ inl ((ps name).0 left) | inr right ↦ inr ((qs name).0 right) ],
+  λ is. elim is [ inl p ↦ Has-left first more name ((ps name).1 p) | inr q ↦ Has-right first more name ((qs name).1 q) ],
 )
 
 pub are_as : (P Q : BlobName → Type 0) (names : List BlobName) → Are names P → ((name : BlobName) → P name → Q name) → ((name : BlobName) → Q name → P name) → Are names Q
@@ -41,13 +42,13 @@ are_as P Q names are to back name = (λ has. to name ((are name).0 has), λ q. (
 
 some_push : {A : Type 0} (P : A → BlobName → Type 0) (xs : List A) (x : A) (old more : List BlobName) → Are old (OfSome P xs) → Are more (P x) → Are (old ++ more) (OfSome P (xs ++ x ∷ []))
 some_push {A} P xs x old more olds mores name = (
-  λ has. elim (has_either old more name has) [
-    | inl left ↦ let p = (olds name).0 left in (p.0, has_left xs (x ∷ []) p.0 p.1, p.2)
-    | inr right ↦ (x, has_right xs (x ∷ []) x (inl refl), (mores name).0 right)
+  λ has. elim (Has-either old more name has) [
+    | inl left ↦ let p = (olds name).0 left in (p.0, Has-left xs (x ∷ []) p.0 p.1, p.2)
+    | inr right ↦ (x, Has-right xs (x ∷ []) x (inl refl), (mores name).0 right)
   ],
-  λ p. elim (has_push xs x p.0 p.1) [
-    | inl before ↦ has_left old more name ((olds name).1 (p.0, before, p.2))
-    | inr last ↦ has_right old more name ((mores name).1 (subst (λ (y : A). P y name) (sym last) p.2))
+  λ p. elim (Has-append xs x p.0 p.1) [
+    | inl before ↦ Has-left old more name ((olds name).1 (p.0, before, p.2))
+    | inr last ↦ Has-right old more name ((mores name).1 (subst (λ (y : A). P y name) (sym last) p.2))
   ],
 )
 
@@ -93,15 +94,16 @@ at_push_cases (h ∷ gs) g zero v e = inl e
 at_push_cases (h ∷ gs) g (suc k) v e = elim (at_push_cases gs g k v e) [ inl before ↦ inl before | inr last ↦ inr (ap suc last.0, last.1) ]
 
 module _ (f : Formats) (has : BlobName → Bytes → Type 0) (snaps : List RootSnap) (index : ℕ) where
-  shards_push : (gs : List (Option ℕ)) (g : Option ℕ) (old more : List BlobName) → Are old (OfShards f has snaps index gs) → Are more (OfPlace f has snaps index (length gs) g) → Are (old ++ more) (OfShards f has snaps index (gs ++ g ∷ []))
+  shards_push : (gs : List (Option ℕ)) (g : Option ℕ) (old more : List BlobName) → Are old (OfShards f has snaps index gs) → Are more (OfPlace f has snaps index (length gs) g)
+      → Are (old ++ more) (OfShards f has snaps index (gs ++ g ∷ []))
   shards_push gs g old more olds mores name = (
-    λ there. elim (has_either old more name there) [
+    λ there. elim (Has-either old more name there) [
       | inl left ↦ let p = (olds name).0 left in (p.0, (p.1.0, at_push_some gs g p.0 p.1.0 p.1.1, p.1.2))
       | inr right ↦ let p = (mores name).0 right in (length gs, (p.0, at_push_last gs g ∙ p.1, p.2))
     ],
     λ p. elim (at_push_cases gs g p.0 p.1.0 p.1.1) [
-      | inl before ↦ has_left old more name ((olds name).1 (p.0, (p.1.0, before, p.1.2)))
-      | inr last ↦ has_right old more name ((mores name).1 (p.1.0, last.1, subst (λ (k : ℕ). OfShard f has snaps index k p.1.0 name) last.0 p.1.2))
+      | inl before ↦ Has-left old more name ((olds name).1 (p.0, (p.1.0, before, p.1.2)))
+      | inr last ↦ Has-right old more name ((mores name).1 (p.1.0, last.1, subst (λ (k : ℕ). OfShard f has snaps index k p.1.0 name) last.0 p.1.2))
     ],
   )
 
@@ -129,7 +131,8 @@ module _ (f : Formats) (has : BlobName → Bytes → Type 0) (snaps : List RootS
   place_none shard name = (λ there. absurd there, λ p. let none : ◌≡◌ {A = Option ℕ} None (Some p.0) = p.1 in absurd (cc))
 
   -- a shard's index that reads
-  pub shard_read : IsOne has → (shard g : ℕ) (held : ShardFiles) (names : List BlobName) → Reads has (ShardIndex index shard g) f.shard_index held → Are names (λ name. OfHeld snaps held index shard name ⊎ (name ≡ ShardIndex index shard g))
+  pub shard_read : IsOne has → (shard g : ℕ) (held : ShardFiles) (names : List BlobName) → Reads has (ShardIndex index shard g) f.shard_index held
+      → Are names (λ name. OfHeld snaps held index shard name ⊎ (name ≡ ShardIndex index shard g))
       → Are names (OfShard f has snaps index shard g)
   shard_read one shard g held names reads are =
       are_as (λ name. OfHeld snaps held index shard name ⊎ (name ≡ ShardIndex index shard g)) (OfShard f has snaps index shard g) names are
@@ -140,7 +143,8 @@ module _ (f : Formats) (has : BlobName → Bytes → Type 0) (snaps : List RootS
       ])
 
   -- a shard's index that doesn't
-  pub shard_unread : (shard g : ℕ) (names : List BlobName) → ((v : ShardFiles) → Reads has (ShardIndex index shard g) f.shard_index v → ⊥) → Are names (λ name. name ≡ ShardIndex index shard g) → Are names (OfShard f has snaps index shard g)
+  pub shard_unread : (shard g : ℕ) (names : List BlobName) → ((v : ShardFiles) → Reads has (ShardIndex index shard g) f.shard_index v → ⊥) → Are names (λ name. name ≡ ShardIndex index shard g)
+      → Are names (OfShard f has snaps index shard g)
   shard_unread shard g names none are =
       are_as (λ name. name ≡ ShardIndex index shard g) (OfShard f has snaps index shard g) names are (λ name own. inl own)
       (λ name p. elim p [ inl own ↦ own | inr other ↦ absurd (none other.0 other.1) ])
@@ -192,7 +196,7 @@ module _ (f : Formats) (has : BlobName → Bytes → Type 0) (root : RootData) (
 once_push : (names : List BlobName) (n : BlobName) → AreOnce names → (Has names n → ⊥) → AreOnce (names ++ n ∷ [])
 once_push [] n once new = (λ none. none, tt)
 once_push (m ∷ names) n once new = (
-  λ has. elim (has_push names n m has) [ inl before ↦ once.0 before | inr last ↦ new (inl (sym last)) ],
+  λ has. elim (Has-append names n m has) [ inl before ↦ once.0 before | inr last ↦ new (inl (sym last)) ],
   once_push names n once.1 (λ has. new (inr has)),
 )
 
@@ -200,28 +204,30 @@ pub once_more : (old new : List CodeName) (n : CodeName) → new ≡ old ++ n �
 once_more old new n is once other = subst AreOnce (sym (joined_by old new (n ∷ []) is)) (once_push (map name_of old) (name_of n) once other)
 
 -- a new one is kept
-kept_new : (xs : List CodeName) (i : ℕ) (x : CodeName) (old new : List CodeName) → i < length xs → x ≡ get_or xs i x → new ≡ old ++ x ∷ [] → AreNames old (Has (map name_of (take i xs))) → AreNames new (Has (map name_of (take (i + 1) xs)))
+kept_new : (xs : List CodeName) (i : ℕ) (x : CodeName) (old new : List CodeName) → i < length xs → x ≡ get_or xs i x → new ≡ old ++ x ∷ [] → AreNames old (Has (map name_of (take i xs)))
+    → AreNames new (Has (map name_of (take (i + 1) xs)))
 kept_new xs i x old new less is made are name =
     let front = next name_of xs i x less is in
     let joined = joined_by old new (x ∷ []) made in (
       λ has. subst (λ (ns : List BlobName). Has ns name) (sym front)
-          (elim (has_either (map name_of old) (name_of x ∷ []) name (subst (λ (ns : List BlobName). Has ns name) joined has)) [
-            | inl before ↦ has_left (map name_of (take i xs)) (name_of x ∷ []) name ((are name).0 before)
-            | inr last ↦ has_right (map name_of (take i xs)) (name_of x ∷ []) name last
+          (elim (Has-either (map name_of old) (name_of x ∷ []) name (subst (λ (ns : List BlobName). Has ns name) joined has)) [
+            | inl before ↦ Has-left (map name_of (take i xs)) (name_of x ∷ []) name ((are name).0 before)
+            | inr last ↦ Has-right (map name_of (take i xs)) (name_of x ∷ []) name last
           ]),
       λ has. subst (λ (ns : List BlobName). Has ns name) (sym joined)
-          (elim (has_either (map name_of (take i xs)) (name_of x ∷ []) name (subst (λ (ns : List BlobName). Has ns name) front has)) [
-            | inl before ↦ has_left (map name_of old) (name_of x ∷ []) name ((are name).1 before)
-            | inr last ↦ has_right (map name_of old) (name_of x ∷ []) name last
+          (elim (Has-either (map name_of (take i xs)) (name_of x ∷ []) name (subst (λ (ns : List BlobName). Has ns name) front has)) [
+            | inl before ↦ Has-left (map name_of old) (name_of x ∷ []) name ((are name).1 before)
+            | inr last ↦ Has-right (map name_of old) (name_of x ∷ []) name last
           ]),
     )
 
 -- one that stood before is left out
-kept_old : (xs : List CodeName) (i : ℕ) (x : CodeName) (old : List CodeName) → i < length xs → x ≡ get_or xs i x → Has (map name_of old) (name_of x) → AreNames old (Has (map name_of (take i xs))) → AreNames old (Has (map name_of (take (i + 1) xs)))
+kept_old : (xs : List CodeName) (i : ℕ) (x : CodeName) (old : List CodeName) → i < length xs → x ≡ get_or xs i x → Has (map name_of old) (name_of x) → AreNames old (Has (map name_of (take i xs)))
+    → AreNames old (Has (map name_of (take (i + 1) xs)))
 kept_old xs i x old less is there are name =
     let front = next name_of xs i x less is in (
-      λ has. subst (λ (ns : List BlobName). Has ns name) (sym front) (has_left (map name_of (take i xs)) (name_of x ∷ []) name ((are name).0 has)),
-      λ has. elim (has_push (map name_of (take i xs)) (name_of x) name (subst (λ (ns : List BlobName). Has ns name) front has)) [
+      λ has. subst (λ (ns : List BlobName). Has ns name) (sym front) (Has-left (map name_of (take i xs)) (name_of x ∷ []) name ((are name).0 has)),
+      λ has. elim (Has-append (map name_of (take i xs)) (name_of x) name (subst (λ (ns : List BlobName). Has ns name) front has)) [
         | inl before ↦ (are name).1 before
         | inr last ↦ subst (λ (n : BlobName). Has (map name_of old) n) last there
       ],
@@ -231,7 +237,8 @@ kept_old xs i x old less is there are name =
 pub read_new : (xs : List CodeName) (i : ℕ) (d : CodeName) (old new : List CodeName) → i < length xs → new ≡ old ++ get_or xs i d ∷ [] → AreNames old (Has (map name_of (take i xs))) → AreNames new (Has (map name_of (take (i + 1) xs)))
 read_new xs i d old new less made are = kept_new xs i (get_or xs i d) old new less (item_is xs i d less) made are
 
-pub read_old : (xs : List CodeName) (i : ℕ) (d : CodeName) (old : List CodeName) → i < length xs → Has (map name_of old) (name_of (get_or xs i d)) → AreNames old (Has (map name_of (take i xs))) → AreNames old (Has (map name_of (take (i + 1) xs)))
+pub read_old : (xs : List CodeName) (i : ℕ) (d : CodeName) (old : List CodeName) → i < length xs → Has (map name_of old) (name_of (get_or xs i d)) → AreNames old (Has (map name_of (take i xs)))
+    → AreNames old (Has (map name_of (take (i + 1) xs)))
 read_old xs i d old less there are = kept_old xs i (get_or xs i d) old less (item_is xs i d less) there are
 
 pub kept_all : (xs : List CodeName) (i : ℕ) (old : List CodeName) → length xs ≤ i → AreNames old (Has (map name_of (take i xs))) → AreNames old (Has (map name_of xs))

@@ -1,13 +1,13 @@
 -- Shards in the order of the shelf.
 use Rattle.std.proofs.Common.{◌≡◌, ℕ, zero, suc, ◌+◌, ◌<◌, Bool, true, false, if◌then◌else◌, List, [], ◌∷◌, ◌++◌, map, length, take, drop, get_or, sym, ap, ◌∙◌, append_assoc, arith}
 use Rattle.std.proofs.lemmas.List.{append-nil, take_more, drop_more, take-map, drop-map, map-append}
+use Rattle.esr_model.specs.Loops.{next}
 use Rattle.esr_names.specs.declared.index_ref.IndexRef.{IndexRef as CodeRef}
 use Rattle.esr_formats.specs.Refs.{ref_of_code}
 use Rattle.esr_model.specs.Values.{IndexRef}
 use Rattle.esr_model.specs.Places.{numbered, places, put_by}
 use Rattle.esr_plain.specs.declared.places.Place.{Place}
 use Rattle.esr_plain.specs.Places.{place_of}
-use Rattle.esr_plain.proofs.Loops.{next}
 
 -- ---- one more shard, one more index
 

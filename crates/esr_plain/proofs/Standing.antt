@@ -28,7 +28,8 @@ module _ (f : Formats) (has : BlobName → Bytes → Type 0) (root : RootData) (
   pub index_unread : ((v : ShardFiles) → Reads has (ShardIndex index shard generation) f.shard_index v → ⊥) → IndexStands f has root index shard generation → ⊥
   index_unread none s = none s.held s.held_reads
 
-  pub index_above : IsOne has → (held : ShardFiles) → Reads has (ShardIndex index shard generation) f.shard_index held → (((l : SnapList) → Has held.snapshots l → l.uuid < generation) → ⊥) → IndexStands f has root index shard generation → ⊥
+  pub index_above : IsOne has → (held : ShardFiles) → Reads has (ShardIndex index shard generation) f.shard_index held → (((l : SnapList) → Has held.snapshots l → l.uuid < generation) → ⊥)
+      → IndexStands f has root index shard generation → ⊥
   index_above one held reads none s =
       none (subst (λ (v : ShardFiles). (l : SnapList) → Has v.snapshots l → l.uuid < generation) (reads_one has one (ShardIndex index shard generation) f.shard_index s.held held s.held_reads reads) s.below)
 
@@ -46,7 +47,8 @@ module _ (f : Formats) (has : BlobName → Bytes → Type 0) (root : RootData) (
   index_lacks one held reads none s =
       none (subst (λ (v : ShardFiles). HaveSnaps f has root index shard v.snapshots) (reads_one has one (ShardIndex index shard generation) f.shard_index s.held held s.held_reads reads) (λ l there snap listed same. s.snaps l snap there listed same))
 
-  pub index_without : IsOne has → (held : ShardFiles) → Reads has (ShardIndex index shard generation) f.shard_index held → ((files : List (Bytes × Bytes)) → AllPairs (IsStored f has index shard) held.files files → ⊥) → IndexStands f has root index shard generation → ⊥
+  pub index_without : IsOne has → (held : ShardFiles) → Reads has (ShardIndex index shard generation) f.shard_index held → ((files : List (Bytes × Bytes)) → AllPairs (IsStored f has index shard) held.files files → ⊥)
+      → IndexStands f has root index shard generation → ⊥
   index_without one held reads none s =
       let each : (e : FileEntry) → Has s.held.files e → (file : Bytes × Bytes) × IsStored f has index shard e file = (λ e there. let stands = s.files e there in ((e.physical, stands.0), (refl, stands.1))) in
       let files = pairs_each (IsStored f has index shard) s.held.files each in
@@ -109,7 +111,8 @@ by_index f has root each i k g is =
     let found = index_found root.indices i k g is in
     subst (λ (n : ℕ). IndexStands f has root n k g) found.2 (each found.0 found.1 k g found.3)
 
-pub to_index : (f : Formats) (has : BlobName → Bytes → Type 0) (root : RootData) → IsOneEach root.indices → ((i k g : ℕ) → Generation root i k g → IndexStands f has root i k g) → (x : RootIndex) → Has root.indices x → ShardsStand f has root x
+pub to_index : (f : Formats) (has : BlobName → Bytes → Type 0) (root : RootData) → IsOneEach root.indices → ((i k g : ℕ) → Generation root i k g → IndexStands f has root i k g) → (x : RootIndex) → Has root.indices x
+    → ShardsStand f has root x
 to_index f has root once all x there k g is =
     all x.id k g (ap (λ (o : Option RootIndex). at_shard_of o k) (index_there root.indices once x there) ∙ is)
 
@@ -120,7 +123,8 @@ pub root_stands : (f : Formats) (has : BlobName → Bytes → Type 0) (root : Ro
 root_stands f has root indices (Some shelf) snapshots = record { snapshots = snapshots; indices = indices }
 root_stands f has root indices None none = λ shelf s. none shelf s.snapshots
 
-pub whole_by : (f : Formats) (has : BlobName → Bytes → Type 0) → IsOne has → (n : ℕ) (root : RootData) → Reads has (Root n) f.root root → (o : Option (List Shelved)) → IsExactly (RootStands f has root) o → IsExactly (Stands f has n) o
+pub whole_by : (f : Formats) (has : BlobName → Bytes → Type 0) → IsOne has → (n : ℕ) (root : RootData) → Reads has (Root n) f.root root → (o : Option (List Shelved)) → IsExactly (RootStands f has root) o
+    → IsExactly (Stands f has n) o
 whole_by f has one n root reads (Some shelf) stands = record { root = root; root_reads = reads; stands = stands }
 whole_by f has one n root reads None none = λ shelf s. none shelf (subst (λ (r : RootData). RootStands f has r shelf) (reads_one has one (Root n) f.root s.root root s.root_reads reads) s.stands)
 

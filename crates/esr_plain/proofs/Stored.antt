@@ -36,7 +36,8 @@ bytes_same a b r is no_is = (bytes_eq-Decides a b).0 (same_not (bytes_eq a b) (s
 pub joined_of : (f : Formats) (has : BlobName → Bytes → Type 0) (index shard : ℕ) (e : FileEntry) (bytes : Bytes) → FileStands f has index shard e bytes → IsJoined has index shard e bytes
 joined_of f has index shard e bytes s = record { parts = s.parts; there = s.there; full = s.full; joined = s.joined }
 
-pub file_of : (f : Formats) (has : BlobName → Bytes → Type 0) (index shard : ℕ) (e : FileEntry) (bytes : Bytes) → IsJoined has index shard e bytes → length bytes ≡ e.len → f.digest bytes ≡ e.digest → FileStands f has index shard e bytes
+pub file_of : (f : Formats) (has : BlobName → Bytes → Type 0) (index shard : ℕ) (e : FileEntry) (bytes : Bytes) → IsJoined has index shard e bytes → length bytes ≡ e.len → f.digest bytes ≡ e.digest
+    → FileStands f has index shard e bytes
 file_of f has index shard e bytes j len digest = record { parts = j.parts; there = j.there; full = j.full; joined = j.joined; len = len; digest = digest }
 
 -- the files of a shard's snapshot are entries

@@ -5,17 +5,17 @@ use Rattle.std.proofs.lemmas.List.{map-append}
 use Rattle.esr_model.specs.Values.{Has}
 use Rattle.esr_core.specs.World.{Op, Deletion}
 use Rattle.esr_core.specs.Steps.{completing}
-use Rattle.esr_ops.specs.declared.unit.Slot.{Slot}
-use Rattle.esr_ops.specs.Plan.{Plan, RestorePlan}
-use Rattle.esr_ops.specs.Inside.{numbers_of, IsProgress, plan_with, seats_with, readers_with, AreNumbers}
+use Rattle.esr_ops.specs.Plan.{Plan, RestorePlan, TicketMaps}
+use Rattle.esr_ops.specs.Inside.{numbers_of, IsProgress, plan_with, AreNumbers}
 use Rattle.std.specs.List.{list_any}
+use Rattle.esr_model.specs.Lists.{Has-either}
 use Rattle.esr_ops.specs.Restores.{is_waiting}
 use Rattle.esr_progress.specs.Changes.{put_plan}
 use Rattle.esr_ops.specs.Entries.{from_push, eqb_is, get_from, same_maps, get_left}
-use Rattle.esr_ops.specs.Lists.{Has-either}
 use Rattle.esr_ops.specs.Numbers.{AreNumbers-next, numbers-push, found_below}
 
-more : (ops : List (ℕ × Op)) (deletes : List (ℕ × Deletion)) (next : ℕ) (restores : List (ℕ × RestorePlan)) (op : Op) → IsProgress ops deletes next restores → next < 2 ^ 62 → IsProgress (ops ++ (next, op) ∷ []) deletes (suc next) restores
+more : (ops : List (ℕ × Op)) (deletes : List (ℕ × Deletion)) (next : ℕ) (restores : List (ℕ × RestorePlan)) (op : Op) → IsProgress ops deletes next restores → next < 2 ^ 62
+    → IsProgress (ops ++ (next, op) ∷ []) deletes (suc next) restores
 more ops deletes next restores op h room = record {
   ops_numbered = numbers-push ops next op h.first h.ops_numbered;
   deletes_numbered = AreNumbers-next (numbers_of deletes) next (suc next) (omega arith) h.deletes_numbered;
@@ -30,11 +30,13 @@ more ops deletes next restores op h room = record {
   most = omega arith;
 }
 
-pub progress-push : (ops : List (ℕ × Op)) (deletes : List (ℕ × Deletion)) (next : ℕ) (restores : List (ℕ × RestorePlan)) (op : ℕ × Op) (new : List (ℕ × Op)) → IsProgress ops deletes next restores → next < 2 ^ 62 → op.0 ≡ next → new ≡ ops ++ op ∷ [] → IsProgress new deletes (next + 1) restores
+pub progress-push : (ops : List (ℕ × Op)) (deletes : List (ℕ × Deletion)) (next : ℕ) (restores : List (ℕ × RestorePlan)) (op : ℕ × Op) (new : List (ℕ × Op)) → IsProgress ops deletes next restores → next < 2 ^ 62
+    → op.0 ≡ next → new ≡ ops ++ op ∷ [] → IsProgress new deletes (next + 1) restores
 progress-push ops deletes next restores op new h room is pushed =
     subst (λ (es : List (ℕ × Op)). IsProgress es deletes (next + 1) restores) (sym (pushed ∙ λ j. ops ++ (is j, op.1) ∷ [])) (subst (λ (n : ℕ). IsProgress (ops ++ (next, op.1) ∷ []) deletes n restores) (sym (add-one next)) (more ops deletes next restores op.1 h room))
 
-pub plan-push : (ops : List (ℕ × Op)) (deletes : List (ℕ × Deletion)) (completed now : List ℕ) (seats : List Slot) (next : ℕ) (restores : List (ℕ × RestorePlan)) (op : ℕ × Op) (new : List (ℕ × Op)) (p : Plan) → IsProgress ops deletes next restores → plan_with ops deletes completed seats next restores ≡ p
+pub plan-push : (ops : List (ℕ × Op)) (deletes : List (ℕ × Deletion)) (completed now : List ℕ) (seats : TicketMaps) (next : ℕ) (restores : List (ℕ × RestorePlan)) (op : ℕ × Op) (new : List (ℕ × Op)) (p : Plan)
+    → IsProgress ops deletes next restores → plan_with ops deletes completed seats next restores ≡ p
     → op.0 ≡ next → new ≡ ops ++ op ∷ [] → now ≡ completing completed op.0 op.1.shards
     → plan_with new deletes now seats (next + 1) restores ≡ record p { ops = fin.insert p.ops op.0 op.1; completed = completing p.completed op.0 op.1.shards; next_op = suc p.next_op }
 plan-push ops deletes completed now seats next restores op new p h view is pushed noted =
@@ -44,16 +46,17 @@ plan-push ops deletes completed now seats next restores op new p h view is pushe
       ops = (ap (λ (es : List (ℕ × Op)). fin.from_entries {R = nat_cmp} es) pushed ∙ from_push ops op.0 op.1 free) j;
       deletes = fin.from_entries deletes;
       completed = noted j;
-      seats = seats_with seats;
+      seats = seats.seats;
       restores = fin.from_entries restores;
-      readers = readers_with seats;
+      readers = seats.readers;
       next_op = add-one next j;
-      next_ticket = (plan_with ops deletes completed seats next restores).next_ticket;
+      next_ticket = seats.next;
     }
     )
 
 -- what holds of a list holds of one that is the same
-pub valid-same : (ops os : List (ℕ × Op)) (deletes ds : List (ℕ × Deletion)) (next : ℕ) (restores rs : List (ℕ × RestorePlan)) → os ≡ ops → ds ≡ deletes → rs ≡ restores → IsProgress ops deletes next restores → IsProgress os ds next rs
+pub valid-same : (ops os : List (ℕ × Op)) (deletes ds : List (ℕ × Deletion)) (next : ℕ) (restores rs : List (ℕ × RestorePlan)) → os ≡ ops → ds ≡ deletes → rs ≡ restores → IsProgress ops deletes next restores
+    → IsProgress os ds next rs
 valid-same ops os deletes ds next restores rs a b c h =
     subst (λ (x : List (ℕ × Op)). IsProgress x ds next rs) (sym a)
     (subst (λ (x : List (ℕ × Deletion)). IsProgress ops x next rs) (sym b)
@@ -61,7 +64,7 @@ valid-same ops os deletes ds next restores rs a b c h =
 
 -- ---- a restore more
 
-module _ (ops : List (ℕ × Op)) (deletes : List (ℕ × Deletion)) (completed : List ℕ) (seats : List Slot) (next : ℕ) (restores new : List (ℕ × RestorePlan)) (h : IsProgress ops deletes next restores) where
+module _ (ops : List (ℕ × Op)) (deletes : List (ℕ × Deletion)) (completed : List ℕ) (seats : TicketMaps) (next : ℕ) (restores new : List (ℕ × RestorePlan)) (h : IsProgress ops deletes next restores) where
   pub progress_opened : next < 2 ^ 62 → (r : ℕ × RestorePlan) → r.0 ≡ next → (b : Bool) → new ≡ cond b (restores ++ r ∷ []) restores → IsProgress ops deletes (next + 1) new
   progress_opened room r number b are = subst (λ (n : ℕ). IsProgress ops deletes n new) (sym (add-one next)) (record {
     ops_numbered = AreNumbers-next (numbers_of ops) next (suc next) (omega arith) h.ops_numbered;
@@ -98,10 +101,10 @@ module _ (ops : List (ℕ × Op)) (deletes : List (ℕ × Deletion)) (completed 
         ops = fin.from_entries ops;
         deletes = fin.from_entries deletes;
         completed = completed;
-        seats = seats_with seats;
+        seats = seats.seats;
         restores = opened_map r number (list_any is_waiting r.1.shards) are j;
-        readers = readers_with seats;
+        readers = seats.readers;
         next_op = add-one next j;
-        next_ticket = (plan_with ops deletes completed seats next restores).next_ticket;
+        next_ticket = seats.next;
       }
       )

@@ -1,62 +1,20 @@
 -- A plan after a change of its lists.
-use Rattle.std.proofs.Common.{◌≡◌, ℕ, ◌-◌, ◌<◌, ◌≤◌, Bool, true, false, cond, eqb, List, [], ◌∷◌, ◌++◌, Option, Some, None, option_map, length, get_or, refl, sym, ap, ◌∙◌, subst, nat_cmp, true≢false, eq-eqb}
+use Rattle.std.proofs.Common.{◌≡◌, ℕ, ◌-◌, Bool, true, false, cond, eqb, List, [], ◌∷◌, ◌++◌, Option, Some, None, option_map, get_or, refl, sym, ap, ◌∙◌, subst, nat_cmp, true≢false, eq-eqb}
 use Rattle.std.specs.Prelude.{not, is_some}
 use Rattle.std.specs.List.{position, filter, list_any}
 use Rattle.std.specs.FinMap as fin
-use Rattle.std.proofs.lemmas.Option.{get_or_from_slice_get}
+use Rattle.std.proofs.lemmas.Option.{get_or_from_slice_get, none-some, same_Some}
 use Rattle.std.proofs.Math.ListN.{set}
 use Rattle.esr_model.specs.Values.{Has, ShardResult}
 use Rattle.esr_core.specs.World.{Op, Deletion}
 use Rattle.esr_core.specs.Steps.{all_done}
-use Rattle.esr_ops.specs.declared.unit.Seat.{Seat as CodeSeat}
-use Rattle.esr_ops.specs.declared.unit.ReaderSeat.{ReaderSeat as CodeReader}
-use Rattle.esr_ops.specs.declared.unit.Slot.{Slot}
-use Rattle.esr_ops.specs.declared.unit.Slot.TheVariants as slots
-use Rattle.esr_ops.specs.Plan.{Plan, Seat, seat_of_code, ReaderSeat, reader_of_code, RestorePlan}
-use Rattle.esr_ops.specs.Seats.{seat_at, seat_in, reader_in, told_in, seat_ended, reader_ended}
-use Rattle.esr_ops.specs.Inside.{plan_with, seats_with, readers_with, numbers_of, AreNumbers, IsProgress}
+use Rattle.esr_ops.specs.Plan.{Plan, Seat, ReaderSeat, RestorePlan, TicketMaps}
+use Rattle.esr_ops.specs.Inside.{plan_with, numbers_of, AreNumbers, IsProgress}
 use Rattle.esr_ops.specs.Restores.{is_waiting}
-use Rattle.esr_progress.specs.Changes.{with_seat, without_snap, without_op, with_completed, op_changed, op_marked, done_by, with_reader, restore_over, restore_changed, restore_kept, read_by, delete_changed}
+use Rattle.esr_progress.specs.Changes.{without_seat, without_reader, without_snap, without_op, with_completed, op_changed, op_marked, done_by, restore_over, restore_changed, restore_kept, read_by, delete_changed}
 use Rattle.esr_ops.specs.Entries.{get_from, get_put, same_maps, get_left}
-use Rattle.esr_ops.specs.Lists.{none_some, some_same}
-use Rattle.esr_progress.specs.SeatMaps.{get-seats}
 use Rattle.esr_progress.proofs.Entries.{position_missed, position_found, FirstAt, from_set, from_filter}
 use Rattle.esr_progress.proofs.Numbers.{numbers-set, numbers-filter, kept_number}
-use Rattle.esr_progress.proofs.Plans.{plan-seat, plan-reader}
-use Rattle.esr_progress.proofs.SeatMaps.{seat_at_within, get-readers}
-
--- ---- a seat
-
-seen : (o : Option Slot) → is_some (told_in seat_in o) ≡ true → (c : CodeSeat) × (o ≡ Some (slots.Ticket c))
-seen None e = absurd (true≢false (sym e))
-seen (Some (slots.Ticket c)) e = (c, refl)
-seen (Some (slots.Reader q)) e = absurd (true≢false (sym e))
-
-pub seat_there : (seats : List Slot) (k : ℕ) → is_some (fin.get (seats_with seats) k) ≡ true → (c : CodeSeat) × (seat_at seats k ≡ Some (slots.Ticket c))
-seat_there seats k e = seen (seat_at seats k) (sym (ap is_some (get-seats seats k)) ∙ e)
-
-pub seat_within : (seats : List Slot) (k : ℕ) → is_some (fin.get (seats_with seats) k) ≡ true → (1 ≤ k) × (k - 1 < length seats)
-seat_within seats k e = let (c, there) = seat_there seats k e in seat_at_within seats k (slots.Ticket c) there
-
-seen_reader : (o : Option Slot) → is_some (told_in reader_in o) ≡ true → (c : CodeReader) × (o ≡ Some (slots.Reader c))
-seen_reader None e = absurd (true≢false (sym e))
-seen_reader (Some (slots.Ticket c)) e = absurd (true≢false (sym e))
-seen_reader (Some (slots.Reader q)) e = (q, refl)
-
-pub reader_there : (seats : List Slot) (k : ℕ) → is_some (fin.get (readers_with seats) k) ≡ true → (c : CodeReader) × (seat_at seats k ≡ Some (slots.Reader c))
-reader_there seats k e = seen_reader (seat_at seats k) (sym (ap is_some (get-readers seats k)) ∙ e)
-
-pub reader_within : (seats : List Slot) (k : ℕ) → is_some (fin.get (readers_with seats) k) ≡ true → (1 ≤ k) × (k - 1 < length seats)
-reader_within seats k e = let (c, there) = reader_there seats k e in seat_at_within seats k (slots.Reader c) there
-
-module _ (ops : List (ℕ × Op)) (deletes : List (ℕ × Deletion)) (completed : List ℕ) (seats : List Slot) (next : ℕ) (restores : List (ℕ × RestorePlan)) (k : ℕ) where
-  pub seat_put : (new : CodeSeat) → is_some (fin.get (seats_with seats) k) ≡ true
-      → plan_with ops deletes completed (set seats (k - 1) (slots.Ticket new)) next restores ≡ with_seat (plan_with ops deletes completed seats next restores) k (seat_of_code new)
-  seat_put new e = let (c, there) = seat_there seats k e in plan-seat ops deletes completed seats next restores k c new there
-
-  pub reader_put : (new : CodeReader) → is_some (fin.get (readers_with seats) k) ≡ true
-      → plan_with ops deletes completed (set seats (k - 1) (slots.Reader new)) next restores ≡ with_reader (plan_with ops deletes completed seats next restores) k (reader_of_code new)
-  reader_put new e = let (c, there) = reader_there seats k e in plan-reader ops deletes completed seats next restores k c new there
 
 -- ---- an op
 
@@ -70,10 +28,10 @@ found_op ops o i x found is =
 
 pub has_op_is : (ops : List (ℕ × Op)) (o : ℕ) (i : Option ℕ) → i ≡ position (λ e. eqb e.0 o) ops → is_some i ≡ is_some (fin.get (fin.from_entries {R = nat_cmp} ops) o)
 has_op_is ops o None e = sym (ap is_some (missed_op ops o (sym e)))
-has_op_is [] o (Some i) e = absurd (none_some i (sym e))
+has_op_is [] o (Some i) e = absurd (none-some i (sym e))
 has_op_is (x ∷ ops) o (Some i) e = sym (ap is_some (get_from (x ∷ ops) o ∙ (position_found (x ∷ ops) o i x (sym e)).found))
 
-module _ (g : Op → Op) (deletes : List (ℕ × Deletion)) (completed : List ℕ) (seats : List Slot) (next : ℕ) (restores : List (ℕ × RestorePlan)) (o : ℕ) where
+module _ (g : Op → Op) (deletes : List (ℕ × Deletion)) (completed : List ℕ) (seats : TicketMaps) (next : ℕ) (restores : List (ℕ × RestorePlan)) (o : ℕ) where
   pub op_missed : (ops : List (ℕ × Op)) → position (λ e. eqb e.0 o) ops ≡ None
       → plan_with ops deletes completed seats next restores ≡ op_changed g (plan_with ops deletes completed seats next restores) o (fin.get (fin.from_entries {R = nat_cmp} ops) o)
   op_missed ops e = sym (ap (op_changed g (plan_with ops deletes completed seats next restores) o) (get_from ops o ∙ position_missed ops o e))
@@ -118,7 +76,7 @@ module _ (ops : List (ℕ × Op)) (deletes : List (ℕ × Deletion)) (o : ℕ) w
     most = h.most;
   }
 
-  pub left_is : (completed : List ℕ) (seats : List Slot) (next : ℕ) (restores : List (ℕ × RestorePlan))
+  pub left_is : (completed : List ℕ) (seats : TicketMaps) (next : ℕ) (restores : List (ℕ × RestorePlan))
       → plan_with (filter (λ e. not (eqb e.0 o)) ops) (filter (λ e. not (eqb e.0 o)) deletes) completed seats next restores ≡ without_op (plan_with ops deletes completed seats next restores) o
   left_is completed seats next restores = λ j. record (plan_with ops deletes completed seats next restores) { ops = from_filter ops o j; deletes = from_filter deletes o j }
 
@@ -133,7 +91,7 @@ module _ (ops : List (ℕ × Op)) (deletes : List (ℕ × Deletion)) (o : ℕ) w
     most = h.most;
   }
 
-  pub snap_left_is : (completed : List ℕ) (seats : List Slot) (next : ℕ) (restores : List (ℕ × RestorePlan))
+  pub snap_left_is : (completed : List ℕ) (seats : TicketMaps) (next : ℕ) (restores : List (ℕ × RestorePlan))
       → plan_with (filter (λ e. not (eqb e.0 o)) ops) deletes completed seats next restores ≡ without_snap (plan_with ops deletes completed seats next restores) o
   snap_left_is completed seats next restores = λ j. record (plan_with ops deletes completed seats next restores) { ops = from_filter ops o j }
 
@@ -141,10 +99,10 @@ module _ (ops : List (ℕ × Op)) (deletes : List (ℕ × Deletion)) (o : ℕ) w
 
 pub has_delete_is : (deletes : List (ℕ × Deletion)) (o : ℕ) (i : Option ℕ) → i ≡ position (λ e. eqb e.0 o) deletes → is_some i ≡ is_some (fin.get (fin.from_entries {R = nat_cmp} deletes) o)
 has_delete_is deletes o None e = sym (ap is_some (get_from deletes o ∙ position_missed deletes o (sym e)))
-has_delete_is [] o (Some i) e = absurd (none_some i (sym e))
+has_delete_is [] o (Some i) e = absurd (none-some i (sym e))
 has_delete_is (x ∷ deletes) o (Some i) e = sym (ap is_some (get_from (x ∷ deletes) o ∙ (position_found (x ∷ deletes) o i x (sym e)).found))
 
-module _ (g : Deletion → Deletion) (ops : List (ℕ × Op)) (completed : List ℕ) (seats : List Slot) (next : ℕ) (restores : List (ℕ × RestorePlan)) (o : ℕ) where
+module _ (g : Deletion → Deletion) (ops : List (ℕ × Op)) (completed : List ℕ) (seats : TicketMaps) (next : ℕ) (restores : List (ℕ × RestorePlan)) (o : ℕ) where
   pub delete_missed : (deletes : List (ℕ × Deletion)) → position (λ e. eqb e.0 o) deletes ≡ None
       → plan_with ops deletes completed seats next restores ≡ delete_changed g (plan_with ops deletes completed seats next restores) o (fin.get (fin.from_entries {R = nat_cmp} deletes) o)
   delete_missed deletes e = sym (ap (delete_changed g (plan_with ops deletes completed seats next restores) o) (get_from deletes o ∙ position_missed deletes o e))
@@ -191,10 +149,10 @@ found_restore restores o i x found is =
 
 pub has_restore_is : (restores : List (ℕ × RestorePlan)) (o : ℕ) (i : Option ℕ) → i ≡ position (λ e. eqb e.0 o) restores → is_some i ≡ is_some (fin.get (fin.from_entries {R = nat_cmp} restores) o)
 has_restore_is restores o None e = sym (ap is_some (missed_restore restores o (sym e)))
-has_restore_is [] o (Some i) e = absurd (none_some i (sym e))
+has_restore_is [] o (Some i) e = absurd (none-some i (sym e))
 has_restore_is (x ∷ restores) o (Some i) e = sym (ap is_some (get_from (x ∷ restores) o ∙ (position_found (x ∷ restores) o i x (sym e)).found))
 
-module _ (g : RestorePlan → RestorePlan) (ops : List (ℕ × Op)) (deletes : List (ℕ × Deletion)) (completed : List ℕ) (seats : List Slot) (next o : ℕ) where
+module _ (g : RestorePlan → RestorePlan) (ops : List (ℕ × Op)) (deletes : List (ℕ × Deletion)) (completed : List ℕ) (seats : TicketMaps) (next o : ℕ) where
   pub restore_missed : (restores : List (ℕ × RestorePlan)) → position (λ e. eqb e.0 o) restores ≡ None
       → plan_with ops deletes completed seats next restores ≡ restore_changed g (plan_with ops deletes completed seats next restores) o (fin.get (fin.from_entries {R = nat_cmp} restores) o)
   restore_missed restores e = sym (ap (restore_changed g (plan_with ops deletes completed seats next restores) o) (missed_restore restores o e))
@@ -222,7 +180,7 @@ module _ (g : RestorePlan → RestorePlan) (ops : List (ℕ × Op)) (deletes : L
     pub restore_put_keeps : IsProgress ops deletes next restores → IsProgress ops deletes next (set restores i new)
     restore_put_keeps h = record { ops_numbered = h.ops_numbered; deletes_numbered = h.deletes_numbered; restores_numbered = subst (λ ns. AreNumbers ns next) (sym restore_put_numbers) h.restores_numbered; apart = h.apart; first = h.first; most = h.most }
 
-module _ (ops : List (ℕ × Op)) (deletes : List (ℕ × Deletion)) (completed : List ℕ) (seats : List Slot) (next : ℕ) (restores : List (ℕ × RestorePlan)) (o : ℕ) where
+module _ (ops : List (ℕ × Op)) (deletes : List (ℕ × Deletion)) (completed : List ℕ) (seats : TicketMaps) (next : ℕ) (restores : List (ℕ × RestorePlan)) (o : ℕ) where
   pub restore_left_keeps : IsProgress ops deletes next restores → IsProgress ops deletes next (filter (λ e. not (eqb e.0 o)) restores)
   restore_left_keeps h = record { ops_numbered = h.ops_numbered; deletes_numbered = h.deletes_numbered; restores_numbered = numbers-filter (λ e. not (eqb e.0 o)) restores next h.restores_numbered; apart = h.apart; first = h.first; most = h.most }
 
@@ -255,10 +213,10 @@ put_or_left m o r true = refl
 put_or_left m o r false = remove_put m o r
 
 abbrev between : Plan → ℕ → ReaderSeat → Option RestorePlan → Plan
-between p k s o = restore_changed (restore_over k) (with_reader p k (reader_ended s)) s.op o
+between p k s o = restore_changed (restore_over k) (without_reader p k) s.op o
 
 -- the reader ends, what it has is over, and the restore leaves where that was its last shard
-pub read_put : (p q t new : Plan) (k : ℕ) (s : ReaderSeat) → is_some (fin.get p.restores s.op) ≡ true → q ≡ with_reader p k (reader_ended s) → t ≡ restore_changed (restore_over k) q s.op (fin.get q.restores s.op)
+pub read_put : (p q t new : Plan) (k : ℕ) (s : ReaderSeat) → is_some (fin.get p.restores s.op) ≡ true → q ≡ without_reader p k → t ≡ restore_changed (restore_over k) q s.op (fin.get q.restores s.op)
     → new ≡ restore_kept t s.op (fin.get t.restores s.op) → new ≡ read_by p k s (fin.get p.restores s.op)
 read_put p q t new k s there q_is t_is new_is =
     new_is
@@ -269,7 +227,7 @@ read_put p q t new k s there q_is t_is new_is =
     go None e = absurd (true≢false (sym e))
     go (Some r) e =
         ap (restore_kept (between p k s (Some r)) s.op) (get_put p.restores s.op (restore_over k r) s.op ∙ ap (λ b. cond b (Some (restore_over k r)) (fin.get p.restores s.op)) (eq-eqb s.op s.op refl))
-        ∙ (λ j. record p { restores = put_or_left p.restores s.op (restore_over k r) (list_any is_waiting (restore_over k r).shards) j; readers = fin.insert p.readers k (reader_ended s) })
+        ∙ (λ j. record p { restores = put_or_left p.restores s.op (restore_over k r) (list_any is_waiting (restore_over k r).shards) j; readers = fin.remove p.readers k })
 
 pub read_missed : (p : Plan) (k : ℕ) (s : ReaderSeat) → is_some (fin.get p.restores s.op) ≡ false → p ≡ read_by p k s (fin.get p.restores s.op)
 read_missed p k s none = go (fin.get p.restores s.op) none
@@ -278,18 +236,19 @@ read_missed p k s none = go (fin.get p.restores s.op) none
     go None e = refl
     go (Some r) e = absurd (true≢false e)
 
-pub done_put : (p q t new : Plan) (k : ℕ) (r : ShardResult) (s : Seat) (b : Bool) → Some b ≡ option_map (λ (op : Op). all_done (op_marked k r op).shards) (fin.get p.ops s.op) → q ≡ with_completed b p s.op → t ≡ with_seat q k (seat_ended s)
+pub done_put : (p q t new : Plan) (k : ℕ) (r : ShardResult) (s : Seat) (b : Bool) → Some b ≡ option_map (λ (op : Op). all_done (op_marked k r op).shards) (fin.get p.ops s.op) → q ≡ with_completed b p s.op
+    → t ≡ without_seat q k
     → new ≡ op_changed (op_marked k r) t s.op (fin.get t.ops s.op) → new ≡ done_by p k r s (fin.get p.ops s.op)
 done_put p q t new k r s b done q_is t_is new_is =
-    new_is ∙ ap (λ (z : Plan). op_changed (op_marked k r) z s.op (fin.get z.ops s.op)) (t_is ∙ ap (λ (z : Plan). with_seat z k (seat_ended s)) q_is) ∙ go (fin.get p.ops s.op) done
+    new_is ∙ ap (λ (z : Plan). op_changed (op_marked k r) z s.op (fin.get z.ops s.op)) (t_is ∙ ap (λ (z : Plan). without_seat z k) q_is) ∙ go (fin.get p.ops s.op) done
   where
-    go : (o : Option Op) → Some b ≡ option_map (λ (op : Op). all_done (op_marked k r op).shards) o → op_changed (op_marked k r) (with_seat (with_completed b p s.op) k (seat_ended s)) s.op o ≡ done_by p k r s o
-    go None e = absurd (none_some b (sym e))
-    go (Some op) e = ap (λ (z : Bool). record p { ops = fin.insert p.ops s.op (op_marked k r op); completed = cond z (p.completed ++ s.op ∷ []) p.completed; seats = fin.insert p.seats k (seat_ended s) }) (some_same b (all_done (op_marked k r op).shards) e)
+    go : (o : Option Op) → Some b ≡ option_map (λ (op : Op). all_done (op_marked k r op).shards) o → op_changed (op_marked k r) (without_seat (with_completed b p s.op) k) s.op o ≡ done_by p k r s o
+    go None e = absurd (none-some b (sym e))
+    go (Some op) e = ap (λ (z : Bool). record p { ops = fin.insert p.ops s.op (op_marked k r op); completed = cond z (p.completed ++ s.op ∷ []) p.completed; seats = fin.remove p.seats k }) (same_Some b (all_done (op_marked k r op).shards) e)
 
 pub done_missed : (p : Plan) (k : ℕ) (r : ShardResult) (s : Seat) → ◌≡◌ {A = Option Bool} None (option_map (λ (op : Op). all_done (op_marked k r op).shards) (fin.get p.ops s.op)) → p ≡ done_by p k r s (fin.get p.ops s.op)
 done_missed p k r s none = go (fin.get p.ops s.op) none
   where
     go : (o : Option Op) → ◌≡◌ {A = Option Bool} None (option_map (λ (op : Op). all_done (op_marked k r op).shards) o) → p ≡ done_by p k r s o
     go None e = refl
-    go (Some op) e = absurd (none_some (all_done (op_marked k r op).shards) e)
+    go (Some op) e = absurd (none-some (all_done (op_marked k r op).shards) e)

@@ -1,7 +1,7 @@
 pub mod Lists
 pub mod Entries
 pub mod Numbers
-pub mod SeatMaps
+pub mod TicketMaps
 pub mod Plans
 pub mod Added
 pub mod Changing

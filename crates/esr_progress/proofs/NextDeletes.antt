@@ -1,9 +1,10 @@
 -- The unit of a delete or cleanup that is ready, in a world of which the list tells.
-use Rattle.std.proofs.Common.{◌≡◌, ◌⊎◌, ℕ, suc, ◌<◌, Bool, true, false, ◌&&◌, List, Some, None, cond, map, length, take, refl, sym, ap, ◌∙◌, subst, inl, inr, nat_cmp}
+use Rattle.std.proofs.Common.{◌≡◌, ◌⊎◌, ℕ, suc, ◌<◌, Bool, true, false, ◌&&◌, List, Some, None, cond, map, take, refl, sym, ap, ◌∙◌, subst, inl, inr, nat_cmp}
 use Rattle.std.specs.Prelude.{not, nat_lt, slice_get}
 use Rattle.std.specs.List.{list_any, position}
 use Rattle.std.specs.FinMap as fin
-use Rattle.std.proofs.lemmas.Bool.{lt-ltb, ltb-true}
+use Rattle.std.proofs.lemmas.Bool.{lt-ltb, ltb-true, and_parts, not-true}
+use Rattle.std.proofs.lemmas.Option.{same_Some}
 use Rattle.esr_model.specs.Values.{Has, RootData, Formats}
 use Rattle.esr_core.specs.World.{World, Op, Deletion, Deleting, Drop}
 use Rattle.esr_core.specs.Ready.{ReadyDelete, ReadyCleanup}
@@ -14,22 +15,21 @@ use Rattle.esr_formats.specs.Ids.{number_of}
 use Rattle.esr_formats.specs.Roots.{root_of}
 use Rattle.esr_formats.specs.Clusters.{count_of}
 use Rattle.esr_ops.specs.declared.unit.Seat.{Seat as CodeSeat}
-use Rattle.esr_ops.specs.declared.unit.Slot.{Slot}
 use Rattle.esr_ops.specs.declared.unit.SeatKind.{SeatKind}
 use Rattle.esr_ops.specs.declared.unit.SeatKind.TheVariants as kinds
 use Rattle.esr_ops.specs.declared.unit.Work.{Work as CodeWork}
 use Rattle.esr_ops.specs.declared.unit.Work.TheVariants as works
 use Rattle.esr_ops.specs.declared.unit.Copied.{Copied}
-use Rattle.esr_ops.specs.Plan.{Plan, OfDelete, OfDrop, seat_of_code, RestorePlan, IsPlanOf, IsGivenIn}
+use Rattle.esr_ops.specs.Plan.{Plan, OfDelete, OfDrop, seat_of_code, RestorePlan, TicketMaps, IsPlanOf, IsGivenIn}
 use Rattle.esr_ops.specs.Inside.{plan_with, numbers_of, Rise, IsProgress}
 use Rattle.esr_ops.specs.Units.{given_by, GivesWork, LeavesDelete, HasDeleteReady, IsLowest, LowestUnit}
 use Rattle.esr_progress.specs.Choice.{barred, is_out_of, is_swapping, cleanup_waits, delete_ready}
 use Rattle.esr_ops.specs.Deletes.{IsWorkBy, IsDeleteWork, delete_kind, gives_cleanup}
 use Rattle.esr_ops.specs.Entries.{find-member}
-use Rattle.esr_ops.specs.Lists.{some_same, position-None, Has-at}
+use Rattle.esr_ops.specs.Lists.{position-None, Has-at}
 use Rattle.esr_progress.specs.Lookups.{find_delete, find_op}
 use Rattle.esr_ops.specs.Numbers.{entries_from, found_member}
-use Rattle.esr_ops.specs.Tests.{and_true, not_true, any_true, clash, any_here, first_place}
+use Rattle.esr_ops.specs.Tests.{any_true, clash, any_here, first_place}
 use Rattle.esr_progress.proofs.Choices.{is_false, place_lower}
 use Rattle.esr_progress.proofs.Cleanups.{cleanup_tested, cleanup_by}
 use Rattle.esr_progress.proofs.NextUnits.{some_out, some_barred, some_swapping, none_out, none_barred, none_swapping, ops_is, ticketed}
@@ -50,24 +50,25 @@ alone_ready failed out clean alone bar before swap f c a = (λ j. tested (f j) o
 
 so_ready : (failed out clean alone bar before swap : Bool) → tested failed out clean alone bar before swap ≡ true
     → ((failed ≡ true) × (out ≡ false)) ⊎ (((failed ≡ false) × (clean ≡ false) × (bar ≡ false) × (before ≡ false) × (swap ≡ false)) ⊎ ((failed ≡ false) × (clean ≡ true) × (alone ≡ true)))
-so_ready true out clean alone bar before swap e = inl (refl, not_true out e)
+so_ready true out clean alone bar before swap e = inl (refl, not-true out e)
 so_ready false out true alone bar before swap e = inr (inr (refl, refl, e))
 so_ready false out false alone bar before swap e =
-    let (two, s) = and_true (not bar && not before) (not swap) e in
-    let (b, f) = and_true (not bar) (not before) two in
-    inr (inl (refl, refl, not_true bar b, not_true before f, not_true swap s))
+    let (two, s) = and_parts (not bar && not before) (not swap) e in
+    let (b, f) = and_parts (not bar) (not before) two in
+    inr (inl (refl, refl, not-true bar b, not-true before f, not-true swap s))
 
 -- an op of a lower number is open
 abbrev preceded : List (ℕ × Op) → ℕ → Bool
 preceded ops number = list_any (λ (e : ℕ × Op). nat_lt e.0 number) ops
 
 -- the numbers stay where the ops are copied
-pub copied_numbers : (ops copied : List (ℕ × Op)) → copied ≡ ops → (deletes : List (ℕ × Deletion)) (completed : List ℕ) (seats : List Slot) (next : ℕ) (restores : List (ℕ × RestorePlan)) (now : Plan) → plan_with ops deletes completed seats next restores ≡ now
+pub copied_numbers : (ops copied : List (ℕ × Op)) → copied ≡ ops → (deletes : List (ℕ × Deletion)) (completed : List ℕ) (seats : TicketMaps) (next : ℕ) (restores : List (ℕ × RestorePlan)) (now : Plan)
+    → plan_with ops deletes completed seats next restores ≡ now
     → IsProgress ops deletes next restores → numbers_of copied ≡ numbers_of (fin.entries now.ops)
 copied_numbers ops copied same deletes completed seats next restores now view h =
     ap numbers_of (same ∙ sym (entries_from ops h.ops_numbered.rise)) ∙ ap (λ (p : Plan). numbers_of (fin.entries p.ops)) view
 
-module _ (ops : List (ℕ × Op)) (deletes : List (ℕ × Deletion)) (completed : List ℕ) (seats : List Slot) (next : ℕ) (restores : List (ℕ × RestorePlan)) (now : Plan) (view : plan_with ops deletes completed seats next restores ≡ now) (h : IsProgress ops deletes next restores)
+module _ (ops : List (ℕ × Op)) (deletes : List (ℕ × Deletion)) (completed : List ℕ) (seats : TicketMaps) (next : ℕ) (restores : List (ℕ × RestorePlan)) (now : Plan) (view : plan_with ops deletes completed seats next restores ≡ now) (h : IsProgress ops deletes next restores)
     (root : RootData) (safe term : ℕ) (w : World) (is : IsGivenIn now root safe term w) where
   rise : Rise (numbers_of deletes)
   rise = h.deletes_numbered.rise
@@ -80,14 +81,14 @@ module _ (ops : List (ℕ × Op)) (deletes : List (ℕ × Deletion)) (completed 
     leaving : LeavesDelete w d.0 → delete_ready ops deletes seats term d ≡ true
     leaving r =
         failed_ready d.1.failed (is_out_of seats term d.0) d.1.clean (not (cleanup_waits ops deletes seats d.0)) (barred deletes d.0) (preceded ops d.0) (is_swapping seats term)
-        (ap (λ (x : Deletion). x.failed) (some_same d.1 r.deletion (sym got ∙ r.there)) ∙ r.failed)
+        (ap (λ (x : Deletion). x.failed) (same_Some d.1 r.deletion (sym got ∙ r.there)) ∙ r.failed)
         (is_false _ (λ s. let (k, out) = some_out ops deletes completed seats next restores now view h root safe term w is d.0 s in r.idle k out))
 
     going : (x : Deletion) → ReadyDelete w d.0 x → delete_ready ops deletes seats term d ≡ true
     going x r =
         going_ready d.1.failed (is_out_of seats term d.0) d.1.clean (not (cleanup_waits ops deletes seats d.0)) (barred deletes d.0) (preceded ops d.0) (is_swapping seats term)
-        (ap (λ (y : Deletion). y.failed) (some_same d.1 x (sym got ∙ r.there)) ∙ r.unfailed)
-        (ap (λ (y : Deletion). y.clean) (some_same d.1 x (sym got ∙ r.there)) ∙ r.deletes)
+        (ap (λ (y : Deletion). y.failed) (same_Some d.1 x (sym got ∙ r.there)) ∙ r.unfailed)
+        (ap (λ (y : Deletion). y.clean) (same_Some d.1 x (sym got ∙ r.there)) ∙ r.deletes)
         (is_false _ (λ b. r.first_delete (some_barred ops deletes completed seats next restores now view h root safe term w is d.0 b)))
         (is_false _ (λ b.
         let (e, there, lower) = any_true (λ (e : ℕ × Op). nat_lt e.0 d.0) ops b in
@@ -97,8 +98,8 @@ module _ (ops : List (ℕ × Op)) (deletes : List (ℕ × Deletion)) (completed 
     cleaning : (x : Deletion) → ReadyCleanup w d.0 x → delete_ready ops deletes seats term d ≡ true
     cleaning x r =
         alone_ready d.1.failed (is_out_of seats term d.0) d.1.clean (not (cleanup_waits ops deletes seats d.0)) (barred deletes d.0) (preceded ops d.0) (is_swapping seats term)
-        (ap (λ (y : Deletion). y.failed) (some_same d.1 x (sym got ∙ r.there)) ∙ r.unfailed)
-        (ap (λ (y : Deletion). y.clean) (some_same d.1 x (sym got ∙ r.there)) ∙ r.cleans)
+        (ap (λ (y : Deletion). y.failed) (same_Some d.1 x (sym got ∙ r.there)) ∙ r.unfailed)
+        (ap (λ (y : Deletion). y.clean) (same_Some d.1 x (sym got ∙ r.there)) ∙ r.cleans)
         (cleanup_tested ops deletes completed seats next restores now view h w is.plan d.0 x r)
 
     is_tested : HasDeleteReady w d.0 → delete_ready ops deletes seats term d ≡ true
@@ -155,7 +156,7 @@ module _ (ops : List (ℕ × Op)) (deletes : List (ℕ × Deletion)) (completed 
     -- ---- what is given
 
     abbrev seat_for : SeatKind → Bool → ℕ → CodeSeat
-    seat_for kind clean o = record { kind = kind; clean = clean; op = o; term = term; raised = None; settled = false; out = true }
+    seat_for kind clean o = record { kind = kind; clean = clean; op = o; term = term; raised = None; settled = false }
 
     abbrev seated : SeatKind → Bool → Plan
     seated kind clean = record now { ops = fin.from_entries ops; seats = fin.insert now.seats now.next_ticket (seat_of_code (seat_for kind clean d.0)); next_ticket = suc now.next_ticket }
@@ -190,21 +191,22 @@ module _ (ops : List (ℕ × Op)) (deletes : List (ℕ × Deletion)) (completed 
     gives_by copy true c failed clean work hw = subst (λ (z : CodeWork). IsGivenDelete z kinds.Drop false copy) (sym hw) (
       record { stopped = inr (d.1, got d member, failed); idle = (leaves d member failed (is_idle failed)).idle },
       λ f. ticketed ops deletes completed seats next restores now view h root safe term w is (plain_ticket w d.0 Drop) (seat_of_code (seat_for kinds.Drop false d.0)) (fin.from_entries ops) w.ops ops_stay
-          (λ i. record { kind = OfDrop; clean = false; op = d.0; term = is.term_is i; raised = None; settled = false; out = true }),
+          (λ i. record { kind = OfDrop; clean = false; op = d.0; term = is.term_is i; raised = None; settled = false }) refl,
     )
     gives_by copy false true failed clean work hw = subst (λ (z : CodeWork). IsGivenDelete z kinds.Delete true copy) (sym hw) (
       (d.1, cleans failed clean),
       λ f. ticketed ops deletes completed seats next restores now view h root safe term w is (cleaning_ticket w d.0) (seat_of_code (seat_for kinds.Delete true d.0)) (fin.from_entries ops) w.ops ops_stay
-          (λ i. record { kind = OfDelete; clean = true; op = d.0; term = is.term_is i; raised = None; settled = false; out = true }),
+          (λ i. record { kind = OfDelete; clean = true; op = d.0; term = is.term_is i; raised = None; settled = false }) refl,
     )
     gives_by copy false false failed clean (works.Delete ids) hw = (
       (d.1, goes failed clean, hw),
       λ f. ticketed ops deletes completed seats next restores now view h root safe term w is (plain_ticket w d.0 (Deleting (map number_of ids) None)) (seat_of_code (seat_for kinds.Delete false d.0)) (fin.from_entries ops) w.ops ops_stay
-          (λ i. record { kind = OfDelete; clean = false; op = d.0; term = is.term_is i; raised = None; settled = false; out = true }),
+          (λ i. record { kind = OfDelete; clean = false; op = d.0; term = is.term_is i; raised = None; settled = false }) refl,
     )
     gives_by copy false false failed clean work hw = absurd hw
 
-    pub delete_is : (ticket : ℕ) → ticket ≡ suc (length seats) → (o : ℕ) → o ≡ d.0 → (work : CodeWork) (kind : SeatKind) (clean : Bool) (copy : Copied) → IsDeleteWork d.1 work → kind ≡ delete_kind d.1 → clean ≡ gives_cleanup d.1
+    pub delete_is : (ticket : ℕ) → ticket ≡ seats.next → (o : ℕ) → o ≡ d.0 → (work : CodeWork) (kind : SeatKind) (clean : Bool) (copy : Copied) → IsDeleteWork d.1 work → kind ≡ delete_kind d.1
+        → clean ≡ gives_cleanup d.1
         → count_of copy.safe ≡ safe → root_of copy.root ≡ root → (kept : List (ℕ × Op)) → kept ≡ ops
         → (new : Plan) → new ≡ record now { ops = fin.from_entries kept; seats = fin.insert now.seats now.next_ticket (seat_of_code (seat_for kind clean o)); next_ticket = suc now.next_ticket }
         → LowestUnit (HasDeleteReady w) w (Some (new, record { ticket = ticket; op = o; work = work; copy = copy }))

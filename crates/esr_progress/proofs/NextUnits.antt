@@ -4,8 +4,9 @@ use Rattle.std.specs.Prelude.{not, nat_lt, slice_get, ◌==◌, IfSome}
 use Rattle.std.specs.List.{position}
 use Rattle.std.specs.FinMap as fin
 use Rattle.std.proofs.Math.ListN.{set}
-use Rattle.std.proofs.lemmas.Bool.{lt-ltb, ltb-true}
-use Rattle.std.proofs.lemmas.Option.{slice_get_within, slice_get-get_or, get_or_from_slice_get}
+use Rattle.std.proofs.lemmas.Bool.{lt-ltb, ltb-true, and_parts, or_left, or_right, and_from, or_cases, not-true, true_from_ne_false}
+use Rattle.std.proofs.lemmas.Option.{slice_get_within, slice_get-get_or, get_or_from_slice_get, same_Some, none-some}
+use Rattle.esr_model.specs.Lists.{Has-map, Has-mapped}
 use Rattle.esr_names.specs.declared.blob.ShardId.{ShardId}
 use Rattle.esr_model.specs.Values.{Bytes, Has, RootData, ShardResult, Formats}
 use Rattle.esr_core.specs.Entry.{GivenShard, GivenClone}
@@ -24,26 +25,25 @@ use Rattle.esr_results.specs.Results.{result_of}
 use Rattle.esr_progress.specs.declared.ready.Kind.{Kind}
 use Rattle.esr_progress.specs.declared.ready.Kind.TheVariants as ready
 use Rattle.esr_ops.specs.declared.unit.Seat.{Seat as CodeSeat}
-use Rattle.esr_ops.specs.declared.unit.Slot.{Slot}
 use Rattle.esr_ops.specs.declared.unit.SeatKind.{SeatKind}
 use Rattle.esr_ops.specs.declared.unit.SeatKind.TheVariants as kinds
 use Rattle.esr_ops.specs.declared.unit.Work.{Work as CodeWork}
 use Rattle.esr_ops.specs.declared.unit.Work.TheVariants as works
 use Rattle.esr_ops.specs.declared.unit.Copied.{Copied}
-use Rattle.esr_ops.specs.Plan.{Plan, Seat, OfShard, OfFinalize, OfDrop, kind_of, seat_of, seat_of_code, RestorePlan, read_state, read_work, restore_plan, IsPlanOf, IsGivenIn}
-use Rattle.esr_ops.specs.Seats.{seat_in, holds, is_swap_out, is_unit_out, is_master, is_of_shard}
+use Rattle.esr_ops.specs.Plan.{Plan, Seat, OfShard, OfFinalize, OfDrop, kind_of, seat_of, seat_of_code, RestorePlan, read_state, read_work, restore_plan, TicketMaps, IsPlanOf, IsGivenIn}
+use Rattle.esr_ops.specs.Seats.{is_swap_out, is_unit_out, is_master, is_of_shard}
 use Rattle.esr_ops.specs.Ops.{has_stopped, is_free, IsMost, IsShardWork, IsFinalWork}
 use Rattle.esr_ops.specs.Inside.{plan_with, numbers_of, Rise, IsProgress}
 use Rattle.esr_ops.specs.Units.{given_by, ShardGiven, CloneGiven, GivesWork, LeavesSnap, HasSnapReady, LowestUnit, IsLowest}
 use Rattle.esr_progress.specs.Choice.{barred, is_out_of, is_swapping, is_final, ready_of, NoneBefore, IsReadyAt, IsWorkFor, IsSeatOf, IsSeatFor, IsLiveIn, IsBaseFor, given_entry}
 use Rattle.esr_ops.specs.Shards.{AreShards}
 use Rattle.esr_ops.specs.Entries.{get_from, find-member, eqb_is}
-use Rattle.esr_ops.specs.Lists.{some_same, none_some, Has-map, Has-mapped, Has-at, position-None}
-use Rattle.esr_progress.specs.Lookups.{find_op as law-find_op, find_delete as law-find_delete, seat_by as law-seat_by, by_seat as law-by_seat, held}
+use Rattle.esr_ops.specs.Lists.{Has-at, position-None}
+use Rattle.esr_progress.specs.Lookups.{find_op as law-find_op, find_delete as law-find_delete, seat_by as law-seat_by, by_seat as law-by_seat, any_there, any_found}
 use Rattle.esr_ops.specs.Most.{most_like}
 use Rattle.esr_ops.specs.Numbers.{entries_from, found_member}
 use Rattle.esr_progress.specs.Plans.{restore_of_plan}
-use Rattle.esr_ops.specs.Tests.{and_true, clash, any_here, any_true, or_left, or_right, both_true, or_true, not_true, is_true, place_below, first_place, place_within, place_of}
+use Rattle.esr_ops.specs.Tests.{clash, any_here, any_true, place_below, first_place, place_within, place_of}
 use Rattle.esr_progress.proofs.Choices.{number_below, is_false, NoneWaits, says_free, goes_by, free_says, not_earliest, all_done_by, goes_on, none_earlier, has_by, stopped_by, picked, place_lower, Has-taken, shard_found, free_alike, stands_taken}
 use Rattle.esr_progress.proofs.Entries.{FirstAt, first_at, from_set}
 use Rattle.esr_progress.proofs.Numbers.{numbers-set}
@@ -80,7 +80,7 @@ kind_master Drop e = true≢false (sym e)
 some_results : (shards : List ShardWork) → all_done shards ≡ true → (results : List ShardResult) × AllDone shards results
 some_results [] e = ([], tt)
 some_results (s ∷ shards) e =
-    let (here, rest) = and_true _ _ e in
+    let (here, rest) = and_parts _ _ e in
     let (r, is) = done_by s.state here in
     let (results, all) = some_results shards rest in
     (r ∷ results, (is, all))
@@ -110,9 +110,9 @@ if_some {A} o P x e h = subst (λ (z : Option A). IfSome z P) e h
 
 -- the entry of a number that rises
 pub has_taken : {A : Type 0} (xs : List A) (i j : ℕ) (x : A) → j < i → slice_get xs j ≡ Some x → Has (take i xs) x
-has_taken [] i j x lt e = absurd (none_some x e)
+has_taken [] i j x lt e = absurd (none-some x e)
 has_taken (y ∷ xs) zero j x lt e = absurd (omega arith)
-has_taken (y ∷ xs) (suc i) zero x lt e = inl (some_same y x e)
+has_taken (y ∷ xs) (suc i) zero x lt e = inl (same_Some y x e)
 has_taken (y ∷ xs) (suc i) (suc j) x lt e = inr (has_taken xs i j x (omega arith) e)
 
 pub entry_at : {A : Type 0} (ops : List (ℕ × A)) → Rise (numbers_of ops) → (at : ℕ) (e : ℕ × A) → slice_get ops at ≡ Some e → FirstAt ops e.0 at
@@ -128,7 +128,8 @@ given_numbers ops rise at e there kinds.Finalize ticket = numbers-set ops e.0 at
 given_numbers ops rise at e there kinds.Delete ticket = numbers-set ops e.0 at e.1 (entry_at ops rise at e there)
 given_numbers ops rise at e there kinds.Drop ticket = numbers-set ops e.0 at e.1 (entry_at ops rise at e there)
 
-pub same_numbers : (ops here : List (ℕ × Op)) → here ≡ ops → (deletes : List (ℕ × Deletion)) (completed : List ℕ) (seats : List Slot) (next : ℕ) (restores : List (ℕ × RestorePlan)) (now : Plan) → plan_with ops deletes completed seats next restores ≡ now → IsProgress ops deletes next restores
+pub same_numbers : (ops here : List (ℕ × Op)) → here ≡ ops → (deletes : List (ℕ × Deletion)) (completed : List ℕ) (seats : TicketMaps) (next : ℕ) (restores : List (ℕ × RestorePlan)) (now : Plan)
+    → plan_with ops deletes completed seats next restores ≡ now → IsProgress ops deletes next restores
     → (at : ℕ) (e : ℕ × Op) → slice_get ops at ≡ Some e → (seat : SeatKind) (ticket : ℕ) (given_list : List (ℕ × Op)) → IfSome (slice_get here at) (λ (x : ℕ × Op). given_list ≡ set here at (given_entry seat ticket x))
     → numbers_of given_list ≡ numbers_of (fin.entries now.ops)
 same_numbers ops here same deletes completed seats next restores now view h at e there seat ticket given_list given_is =
@@ -136,7 +137,7 @@ same_numbers ops here same deletes completed seats next restores now view h at e
     ap numbers_of (list_is ∙ ap (λ es. set es at (given_entry seat ticket e)) same) ∙ given_numbers ops h.ops_numbered.rise at e there seat ticket
     ∙ ap numbers_of (sym (entries_from ops h.ops_numbered.rise)) ∙ ap (λ (p : Plan). numbers_of (fin.entries p.ops)) view
 
-module _ (ops : List (ℕ × Op)) (deletes : List (ℕ × Deletion)) (completed : List ℕ) (seats : List Slot) (next : ℕ) (restores : List (ℕ × RestorePlan)) (now : Plan) (view : plan_with ops deletes completed seats next restores ≡ now) (h : IsProgress ops deletes next restores)
+module _ (ops : List (ℕ × Op)) (deletes : List (ℕ × Deletion)) (completed : List ℕ) (seats : TicketMaps) (next : ℕ) (restores : List (ℕ × RestorePlan)) (now : Plan) (view : plan_with ops deletes completed seats next restores ≡ now) (h : IsProgress ops deletes next restores)
     (root : RootData) (safe term : ℕ) (w : World) (is : IsGivenIn now root safe term w) where
   rise : Rise (numbers_of ops)
   rise = h.ops_numbered.rise
@@ -177,49 +178,39 @@ module _ (ops : List (ℕ × Op)) (deletes : List (ℕ × Deletion)) (completed 
   completed_is : completed ≡ w.completed
   completed_is = ap (λ (p : Plan). p.completed) view ∙ is.plan.completed
 
-  seat_by : (k : ℕ) (t : Ticket) → fin.get w.tickets k ≡ Some t → (c : Slot) × Has seats c × (seat_in c ≡ Some (seat_of t))
+  seat_by : (k : ℕ) (t : Ticket) → fin.get w.tickets k ≡ Some t → t.out ≡ true → fin.get seats.seats k ≡ Some (seat_of t)
   seat_by = law-seat_by ops deletes completed seats next restores now view h root safe term w is
 
-  by_seat : (c : Slot) (s : Seat) → seat_in c ≡ Some s → Has seats c → (k : ℕ) × ((t : Ticket) × (fin.get w.tickets k ≡ Some t) × (seat_of t ≡ s))
+  by_seat : (k : ℕ) (s : Seat) → fin.get seats.seats k ≡ Some s → (t : Ticket) × (fin.get w.tickets k ≡ Some t) × (t.out ≡ true) × (seat_of t ≡ s)
   by_seat = law-by_seat ops deletes completed seats next restores now view h root safe term w is
 
   pub none_out : (o : ℕ) → is_out_of seats term o ≡ false → (k : ℕ) → UnitIsOut w.tickets w.term o k → ⊥
   none_out o e k u =
-      let (c, m, same) = seat_by k u.t u.there in
       let counts : (is_of_shard (kind_of u.t.work) || (u.t.term == term)) ≡ true = elim u.counts [
         | inl shard ↦ or_left _ _ (shard_kind u.t.work shard)
         | inr present ↦ or_right _ _ (eq-eqb u.t.term term (present ∙ is.term_is))
       ] in
-      clash _ (any_here (λ (s : Slot). holds (is_unit_out term o) (seat_in s)) seats c m (ap (holds (is_unit_out term o)) same ∙ both_true _ _ (both_true _ _ u.out (eq-eqb u.t.op o u.op_is)) counts)) e
+      clash _ (any_there (is_unit_out term o) seats k (seat_of u.t) (seat_by k u.t u.there u.out) (and_from _ _ (eq-eqb u.t.op o u.op_is) counts)) e
 
   pub some_out : (o : ℕ) → is_out_of seats term o ≡ true → (k : ℕ) × UnitIsOut w.tickets w.term o k
   some_out o e =
-      let (c, m, hold) = any_true (λ (s : Slot). holds (is_unit_out term o) (seat_in s)) seats e in
-      let (s, seat, test) = held (is_unit_out term o) (seat_in c) hold in
-      let (k, found) = by_seat c s seat m in
-      let t : Ticket = found.0 in
-      let tested : is_unit_out term o (seat_of t) ≡ true = ap (is_unit_out term o) found.2 ∙ test in
-      let (first, counts) = and_true _ _ tested in
-      let (out, op_is) = and_true _ _ first in
-      (k, record { t = t; there = found.1; out = out; op_is = eqb_is t.op o op_is; counts = elim (or_true _ _ counts) [ inl shard ↦ inl (kind_shard t.work shard) | inr present ↦ inr (eqb_is t.term term present ∙ sym is.term_is) ] })
+      let (k, found) = any_found (is_unit_out term o) seats e in
+      let (t, there, out, same) = by_seat k found.0 found.1 in
+      let (op_is, counts) = and_parts _ _ (ap (is_unit_out term o) same ∙ found.2) in
+      (k, record { t = t; there = there; out = out; op_is = eqb_is t.op o op_is; counts = elim (or_cases _ _ counts) [ inl shard ↦ inl (kind_shard t.work shard) | inr present ↦ inr (eqb_is t.term term present ∙ sym is.term_is) ] })
 
   pub none_swapping : is_swapping seats term ≡ false → (k : ℕ) → SwapIsOut w.tickets w.term k → ⊥
   none_swapping e k u =
-      let (c, m, same) = seat_by k u.t u.there in
-      clash _ (any_here (λ (s : Slot). holds (is_swap_out term) (seat_in s)) seats c m
-      (ap (holds (is_swap_out term)) same ∙ both_true _ _ (both_true _ _ (both_true _ _ u.out (ap not u.unsettled)) (eq-eqb u.t.term term (u.present ∙ is.term_is))) (master_kind u.t.work u.swaps))) e
+      clash _ (any_there (is_swap_out term) seats k (seat_of u.t) (seat_by k u.t u.there u.out)
+      (and_from _ _ (and_from _ _ (ap not u.unsettled) (eq-eqb u.t.term term (u.present ∙ is.term_is))) (master_kind u.t.work u.swaps))) e
 
   pub some_swapping : is_swapping seats term ≡ true → (k : ℕ) × SwapIsOut w.tickets w.term k
   some_swapping e =
-      let (c, m, hold) = any_true (λ (s : Slot). holds (is_swap_out term) (seat_in s)) seats e in
-      let (s, seat, test) = held (is_swap_out term) (seat_in c) hold in
-      let (k, found) = by_seat c s seat m in
-      let t : Ticket = found.0 in
-      let tested : is_swap_out term (seat_of t) ≡ true = ap (is_swap_out term) found.2 ∙ test in
-      let (first, swaps) = and_true _ _ tested in
-      let (second, present) = and_true _ _ first in
-      let (out, unsettled) = and_true _ _ second in
-      (k, record { t = t; there = found.1; out = out; unsettled = not_true _ unsettled; present = eqb_is t.term term present ∙ sym is.term_is; swaps = kind_master t.work swaps })
+      let (k, found) = any_found (is_swap_out term) seats e in
+      let (t, there, out, same) = by_seat k found.0 found.1 in
+      let (first, swaps) = and_parts _ _ (ap (is_swap_out term) same ∙ found.2) in
+      let (unsettled, present) = and_parts _ _ first in
+      (k, record { t = t; there = there; out = out; unsettled = not-true _ unsettled; present = eqb_is t.term term present ∙ sym is.term_is; swaps = kind_master t.work swaps })
 
   -- ---- units of the op at a place
   module _ (at : ℕ) (e : ℕ × Op) (there : slice_get ops at ≡ Some e) where
@@ -230,7 +221,7 @@ module _ (ops : List (ℕ × Op)) (deletes : List (ℕ × Deletion)) (completed 
     got = find_op e.0 ∙ found
 
     same_op : (op : Op) → fin.get w.ops e.0 ≡ Some op → op ≡ e.1
-    same_op op o = some_same op e.1 (sym o ∙ got)
+    same_op op o = same_Some op e.1 (sym o ∙ got)
 
     shard_ready : (s : ShardWork) → ReadyShard w e.0 e.1 s → is_free ops restores e.0 s ≡ true
     shard_ready s r = says_free ops restores e.0 s rise h.restores_numbered.rise r.pending (λ p q z lt f. r.first p q z lt (find_op p ∙ f)) (reads_none e.0 s r.unread)
@@ -241,20 +232,20 @@ module _ (ops : List (ℕ × Op)) (deletes : List (ℕ × Deletion)) (completed 
         record { op_there = got; s_there = m; pending = pending; goes = goes_by e.1 goes; no_barrier = none_barred e.0 unbarred; first = λ p q z lt f. none p q z lt (sym (find_op p) ∙ f); unread = none_reads e.0 s unread }
 
     final_ready : (results : List ShardResult) → ReadyFinalize w e.0 e.1 results → is_final ops deletes completed seats term e ≡ true
-    final_ready results r = both_true _ _ (all_done_by e.1.shards results r.done) (both_true _ _
+    final_ready results r = and_from _ _ (all_done_by e.1.shards results r.done) (and_from _ _
         (ap not (is_false _ (λ s. let (k, out) = some_swapping s in r.no_swap k out)))
-        (is_true _ (λ s. let x = not_earliest ops rise deletes completed e.0 s in r.earliest x.p x.q (find_op x.p ∙ x.found) (goes_by x.q x.goes) (none_barred x.p x.unbarred) (subst (λ (ns : List ℕ). Before ns x.p e.0) completed_is x.before))))
+        (true_from_ne_false _ (λ s. let x = not_earliest ops rise deletes completed e.0 s in r.earliest x.p x.q (find_op x.p ∙ x.found) (goes_by x.q x.goes) (none_barred x.p x.unbarred) (subst (λ (ns : List ℕ). Before ns x.p e.0) completed_is x.before))))
 
     ready_final : (results : List ShardResult) → has_stopped e.1 ≡ false → barred deletes e.0 ≡ false → AllDone e.1.shards results → is_final ops deletes completed seats term e ≡ true → ReadyFinalize w e.0 e.1 results
     ready_final results goes unbarred done final =
-        let (all, rest) = and_true _ _ final in
-        let (swap, early) = and_true _ _ rest in
+        let (all, rest) = and_parts _ _ final in
+        let (swap, early) = and_parts _ _ rest in
         record {
           op_there = got;
           done = done;
           goes = goes_by e.1 goes;
           no_barrier = none_barred e.0 unbarred;
-          no_swap = none_swapping (not_true _ swap);
+          no_swap = none_swapping (not-true _ swap);
           earliest = λ p q f g b before. none_earlier ops rise deletes completed e.0 early (record { p = p; q = q; found = sym (find_op p) ∙ f; goes = goes_on q g; unbarred = is_false _ (λ s. b (some_barred p s)); before = subst (λ (ns : List ℕ). Before ns p e.0) (sym completed_is) before });
         }
 
@@ -313,7 +304,7 @@ module _ (ops : List (ℕ × Op)) (deletes : List (ℕ × Deletion)) (completed 
   is_ready_op at e there ready.Drop chosen = let (stopped, out) = picked ops deletes completed seats restores term e (Some ready.Drop) chosen in inr (inr (leaves at e there stopped out))
   is_ready_op at e there ready.Finalize chosen =
       let (goes, free, final, unbarred) = picked ops deletes completed seats restores term e (Some ready.Finalize) chosen in
-      let (results, done) = some_results e.1.shards (and_true _ _ final).0 in
+      let (results, done) = some_results e.1.shards (and_parts _ _ final).0 in
       inr (inl (e.1, results, ready_final at e there results goes unbarred done final))
   is_ready_op at e there (ready.Shard i) chosen =
       let (goes, free, unbarred) = picked ops deletes completed seats restores term e (Some (ready.Shard i)) chosen in
@@ -323,7 +314,7 @@ module _ (ops : List (ℕ × Op)) (deletes : List (ℕ × Deletion)) (completed 
   -- the lowest op of which a unit is ready
   pub lowest_op : (at : ℕ) (kind : Kind) (r : IsReadyAt ops deletes completed seats restores term at kind) (e : ℕ × Op) → slice_get ops at ≡ Some e → (o : ℕ) → o ≡ e.0 → IsLowest (HasSnapReady w) (Some o)
   lowest_op at kind r e there o is_number =
-      let entry : r.e ≡ e = some_same r.e e (sym r.there ∙ there) in
+      let entry : r.e ≡ e = same_Some r.e e (sym r.there ∙ there) in
       let found : ready_of ops deletes completed seats restores term e ≡ Some kind = ap (ready_of ops deletes completed seats restores term) (sym entry) ∙ r.is in
       subst (λ (n : ℕ). IsLowest (HasSnapReady w) (Some n)) (sym is_number) (is_ready_op at e there kind found, lowest at e there r.before)
 
@@ -336,14 +327,14 @@ module _ (ops : List (ℕ × Op)) (deletes : List (ℕ × Deletion)) (completed 
   -- ---- what is given
 
   -- a ticket more
-  pub ticketed : (t : Ticket) (s : Seat) (ops_now : fin.FinMap nat_cmp Op) (ops_then : fin.FinMap nat_cmp Op) → ops_now ≡ ops_then → seat_of t ≡ s
+  pub ticketed : (t : Ticket) (s : Seat) (ops_now : fin.FinMap nat_cmp Op) (ops_then : fin.FinMap nat_cmp Op) → ops_now ≡ ops_then → seat_of t ≡ s → t.out ≡ true
       → IsPlanOf (record w { ops = ops_then; tickets = fin.insert w.tickets w.next_ticket t; next_ticket = suc w.next_ticket })
       (record now { ops = ops_now; seats = fin.insert now.seats now.next_ticket s; next_ticket = suc now.next_ticket })
-  ticketed t s ops_now ops_then ops_is seat = record {
+  ticketed t s ops_now ops_then ops_is seat out = record {
     ops = ops_is;
     deletes = is.plan.deletes;
     completed = is.plan.completed;
-    seats = λ k. ap (λ n. fin.get (fin.insert now.seats n s) k) is.plan.next_ticket ∙ seats_put w now is.plan w.next_ticket t s seat k;
+    seats = λ k. ap (λ n. fin.get (fin.insert now.seats n s) k) is.plan.next_ticket ∙ seats_put w now is.plan w.next_ticket t s seat out k;
     next_op = is.plan.next_op;
     next_ticket = ap suc is.plan.next_ticket;
     restores = is.plan.restores;
@@ -356,7 +347,7 @@ module _ (ops : List (ℕ × Op)) (deletes : List (ℕ × Deletion)) (completed 
 
   -- the seat, and the list, of a unit of this op
   abbrev seat_for : SeatKind → ℕ → CodeSeat
-  seat_for kind o = record { kind = kind; clean = false; op = o; term = term; raised = None; settled = false; out = true }
+  seat_for kind o = record { kind = kind; clean = false; op = o; term = term; raised = None; settled = false }
 
   abbrev seated : SeatKind → ℕ × Op → ℕ → ℕ → Plan
   seated kind e at ticket = record now { ops = fin.from_entries (set ops at (given_entry kind ticket e)); seats = fin.insert now.seats now.next_ticket (seat_of_code (seat_for kind e.0)); next_ticket = suc now.next_ticket }
@@ -365,7 +356,7 @@ module _ (ops : List (ℕ × Op)) (deletes : List (ℕ × Deletion)) (completed 
   abbrev IsGivenBy : ℕ × Op → ℕ → ℕ → CodeWork → SeatKind → Copied → Type 0
   IsGivenBy e at ticket work kind copy = GivesWork w e.0 work copy × ((f : Formats) → IsPlanOf (taken_by f w e.0 (given_by work copy) (fin.get w.ops e.0)) (seated kind e at ticket))
 
-  module _ (at : ℕ) (e : ℕ × Op) (there : slice_get ops at ≡ Some e) (rule : AreShards e.1.shards) (ticket : ℕ) (ticket_is : ticket ≡ suc (length seats)) (copy : Copied) where
+  module _ (at : ℕ) (e : ℕ × Op) (there : slice_get ops at ≡ Some e) (rule : AreShards e.1.shards) (ticket : ℕ) (ticket_is : ticket ≡ seats.next) (copy : Copied) where
     unchanged : (kind : SeatKind) → given_entry kind ticket e ≡ e → fin.from_entries {R = nat_cmp} (set ops at (given_entry kind ticket e)) ≡ w.ops
     unchanged kind same = ap (λ (x : ℕ × Op). fin.from_entries {R = nat_cmp} (set ops at x)) same ∙ ap (λ (es : List (ℕ × Op)). fin.from_entries {R = nat_cmp} es) (set_same ops at e there) ∙ ops_is
 
@@ -374,7 +365,7 @@ module _ (ops : List (ℕ × Op)) (deletes : List (ℕ × Deletion)) (completed 
         let (stopped, out) = picked ops deletes completed seats restores term e (Some ready.Drop) chosen in (
           ready_drop at e there stopped out,
           λ f. ticketed (plain_ticket w e.0 Drop) (seat_of_code (seat_for kinds.Drop e.0)) _ w.ops (unchanged kinds.Drop refl)
-              (λ i. record { kind = OfDrop; clean = false; op = e.0; term = is.term_is i; raised = None; settled = false; out = true }),
+              (λ i. record { kind = OfDrop; clean = false; op = e.0; term = is.term_is i; raised = None; settled = false }) refl,
         )
 
     gives_final : (work : CodeWork) → ready_of ops deletes completed seats restores term e ≡ Some ready.Finalize → IsFinalWork e.1 work → IsGivenBy e at ticket work kinds.Finalize copy
@@ -384,7 +375,7 @@ module _ (ops : List (ℕ × Op)) (deletes : List (ℕ × Deletion)) (completed 
           λ f.
               subst (λ (o : Option Op). IsPlanOf (taken_by f w e.0 (given_by (works.Finalize info shards) copy) o) (seated kinds.Finalize e at ticket)) (sym (got at e there))
               (ticketed (final_ticket f w e.0 e.1 (map result_of shards)) (seat_of_code (seat_for kinds.Finalize e.0)) _ w.ops (unchanged kinds.Finalize refl)
-              (λ i. record { kind = OfFinalize; clean = false; op = e.0; term = is.term_is i; raised = None; settled = false; out = true })),
+              (λ i. record { kind = OfFinalize; clean = false; op = e.0; term = is.term_is i; raised = None; settled = false }) refl),
         )
     gives_final work chosen h = absurd h
 
@@ -483,7 +474,7 @@ module _ (ops : List (ℕ × Op)) (deletes : List (ℕ × Deletion)) (completed 
           ∙ (λ j. fin.insert (ops_is j) e.0 (record e.1 { shards = map (given (count j) (sym own_id j) (sym own_number j)) e.1.shards })) in
           subst (λ (o : Option ShardWork). IsPlanOf (taken_shard w e.0 e.1 base o) (seated (kinds.Shard own) e at ticket)) (sym (is_found index number id n))
           (ticketed (shard_ticket w e.0 e.1 s base) (seat_of_code (seat_for (kinds.Shard own) e.0)) _ _ put
-          (λ j. record { kind = OfShard (own_id j) (own_number j); clean = false; op = e.0; term = is.term_is j; raised = None; settled = false; out = true }))
+          (λ j. record { kind = OfShard (own_id j) (own_number j); clean = false; op = e.0; term = is.term_is j; raised = None; settled = false }) refl)
 
       takes_one : (index number : ℕ) (base : Option ℕ) (own : ShardId) → s.ref.id ≡ index → s.number ≡ number → s.ref.id ≡ own.index.number → s.number ≡ own.number
           → (f : Formats) → IsPlanOf (taken_by f w e.0 (GivenShard index number base) (fin.get w.ops e.0)) (seated (kinds.Shard own) e at ticket)
@@ -526,13 +517,13 @@ module _ (ops : List (ℕ × Op)) (deletes : List (ℕ × Deletion)) (completed 
     gives_any ready.Drop found work seat hw hs base =
         subst (λ (k : SeatKind). IsGivenBy e at ticket work k copy) (sym hs) (subst (λ (k : CodeWork). IsGivenBy e at ticket k kinds.Drop copy) (sym hw) (gives_drop found))
 
-  pub next_is : (at : ℕ) (kind : Kind) (r : IsReadyAt ops deletes completed seats restores term at kind) (e : ℕ × Op) → slice_get ops at ≡ Some e → AreShards e.1.shards → (ticket : ℕ) → ticket ≡ suc (length seats)
+  pub next_is : (at : ℕ) (kind : Kind) (r : IsReadyAt ops deletes completed seats restores term at kind) (e : ℕ × Op) → slice_get ops at ≡ Some e → AreShards e.1.shards → (ticket : ℕ) → ticket ≡ seats.next
       → (o : ℕ) → o ≡ e.0 → (work : CodeWork) (seat : SeatKind) (copy : Copied) → IsWorkFor e.1 kind work → IsSeatFor e.1 kind seat → IsBaseFor root ops seat copy.base → count_of copy.safe ≡ safe → root_of copy.root ≡ root
       → (given_list : List (ℕ × Op)) → IfSome (slice_get ops at) (λ (x : ℕ × Op). given_list ≡ set ops at (given_entry seat ticket x))
       → (new : Plan) → new ≡ record now { ops = fin.from_entries given_list; seats = fin.insert now.seats now.next_ticket (seat_of_code (seat_for seat o)); next_ticket = suc now.next_ticket }
       → LowestUnit (HasSnapReady w) w (Some (new, record { ticket = ticket; op = o; work = work; copy = copy }))
   next_is at kind r e there rule ticket ticket_is o o_is work seat copy hw hs base safe_is root_is given_list given_is new new_is =
-      let entry : r.e ≡ e = some_same r.e e (sym r.there ∙ there) in
+      let entry : r.e ≡ e = same_Some r.e e (sym r.there ∙ there) in
       let found : ready_of ops deletes completed seats restores term e ≡ Some kind = ap (ready_of ops deletes completed seats restores term) (sym entry) ∙ r.is in
       let both : IsGivenBy e at ticket work seat copy = gives_any at e there rule ticket ticket_is copy kind found work seat hw hs base in
       let list_is : given_list ≡ set ops at (given_entry seat ticket e) = if_some _ (λ (x : ℕ × Op). given_list ≡ set ops at (given_entry seat ticket x)) e there given_is in

@@ -4,9 +4,9 @@ use Rattle.std.specs.List.{filter}
 use Rattle.std.proofs.lemmas.Option.{get_or_from_slice_get}
 use Rattle.std.proofs.Math.Seq.{map-set_same}
 use Rattle.std.proofs.Math.ListN.{set}
+use Rattle.esr_model.specs.Lists.{Has-map, Has-mapped}
 use Rattle.esr_model.specs.Values.{Has}
 use Rattle.esr_ops.specs.Inside.{numbers_of, Rise, AreNumbers}
-use Rattle.esr_ops.specs.Lists.{Has-map, Has-mapped}
 use Rattle.esr_progress.proofs.Entries.{FirstAt}
 use Rattle.esr_progress.proofs.Lists.{Has-filter}
 

@@ -1,7 +1,7 @@
 -- The ops as a record tells them: snapshots and deletes, by number.
 use Rattle.std.proofs.Common.{◌≡◌, ℕ, ◌<◌, true, ◌≢◌, ◌⊎◌, ◌+◌, ◌≤◌, ◌^◌, Bool, List, [], ◌∷◌, ◌++◌, Option, Some, None, map, length, get_or, drop, refl, sym, ap, ◌∙◌, subst, inl, inr, arith, nat_cmp}
 use Rattle.std.specs.Prelude.{nat_lt, filter}
-use Rattle.std.proofs.lemmas.Bool.{lt-ltb, cases_Bool, cases_lt}
+use Rattle.std.proofs.lemmas.Bool.{lt-ltb, cases_Bool, cases_lt, and_from}
 use Rattle.std.proofs.lemmas.List.{append_assoc, map-append, drop_all}
 use Rattle.esr_model.specs.Values.{Has, RecordWork}
 use Rattle.esr_record.specs.declared.op.RecordOp.{RecordOp}
@@ -12,16 +12,16 @@ use Rattle.esr_ops.specs.Deletes.{lies_between, deletion_entry, between}
 use Rattle.esr_ops.specs.Inside.{numbers_of, Rise, AreNumbers}
 use Rattle.std.specs.FinMap as fin
 use Rattle.std.proofs.lemmas.Bool.Decides.{eqb_tells}
+use Rattle.std.proofs.lemmas.Option.{none-some}
+use Rattle.esr_model.specs.Lists.{Has-map, Has-mapped, Has-either, Has-right, Has-left}
 use Rattle.esr_ops.specs.Between.{lies_after, lies_before, between_kept, between_left, from_place, last_pushed}
 use Rattle.esr_ops.specs.Entries.{find-here, find-past, find-member, get_from, same_maps}
-use Rattle.esr_ops.specs.Lists.{Has-map, Has-mapped, Has-either, Has-right, Has-left, none_some}
 use Rattle.esr_ops.specs.Numbers.{found_member, entries_from}
-use Rattle.esr_ops.specs.Tests.{both_true}
 use Rattle.esr_progress.proofs.Entries.{find-none}
 use Rattle.esr_progress.proofs.Lists.{Has-filter}
 
 pub so_lies : (after before n : ℕ) → after < n → n < before → lies_between after before n ≡ true
-so_lies after before n a b = both_true (nat_lt after n) (nat_lt n before) (lt-ltb after n a) (lt-ltb n before b)
+so_lies after before n a b = and_from (nat_lt after n) (nat_lt n before) (lt-ltb after n a) (lt-ltb n before b)
 
 abbrev pub told : ℕ × Op → ℕ × RecordWork
 told e = (e.0, work_of e.1)
@@ -147,7 +147,7 @@ delete_merged last (e ∷ es) ds next d m a b apart = elim (cases_lt d.0 e.0) [
 -- ---- as a map
 
 find-left : {A : Type 0} (q : ℕ) (xs ys : List (ℕ × A)) (v : A) → fin.find nat_cmp q xs ≡ Some v → fin.find nat_cmp q (xs ++ ys) ≡ Some v
-find-left q [] ys v e = absurd (none_some v e)
+find-left q [] ys v e = absurd (none-some v e)
 find-left q (x ∷ xs) ys v e = elim (eqb_tells q x.0) [
   | inl t ↦ find-here q x (xs ++ ys) (sym t.1) ∙ sym (find-here q x xs (sym t.1)) ∙ e
   | inr t ↦ find-past q x (xs ++ ys) (λ s. t.1 (sym s)) ∙ find-left q xs ys v (sym (find-past q x xs (λ s. t.1 (sym s))) ∙ e)
@@ -203,7 +203,7 @@ module _ (es : List (ℕ × Op)) (ds : List (ℕ × Deletion)) (next : ℕ) (ops
     where
       go : (o : Option RecordWork) → fin.find nat_cmp q all ≡ o → fin.find nat_cmp q all ≡ fin.find nat_cmp q (map told es ++ map deletion_entry ds)
       go (Some v) e = e ∙ sym (found_there q v (find-member q all v e))
-      go None e = e ∙ sym (find-none q (map told es ++ map deletion_entry ds) (λ x m same. none_some x.1 (sym e ∙ ap (λ (k : ℕ). fin.find nat_cmp k all) (sym same) ∙ found_member all rise_all x (there_all x m))))
+      go None e = e ∙ sym (find-none q (map told es ++ map deletion_entry ds) (λ x m same. none-some x.1 (sym e ∙ ap (λ (k : ℕ). fin.find nat_cmp k all) (sym same) ∙ found_member all rise_all x (there_all x m))))
 
   -- the record's ops are these
   pub all_told : merged 0 es ds next ≡ record_ops (fin.from_entries {R = nat_cmp} es) (fin.from_entries {R = nat_cmp} ds)
@@ -230,7 +230,8 @@ none_told es ds next ops = record {
   rises = ops.rise;
 }
 
-pub number_most : (es : List (ℕ × Op)) (ds : List (ℕ × Deletion)) (next i last : ℕ) (os : List RecordOp) → AreTold es ds next i last os → (x : ℕ × Op) → i < length es → x ≡ get_or es i x → (n : ℕ) → n ≡ x.0 → next ≤ 2 ^ 62 → n ≤ 2 ^ 62
+pub number_most : (es : List (ℕ × Op)) (ds : List (ℕ × Deletion)) (next i last : ℕ) (os : List RecordOp) → AreTold es ds next i last os → (x : ℕ × Op) → i < length es → x ≡ get_or es i x → (n : ℕ) → n ≡ x.0
+    → next ≤ 2 ^ 62 → n ≤ 2 ^ 62
 number_most es ds next i last os t x lt is n n_is most =
     let under = (t.within x.0 (subst (λ (xs : List (ℕ × Op)). Has (numbers_of xs) x.0) (sym (from_place es i x lt is)) (inl refl))).1 in
     omega (arith, under, n_is, most)

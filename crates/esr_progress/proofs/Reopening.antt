@@ -10,13 +10,13 @@ use Rattle.esr_record.specs.declared.op.OpWork.TheVariants as works
 use Rattle.esr_record.specs.Op.{IsWork, AreOps}
 use Rattle.esr_core.specs.World.{Op, Deletion, kept_deletes, numbered_deletes}
 use Rattle.esr_formats.specs.Clusters.{op_of, work_of_code}
-use Rattle.esr_ops.specs.declared.unit.Slot.{Slot}
-use Rattle.esr_ops.specs.Plan.{RestorePlan, no_plan}
+use Rattle.esr_ops.specs.Plan.{RestorePlan, TicketMaps, no_plan}
 use Rattle.esr_ops.specs.Deletes.{kept_delete, with_kept, kept_from, kept_plan}
 use Rattle.esr_ops.specs.Inside.{plan_with, numbers_of, Rise, AreNumbers, IsProgress}
 use Rattle.esr_ops.specs.Between.{from_place}
 use Rattle.esr_ops.specs.Entries.{find-cons, get_from, get_put, same_maps}
 use Rattle.esr_ops.specs.Lists.{Has-at}
+use Rattle.esr_progress.specs.TicketMaps.{no_tickets}
 
 -- ---- their numbers
 
@@ -63,7 +63,8 @@ module _ (kept : List (List ℕ)) (deletes : List (ℕ × Deletion)) (next : ℕ
   kept_progress few ops no_ops restores no_restores =
       subst (λ (es : List (ℕ × Op)). IsProgress es deletes next restores) (sym no_ops) (subst (λ (rs : List (ℕ × RestorePlan)). IsProgress [] deletes next rs) (sym no_restores) (kept_alone few))
 
-  pub kept_is : (ops : List (ℕ × Op)) → ops ≡ [] → (completed : List ℕ) → completed ≡ [] → (seats : List Slot) → seats ≡ [] → (restores : List (ℕ × RestorePlan)) → restores ≡ [] → plan_with ops deletes completed seats next restores ≡ kept_plan kept
+  pub kept_is : (ops : List (ℕ × Op)) → ops ≡ [] → (completed : List ℕ) → completed ≡ [] → (seats : TicketMaps) → seats ≡ no_tickets → (restores : List (ℕ × RestorePlan)) → restores ≡ []
+      → plan_with ops deletes completed seats next restores ≡ kept_plan kept
   kept_is ops no_ops completed none_completed seats no_seats restores no_restores =
       (λ j. plan_with (no_ops j) deletes (none_completed j) (no_seats j) next (no_restores j))
       ∙ (λ j. record no_plan { deletes = (ap (λ (ds : List (ℕ × Deletion)). fin.from_entries {R = nat_cmp} ds) are ∙ kept_map 1 kept) j; next_op = number j })

@@ -1,9 +1,9 @@
 -- A list of ops with a ticket more, and the generations of a shard.
-use Rattle.std.proofs.Common.{◌≡◌, ℕ, suc, zero, ◌+◌, ◌<◌, Bool, true, false, List, [], ◌∷◌, ◌++◌, Option, Some, None, cond, eqb, option_map, map, length, get_or, take, drop, length-append, refl, sym, ap, ◌∙◌, subst, arith}
+use Rattle.std.proofs.Common.{◌≡◌, ℕ, suc, zero, ◌+◌, ◌<◌, Bool, true, false, List, [], ◌∷◌, Option, Some, None, cond, eqb, option_map, map, length, get_or, take, drop, refl, sym, ap, ◌∙◌, subst, arith}
 use Rattle.std.specs.FinMap as fin
 use Rattle.std.specs.Prelude.{IfSome, slice_get}
 use Rattle.std.specs.List.{slice_index_or}
-use Rattle.std.proofs.lemmas.Option.{slice_get_read}
+use Rattle.std.proofs.lemmas.Option.{slice_get_read, same_Some, none-some}
 use Rattle.std.proofs.Math.ListN.{set}
 use Rattle.esr_names.specs.declared.ids.Id.{Id}
 use Rattle.esr_root.specs.declared.indices.RootIndex.{RootIndex as CodeIndex}
@@ -12,26 +12,20 @@ use Rattle.esr_model.specs.Image.{index_at, at_shard, at_shard_of}
 use Rattle.esr_core.specs.World.{Op, Deletion}
 use Rattle.esr_formats.specs.Ids.{number_of}
 use Rattle.esr_formats.specs.Roots.{root_index_of}
-use Rattle.esr_ops.specs.declared.unit.Seat.{Seat as CodeSeat}
-use Rattle.esr_ops.specs.declared.unit.ReaderSeat.{ReaderSeat as CodeReader}
-use Rattle.esr_ops.specs.declared.unit.Slot.{Slot}
-use Rattle.esr_ops.specs.declared.unit.Slot.TheVariants as slots
-use Rattle.esr_ops.specs.Plan.{Plan, seat_of_code, reader_of_code, RestorePlan}
-use Rattle.esr_ops.specs.Seats.{seat_in, reader_in}
+use Rattle.esr_ops.specs.Plan.{Plan, Seat, ReaderSeat, RestorePlan, TicketMaps}
 use Rattle.esr_ops.specs.Ops.{IsMost, Among, IsDoneAt, later_of}
-use Rattle.esr_ops.specs.Inside.{plan_with, seats_with, readers_with, numbers_of, AreNumbers, IsProgress}
+use Rattle.esr_ops.specs.Inside.{plan_with, numbers_of, AreNumbers, IsProgress}
 use Rattle.esr_ops.specs.declared.unit.SeatKind.{SeatKind}
 use Rattle.esr_ops.specs.declared.unit.SeatKind.TheVariants as kinds
 use Rattle.esr_names.specs.declared.blob.ShardId.{ShardId}
 use Rattle.esr_progress.specs.Choice.{IsLiveIn, IsBaseFor, given_entry}
-use Rattle.esr_ops.specs.Lists.{left_from, some_same, none_some}
+use Rattle.esr_ops.specs.Lists.{left_from}
 use Rattle.esr_ops.specs.Most.{most_more, most_either}
 use Rattle.esr_ops.specs.Numbers.{entries_from}
-use Rattle.esr_progress.proofs.SeatMaps.{slot-push, slot-push_none}
 
 -- ---- a ticket more
 
-module _ (ops new : List (ℕ × Op)) (deletes kept : List (ℕ × Deletion)) (completed after : List ℕ) (seats more : List Slot) (next : ℕ) (restores stay : List (ℕ × RestorePlan)) (now : Plan) (is : plan_with ops deletes completed seats next restores ≡ now) (same : kept ≡ deletes) (stays : stay ≡ restores) where
+module _ (ops new : List (ℕ × Op)) (deletes kept : List (ℕ × Deletion)) (completed after : List ℕ) (seats more : TicketMaps) (next : ℕ) (restores stay : List (ℕ × RestorePlan)) (now : Plan) (is : plan_with ops deletes completed seats next restores ≡ now) (same : kept ≡ deletes) (stays : stay ≡ restores) where
   pub progress_with : IsProgress ops deletes next restores → numbers_of new ≡ numbers_of (fin.entries now.ops) → IsProgress new kept next stay
   progress_with h e =
       let numbers : numbers_of ops ≡ numbers_of new = sym (e ∙ ap (λ (p : Plan). numbers_of (fin.entries p.ops)) (sym is) ∙ ap numbers_of (entries_from ops h.ops_numbered.rise)) in
@@ -44,24 +38,14 @@ module _ (ops new : List (ℕ × Op)) (deletes kept : List (ℕ × Deletion)) (c
         most = h.most;
       }
 
-  pub plan_seated : (s : CodeSeat) → after ≡ completed → more ≡ seats ++ slots.Ticket s ∷ []
-      → plan_with new kept after more next stay ≡ record now { ops = fin.from_entries new; seats = fin.insert now.seats now.next_ticket (seat_of_code s); next_ticket = suc now.next_ticket }
-  plan_seated s done pushed =
-      let count : suc (length more) ≡ suc (suc (length seats)) = ap (λ (xs : List Slot). suc (length xs)) pushed ∙ omega (arith, length-append seats (slots.Ticket s ∷ [])) in
-      (λ i. record {
-        ops = fin.from_entries new;
-        deletes = fin.from_entries (same i);
-        completed = done i;
-        seats = (ap seats_with pushed ∙ slot-push seat_in seats (slots.Ticket s) (seat_of_code s) refl) i;
-        restores = fin.from_entries (stays i);
-        readers = (ap readers_with pushed ∙ slot-push_none reader_in seats (slots.Ticket s) refl) i;
-        next_op = next;
-        next_ticket = count i;
-      })
-      ∙ ap (λ (p : Plan). record p { ops = fin.from_entries new; seats = fin.insert p.seats p.next_ticket (seat_of_code s); next_ticket = suc p.next_ticket }) is
+  pub plan_seated : (s : Seat) → after ≡ completed → more ≡ record seats { seats = fin.insert seats.seats seats.next s; next = suc seats.next }
+      → plan_with new kept after more next stay ≡ record now { ops = fin.from_entries new; seats = fin.insert now.seats now.next_ticket s; next_ticket = suc now.next_ticket }
+  plan_seated s done given =
+      (λ i. plan_with new (same i) (done i) (given i) next (stays i))
+      ∙ ap (λ (p : Plan). record p { ops = fin.from_entries new; seats = fin.insert p.seats p.next_ticket s; next_ticket = suc p.next_ticket }) is
 
 -- a restore's ticket more
-module _ (ops kept_ops : List (ℕ × Op)) (deletes kept : List (ℕ × Deletion)) (completed after : List ℕ) (seats more : List Slot) (next : ℕ) (restores new : List (ℕ × RestorePlan)) (now : Plan) (is : plan_with ops deletes completed seats next restores ≡ now)
+module _ (ops kept_ops : List (ℕ × Op)) (deletes kept : List (ℕ × Deletion)) (completed after : List ℕ) (seats more : TicketMaps) (next : ℕ) (restores new : List (ℕ × RestorePlan)) (now : Plan) (is : plan_with ops deletes completed seats next restores ≡ now)
     (same_ops : kept_ops ≡ ops) (same : kept ≡ deletes) where
   pub progress_read : IsProgress ops deletes next restores → numbers_of new ≡ numbers_of (fin.entries now.restores) → IsProgress kept_ops kept next new
   progress_read h e =
@@ -75,21 +59,11 @@ module _ (ops kept_ops : List (ℕ × Op)) (deletes kept : List (ℕ × Deletion
         most = h.most;
       }
 
-  pub plan_read : (s : CodeReader) → after ≡ completed → more ≡ seats ++ slots.Reader s ∷ []
-      → plan_with kept_ops kept after more next new ≡ record now { restores = fin.from_entries new; readers = fin.insert now.readers now.next_ticket (reader_of_code s); next_ticket = suc now.next_ticket }
-  plan_read s done pushed =
-      let count : suc (length more) ≡ suc (suc (length seats)) = ap (λ (xs : List Slot). suc (length xs)) pushed ∙ omega (arith, length-append seats (slots.Reader s ∷ [])) in
-      (λ i. record {
-        ops = fin.from_entries (same_ops i);
-        deletes = fin.from_entries (same i);
-        completed = done i;
-        seats = (ap seats_with pushed ∙ slot-push_none seat_in seats (slots.Reader s) refl) i;
-        restores = fin.from_entries new;
-        readers = (ap readers_with pushed ∙ slot-push reader_in seats (slots.Reader s) (reader_of_code s) refl) i;
-        next_op = next;
-        next_ticket = count i;
-      })
-      ∙ ap (λ (p : Plan). record p { restores = fin.from_entries new; readers = fin.insert p.readers p.next_ticket (reader_of_code s); next_ticket = suc p.next_ticket }) is
+  pub plan_read : (s : ReaderSeat) → after ≡ completed → more ≡ record seats { readers = fin.insert seats.readers seats.next s; next = suc seats.next }
+      → plan_with kept_ops kept after more next new ≡ record now { restores = fin.from_entries new; readers = fin.insert now.readers now.next_ticket s; next_ticket = suc now.next_ticket }
+  plan_read s done given =
+      (λ i. plan_with (same_ops i) (same i) (done i) (given i) next new)
+      ∙ ap (λ (p : Plan). record p { restores = fin.from_entries new; readers = fin.insert p.readers p.next_ticket s; next_ticket = suc p.next_ticket }) is
 
 -- ---- the root's generation
 
@@ -121,8 +95,8 @@ done_step index number ops i e a found most lt before is here now =
     (subst (λ (x : ℕ × Op). IsMost (Among x.1.shards (IsDoneAt index number)) (option_map number_of found)) is here))
 
 most_one : (o : Option ℕ) → IsMost (λ g. o ≡ Some g) o
-most_one None = λ g e. none_some g e
-most_one (Some x) = (refl, λ g e. omega (arith, some_same x g e))
+most_one None = λ g e. none-some g e
+most_one (Some x) = (refl, λ g e. omega (arith, same_Some x g e))
 
 -- with the root's
 pub base_is : (root : RootData) (ops : List (ℕ × Op)) (kind : SeatKind) (shard : ShardId) → kind ≡ kinds.Shard shard → (own done base : Option Id)
@@ -156,7 +130,7 @@ kept_entry kinds.Drop ticket e other = refl
 
 pub set_same : {A : Type 0} (xs : List A) (at : ℕ) (x : A) → slice_get xs at ≡ Some x → set xs at x ≡ xs
 set_same [] at x e = refl
-set_same (y ∷ xs) zero x e = λ i. sym (some_same y x e) i ∷ xs
+set_same (y ∷ xs) zero x e = λ i. sym (same_Some y x e) i ∷ xs
 set_same (y ∷ xs) (suc at) x e = ap (λ zs. y ∷ zs) (set_same xs at x e)
 
 kept_by : (ops : List (ℕ × Op)) (at : ℕ) (kind : SeatKind) (ticket : ℕ) (o : Option (ℕ × Op)) → slice_get ops at ≡ o → ((shard : ShardId) → kind ≡ kinds.Shard shard → ⊥)

@@ -4,8 +4,9 @@ use Rattle.std.specs.Prelude.{slice_get, ◌==◌, IfSome}
 use Rattle.std.specs.List.{position}
 use Rattle.std.specs.FinMap as fin
 use Rattle.std.proofs.Math.ListN.{set}
-use Rattle.std.proofs.lemmas.Bool.{cases_lt}
-use Rattle.std.proofs.lemmas.Option.{slice_get_read, slice_get_within, slice_get-map}
+use Rattle.std.proofs.lemmas.Bool.{cases_lt, and_from, and_parts}
+use Rattle.std.proofs.lemmas.Option.{slice_get_read, slice_get_within, slice_get-map, same_Some, none-some}
+use Rattle.esr_model.specs.Lists.{Has-map}
 use Rattle.esr_names.specs.declared.blob.ShardId.{ShardId}
 use Rattle.esr_model.specs.Values.{Has, RootData, Formats}
 use Rattle.esr_core.specs.Entry.{GivenRestore}
@@ -17,21 +18,20 @@ use Rattle.esr_core.specs.Allowed.{GivesRestore}
 use Rattle.esr_core.specs.After.{taken_by, taken_restore, taken_restore_shard}
 use Rattle.esr_formats.specs.Roots.{root_of}
 use Rattle.esr_formats.specs.Clusters.{count_of}
-use Rattle.esr_ops.specs.declared.unit.Slot.{Slot}
 use Rattle.esr_ops.specs.declared.unit.Work.{Work as CodeWork}
 use Rattle.esr_ops.specs.declared.unit.Work.TheVariants as works
 use Rattle.esr_ops.specs.declared.unit.Copied.{Copied}
-use Rattle.esr_ops.specs.Plan.{Plan, RestorePlan, read_state, read_work, restore_plan, reader_of_code, IsPlanOf}
+use Rattle.esr_ops.specs.Plan.{Plan, RestorePlan, read_state, read_work, restore_plan, reader_of_code, TicketMaps, IsPlanOf}
 use Rattle.esr_ops.specs.Shards.{is_pending, AreShards}
 use Rattle.esr_ops.specs.Restores.{is_unread, IsRestoreWork}
 use Rattle.esr_ops.specs.Inside.{plan_with, numbers_of, Rise, IsProgress}
 use Rattle.esr_ops.specs.Units.{given_by, GivesWork, HasUnread, IsLowest, LowestUnit}
 use Rattle.esr_progress.specs.Choice.{NoneUnread, IsUnreadAt, given_restore}
 use Rattle.esr_ops.specs.Entries.{eqb_is, get_from, find-member}
-use Rattle.esr_ops.specs.Lists.{some_same, none_some, Has-map, position-None, Has-at, position-map}
+use Rattle.esr_ops.specs.Lists.{position-None, Has-at, position-map}
 use Rattle.esr_ops.specs.Numbers.{entries_from, found_member}
 use Rattle.esr_progress.specs.Plans.{restore_of_plan, restores_put, restores_put_count}
-use Rattle.esr_ops.specs.Tests.{place_within, both_true, and_true, clash, place_of, place_below, first_place}
+use Rattle.esr_ops.specs.Tests.{place_within, clash, place_of, place_below, first_place}
 use Rattle.esr_progress.proofs.Choices.{is_false, place_lower, Has-taken, stands_taken}
 use Rattle.esr_progress.proofs.Entries.{from_set}
 use Rattle.esr_progress.proofs.NextUnits.{entry_at}
@@ -50,7 +50,7 @@ module _ (restores : List (ℕ × RestorePlan)) where
     | inl less ↦ before k x less there
     | inr le ↦
         let same : k ≡ at = omega (arith, below, le) in
-        let one : e ≡ x = some_same e x (sym (slice_get_read restores (length restores) at e refl lt is) ∙ ap (slice_get restores) (sym same) ∙ there) in
+        let one : e ≡ x = same_Some e x (sym (slice_get_read restores (length restores) at e refl lt is) ∙ ap (slice_get restores) (sym same) ∙ there) in
         ap (λ (z : ℕ × RestorePlan). position is_unread z.1.shards) (sym one) ∙ none
   ]
 
@@ -65,7 +65,7 @@ module _ (restores here : List (ℕ × RestorePlan)) (same : here ≡ restores) 
 
     pub unread_within : i < length e.1.shards
     unread_within =
-        let one : unread_in.e ≡ e = some_same unread_in.e e (sym unread_in.there ∙ restore_there) in
+        let one : unread_in.e ≡ e = same_Some unread_in.e e (sym unread_in.there ∙ restore_there) in
         (place_within is_unread e.1.shards i (ap (λ (z : ℕ × RestorePlan). position is_unread z.1.shards) (sym one) ∙ unread_in.is)).0
 
 -- ---- the shard of its id and number
@@ -78,18 +78,19 @@ unread_by (NotRestored why) e = absurd (true≢false (sym e))
 
 restore_found : (index number : ℕ) (xs : List RestoreShard) (i : ℕ) (s : RestoreShard) → slice_get xs i ≡ Some s → s.ref.id ≡ index → s.number ≡ number
     → ((z : RestoreShard) → Has (take i xs) z → z.ref.id ≡ index → z.number ≡ number → ⊥) → restore_shard xs index number ≡ Some s
-restore_found index number [] i s there id n other = absurd (none_some s there)
+restore_found index number [] i s there id n other = absurd (none-some s there)
 restore_found index number (x ∷ xs) zero s there id n other =
-    let is : x ≡ s = some_same x s there in
-    ap (λ c. cond c (Some x) (restore_shard xs index number)) (both_true _ _ (eq-eqb x.ref.id index (ap (λ (z : RestoreShard). z.ref.id) is ∙ id)) (eq-eqb x.number number (ap (λ (z : RestoreShard). z.number) is ∙ n))) ∙ ap (λ z. Some z) is
+    let is : x ≡ s = same_Some x s there in
+    ap (λ c. cond c (Some x) (restore_shard xs index number)) (and_from _ _ (eq-eqb x.ref.id index (ap (λ (z : RestoreShard). z.ref.id) is ∙ id)) (eq-eqb x.number number (ap (λ (z : RestoreShard). z.number) is ∙ n))) ∙ ap (λ z. Some z) is
 restore_found index number (x ∷ xs) (suc i) s there id n other =
-    let not_this : ((x.ref.id == index) && (x.number == number)) ≡ false = is_false _ (λ e. let (a, b) = and_true _ _ e in other x (inl refl) (eqb_is _ _ a) (eqb_is _ _ b)) in
+    let not_this : ((x.ref.id == index) && (x.number == number)) ≡ false = is_false _ (λ e. let (a, b) = and_parts _ _ e in other x (inl refl) (eqb_is _ _ a) (eqb_is _ _ b)) in
     ap (λ c. cond c (Some x) (restore_shard xs index number)) not_this ∙ restore_found index number xs i s there id n (λ z m. other z (inr m))
 
 if_some : {A : Type 0} (o : Option A) (P : A → Type 0) (x : A) → o ≡ Some x → IfSome o P → P x
 if_some {A} o P x e h = subst (λ (z : Option A). IfSome z P) e h
 
-pub restore_numbers : (restores here : List (ℕ × RestorePlan)) → here ≡ restores → (ops : List (ℕ × Op)) (deletes : List (ℕ × Deletion)) (completed : List ℕ) (seats : List Slot) (next : ℕ) (now : Plan) → plan_with ops deletes completed seats next restores ≡ now
+pub restore_numbers : (restores here : List (ℕ × RestorePlan)) → here ≡ restores → (ops : List (ℕ × Op)) (deletes : List (ℕ × Deletion)) (completed : List ℕ) (seats : TicketMaps) (next : ℕ) (now : Plan)
+    → plan_with ops deletes completed seats next restores ≡ now
     → IsProgress ops deletes next restores → (at : ℕ) (e : ℕ × RestorePlan) → slice_get restores at ≡ Some e → (shard : ShardId) (ticket : ℕ) (given_list : List (ℕ × RestorePlan))
     → IfSome (slice_get here at) (λ (x : ℕ × RestorePlan). given_list ≡ set here at (given_restore shard ticket x)) → numbers_of given_list ≡ numbers_of (fin.entries now.restores)
 restore_numbers restores here same ops deletes completed seats next now view h at e there shard ticket given_list given_is =
@@ -97,7 +98,7 @@ restore_numbers restores here same ops deletes completed seats next now view h a
     ap numbers_of (list_is ∙ ap (λ es. set es at (given_restore shard ticket e)) same) ∙ numbers-set restores e.0 at (given_restore shard ticket e).1 (entry_at restores h.restores_numbered.rise at e there)
     ∙ ap numbers_of (sym (entries_from restores h.restores_numbered.rise)) ∙ ap (λ (p : Plan). numbers_of (fin.entries p.restores)) view
 
-module _ (ops : List (ℕ × Op)) (deletes : List (ℕ × Deletion)) (completed : List ℕ) (seats : List Slot) (next : ℕ) (restores : List (ℕ × RestorePlan)) (now : Plan) (view : plan_with ops deletes completed seats next restores ≡ now)
+module _ (ops : List (ℕ × Op)) (deletes : List (ℕ × Deletion)) (completed : List ℕ) (seats : TicketMaps) (next : ℕ) (restores : List (ℕ × RestorePlan)) (now : Plan) (view : plan_with ops deletes completed seats next restores ≡ now)
     (h : IsProgress ops deletes next restores) (w : World) (is : IsPlanOf w now) where
   rise : Rise (numbers_of restores)
   rise = h.restores_numbered.rise
@@ -192,9 +193,9 @@ module _ (ops : List (ℕ × Op)) (deletes : List (ℕ × Deletion)) (completed 
 
         -- the list in which it is given
         abbrev with_read : ShardId → ℕ → Plan
-        with_read own ticket = record now { restores = fin.from_entries (set restores at (given_restore own ticket e)); readers = fin.insert now.readers now.next_ticket (reader_of_code (record { op = e.0; shard = own; out = true })); next_ticket = suc now.next_ticket }
+        with_read own ticket = record now { restores = fin.from_entries (set restores at (given_restore own ticket e)); readers = fin.insert now.readers now.next_ticket (reader_of_code (record { op = e.0; shard = own })); next_ticket = suc now.next_ticket }
 
-        module _ (own : ShardId) (ticket : ℕ) (ticket_is : ticket ≡ suc (length seats)) (own_id : s.ref.id ≡ own.index.number) (own_number : s.number ≡ own.number) where
+        module _ (own : ShardId) (ticket : ℕ) (ticket_is : ticket ≡ seats.next) (own_id : s.ref.id ≡ own.index.number) (own_number : s.number ≡ own.number) where
           count : ticket ≡ w.next_ticket
           count = ticket_is ∙ ap (λ (p : Plan). p.next_ticket) view ∙ is.next_ticket
 
@@ -210,7 +211,7 @@ module _ (ops : List (ℕ × Op)) (deletes : List (ℕ × Deletion)) (completed 
           put_is : fin.from_entries {R = nat_cmp} (set restores at (given_restore own ticket e)) ≡ fin.insert now.restores e.0 (given_restore own ticket e).1
           put_is = from_set restores e.0 at (given_restore own ticket e).1 (entry_at restores rise at e there) ∙ ap (λ (p : Plan). fin.insert p.restores e.0 (given_restore own ticket e).1) view
 
-          handed_plan : IsPlanOf (shard_handed w e.0 r s) (record now { restores = fin.insert now.restores e.0 (given_restore own ticket e).1; readers = fin.insert now.readers now.next_ticket (reader_of_code (record { op = e.0; shard = own; out = true })); next_ticket = suc now.next_ticket })
+          handed_plan : IsPlanOf (shard_handed w e.0 r s) (record now { restores = fin.insert now.restores e.0 (given_restore own ticket e).1; readers = fin.insert now.readers now.next_ticket (reader_of_code (record { op = e.0; shard = own })); next_ticket = suc now.next_ticket })
           handed_plan = record {
             ops = is.ops;
             deletes = is.deletes;
@@ -220,15 +221,15 @@ module _ (ops : List (ℕ × Op)) (deletes : List (ℕ × Deletion)) (completed 
             next_ticket = ap suc is.next_ticket;
             restores = restores_put w now is e.0 handed_over (given_restore own ticket e).1 plan_handed;
             restore_count = restores_put_count w now is e.0 handed_over (given_restore own ticket e).1;
-            readers = λ k. ap (λ n. fin.get (fin.insert now.readers n (reader_of_code (record { op = e.0; shard = own; out = true }))) k) is.next_ticket
-                ∙ readers_put w now is w.next_ticket (reader_of e.0 r s) (reader_of_code (record { op = e.0; shard = own; out = true })) (λ j. record { op = e.0; index = own_id j; number = own_number j; out = true }) k;
+            readers = λ k. ap (λ n. fin.get (fin.insert now.readers n (reader_of_code (record { op = e.0; shard = own }))) k) is.next_ticket
+                ∙ readers_put w now is w.next_ticket (reader_of e.0 r s) (reader_of_code (record { op = e.0; shard = own })) (λ j. record { op = e.0; index = own_id j; number = own_number j }) refl k;
           }
 
           takes_it : (index number uuid : ℕ) → s.ref.id ≡ index → s.number ≡ number → (f : Formats) → IsPlanOf (taken_by f w e.0 (GivenRestore index number uuid) (fin.get w.ops e.0)) (with_read own ticket)
           takes_it index number uuid id n f =
               subst (λ (o : Option Restoring). IsPlanOf (taken_restore w e.0 index number o) (with_read own ticket)) (sym open_one.1)
               (subst (λ (o : Option RestoreShard). IsPlanOf (taken_restore_shard w e.0 r o) (with_read own ticket)) (sym (is_found index number id n))
-              (subst (λ (m : fin.FinMap nat_cmp RestorePlan). IsPlanOf (shard_handed w e.0 r s) (record now { restores = m; readers = fin.insert now.readers now.next_ticket (reader_of_code (record { op = e.0; shard = own; out = true })); next_ticket = suc now.next_ticket }))
+              (subst (λ (m : fin.FinMap nat_cmp RestorePlan). IsPlanOf (shard_handed w e.0 r s) (record now { restores = m; readers = fin.insert now.readers now.next_ticket (reader_of_code (record { op = e.0; shard = own })); next_ticket = suc now.next_ticket }))
               (sym put_is) handed_plan))
 
           takes_work : (work : CodeWork) (copy : Copied) → IsRestoreWork e.1 (read_work r.place s) work → (f : Formats) → IsPlanOf (taken_by f w e.0 (given_by work copy) (fin.get w.ops e.0)) (with_read own ticket)
@@ -237,24 +238,26 @@ module _ (ops : List (ℕ × Op)) (deletes : List (ℕ × Deletion)) (completed 
 
   pub lowest_restore : (at i : ℕ) (x : IsUnreadAt restores at i) (e : ℕ × RestorePlan) → slice_get restores at ≡ Some e → (o : ℕ) → o ≡ e.0 → IsLowest (HasUnread w) (Some o)
   lowest_restore at i x e there o o_is =
-      let entry : x.e ≡ e = some_same x.e e (sym x.there ∙ there) in
+      let entry : x.e ≡ e = same_Some x.e e (sym x.there ∙ there) in
       let unread : position is_unread e.1.shards ≡ Some i = ap (λ (z : ℕ × RestorePlan). position is_unread z.1.shards) (sym entry) ∙ x.is in
       subst (λ (n : ℕ). IsLowest (HasUnread w) (Some n)) (sym o_is) (has_unread at e there i unread, lowest_unread at e there x.before)
 
-  pub restore_is : (at i : ℕ) (x : IsUnreadAt restores at i) (e : ℕ × RestorePlan) → slice_get restores at ≡ Some e → AreShards e.1.shards → (ticket : ℕ) → ticket ≡ suc (length seats) → (o : ℕ) → o ≡ e.0 → (work : CodeWork) (own : ShardId) (copy : Copied)
-      → IfSome (slice_get e.1.shards i) (λ z. (z.ref.id ≡ own.index.number) × (z.number ≡ own.number)) → IfSome (slice_get e.1.shards i) (λ z. IsRestoreWork e.1 z work) → (root : RootData) (safe : ℕ) → w.safe ≡ safe → w.root ≡ root
+  pub restore_is : (at i : ℕ) (x : IsUnreadAt restores at i) (e : ℕ × RestorePlan) → slice_get restores at ≡ Some e → AreShards e.1.shards → (ticket : ℕ) → ticket ≡ seats.next → (o : ℕ) → o ≡ e.0
+      → (work : CodeWork) (own : ShardId) (copy : Copied)
+      → IfSome (slice_get e.1.shards i) (λ z. (z.ref.id ≡ own.index.number) × (z.number ≡ own.number)) → IfSome (slice_get e.1.shards i) (λ z. IsRestoreWork e.1 z work) → (root : RootData) (safe : ℕ) → w.safe ≡ safe
+      → w.root ≡ root
       → count_of copy.safe ≡ safe → root_of copy.root ≡ root → (given_list : List (ℕ × RestorePlan)) → IfSome (slice_get restores at) (λ (z : ℕ × RestorePlan). given_list ≡ set restores at (given_restore own ticket z))
-      → (new : Plan) → new ≡ record now { restores = fin.from_entries given_list; readers = fin.insert now.readers now.next_ticket (reader_of_code (record { op = o; shard = own; out = true })); next_ticket = suc now.next_ticket }
+      → (new : Plan) → new ≡ record now { restores = fin.from_entries given_list; readers = fin.insert now.readers now.next_ticket (reader_of_code (record { op = o; shard = own })); next_ticket = suc now.next_ticket }
       → LowestUnit (HasUnread w) w (Some (new, record { ticket = ticket; op = o; work = work; copy = copy }))
   restore_is at i x e there rule ticket ticket_is o o_is work own copy hs hw root safe w_safe w_root safe_is root_is given_list given_is new new_is =
-      let entry : x.e ≡ e = some_same x.e e (sym x.there ∙ there) in
+      let entry : x.e ≡ e = same_Some x.e e (sym x.there ∙ there) in
       let unread : position is_unread e.1.shards ≡ Some i = ap (λ (z : ℕ × RestorePlan). position is_unread z.1.shards) (sym entry) ∙ x.is in
       let z : ShardWork = read_work (r at e there).place (s at e there i unread) in
       let own_is = if_some _ (λ (y : ShardWork). (y.ref.id ≡ own.index.number) × (y.number ≡ own.number)) z (told at e there i unread rule) hs in
       let work_is = if_some _ (λ (y : ShardWork). IsRestoreWork e.1 y work) z (told at e there i unread rule) hw in
       let list_is : given_list ≡ set restores at (given_restore own ticket e) = if_some _ (λ (y : ℕ × RestorePlan). given_list ≡ set restores at (given_restore own ticket y)) e there given_is in
       let plan_is : with_read at e there i unread rule own ticket ≡ new =
-      sym (new_is ∙ (λ j. record now { restores = fin.from_entries (list_is j); readers = fin.insert now.readers now.next_ticket (reader_of_code (record { op = o_is j; shard = own; out = true })); next_ticket = suc now.next_ticket })) in
+      sym (new_is ∙ (λ j. record now { restores = fin.from_entries (list_is j); readers = fin.insert now.readers now.next_ticket (reader_of_code (record { op = o_is j; shard = own })); next_ticket = suc now.next_ticket })) in
       subst (λ (k : ℕ). LowestUnit (HasUnread w) w (Some (new, record { ticket = ticket; op = k; work = work; copy = copy }))) (sym o_is) (
         record {
           ticket = ticket_is ∙ ap (λ (p : Plan). p.next_ticket) view ∙ is.next_ticket;

@@ -12,7 +12,7 @@ abbrev pub op_aborter : Option Op → Option ℕ
 op_aborter None = None
 op_aborter (Some op) = op.aborted
 
--- of a ticket that is out, unless it is to take the op away
+-- unless the ticket is to take the op away
 abbrev pub seat_aborter : FinMap nat_cmp Op → Seat → Option ℕ
 seat_aborter ops s = if can_abort s then op_aborter (fin.get ops s.op) else None
 

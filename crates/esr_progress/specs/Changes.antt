@@ -9,10 +9,14 @@ use Rattle.esr_core.specs.Steps.{completing}
 use Rattle.esr_core.specs.Turns.{fails}
 use Rattle.esr_ops.specs.Plan.{Seat, ReaderSeat, RestorePlan, Plan}
 use Rattle.esr_ops.specs.Restores.{is_waiting}
-use Rattle.esr_ops.specs.Seats.{seat_ended, is_stale_seat, reader_ended}
+use Rattle.esr_ops.specs.Seats.{is_stale_seat}
 
 abbrev pub with_seat : Plan → ℕ → Seat → Plan
 with_seat p k s = record p { seats = fin.insert p.seats k s }
+
+-- the ticket has ended
+abbrev pub without_seat : Plan → ℕ → Plan
+without_seat p k = record p { seats = fin.remove p.seats k }
 
 -- the snapshot has left
 abbrev pub without_snap : Plan → ℕ → Plan
@@ -45,8 +49,9 @@ seat_raised n s = record s { raised = Some n }
 
 -- ---- restores
 
-abbrev pub with_reader : Plan → ℕ → ReaderSeat → Plan
-with_reader p k q = record p { readers = fin.insert p.readers k q }
+-- the ticket has ended
+abbrev pub without_reader : Plan → ℕ → Plan
+without_reader p k = record p { readers = fin.remove p.readers k }
 
 -- what a ticket has is over
 abbrev pub restore_over : ℕ → RestorePlan → RestorePlan
@@ -66,7 +71,7 @@ put_plan restores o r = if list_any is_waiting r.shards then fin.insert restores
 
 abbrev pub read_by : Plan → ℕ → ReaderSeat → Option RestorePlan → Plan
 read_by p k q None = p
-read_by p k q (Some r) = record p { restores = put_plan p.restores q.op (restore_over k r); readers = fin.insert p.readers k (reader_ended q) }
+read_by p k q (Some r) = record p { restores = put_plan p.restores q.op (restore_over k r); readers = fin.remove p.readers k }
 
 abbrev pub read_in : Plan → ℕ → Option ReaderSeat → Plan
 read_in p k None = p
@@ -83,9 +88,13 @@ abbrev pub op_left : (Seat → Seat) → Plan → ℕ → Option Seat → Plan
 op_left g p k None = p
 op_left g p k (Some s) = with_seat (without_op p s.op) k (g s)
 
+abbrev pub op_dropped : Plan → ℕ → Option Seat → Plan
+op_dropped p k None = p
+op_dropped p k (Some s) = without_seat (without_op p s.op) k
+
 abbrev pub done_by : Plan → ℕ → ShardResult → Seat → Option Op → Plan
 done_by p k r s None = p
-done_by p k r s (Some op) = record p { ops = fin.insert p.ops s.op (op_marked k r op); completed = completing p.completed s.op (op_marked k r op).shards; seats = fin.insert p.seats k (seat_ended s) }
+done_by p k r s (Some op) = record p { ops = fin.insert p.ops s.op (op_marked k r op); completed = completing p.completed s.op (op_marked k r op).shards; seats = fin.remove p.seats k }
 
 abbrev pub done_in : Plan → ℕ → ShardResult → Option Seat → Plan
 done_in p k r None = p
@@ -93,11 +102,11 @@ done_in p k r (Some s) = done_by p k r s (fin.get p.ops s.op)
 
 abbrev pub failed_by : Plan → ℕ → Seat → Option Op → Plan
 failed_by p k s None = p
-failed_by p k s (Some op) = record p { ops = fin.insert p.ops s.op (op_failed k op); seats = fin.insert p.seats k (seat_ended s) }
+failed_by p k s (Some op) = record p { ops = fin.insert p.ops s.op (op_failed k op); seats = fin.remove p.seats k }
 
 abbrev pub failed_in : ℕ → Plan → ℕ → Option Seat → Plan
 failed_in term p k None = p
-failed_in term p k (Some s) = if is_stale_seat term s then with_seat p k (seat_ended s) else failed_by p k s (fin.get p.ops s.op)
+failed_in term p k (Some s) = if is_stale_seat term s then without_seat p k else failed_by p k s (fin.get p.ops s.op)
 
 -- ---- deletes
 
@@ -119,8 +128,8 @@ delete_failing x = record x { failed = true }
 
 abbrev pub deletion_failed_by : Plan → ℕ → Seat → Option Deletion → Plan
 deletion_failed_by p k s None = p
-deletion_failed_by p k s (Some x) = record p { deletes = fin.insert p.deletes s.op (delete_failing x); seats = fin.insert p.seats k (seat_ended s) }
+deletion_failed_by p k s (Some x) = record p { deletes = fin.insert p.deletes s.op (delete_failing x); seats = fin.remove p.seats k }
 
 abbrev pub deletion_failed_in : ℕ → Plan → ℕ → Option Seat → Plan
 deletion_failed_in term p k None = p
-deletion_failed_in term p k (Some s) = if is_stale_seat term s then with_seat p k (seat_ended s) else deletion_failed_by p k s (fin.get p.deletes s.op)
+deletion_failed_in term p k (Some s) = if is_stale_seat term s then without_seat p k else deletion_failed_by p k s (fin.get p.deletes s.op)

@@ -1,9 +1,10 @@
 -- Which unit of an op is ready, and what is given with it.
 use Rattle.std.specs.Prelude.{◌≡◌, ◌⊎◌, ◌<◌, ℕ, Bool, true, false, not, is_some, ◌&&◌, ◌||◌, ◌==◌, if◌then◌else◌, List, [], ◌∷◌, Option, Some, None, IfSome, map, length, take, position, option_map, slice_get, nat_lt}
 use Rattle.std.specs.List.{list_any}
+use Rattle.std.specs.FinMap as fin
 use Rattle.esr_names.specs.declared.ids.Id.{Id}
 use Rattle.esr_names.specs.declared.blob.ShardId.{ShardId}
-use Rattle.esr_ops.specs.Plan.{RestorePlan}
+use Rattle.esr_ops.specs.Plan.{RestorePlan, TicketMaps}
 use Rattle.esr_ops.specs.Restores.{is_unread}
 use Rattle.esr_model.specs.Values.{RootData}
 use Rattle.esr_model.specs.Image.{Generation}
@@ -12,12 +13,11 @@ use Rattle.esr_core.specs.Steps.{given, all_done}
 use Rattle.esr_formats.specs.Ids.{number_of}
 use Rattle.esr_progress.specs.declared.ready.Kind.{Kind}
 use Rattle.esr_progress.specs.declared.ready.Kind.TheVariants as ready
-use Rattle.esr_ops.specs.declared.unit.Slot.{Slot}
 use Rattle.esr_ops.specs.declared.unit.SeatKind.{SeatKind}
 use Rattle.esr_ops.specs.declared.unit.SeatKind.TheVariants as kinds
 use Rattle.esr_ops.specs.declared.unit.Work.{Work}
 use Rattle.esr_ops.specs.declared.unit.Work.TheVariants as works
-use Rattle.esr_ops.specs.Seats.{seat_in, holds, is_out, is_swap_out, is_unit_out}
+use Rattle.esr_ops.specs.Seats.{any_seat, is_swap_out, is_unit_out}
 use Rattle.esr_ops.specs.Ops.{has_stopped, is_free, IsDoneAt, Among, IsMost, IsShardWork, IsFinalWork}
 
 -- ---- which
@@ -42,37 +42,37 @@ is_first_at ops deletes completed (Some i) = not (list_any (goes_in ops deletes)
 abbrev pub is_earliest : List (ℕ × Op) → List (ℕ × Deletion) → List ℕ → ℕ → Bool
 is_earliest ops deletes completed number = is_first_at ops deletes completed (position (λ n. n == number) completed)
 
-abbrev pub is_out_of : List Slot → ℕ → ℕ → Bool
-is_out_of seats term number = list_any (λ s. holds (is_unit_out term number) (seat_in s)) seats
+abbrev pub is_out_of : TicketMaps → ℕ → ℕ → Bool
+is_out_of seats term number = any_seat (is_unit_out term number) seats
 
-abbrev pub is_swapping : List Slot → ℕ → Bool
-is_swapping seats term = list_any (λ s. holds (is_swap_out term) (seat_in s)) seats
+abbrev pub is_swapping : TicketMaps → ℕ → Bool
+is_swapping seats term = any_seat (is_swap_out term) seats
 
 -- by the place of its first free shard, and whether it can be finalized
 abbrev pub ready_by : Option ℕ → Bool → Option Kind
 ready_by (Some i) final = Some (ready.Shard i)
 ready_by None final = if final then Some ready.Finalize else None
 
-abbrev pub is_final : List (ℕ × Op) → List (ℕ × Deletion) → List ℕ → List Slot → ℕ → ℕ × Op → Bool
+abbrev pub is_final : List (ℕ × Op) → List (ℕ × Deletion) → List ℕ → TicketMaps → ℕ → ℕ × Op → Bool
 is_final ops deletes completed seats term e = all_done e.1.shards && (not (is_swapping seats term) && is_earliest ops deletes completed e.0)
 
 -- the unit of an op that is ready
-abbrev pub ready_of : List (ℕ × Op) → List (ℕ × Deletion) → List ℕ → List Slot → List (ℕ × RestorePlan) → ℕ → ℕ × Op → Option Kind
+abbrev pub ready_of : List (ℕ × Op) → List (ℕ × Deletion) → List ℕ → TicketMaps → List (ℕ × RestorePlan) → ℕ → ℕ × Op → Option Kind
 ready_of ops deletes completed seats restores term e =
     if has_stopped e.1 then (if is_out_of seats term e.0 then None else Some ready.Drop)
     else (if barred deletes e.0 then None else ready_by (position (is_free ops restores e.0) e.1.shards) (is_final ops deletes completed seats term e))
 
 -- the op at the place, and no unit of those before it is ready
-abbrev pub NoneBefore : List (ℕ × Op) → List (ℕ × Deletion) → List ℕ → List Slot → List (ℕ × RestorePlan) → ℕ → ℕ → Type 0
+abbrev pub NoneBefore : List (ℕ × Op) → List (ℕ × Deletion) → List ℕ → TicketMaps → List (ℕ × RestorePlan) → ℕ → ℕ → Type 0
 NoneBefore ops deletes completed seats restores term at = (k : ℕ) (e : ℕ × Op) → k < at → slice_get ops k ≡ Some e → ready_of ops deletes completed seats restores term e ≡ None
 
-pub record IsReadyAt (ops : List (ℕ × Op)) (deletes : List (ℕ × Deletion)) (completed : List ℕ) (seats : List Slot) (restores : List (ℕ × RestorePlan)) (term at : ℕ) (kind : Kind) : Type 0 where
+pub record IsReadyAt (ops : List (ℕ × Op)) (deletes : List (ℕ × Deletion)) (completed : List ℕ) (seats : TicketMaps) (restores : List (ℕ × RestorePlan)) (term at : ℕ) (kind : Kind) : Type 0 where
   pub e : ℕ × Op
   pub there : slice_get ops at ≡ Some e
   pub is : ready_of ops deletes completed seats restores term e ≡ Some kind
   pub before : NoneBefore ops deletes completed seats restores term at
 
-abbrev pub IsFirstReady : List (ℕ × Op) → List (ℕ × Deletion) → List ℕ → List Slot → List (ℕ × RestorePlan) → ℕ → Option (ℕ × Kind) → Type 0
+abbrev pub IsFirstReady : List (ℕ × Op) → List (ℕ × Deletion) → List ℕ → TicketMaps → List (ℕ × RestorePlan) → ℕ → Option (ℕ × Kind) → Type 0
 IsFirstReady ops deletes completed seats restores term None = NoneBefore ops deletes completed seats restores term (length ops)
 IsFirstReady ops deletes completed seats restores term (Some (at, kind)) = IsReadyAt ops deletes completed seats restores term at kind
 
@@ -81,21 +81,17 @@ abbrev pub first_number : {A : Type 0} → List (ℕ × A) → Option ℕ
 first_number [] = None
 first_number (e ∷ es) = Some e.0
 
--- where the lowest ticket that is out stands; they are numbered from 1 on
-abbrev pub place_out : List Slot → Option ℕ
-place_out seats = position (λ s. holds is_out (seat_in s)) seats
-
 -- another delete is open
 abbrev pub has_other : List (ℕ × Deletion) → ℕ → Bool
 has_other deletes number = list_any (λ (d : ℕ × Deletion). not (d.0 == number)) deletes
 
 -- something else is open, or a ticket is out
-abbrev pub cleanup_waits : List (ℕ × Op) → List (ℕ × Deletion) → List Slot → ℕ → Bool
-cleanup_waits ops deletes seats number = (is_some (first_number ops) || has_other deletes number) || is_some (place_out seats)
+abbrev pub cleanup_waits : List (ℕ × Op) → List (ℕ × Deletion) → TicketMaps → ℕ → Bool
+cleanup_waits ops deletes seats number = (is_some (first_number ops) || has_other deletes number) || is_some (first_number (fin.entries seats.seats))
 
 -- A unit of the delete is ready: it failed and none of its units is out, or nothing stands before it and no swap is out, or it is a
 -- cleanup and alone.
-abbrev pub delete_ready : List (ℕ × Op) → List (ℕ × Deletion) → List Slot → ℕ → ℕ × Deletion → Bool
+abbrev pub delete_ready : List (ℕ × Op) → List (ℕ × Deletion) → TicketMaps → ℕ → ℕ × Deletion → Bool
 delete_ready ops deletes seats term d =
     if d.1.failed then not (is_out_of seats term d.0)
     else (if d.1.clean then not (cleanup_waits ops deletes seats d.0)

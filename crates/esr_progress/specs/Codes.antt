@@ -7,7 +7,7 @@ use Rattle.std.specs.FinMap.{FinMap}
 use Rattle.std.specs.FinMap as fin
 use Rattle.esr_model.specs.Values.{IndexRef, ShardResult}
 use Rattle.esr_core.specs.World.{ShardState, Pending, Out, Done, GivenUp, ShardWork, Op, Deletion}
-use Rattle.esr_ops.specs.Plan.{UnitKind, OfShard, OfFinalize, OfDelete, OfDrop, Seat, ReaderSeat, RestorePlan, Plan}
+use Rattle.esr_ops.specs.Plan.{UnitKind, OfShard, OfFinalize, OfDelete, OfDrop, Seat, ReaderSeat, RestorePlan, TicketMaps, Plan}
 
 abbrev pub coded_text : Coded (List ℕ)
 coded_text = coded_list coded_ℕ
@@ -79,15 +79,18 @@ kind_code = code_by ((ℕ × ℕ) ⊎ (Bool ⊎ Bool)) (coded⊎ (coded× coded_
 
 abbrev pub seat_code : Coded Seat
 seat_code =
-    code_by (UnitKind × (ℕ × (ℕ × (Option ℕ × (Bool × (Bool × Bool)))))) (coded× kind_code (coded× coded_ℕ (coded× coded_ℕ (coded× (coded_option coded_ℕ) (coded× coded_bool (coded× coded_bool coded_bool))))))
-    (λ s. (s.kind, (s.op, (s.term, (s.raised, (s.settled, (s.out, s.clean)))))))
-    (λ p. record { kind = p.0; op = p.1.0; term = p.1.1.0; raised = p.1.1.1.0; settled = p.1.1.1.1.0; out = p.1.1.1.1.1.0; clean = p.1.1.1.1.1.1 }) (λ _. refl)
+    code_by (UnitKind × (ℕ × (ℕ × (Option ℕ × (Bool × Bool))))) (coded× kind_code (coded× coded_ℕ (coded× coded_ℕ (coded× (coded_option coded_ℕ) (coded× coded_bool coded_bool)))))
+    (λ s. (s.kind, (s.op, (s.term, (s.raised, (s.settled, s.clean))))))
+    (λ p. record { kind = p.0; op = p.1.0; term = p.1.1.0; raised = p.1.1.1.0; settled = p.1.1.1.1.0; clean = p.1.1.1.1.1 }) (λ _. refl)
 
 abbrev pub reader_code : Coded ReaderSeat
 reader_code =
-    code_by (ℕ × (ℕ × (ℕ × Bool))) (coded× coded_ℕ (coded× coded_ℕ (coded× coded_ℕ coded_bool)))
-    (λ q. (q.op, (q.index, (q.number, q.out))))
-    (λ p. record { op = p.0; index = p.1.0; number = p.1.1.0; out = p.1.1.1 }) (λ _. refl)
+    code_by (ℕ × (ℕ × ℕ)) (coded× coded_ℕ (coded× coded_ℕ coded_ℕ)) (λ q. (q.op, (q.index, q.number))) (λ p. record { op = p.0; index = p.1.0; number = p.1.1 }) (λ _. refl)
+
+abbrev pub tickets_code : Coded TicketMaps
+tickets_code =
+    code_by (FinMap nat_cmp Seat × (FinMap nat_cmp ReaderSeat × ℕ)) (coded× (fin.code coded_ℕ seat_code) (coded× (fin.code coded_ℕ reader_code) coded_ℕ))
+    (λ t. (t.seats, (t.readers, t.next))) (λ p. record { seats = p.0; readers = p.1.0; next = p.1.1 }) (λ _. refl)
 
 abbrev pub restore_code : Coded RestorePlan
 restore_code = code_by (ℕ × List ShardWork) (coded× coded_ℕ (coded_list work_code)) (λ r. (r.uuid, r.shards)) (λ p. record { uuid = p.0; shards = p.1 }) (λ _. refl)

@@ -4,6 +4,6 @@ pub mod Infos
 pub mod Changes
 pub mod Choice
 pub mod Plans
-pub mod SeatMaps
+pub mod TicketMaps
 pub mod Lookups
 pub mod Lowest

@@ -1,33 +1,28 @@
 -- Laws of a list's ops, deletes and tickets in a world whose plan it is.
-use Rattle.std.proofs.Common.{◌≡◌, ℕ, suc, zero, Bool, true, false, List, Option, Some, None, option_map, refl, sym, ap, ◌∙◌, true≢false, nat_cmp}
+use Rattle.std.proofs.Common.{◌≡◌, ℕ, Bool, true, List, Some, refl, sym, ap, ◌∙◌, nat_cmp}
 use Rattle.std.specs.FinMap as fin
-use Rattle.esr_model.specs.Values.{Has, RootData}
+use Rattle.esr_model.specs.Values.{RootData}
 use Rattle.esr_core.specs.World.{World, Op, Deletion, Ticket}
-use Rattle.esr_ops.specs.declared.unit.Slot.{Slot}
-use Rattle.esr_ops.specs.Plan.{Plan, Seat, seat_of, RestorePlan, IsGivenIn, IsPlanOf}
-use Rattle.esr_ops.specs.Seats.{seat_at, seat_in, told_in, holds}
+use Rattle.esr_core.specs.Laws.Maps.{entry_got, got_entry}
+use Rattle.esr_ops.specs.Plan.{Plan, Seat, seat_of, seat_out, RestorePlan, TicketMaps, IsGivenIn, IsPlanOf}
+use Rattle.esr_ops.specs.Seats.{any_seat}
 use Rattle.esr_ops.specs.Inside.{plan_with, IsProgress}
 use Rattle.esr_ops.specs.Entries.{get_from}
-use Rattle.esr_ops.specs.Lists.{none_some, Has-at}
-use Rattle.esr_progress.specs.Plans.{ticket_of}
-use Rattle.esr_progress.specs.SeatMaps.{get-seats}
-use Rattle.esr_ops.specs.Tests.{place_of}
+use Rattle.esr_progress.specs.Plans.{ticket_of, seat_there}
+use Rattle.esr_ops.specs.Tests.{any_true, any_here}
 
 -- ---- seats by their tickets
 
-pub coded : (o : Option Slot) (s : Seat) → told_in seat_in o ≡ Some s → (c : Slot) × (o ≡ Some c) × (seat_in c ≡ Some s)
-coded None s e = absurd (none_some s e)
-coded (Some c) s e = (c, refl, e)
+-- a test that passes for a seat
+pub any_there : (p : Seat → Bool) (m : TicketMaps) (k : ℕ) (s : Seat) → fin.get m.seats k ≡ Some s → p s ≡ true → any_seat p m ≡ true
+any_there p m k s e h = any_here (λ (x : ℕ × Seat). p x.1) (fin.entries m.seats) (k, s) (got_entry m.seats k s e) h
 
-pub held : (p : Seat → Bool) (o : Option Seat) → holds p o ≡ true → (s : Seat) × (o ≡ Some s) × (p s ≡ true)
-held p None e = absurd (true≢false (sym e))
-held p (Some s) e = (s, refl, e)
+pub any_found : (p : Seat → Bool) (m : TicketMaps) → any_seat p m ≡ true → (k : ℕ) × ((s : Seat) × (fin.get m.seats k ≡ Some s) × (p s ≡ true))
+any_found p m e =
+    let (x, there, h) = any_true (λ (x : ℕ × Seat). p x.1) (fin.entries m.seats) e in
+    (x.0, (x.1, entry_got m.seats x.0 x.1 there, h))
 
-pub seat_member : (seats : List Slot) (k : ℕ) (c : Slot) → seat_at seats k ≡ Some c → Has seats c
-seat_member seats zero c e = absurd (none_some c e)
-seat_member seats (suc k) c e = Has-at seats k c e
-
-module _ (ops : List (ℕ × Op)) (deletes : List (ℕ × Deletion)) (completed : List ℕ) (seats : List Slot) (next : ℕ) (restores : List (ℕ × RestorePlan))
+module _ (ops : List (ℕ × Op)) (deletes : List (ℕ × Deletion)) (completed : List ℕ) (seats : TicketMaps) (next : ℕ) (restores : List (ℕ × RestorePlan))
     (now : Plan) (view : plan_with ops deletes completed seats next restores ≡ now) (h : IsProgress ops deletes next restores)
     (root : RootData) (safe term : ℕ) (w : World) (is : IsGivenIn now root safe term w) where
   pub find_op : (q : ℕ) → fin.get w.ops q ≡ fin.find nat_cmp q ops
@@ -38,18 +33,16 @@ module _ (ops : List (ℕ × Op)) (deletes : List (ℕ × Deletion)) (completed 
 
   -- ---- tickets that are out
 
-  seat_is : (k : ℕ) → fin.get now.seats k ≡ told_in seat_in (seat_at seats k)
-  seat_is k = ap (λ (p : Plan). fin.get p.seats k) (sym view) ∙ get-seats seats k
+  seat_is : (k : ℕ) → fin.get seats.seats k ≡ seat_out (fin.get w.tickets k)
+  seat_is k = ap (λ (p : Plan). fin.get p.seats k) view ∙ is.plan.seats k
 
-  pub seat_by : (k : ℕ) (t : Ticket) → fin.get w.tickets k ≡ Some t → (c : Slot) × Has seats c × (seat_in c ≡ Some (seat_of t))
-  seat_by k t e =
-      let (c, at, same) = coded (seat_at seats k) (seat_of t) (sym (seat_is k) ∙ is.plan.seats k ∙ ap (option_map seat_of) e) in
-      (c, seat_member seats k c at, same)
+  pub seat_by : (k : ℕ) (t : Ticket) → fin.get w.tickets k ≡ Some t → t.out ≡ true → fin.get seats.seats k ≡ Some (seat_of t)
+  seat_by k t e out = seat_is k ∙ ap seat_out e ∙ seat_there t out
 
-  pub by_seat : (c : Slot) (s : Seat) → seat_in c ≡ Some s → Has seats c → (k : ℕ) × ((t : Ticket) × (fin.get w.tickets k ≡ Some t) × (seat_of t ≡ s))
-  by_seat c s e m = let (k, at) = place_of seats c m in (suc k, ticket_of w now is.plan (suc k) s (seat_is (suc k) ∙ ap (told_in seat_in) at ∙ e))
+  pub by_seat : (k : ℕ) (s : Seat) → fin.get seats.seats k ≡ Some s → (t : Ticket) × (fin.get w.tickets k ≡ Some t) × (t.out ≡ true) × (seat_of t ≡ s)
+  by_seat k s e = ticket_of w now is.plan k s (sym (ap (λ (p : Plan). fin.get p.seats k) view) ∙ e)
 
-module _ (ops : List (ℕ × Op)) (deletes : List (ℕ × Deletion)) (completed : List ℕ) (seats : List Slot) (next : ℕ) (restores : List (ℕ × RestorePlan))
+module _ (ops : List (ℕ × Op)) (deletes : List (ℕ × Deletion)) (completed : List ℕ) (seats : TicketMaps) (next : ℕ) (restores : List (ℕ × RestorePlan))
     (now : Plan) (view : plan_with ops deletes completed seats next restores ≡ now) (h : IsProgress ops deletes next restores) where
   module _ (w : World) (is : IsPlanOf w now) where
     in_world : IsGivenIn now w.root w.safe w.term w

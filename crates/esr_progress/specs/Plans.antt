@@ -3,28 +3,39 @@ use Rattle.std.proofs.Common.{◌≡◌, ℕ, ◌+◌, ◌-◌, Bool, true, fals
 use Rattle.std.specs.Prelude.{is_some, not}
 use Rattle.std.specs.Cmp.{nat_cmp_total}
 use Rattle.std.specs.FinMap as fin
-use Rattle.esr_core.specs.World.{World, Restoring, Ticket, ReadState, Unread, BeingRead, Restored, NotRestored, RestoreShard}
-use Rattle.esr_ops.specs.Plan.{Plan, Seat, seat_of, RestorePlan, restore_plan, IsPlanOf, read_state, read_work}
+use Rattle.esr_core.specs.World.{World, Restoring, Reader, Ticket, ReadState, Unread, BeingRead, Restored, NotRestored, RestoreShard}
+use Rattle.esr_ops.specs.Plan.{Plan, Seat, seat_of, seat_out, reader_seat, reader_out, RestorePlan, restore_plan, IsPlanOf, read_state, read_work}
 use Rattle.std.specs.List.{list_any}
+use Rattle.std.proofs.lemmas.Option.{same_Some, none-some}
 use Rattle.esr_model.specs.Values.{Bytes}
 use Rattle.esr_ops.specs.Restores.{is_waiting}
 use Rattle.esr_core.specs.Restores.{waits, any_waits}
 use Rattle.esr_ops.specs.Shards as shards
 use Rattle.esr_ops.specs.Entries.{get_put, get_left}
-use Rattle.esr_ops.specs.Lists.{some_same, none_some}
 
 -- ---- the ticket of a seat
 
-got : (o : Option Ticket) (s : Seat) → Some s ≡ option_map seat_of o → (t : Ticket) × (o ≡ Some t) × (seat_of t ≡ s)
-got None s e = absurd (none_some s (sym e))
-got (Some t) s e = (t, refl, sym (some_same s (seat_of t) e))
+-- what is kept of a ticket that is out
+pub seat_there : (t : Ticket) → t.out ≡ true → seat_out (Some t) ≡ Some (seat_of t)
+seat_there t out = ap (λ (c : Bool). cond c (Some (seat_of t)) None) out
+
+pub reader_there : (q : Reader) → q.out ≡ true → reader_out (Some q) ≡ Some (reader_seat q)
+reader_there q out = ap (λ (c : Bool). cond c (Some (reader_seat q)) None) out
+
+got : (o : Option Ticket) (s : Seat) → Some s ≡ seat_out o → (t : Ticket) × (o ≡ Some t) × (t.out ≡ true) × (seat_of t ≡ s)
+got None s e = absurd (none-some s (sym e))
+got (Some t) s e = go t.out refl
+  where
+    go : (b : Bool) → t.out ≡ b → (v : Ticket) × (Some t ≡ Some v) × (v.out ≡ true) × (seat_of v ≡ s)
+    go true is = (t, refl, is, sym (same_Some s (seat_of t) (e ∙ seat_there t is)))
+    go false is = absurd (none-some s (sym (e ∙ ap (λ (c : Bool). cond c (Some (seat_of t)) None) is)))
 
 got_restore : (o : Option Restoring) (x : RestorePlan) → Some x ≡ option_map restore_plan o → (r : Restoring) × (o ≡ Some r) × (restore_plan r ≡ x)
-got_restore None x e = absurd (none_some x (sym e))
-got_restore (Some r) x e = (r, refl, sym (some_same x (restore_plan r) e))
+got_restore None x e = absurd (none-some x (sym e))
+got_restore (Some r) x e = (r, refl, sym (same_Some x (restore_plan r) e))
 
 module _ (w : World) (p : Plan) (is : IsPlanOf w p) where
-  pub ticket_of : (k : ℕ) (s : Seat) → fin.get p.seats k ≡ Some s → (t : Ticket) × (fin.get w.tickets k ≡ Some t) × (seat_of t ≡ s)
+  pub ticket_of : (k : ℕ) (s : Seat) → fin.get p.seats k ≡ Some s → (t : Ticket) × (fin.get w.tickets k ≡ Some t) × (t.out ≡ true) × (seat_of t ≡ s)
   ticket_of k s e = got (fin.get w.tickets k) s (sym e ∙ is.seats k)
 
   restore_by : (b : Bool) (r : Restoring) (q : ℕ) → cond b (Some (restore_plan r)) (fin.get p.restores q) ≡ option_map restore_plan (cond b (Some r) (fin.get w.restores q))

@@ -38,13 +38,13 @@ impl Progress {
         ensures { IfOk result (λ p. p ≡ record self.now { ops = fin.from_entries ops.items; deletes = fin.from_entries deletes.items; next_op = next_op }) }
     {
         let completed = Vec::from_slice(alloc, self.completed.as_slice())?;
-        let seats = Vec::from_slice(alloc, self.seats.as_slice())?;
+        let tickets = self.tickets.try_clone(alloc)?;
         let restores = copy_restores(alloc, &self.restores)?;
         Ok(Progress {
             ops,
             deletes,
             completed,
-            seats,
+            tickets,
             next_op,
             restores,
         })

@@ -5,22 +5,20 @@ ghost use Rattle.esr_core.specs.Steps.{all_done};
 ghost use Rattle.esr_model.specs.Values.{ShardResult as Outcome};
 ghost use Rattle.esr_results.specs.Results.{result_of};
 ghost use Rattle.esr_ops.specs.Plan.{seat_of_code, reader_of_code};
-ghost use Rattle.esr_progress.specs.Changes.{with_seat, without_snap, without_op, without_settled, delete_left, with_completed, op_changed, op_marked, op_failed, seat_changed, seat_settled, seat_raised, op_left, done_in, failed_by, failed_in, delete_changed, delete_failing, deletion_failed_by, deletion_failed_in, with_reader, restore_changed, restore_over, restore_kept, read_by, read_in};
-ghost use Rattle.esr_ops.specs.Seats.{seat_ended};
+ghost use Rattle.esr_progress.specs.Changes.{with_seat, without_seat, without_reader, without_snap, without_op, without_settled, delete_left, with_completed, op_changed, op_marked, op_failed, seat_changed, seat_settled, seat_raised, op_left, op_dropped, done_in, failed_by, failed_in, delete_changed, delete_failing, deletion_failed_by, deletion_failed_in, restore_changed, restore_over, restore_kept, read_by, read_in};
 
 use crate::Progress;
 use crate::progress::{delete_place, place, restore_place};
-use esr_ops::{ReaderSeat, Seat, ShardState, Slot};
+use esr_ops::{ReaderSeat, Seat, ShardState};
 use esr_results::ShardResult;
 use std::alloc::AllocError;
 
 impl Progress {
-    /// Keeps this of a restore's ticket.
-    pub(crate) fn put_reader(&mut self, ticket: u64, reader: ReaderSeat)
-        requires { is_some (fin.get self.old.readers ticket) ≡ true }
-        ensures { self.new ≡ with_reader self.old ticket (reader_of_code reader) }
+    /// A restore's ticket ends.
+    fn end_reader_seat(&mut self, ticket: u64)
+        ensures { self.new ≡ without_reader self.old ticket }
     {
-        self.seats[ticket as usize - 1] = Slot::Reader(reader);
+        self.tickets.end_reader(ticket);
     }
 
     /// What a ticket has of a restore is over.
@@ -71,13 +69,12 @@ impl Progress {
 
     /// What a ticket has of its restore is over, where that is open, and the ticket ends.
     fn end_open(&mut self, ticket: u64, reader: ReaderSeat)
-        requires { is_some (fin.get self.old.readers ticket) ≡ true }
         ensures { self.new ≡ read_by self.old ticket (reader_of_code reader) (fin.get self.old.restores reader.op) }
     {
         if self.lacks_restore(reader.op) {
             return;
         }
-        self.put_reader(ticket, reader.ended());
+        self.end_reader_seat(ticket);
         self.end_read(reader.op, ticket);
         self.leave(reader.op);
     }
@@ -87,7 +84,7 @@ impl Progress {
         requires { is_some (fin.get self.old.seats ticket) ≡ true }
         ensures { self.new ≡ with_seat self.old ticket (seat_of_code seat) }
     {
-        self.seats[ticket as usize - 1] = Slot::Ticket(seat);
+        self.tickets.put(ticket, seat);
     }
 
     /// An op leaves, or a delete.
@@ -136,12 +133,9 @@ impl Progress {
 
     /// A ticket ends.
     pub(crate) fn end(&mut self, ticket: u64)
-        ensures { self.new ≡ seat_changed seat_ended self.old ticket (fin.get self.old.seats ticket) }
+        ensures { self.new ≡ without_seat self.old ticket }
     {
-        let Some(seat) = self.seat(ticket) else {
-            return;
-        };
-        self.put_seat(ticket, seat.ended());
+        self.tickets.end(ticket);
     }
 
     /// A ticket raises a generation.
@@ -209,13 +203,13 @@ impl Progress {
 
     /// A ticket ends, and its op leaves.
     pub(crate) fn drop_op(&mut self, ticket: u64)
-        ensures { self.new ≡ op_left seat_ended self.old ticket (fin.get self.old.seats ticket) }
+        ensures { self.new ≡ op_dropped self.old ticket (fin.get self.old.seats ticket) }
     {
         let Some(seat) = self.seat(ticket) else {
             return;
         };
         self.remove_op(seat.op);
-        self.put_seat(ticket, seat.ended());
+        self.end(ticket);
     }
 
     /// A shard's unit ends with its result.
@@ -229,7 +223,7 @@ impl Progress {
             return Ok(());
         };
         self.complete(completes, seat.op)?;
-        self.put_seat(ticket, seat.ended());
+        self.end(ticket);
         self.mark_op(seat.op, ticket, outcome);
         Ok(())
     }
@@ -252,13 +246,12 @@ impl Progress {
 
     /// The delete of a ticket fails, where it is open, and the ticket ends.
     fn fail_deletion(&mut self, ticket: u64, seat: Seat)
-        requires { is_some (fin.get self.old.seats ticket) ≡ true }
         ensures { self.new ≡ deletion_failed_by self.old ticket (seat_of_code seat) (fin.get self.old.deletes seat.op) }
     {
         if !self.has_delete(seat.op) {
             return;
         }
-        self.put_seat(ticket, seat.ended());
+        self.end(ticket);
         self.fail_open(seat.op);
     }
 
@@ -270,7 +263,7 @@ impl Progress {
             return;
         };
         if seat.is_stale(term) {
-            self.put_seat(ticket, seat.ended());
+            self.end(ticket);
             return;
         }
         self.fail_deletion(ticket, seat);
@@ -285,13 +278,12 @@ impl Progress {
 
     /// The op of a ticket fails, where it is open, and the ticket ends.
     fn fail_unit(&mut self, ticket: u64, seat: Seat)
-        requires { is_some (fin.get self.old.seats ticket) ≡ true }
         ensures { self.new ≡ failed_by self.old ticket (seat_of_code seat) (fin.get self.old.ops seat.op) }
     {
         if !self.has_op(seat.op) {
             return;
         }
-        self.put_seat(ticket, seat.ended());
+        self.end(ticket);
         self.fail_op(seat.op, ticket);
     }
 
@@ -303,7 +295,7 @@ impl Progress {
             return;
         };
         if seat.is_stale(term) {
-            self.put_seat(ticket, seat.ended());
+            self.end(ticket);
             return;
         }
         self.fail_unit(ticket, seat);

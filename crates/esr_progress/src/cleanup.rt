@@ -4,19 +4,19 @@ ghost use Rattle.esr_core.specs.World.{World};
 ghost use Rattle.esr_core.specs.Allowed.{HasTicket};
 ghost use Rattle.esr_ops.specs.Plan.{IsPlanOf};
 ghost use Rattle.esr_ops.specs.Units.{IsLowest};
-ghost use Rattle.esr_progress.specs.Choice.{first_number, place_out, has_other, cleanup_waits, lower_of};
+ghost use Rattle.esr_progress.specs.Choice.{first_number, has_other, cleanup_waits, lower_of};
 
 use crate::Progress;
 use crate::ready::lower;
-use esr_ops::{OpenDelete, OpenOp, Slot};
+use crate::tickets::Tickets;
+use esr_ops::{OpenDelete, OpenOp};
 
 impl Progress {
     /// The lowest ticket that is out.
     pub fn first_out(&self) -> Option<u64>
         ensures { (w : World) → IsPlanOf w self.now → IsLowest (HasTicket w) result }
     {
-        let at = place_out(&self.seats)?;
-        Some(at as u64 + 1)
+        self.tickets.first()
     }
 }
 
@@ -47,13 +47,6 @@ pub fn lowest_open(ops: &[OpenOp], deletes: &[OpenDelete]) -> Option<u64>
     lower(first_op(ops), first_delete(deletes))
 }
 
-/// Where the lowest ticket that is out stands.
-fn place_out(seats: &[Slot]) -> Option<usize>
-    ensures { result ≡ place_out seats.now }
-{
-    seats.iter().position(|slot| slot.is_out())
-}
-
 /// Whether a delete of another number is open.
 fn has_other(deletes: &[OpenDelete], number: u64) -> bool
     ensures { result ≡ has_other deletes.now number }
@@ -65,10 +58,10 @@ fn has_other(deletes: &[OpenDelete], number: u64) -> bool
 pub(crate) fn cleanup_waits(
     ops: &[OpenOp],
     deletes: &[OpenDelete],
-    seats: &[Slot],
+    tickets: &Tickets,
     number: u64,
 ) -> bool
-    ensures { result ≡ cleanup_waits ops.now deletes.now seats.now number }
+    ensures { result ≡ cleanup_waits ops.now deletes.now tickets.now number }
 {
-    first_op(ops).is_some() || has_other(deletes, number) || place_out(seats).is_some()
+    first_op(ops).is_some() || has_other(deletes, number) || tickets.first().is_some()
 }

@@ -11,8 +11,10 @@ mod progress;
 mod ready;
 mod reopen;
 mod reports;
+mod tickets;
 
 pub use cleanup::lowest_open;
 pub use law::others_leave_the_list;
 pub use progress::{OpenLists, Progress, copy_deletes};
 pub use ready::copy_ops;
+pub use tickets::Tickets;

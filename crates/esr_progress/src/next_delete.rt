@@ -11,7 +11,8 @@ ghost use Rattle.esr_progress.specs.Choice.{barred, delete_ready};
 use crate::Progress;
 use crate::cleanup::cleanup_waits;
 use crate::ready::copy_ops;
-use esr_ops::{Copied, OpenDelete, OpenOp, ReadyUnit, Slot, swap_is_out, unit_is_out};
+use crate::tickets::Tickets;
+use esr_ops::{Copied, OpenDelete, OpenOp, ReadyUnit};
 use esr_root::RootData;
 use std::alloc::{AllocError, Global};
 
@@ -20,7 +21,7 @@ impl Progress {
     pub(crate) fn ready_delete(&self, term: u64) -> Option<u64>
         ensures { (w : World) → IsPlanOf w self.now → w.term ≡ term → IsLowest (HasDeleteReady w) result }
     {
-        let Some(at) = find_delete(&self.ops, &self.deletes, &self.seats, term) else {
+        let Some(at) = find_delete(&self.ops, &self.deletes, &self.tickets, term) else {
             return None;
         };
         Some(self.deletes[at].number())
@@ -37,11 +38,11 @@ impl Progress {
         requires room { self.now.next_ticket < 2 ^ 62 }
         ensures { IfOk result (λ o. (w : World) → IsGivenIn self.now (root_of root.now) (count_of safe) term w → LowestUnit (HasDeleteReady w) w o) }
     {
-        let Some(at) = find_delete(&self.ops, &self.deletes, &self.seats, term) else {
+        let Some(at) = find_delete(&self.ops, &self.deletes, &self.tickets, term) else {
             return Ok(None);
         };
         let delete = &self.deletes[at];
-        let ticket = self.seats.len() as u64 + 1;
+        let ticket = self.tickets.next();
         let unit = ReadyUnit {
             ticket,
             op: delete.number(),
@@ -68,31 +69,38 @@ impl Progress {
 }
 
 /// The first delete of which a unit is ready, by its place.
-fn find_delete(ops: &[OpenOp], deletes: &[OpenDelete], seats: &[Slot], term: u64) -> Option<usize>
-    ensures { result ≡ position (delete_ready ops.now deletes.now seats.now term) deletes.now }
+fn find_delete(
+    ops: &[OpenOp],
+    deletes: &[OpenDelete],
+    tickets: &Tickets,
+    term: u64,
+) -> Option<usize>
+    ensures { result ≡ position (delete_ready ops.now deletes.now tickets.now term) deletes.now }
 {
     deletes
         .iter()
-        .position(|delete| delete_ready(ops, deletes, seats, term, delete))
+        .position(|delete| delete_ready(ops, deletes, tickets, term, delete))
 }
 
 /// Whether a unit of the delete is ready: that it leaves where it failed, else its own.
 fn delete_ready(
     ops: &[OpenOp],
     deletes: &[OpenDelete],
-    seats: &[Slot],
+    tickets: &Tickets,
     term: u64,
     delete: &OpenDelete,
 ) -> bool
-    ensures { result ≡ delete_ready ops.now deletes.now seats.now term delete.now }
+    ensures { result ≡ delete_ready ops.now deletes.now tickets.now term delete.now }
 {
     if delete.has_failed() {
-        return !unit_is_out(seats, term, delete.number());
+        return !tickets.unit_is_out(term, delete.number());
     }
     if delete.cleans() {
-        return !cleanup_waits(ops, deletes, seats, delete.number());
+        return !cleanup_waits(ops, deletes, tickets, delete.number());
     }
-    !barred(deletes, delete.number()) && !precede(ops, delete.number()) && !swap_is_out(seats, term)
+    !barred(deletes, delete.number())
+        && !precede(ops, delete.number())
+        && !tickets.swap_is_out(term)
 }
 
 /// Whether an open delete has a number below this one.

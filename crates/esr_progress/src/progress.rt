@@ -3,18 +3,19 @@ ghost use Rattle.std.specs.Prelude.{◌≡◌, ◌==◌, ◌<◌, ◌+◌, ◌^�
 ghost use Rattle.esr_ops.specs.Plan.{no_plan};
 ghost use Rattle.esr_ops.specs.Inside.{plan_with, IsProgress};
 
-use esr_ops::{OpenDelete, OpenOp, OpenRestore, Slot};
+use crate::tickets::Tickets;
+use esr_ops::{OpenDelete, OpenOp, OpenRestore};
 use std::alloc::{AllocError, Global};
 use std::marker::Model;
 
-/// The open ops, deletes and restores by number, the numbers of ops in the order in which they completed, and what is kept of
-/// each ticket from 1 on.
+/// The open ops, deletes and restores by number, the numbers of ops in the order in which they completed, and the tickets that
+/// are out.
 #[derive(Drop)]
 pub struct Progress {
     pub(crate) ops: Vec<OpenOp>,
     pub(crate) deletes: Vec<OpenDelete>,
     pub(crate) completed: Vec<u64>,
-    pub(crate) seats: Vec<Slot>,
+    pub(crate) tickets: Tickets,
     pub(crate) next_op: u64,
     pub(crate) restores: Vec<OpenRestore>,
 }
@@ -25,7 +26,7 @@ pub struct OpenLists<'a> {
     pub ops: &'a [OpenOp],
     pub deletes: &'a [OpenDelete],
     pub completed: &'a [u64],
-    pub seats: &'a [Slot],
+    pub tickets: &'a Tickets,
     pub next_op: u64,
     pub restores: &'a [OpenRestore],
 }
@@ -40,7 +41,7 @@ impl Model for Progress {
 
     ghost use Rattle.esr_ops.specs.Inside.{plan_with, IsProgress};
 
-    ghost view = { λ a. plan_with a.ops.items a.deletes.items a.completed.items a.seats.items a.next_op a.restores.items };
+    ghost view = { λ a. plan_with a.ops.items a.deletes.items a.completed.items a.tickets a.next_op a.restores.items };
 
     ghost invariant = { λ a. IsProgress a.ops.items a.deletes.items a.next_op a.restores.items };
 }
@@ -54,7 +55,7 @@ impl Progress {
             ops: Vec::new(alloc),
             deletes: Vec::new(alloc),
             completed: Vec::new(alloc),
-            seats: Vec::new(alloc),
+            tickets: Tickets::new(alloc),
             next_op: 1,
             restores: Vec::new(alloc),
         }
@@ -69,7 +70,7 @@ impl Progress {
 
     /// What it holds.
     pub fn lists(&self) -> OpenLists<'_>
-        ensures view { plan_with result.ops.now result.deletes.now result.completed.now result.seats.now result.next_op result.restores.now ≡ self.now }
+        ensures view { plan_with result.ops.now result.deletes.now result.completed.now result.tickets.now result.next_op result.restores.now ≡ self.now }
         ensures valid { IsProgress result.ops.now result.deletes.now result.next_op result.restores.now }
         ensures next { result.next_op ≡ self.now.next_op }
         ensures few { length result.ops.now + length result.deletes.now < 2 ^ 64 }
@@ -78,7 +79,7 @@ impl Progress {
             ops: self.ops.as_slice(),
             deletes: self.deletes.as_slice(),
             completed: self.completed.as_slice(),
-            seats: self.seats.as_slice(),
+            tickets: &self.tickets,
             next_op: self.next_op,
             restores: self.restores.as_slice(),
         }
@@ -98,7 +99,7 @@ impl Progress {
             ops,
             deletes,
             completed: Vec::from_slice(alloc, self.completed.as_slice())?,
-            seats: Vec::from_slice(alloc, self.seats.as_slice())?,
+            tickets: self.tickets.try_clone(alloc)?,
             next_op: self.next_op,
             restores,
         })

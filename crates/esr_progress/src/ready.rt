@@ -16,10 +16,10 @@ ghost use Rattle.esr_progress.specs.Choice.{is_going, goes_in, is_earliest, read
 use crate::Progress;
 use crate::next_delete::barred;
 use crate::progress::{copy_deletes, copy_restores};
+use crate::tickets::Tickets;
 use esr_names::{Id, ShardId};
 use esr_ops::{
-    Copied, OpenDelete, OpenOp, OpenRestore, ReaderSeat, ReadyUnit, Seat, SeatKind, Slot, Work,
-    later, swap_is_out, unit_is_out,
+    Copied, OpenDelete, OpenOp, OpenRestore, ReaderSeat, ReadyUnit, Seat, SeatKind, Work, later,
 };
 use esr_root::RootData;
 use std::alloc::{AllocError, Global};
@@ -63,7 +63,7 @@ impl Progress {
             &self.ops,
             &self.deletes,
             &self.completed,
-            &self.seats,
+            &self.tickets,
             &self.restores,
             term,
         ) else {
@@ -98,7 +98,7 @@ impl Progress {
         let restore = &self.restores[at];
         restore.rule();
         let shard = restore.shard(i);
-        let ticket = self.seats.len() as u64 + 1;
+        let ticket = self.tickets.next();
         let unit = ReadyUnit {
             ticket,
             op: restore.number(),
@@ -121,24 +121,21 @@ impl Progress {
         op: u64,
         shard: ShardId,
     ) -> Result<Progress, AllocError>
-        requires { numbers_of restores.items ≡ numbers_of (fin.entries self.now.restores) }
+        requires numbers { numbers_of restores.items ≡ numbers_of (fin.entries self.now.restores) }
+        requires room { self.now.next_ticket < 2 ^ 62 }
         ensures { IfOk result (λ p. p ≡ record self.now {
           restores = fin.from_entries restores.items;
-          readers = fin.insert self.now.readers self.now.next_ticket (reader_of_code (record { op = op; shard = shard; out = true }));
+          readers = fin.insert self.now.readers self.now.next_ticket (reader_of_code (record { op = op; shard = shard }));
           next_ticket = suc self.now.next_ticket;
         }) }
     {
-        let mut seats = Vec::from_slice(alloc, self.seats.as_slice())?;
-        seats.push(Slot::Reader(ReaderSeat {
-            op,
-            shard,
-            out: true,
-        }))?;
+        let mut tickets = self.tickets.try_clone(alloc)?;
+        tickets.give_reader(ReaderSeat { op, shard })?;
         Ok(Progress {
             ops: copy_ops(alloc, &self.ops)?,
             deletes: copy_deletes(alloc, &self.deletes)?,
             completed: Vec::from_slice(alloc, self.completed.as_slice())?,
-            seats,
+            tickets,
             next_op: self.next_op,
             restores,
         })
@@ -159,7 +156,7 @@ impl Progress {
             &self.ops,
             &self.deletes,
             &self.completed,
-            &self.seats,
+            &self.tickets,
             &self.restores,
             term,
         ) else {
@@ -168,7 +165,7 @@ impl Progress {
         let op = &self.ops[at];
         op.rule();
         let seat = seat_kind(op, kind);
-        let ticket = self.seats.len() as u64 + 1;
+        let ticket = self.tickets.next();
         let unit = ReadyUnit {
             ticket,
             op: op.number(),
@@ -196,30 +193,31 @@ impl Progress {
         term: u64,
         clean: bool,
     ) -> Result<Progress, AllocError>
-        requires { numbers_of ops.items ≡ numbers_of (fin.entries self.now.ops) }
+        requires numbers { numbers_of ops.items ≡ numbers_of (fin.entries self.now.ops) }
+        requires room { self.now.next_ticket < 2 ^ 62 }
         ensures { IfOk result (λ p. p ≡ record self.now {
           ops = fin.from_entries ops.items;
-          seats = fin.insert self.now.seats self.now.next_ticket (seat_of_code (record { kind = kind; clean = clean; op = op; term = term; raised = None; settled = false; out = true }));
+          seats = fin.insert self.now.seats self.now.next_ticket (seat_of_code (record { kind = kind; clean = clean; op = op; term = term; raised = None; settled = false }));
           next_ticket = suc self.now.next_ticket;
         }) }
     {
-        let mut seats = Vec::from_slice(alloc, self.seats.as_slice())?;
-        seats.push(Slot::Ticket(Seat {
+        let restores = copy_restores(alloc, &self.restores)?;
+        let mut tickets = self.tickets.try_clone(alloc)?;
+        tickets.give(Seat {
             kind,
             clean,
             op,
             term,
             raised: None,
             settled: false,
-            out: true,
-        }))?;
+        })?;
         Ok(Progress {
             ops,
             deletes: copy_deletes(alloc, &self.deletes)?,
             completed: Vec::from_slice(alloc, self.completed.as_slice())?,
-            seats,
+            tickets,
             next_op: self.next_op,
-            restores: copy_restores(alloc, &self.restores)?,
+            restores,
         })
     }
 }
@@ -278,14 +276,14 @@ fn find_ready(
     ops: &[OpenOp],
     deletes: &[OpenDelete],
     completed: &[u64],
-    seats: &[Slot],
+    tickets: &Tickets,
     restores: &[OpenRestore],
     term: u64,
 ) -> Option<(usize, Kind)>
-    ensures { IsFirstReady ops.now deletes.now completed.now seats.now restores.now term result }
+    ensures { IsFirstReady ops.now deletes.now completed.now tickets.now restores.now term result }
 {
     for (at, op) in ops.iter().enumerate() {
-        if let Some(kind) = ready_of(ops, deletes, completed, seats, restores, term, op) {
+        if let Some(kind) = ready_of(ops, deletes, completed, tickets, restores, term, op) {
             return Some((at, kind));
         }
     }
@@ -297,15 +295,15 @@ fn ready_of(
     ops: &[OpenOp],
     deletes: &[OpenDelete],
     completed: &[u64],
-    seats: &[Slot],
+    tickets: &Tickets,
     restores: &[OpenRestore],
     term: u64,
     op: &OpenOp,
 ) -> Option<Kind>
-    ensures { result ≡ ready_of ops.now deletes.now completed.now seats.now restores.now term op.now }
+    ensures { result ≡ ready_of ops.now deletes.now completed.now tickets.now restores.now term op.now }
 {
     if op.has_stopped() {
-        return (!unit_is_out(seats, term, op.number())).then_some(Kind::Drop);
+        return (!tickets.unit_is_out(term, op.number())).then_some(Kind::Drop);
     }
     if barred(deletes, op.number()) {
         return None;
@@ -314,7 +312,7 @@ fn ready_of(
         return Some(Kind::Shard(at));
     }
     let is_final = op.is_done()
-        && !swap_is_out(seats, term)
+        && !tickets.swap_is_out(term)
         && is_earliest(ops, deletes, completed, op.number());
     is_final.then_some(Kind::Finalize)
 }

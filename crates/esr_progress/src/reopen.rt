@@ -6,6 +6,7 @@ ghost use Rattle.esr_record.specs.Op.{IsWork, AreOps};
 ghost use Rattle.esr_ops.specs.Deletes.{with_kept, kept_from, kept_plan};
 
 use crate::Progress;
+use crate::tickets::Tickets;
 use esr_names::Ids;
 use esr_ops::OpenDelete;
 use esr_record::{OpWork, RecordOp, RecordOps};
@@ -23,7 +24,7 @@ impl Progress {
             ops: Vec::new(alloc),
             deletes,
             completed: Vec::new(alloc),
-            seats: Vec::new(alloc),
+            tickets: Tickets::new(alloc),
             next_op,
             restores: Vec::new(alloc),
         })

@@ -1,5 +1,5 @@
 //! What the reports of units change.
-ghost use Rattle.std.specs.Prelude.{◌≡◌, ℕ, false, Some, map, option_map, IfOk};
+ghost use Rattle.std.specs.Prelude.{◌≡◌, ℕ, true, false, Some, map, option_map, is_some, IfOk};
 ghost use Rattle.std.specs.FinMap as fin;
 ghost use Rattle.esr_model.specs.Values.{Formats};
 ghost use Rattle.esr_core.specs.World.{World, ReadState, Ticket, Swap, swap, record_ops};
@@ -18,24 +18,18 @@ use esr_results::ShardResult;
 use std::alloc::{AllocError, Global};
 
 impl Progress {
-    /// What is kept of a ticket.
+    /// What is kept of a ticket that is out.
     pub fn seat(&self, ticket: u64) -> Option<Seat>
         ensures { option_map seat_of_code result ≡ fin.get self.now.seats ticket }
     {
-        match esr_ops::slot_at(&self.seats, ticket) {
-            Some(slot) => slot.seat(),
-            None => None,
-        }
+        self.tickets.seat(ticket)
     }
 
-    /// What is kept of a restore's ticket.
+    /// What is kept of a restore's ticket that is out.
     pub fn reader(&self, ticket: u64) -> Option<ReaderSeat>
         ensures { option_map reader_of_code result ≡ fin.get self.now.readers ticket }
     {
-        match esr_ops::slot_at(&self.seats, ticket) {
-            Some(slot) => slot.reader(),
-            None => None,
-        }
+        self.tickets.reader(ticket)
     }
 
     /// The delete that has aborted the op of a ticket that is out, unless that is to take the op away.
@@ -45,7 +39,7 @@ impl Progress {
         self.seat_aborter(self.seat(ticket)?)
     }
 
-    /// The delete that has aborted the op of a seat, where the ticket is out and is no drop.
+    /// The delete that has aborted the op of a seat, where it is no drop.
     fn seat_aborter(&self, seat: Seat) -> Option<u64>
         ensures { result ≡ seat_aborter self.now.ops (seat_of_code seat) }
     {
@@ -85,6 +79,7 @@ impl Progress {
         ticket: u64,
         outcome: &ShardResult,
     ) -> Result<Progress, AllocError>
+        requires { is_some (fin.get self.now.seats ticket) ≡ true }
         ensures { IfOk result (λ p. (w : World) → IsPlanOf w self.now → IsPlanOf (done_of w ticket (result_of outcome.now) (fin.get w.tickets ticket)) p) }
     {
         let mut copy = self.copy(alloc)?;
@@ -94,6 +89,7 @@ impl Progress {
 
     /// The list after a unit failed in this term: the ticket has ended, and its op has failed, but for a unit of a stale master.
     pub fn unit_failed(&self, alloc: Global, term: u64, ticket: u64) -> Result<Progress, AllocError>
+        requires { is_some (fin.get self.now.seats ticket) ≡ true }
         ensures { IfOk result (λ p. (w : World) → IsPlanOf w self.now → w.term ≡ term → IsPlanOf (failed_of w ticket (fin.get w.tickets ticket)) p) }
     {
         let mut copy = self.copy(alloc)?;
@@ -109,6 +105,7 @@ impl Progress {
         term: u64,
         ticket: u64,
     ) -> Result<Progress, AllocError>
+        requires { is_some (fin.get self.now.seats ticket) ≡ true }
         ensures { IfOk result (λ p. (w : World) → IsPlanOf w self.now → w.term ≡ term → IsPlanOf (delete_failed w ticket (fin.get w.tickets ticket)) p) }
     {
         let mut copy = self.copy(alloc)?;
@@ -118,6 +115,7 @@ impl Progress {
 
     /// The list after a restore's ticket ended: its shard is restored, or failed. The restore leaves with its last shard.
     pub fn shard_read(&self, alloc: Global, ticket: u64) -> Result<Progress, AllocError>
+        requires { is_some (fin.get self.now.readers ticket) ≡ true }
         ensures { IfOk result (λ p. (w : World) (state : ReadState) → waits state ≡ false → IsPlanOf w self.now → IsPlanOf (read_over w ticket state (fin.get w.readers ticket)) p) }
     {
         let mut copy = self.copy(alloc)?;
@@ -132,6 +130,7 @@ impl Progress {
         ticket: u64,
         generation: u64,
     ) -> Result<Progress, AllocError>
+        requires { is_some (fin.get self.now.seats ticket) ≡ true }
         ensures { IfOk result (λ p. (w : World) → IsPlanOf w self.now → w.pending ≡ generation → IsPlanOf (raised w ticket) p) }
     {
         let mut copy = self.copy(alloc)?;
@@ -141,6 +140,7 @@ impl Progress {
 
     /// The list after a swap has settled: its op has left, its ticket stays out.
     pub fn finalized(&self, alloc: Global, ticket: u64) -> Result<Progress, AllocError>
+        requires { is_some (fin.get self.now.seats ticket) ≡ true }
         ensures { IfOk result (λ p. (f : Formats) (w : World) (t : Ticket) (s : Swap) (n : ℕ) → IsPlanOf w self.now → fin.get w.tickets ticket ≡ Some t → swap f t ≡ Some s → t.raised ≡ Some n
             → IsPlanOf (settled_of f w ticket (Some t)) p) }
     {
@@ -151,6 +151,7 @@ impl Progress {
 
     /// The list after the swap of a delete or cleanup has settled: the delete has left, its ticket stays out. A cleanup stays.
     pub fn delete_settled(&self, alloc: Global, ticket: u64) -> Result<Progress, AllocError>
+        requires { is_some (fin.get self.now.seats ticket) ≡ true }
         ensures { IfOk result (λ p. (f : Formats) (w : World) (t : Ticket) (s : Swap) (n : ℕ) → IsPlanOf w self.now → fin.get w.tickets ticket ≡ Some t → swap f t ≡ Some s → t.raised ≡ Some n
             → IsPlanOf (delete_settled f w ticket (Some t)) p) }
     {
@@ -161,6 +162,7 @@ impl Progress {
 
     /// The list after a ticket ended.
     pub fn ended(&self, alloc: Global, ticket: u64) -> Result<Progress, AllocError>
+        requires { is_some (fin.get self.now.seats ticket) ≡ true }
         ensures { IfOk result (λ p. (w : World) → IsPlanOf w self.now → IsPlanOf (change w ticket (λ t. record t { out = false })) p) }
     {
         let mut copy = self.copy(alloc)?;
@@ -170,6 +172,7 @@ impl Progress {
 
     /// The list after an op that failed was dropped, or a cleanup is over: it has left, and the ticket has ended.
     pub fn dropped(&self, alloc: Global, ticket: u64) -> Result<Progress, AllocError>
+        requires { is_some (fin.get self.now.seats ticket) ≡ true }
         ensures { IfOk result (λ p. (w : World) → IsPlanOf w self.now → IsPlanOf (dropped_of w ticket (fin.get w.tickets ticket)) p) }
     {
         let mut copy = self.copy(alloc)?;

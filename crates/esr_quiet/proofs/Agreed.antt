@@ -8,12 +8,12 @@ use Rattle.esr_model.specs.Parts.{part_names}
 use Rattle.esr_model.specs.Image.{IsOne, Reads, Lists, ListsAs, Generation, global_of}
 use Rattle.esr_model.specs.Agreement.{Agrees, RootAgrees, IsListOf}
 use Rattle.esr_model.specs.Reach.{Reached, ReachSnap, ReachMeta, ReachIndexMeta, ReachIndex, ReachShardSnap, ReachPart}
-use Rattle.esr_core.proofs.Reading.{reads_one}
-use Rattle.esr_core.proofs.Pieces.{in_parts}
-use Rattle.esr_core.proofs.TurningIds.{pairs_has}
+use Rattle.esr_core.specs.Laws.OneValue.{reads_one}
+use Rattle.esr_core.specs.Laws.PartNames.{in_parts}
+use Rattle.esr_model.specs.Lists.{pairs_has}
 use Rattle.esr_formats.specs.Reasons.{IsUnreadable}
 use Rattle.esr_desk.specs.Restore.Parts.{AreFronts, AreExact}
-use Rattle.esr_core.specs.NumberMaps.{some_none}
+use Rattle.esr_core.specs.Laws.NumberMaps.{some_none}
 use Rattle.esr_quiet.proofs.Fronts.{file_whole}
 use Rattle.esr_quiet.proofs.Rooted.{AreListed}
 
@@ -137,7 +137,8 @@ module _ (f : Formats) (has : BlobName → Bytes → Type 0) (one : IsOne has) (
       let md = (a.snapshots w.0 w.1).metas r (subst (λ (i : SnapInfo). Has i.indices r) (sym w.3) rm) in
       reads_one has one (IndexMeta r.id uuid) f.index_meta meta (record { index = r; uuid = uuid }) reads (subst (λ u. Reads has (IndexMeta r.id u) f.index_meta (record { index = r; uuid = u })) w.2 md)
 
-  listed_as : (uuid : ℕ) (info : SnapInfo) (r : IndexRef) (index shard g : ℕ) → IsIn (Snap uuid) → Reads has (Snap uuid) f.info info → Has info.indices r → r.id ≡ index → shard < r.shards → IsIn (ShardIndex index shard g) → ListsAs f has index shard g uuid
+  listed_as : (uuid : ℕ) (info : SnapInfo) (r : IndexRef) (index shard g : ℕ) → IsIn (Snap uuid) → Reads has (Snap uuid) f.info info → Has info.indices r → r.id ≡ index → shard < r.shards → IsIn (ShardIndex index shard g)
+      → ListsAs f has index shard g uuid
   listed_as uuid info r index shard g h info_reads rm id below hi =
       let w = listed_snap uuid info h info_reads in
       let gen : Generation a.root r.id shard g = subst (λ i. Generation a.root i shard g) (sym id) (index_in index shard g hi) in
@@ -151,7 +152,8 @@ module _ (f : Formats) (has : BlobName → Bytes → Type 0) (one : IsOne has) (
       let same : l.held ≡ held = reads_one has one (ShardIndex index shard g) f.shard_index l.held held l.held_reads reads in
       subst (λ (x : ShardFiles). IsListOf x uuid) same (l.lists.list, l.lists.there, l.lists.uuid_is)
 
-  pub snap_beside : (uuid : ℕ) (info : SnapInfo) (r : IndexRef) (index shard g : ℕ) (held : ShardFiles) (snap : ShardSnapshot) → IsIn (Snap uuid) → Reads has (Snap uuid) f.info info → Has info.indices r → r.id ≡ index → shard < r.shards
+  pub snap_beside : (uuid : ℕ) (info : SnapInfo) (r : IndexRef) (index shard g : ℕ) (held : ShardFiles) (snap : ShardSnapshot) → IsIn (Snap uuid) → Reads has (Snap uuid) f.info info → Has info.indices r → r.id ≡ index
+      → shard < r.shards
       → IsIn (ShardIndex index shard g) → Reads has (ShardIndex index shard g) f.shard_index held → Reads has (ShardSnap index shard uuid) f.shard_snap snap → Lists held uuid snap.files
   snap_beside uuid info r index shard g held snap h info_reads rm id below hi reads snap_reads =
       let l = listed_as uuid info r index shard g h info_reads rm id below hi in
@@ -160,7 +162,8 @@ module _ (f : Formats) (has : BlobName → Bytes → Type 0) (one : IsOne has) (
       subst (λ (x : ShardFiles). Lists x uuid snap.files) same (subst (λ (v : ShardSnapshot). Lists l.held uuid v.files) snap_is l.lists)
 
   -- what was read of a file is the file, cut as stated
-  pub file_of : (index shard g : ℕ) (held : ShardFiles) (e : FileEntry) (fronts : List Bytes) → IsIn (ShardIndex index shard g) → Reads has (ShardIndex index shard g) f.shard_index held → Has held.files e → AreFronts has index shard e fronts
+  pub file_of : (index shard g : ℕ) (held : ShardFiles) (e : FileEntry) (fronts : List Bytes) → IsIn (ShardIndex index shard g) → Reads has (ShardIndex index shard g) f.shard_index held → Has held.files e
+      → AreFronts has index shard e fronts
       → (length (concat fronts) ≡ e.len) × (f.digest (concat fronts) ≡ e.digest) × AreExact index shard e fronts
   file_of index shard g held e fronts hi reads em read =
       let x = a.indices index shard g (index_in index shard g hi) in

@@ -14,9 +14,9 @@ use Rattle.esr_core.specs.Changes.{StepChange, NoChange, NewOp, NewDeletion, Mer
 use Rattle.esr_core.specs.History.{world_from}
 use Rattle.esr_desk.specs.Start.{Start, formats_of, world_of, or_no_ticket}
 use Rattle.esr_quiet.specs.Smooth.{AreTestsApart}
-use Rattle.esr_quiet.proofs.Callers.{caller_one}
-use Rattle.esr_core.specs.NumberMaps.{some_none, get_was}
-use Rattle.esr_quiet.proofs.Prefixes.{world_both}
+use Rattle.esr_quiet.specs.CallerSteps.{caller_one}
+use Rattle.esr_core.specs.Laws.NumberMaps.{some_none, was_in}
+use Rattle.esr_quiet.specs.PrefixLaws.{world_both}
 
 abbrev pub IsAlone : World → Type 0
 IsAlone w = (id k : ℕ) (t : Ticket) → w.caller.drawn ≡ Some id → fin.get w.tickets k ≡ Some t → t.clean ≡ true → t.out ≡ true → ⊥
@@ -32,21 +32,21 @@ NoneCleans tickets = (k : ℕ) (t : Ticket) → fin.get tickets k ≡ Some t →
 module _ (tickets : Tickets) (h : NoneCleans tickets) where
   -- one goes on as the same unit
   goes_on : (k : ℕ) (t v : Ticket) → fin.get tickets k ≡ Some t → v.clean ≡ t.clean → (v.out ≡ true → t.out ≡ true) → NoneCleans (fin.insert tickets k v)
-  goes_on k t v there clean_is was_out j u e clean out = elim (get_was tickets k v j u e) [
+  goes_on k t v there clean_is was_out j u e clean out = elim (was_in tickets k v j u e) [
     | inl x ↦ h k t there (sym clean_is ∙ ap (λ (y : Ticket). y.clean) x.1 ∙ clean) (was_out (ap (λ (y : Ticket). y.out) x.1 ∙ out))
     | inr x ↦ h j u x.1 clean out
   ]
 
   -- one ends
   ends : (k : ℕ) (t : Ticket) → NoneCleans (fin.insert tickets k (record t { out = false }))
-  ends k t j u e clean out = elim (get_was tickets k (record t { out = false }) j u e) [
+  ends k t j u e clean out = elim (was_in tickets k (record t { out = false }) j u e) [
     | inl x ↦ true≢false (sym out ∙ sym (ap (λ (y : Ticket). y.out) x.1))
     | inr x ↦ h j u x.1 clean out
   ]
 
   -- one that is no cleanup's comes
   comes : (k : ℕ) (t : Ticket) → t.clean ≡ false → NoneCleans (fin.insert tickets k t)
-  comes k t other j u e clean out = elim (get_was tickets k t j u e) [
+  comes k t other j u e clean out = elim (was_in tickets k t j u e) [
     | inl x ↦ true≢false (sym clean ∙ ap (λ (y : Ticket). y.clean) (sym x.1) ∙ other)
     | inr x ↦ h j u x.1 clean out
   ]
@@ -150,7 +150,8 @@ by_drawn f c zero read reply image id e = elim (read_drawn f c read reply image 
 by_drawn f c (suc k) read reply image id e = inl e
 
 -- a verification that is open after a step was open before it, or begins with it
-drawn_was : (f : Formats) (c : Caller) (who : ℕ) (step : Step) (reply : Reply) (image : Option Image) (id : ℕ) → (caller_after f c who step reply image).drawn ≡ Some id → (c.drawn ≡ Some id) ⊎ ((who ≡ 0) × (step ≡ ReadStep DrawTest))
+drawn_was : (f : Formats) (c : Caller) (who : ℕ) (step : Step) (reply : Reply) (image : Option Image) (id : ℕ) → (caller_after f c who step reply image).drawn ≡ Some id
+    → (c.drawn ≡ Some id) ⊎ ((who ≡ 0) × (step ≡ ReadStep DrawTest))
 drawn_was f c who (AskStep command) reply image id e = inl (anew_drawn c no_caller (is_heard reply) id refl e)
 drawn_was f c who LookStep reply image id e = inl (anew_drawn c (record no_caller { looked = true }) (is_heard reply) id refl e)
 drawn_was f c who (ReadStep read) reply image id e = elim (by_drawn f c who read reply image id e) [ inl was ↦ inl was | inr draws ↦ inr (draws.0, ap (λ (r : Read). ReadStep r) draws.1) ]

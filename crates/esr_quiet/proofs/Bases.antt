@@ -1,6 +1,7 @@
 -- Nothing of a lawful and free world is at fault in the base of a shard's ticket.
 use Rattle.std.proofs.Common.{◌≡◌, ◌⊎◌, ℕ, ◌<◌, ◌≤◌, List, Some, None, sym, ap, ◌∙◌, subst, inl, inr, arith}
 use Rattle.std.specs.FinMap as fin
+use Rattle.std.proofs.lemmas.Option.{same_Some}
 use Rattle.esr_model.specs.Names.{BlobName, ShardIndex}
 use Rattle.esr_model.specs.Values.{Bytes, Has, FileEntry, SnapList, ShardFiles, Formats}
 use Rattle.esr_model.specs.Shelf.{Shelved}
@@ -13,7 +14,7 @@ use Rattle.esr_core.specs.Written.{WroteLaw}
 use Rattle.esr_core.specs.Ids.{Law}
 use Rattle.esr_desk.specs.Unit.Shown.{HasSnapshot, HasDrawn}
 use Rattle.esr_quiet.specs.Free.{Free}
-use Rattle.esr_core.specs.NumberMaps.{some_same, some_none}
+use Rattle.esr_core.specs.Laws.NumberMaps.{some_none}
 
 module _ (f : Formats) (w : World) (shelf : List Shelved) (l : Law f w shelf) (k : ℕ) (t : Ticket) (out : IsOut w k t) (index number base : ℕ) (work : t.work ≡ Shard index number) (base_is : t.base ≡ Some base) where
   held_law : ShardLaw f (HeldIn f w) w.root w.ops k t index number
@@ -33,7 +34,7 @@ module _ (f : Formats) (w : World) (shelf : List Shelved) (l : Law f w shelf) (k
   reads_as : (bytes : Bytes) → Has t.read (ShardIndex index number base, bytes) → f.shard_index.read bytes ≡ Some stands.held
   reads_as bytes read =
       let there : At f w.blobs (ShardIndex index number base) bytes = wrote.base index number base bytes work base_is read in
-      ap f.shard_index.read (some_same _ _ (sym there.0 ∙ stands.held_reads.there.0.0)) ∙ stands.held_reads.reads
+      ap f.shard_index.read (same_Some _ _ (sym there.0 ∙ stands.held_reads.there.0.0)) ∙ stands.held_reads.reads
 
   -- so it reads
   pub does_read : (bytes : Bytes) → Has t.read (ShardIndex index number base, bytes) → f.shard_index.read bytes ≡ None → ⊥
@@ -62,7 +63,7 @@ module _ (f : Formats) (w : World) (shelf : List Shelved) (l : Law f w shelf) (k
   -- and isn't ahead of the ticket
   pub not_ahead : Free f w → (bytes : Bytes) → Has t.read (ShardIndex index number base, bytes) → (v : ShardFiles) → f.shard_index.read bytes ≡ Some v → (id : ℕ) → HasSnapshot t v id ⊎ HasDrawn t v id → ⊥
   not_ahead free bytes read v reads id ahead =
-      let same : v ≡ stands.held = some_same v stands.held (sym reads ∙ reads_as bytes read) in
+      let same : v ≡ stands.held = same_Some v stands.held (sym reads ∙ reads_as bytes read) in
       elim (subst (λ (u : ShardFiles). HasSnapshot t u id ⊎ HasDrawn t u id) same ahead) [
         | inl x ↦ unlisted free x.0 x.1 (x.2 ∙ x.3)
         | inr x ↦ drawn_above x.0 x.1 x.3 (subst (λ (n : ℕ). t.first ≤ n) (sym x.2) x.4)

@@ -3,6 +3,7 @@ use Rattle.std.proofs.Common.{◌≡◌, ◌⊎◌, ℕ, suc, ◌≤◌, Bool, t
 use Rattle.std.specs.Prelude.{length, if◌then◌else◌}
 use Rattle.std.specs.List.{concat}
 use Rattle.std.specs.FinMap as fin
+use Rattle.std.proofs.lemmas.Option.{same_Some}
 use Rattle.esr_model.specs.Names.{BlobName, Root, Snap, ShardIndex}
 use Rattle.esr_model.specs.Values.{Bytes, Has, RootData, Kind, Formats}
 use Rattle.esr_model.specs.Image.{Blobs, Image, IsStored, At, IsOne, Reads, Picked, Stands}
@@ -14,9 +15,10 @@ use Rattle.esr_core.specs.Entry.{Reason, Why, OfDepot, OfSource, OfChange, OfAbs
 use Rattle.esr_core.specs.After.{is_heard, told_blob, blobs_in, caller_told, caller_read, caller_after, answered, after}
 use Rattle.esr_core.specs.Allowed as allowed
 use Rattle.esr_core.specs.Allowed.{Fetcher, ByReader, ByCheck, ByVerify, SameBlobs, ReadAllows, ReadFound, ReadMissing, ReadFault, VerifyAllows, DrawingTest, Allows, Allowed}
-use Rattle.esr_core.proofs.Reading.{reads_one}
-use Rattle.esr_core.proofs.Frames.{AllPairs-map, stands_kept}
-use Rattle.esr_core.proofs.Agreeing.{stands_agrees}
+use Rattle.esr_core.specs.Laws.OneValue.{reads_one}
+use Rattle.esr_model.specs.Lists.{AllPairs-map}
+use Rattle.esr_core.specs.Laws.BlobFrames.{stands_kept}
+use Rattle.esr_core.specs.Laws.RootAgreement.{stands_agrees}
 use Rattle.esr_formats.specs.Reasons.{unreadable_reads_not}
 use Rattle.esr_desk.specs.declared.hand.Hand.TheVariants as hands
 use Rattle.esr_desk.specs.declared.fault.Fault.{Fault}
@@ -32,12 +34,13 @@ use Rattle.esr_quiet.specs.Smooth.{IsSmooth, NoneUnverified}
 use Rattle.esr_quiet.specs.Prefixes.{Prefixes}
 use Rattle.esr_quiet.specs.OverKept.{IsLawful}
 use Rattle.esr_quiet.specs.Undamaged.{IsDamage, NoCheckFindsDamage}
-use Rattle.esr_core.specs.NumberMaps.{some_same, some_none}
-use Rattle.esr_quiet.proofs.Prefixes.{world_both, told_at, place_of, has_at}
+use Rattle.esr_core.specs.Laws.NumberMaps.{some_none}
+use Rattle.esr_quiet.specs.PrefixLaws.{world_both, place_of, has_at}
+use Rattle.esr_quiet.proofs.Prefixes.{told_at}
 use Rattle.esr_quiet.proofs.OverKept.{IsAlive, lawful_front, step_at, smooth_lawful, smooth_alive, alive_before}
 use Rattle.esr_quiet.proofs.Numbers.{Numbered, numbered_from, client_unblocked}
 use Rattle.esr_quiet.proofs.Untaken.{opened_numbered}
-use Rattle.esr_quiet.proofs.Callers.{caller_one}
+use Rattle.esr_quiet.specs.CallerSteps.{caller_one}
 use Rattle.esr_quiet.proofs.Failures.{read_shown, no_fetch_fault}
 use Rattle.esr_quiet.proofs.Restores.{IsServing, ReadCoreLaws, missed_at, serves}
 use Rattle.esr_quiet.proofs.Verifications as verifications
@@ -104,7 +107,8 @@ record Known (f : Formats) (blobs : Blobs) (safe : ℕ) (c : Caller) : Type 0 wh
   none : c.committed ≡ []
   read : (name : BlobName) (bytes : Bytes) → WasRead c.read name bytes → At f blobs name bytes × IsReached f blobs safe name
 
-known_told : (f : Formats) (blobs : Blobs) (safe : ℕ) (c : Caller) → Known f blobs safe c → (name : BlobName) (told : Option Bytes) → ((bytes : Bytes) → told ≡ Some bytes → At f blobs name bytes × IsReached f blobs safe name) → Known f blobs safe (caller_told c name told)
+known_told : (f : Formats) (blobs : Blobs) (safe : ℕ) (c : Caller) → Known f blobs safe c → (name : BlobName) (told : Option Bytes) → ((bytes : Bytes) → told ≡ Some bytes → At f blobs name bytes × IsReached f blobs safe name)
+    → Known f blobs safe (caller_told c name told)
 known_told f blobs safe c h name None new = record { none = h.none; read = h.read }
 known_told f blobs safe c h name (Some b) new = record {
   none = h.none;
@@ -115,7 +119,8 @@ known_told f blobs safe c h name (Some b) new = record {
 }
 
 -- who 0 fetches for a check where it has committed nothing
-reached_by : (f : Formats) (w : World) (name : BlobName) (image : Image) (who : ℕ) → who ≡ 0 → ((k : ℕ) (q : Reader) → fin.get w.readers k ≡ Some q → 1 ≤ k) → w.caller.committed ≡ [] → Fetcher f w name (Some image) who → IsReached f w.blobs w.safe name
+reached_by : (f : Formats) (w : World) (name : BlobName) (image : Image) (who : ℕ) → who ≡ 0 → ((k : ℕ) (q : Reader) → fin.get w.readers k ≡ Some q → 1 ≤ k) → w.caller.committed ≡ [] → Fetcher f w name (Some image) who
+    → IsReached f w.blobs w.safe name
 reached_by f w name image who is numbered none (ByReader k q reading may) = absurd (let a : 1 ≤ k = numbered k q reading.there in omega (arith, a, is))
 reached_by f w name image who is numbered none (ByCheck may) = may.reached
 reached_by f w name image who is numbered none (ByVerify may) = absurd (subst (λ (names : List BlobName). Has names name) none may.committed)
@@ -134,7 +139,7 @@ module _ (f : Formats) (w : World) (numbered : (k : ℕ) (q : Reader) → fin.ge
 -- ---- what stands
 
 at_one : (f : Formats) (blobs : Blobs) → IsOne (At f blobs)
-at_one f blobs name a b p q = some_same a b (sym p.0 ∙ q.0)
+at_one f blobs name a b p q = same_Some a b (sym p.0 ∙ q.0)
 
 first_fetches : (a b : List Moment) → AllFetches (a ++ b) → AllFetches a
 first_fetches [] b all = tt
@@ -262,7 +267,8 @@ module _ (s : Start) (log : List Moment) (lawful : IsLawful s log) (alive : IsAl
       }
 
   -- no reached blob is absent
-  found : (before rest : List Moment) (m : Moment) (is : log ≡ before ++ m ∷ rest) (name : BlobName) → IsReached f (world_of s before).blobs (world_of s before).safe name → fin.get (world_of s before).blobs (f.names.text name) ≡ None → ⊥
+  found : (before rest : List Moment) (m : Moment) (is : log ≡ before ++ m ∷ rest) (name : BlobName) → IsReached f (world_of s before).blobs (world_of s before).safe name → fin.get (world_of s before).blobs (f.names.text name) ≡ None
+      → ⊥
   found before rest m is name (n, e, how) none =
       let a = agrees before (m ∷ rest) is n e in
       elim (in_at before (m ∷ rest) is n e name (n, e, how)) [

@@ -1,6 +1,9 @@
 -- The name that a ticket commits is its own: no other ticket, and no shard that is pending, has it.
 use Rattle.std.proofs.Common.{◌≡◌, ◌⊎◌, ℕ, ◌+◌, ◌<◌, ◌≤◌, List, true, Option, Some, refl, sym, ap, ◌∙◌, subst, inl, inr, arith}
 use Rattle.std.specs.FinMap as fin
+use Rattle.std.proofs.lemmas.Option.{same_Some, none-some}
+use Rattle.esr_core.specs.Laws.NumberMaps.{split_at}
+use Rattle.esr_core.specs.Laws.ShardStates.{pending_out}
 use Rattle.esr_model.specs.Names.{BlobName, Root, ShardSnap, ShardIndex}
 use Rattle.esr_model.specs.Values.{Bytes, Has, SnapInfo, Formats}
 use Rattle.esr_model.specs.Shelf.{Shelved}
@@ -8,11 +11,8 @@ use Rattle.esr_core.specs.World.{World, Op, ShardWork, Pending, Work, Shard, Fin
 use Rattle.esr_core.specs.Generations.{ShardLaw}
 use Rattle.esr_core.specs.Steps.{IsOut, Drew, SwapCommits, ShardCommits, MayCommit}
 use Rattle.esr_core.specs.Ids.{Law}
-use Rattle.esr_core.proofs.Evolving.{pending_out}
-use Rattle.esr_core.proofs.Queues.{split_at}
-use Rattle.esr_core.proofs.Reading.{some_same, none_some}
-use Rattle.esr_core.proofs.SettleShards.{of_swap}
-use Rattle.esr_core.proofs.Take.{Kinds, IsSnap, IsMeta, IsIndex, kinds}
+use Rattle.esr_core.specs.Laws.NewRoots.{of_swap}
+use Rattle.esr_core.specs.Laws.Metadata.{Kinds, IsSnap, IsMeta, IsIndex, kinds}
 use Rattle.esr_quiet.proofs.FreeFrame.{ArePlansDrawn, Own}
 use Rattle.esr_quiet.proofs.FreeNames.{IsDrawnIndex, one_place}
 
@@ -50,8 +50,8 @@ module _ (f : Formats) (w : World) (shelf : List Shelved) (law : Law f w shelf) 
   of_plan s is (inl own) u c = by_work t.work refl
     where
       by_work : (work : Work) → t.work ≡ work → IsDrawnIndex t name
-      by_work (Shard i n) e = absurd (none_some s (sym (ap (λ x. swap_of f x t.root) e) ∙ is))
-      by_work Drop e = absurd (none_some s (sym (ap (λ x. swap_of f x t.root) e) ∙ is))
+      by_work (Shard i n) e = absurd (none-some s (sym (ap (λ x. swap_of f x t.root) e) ∙ is))
+      by_work Drop e = absurd (none-some s (sym (ap (λ x. swap_of f x t.root) e) ∙ is))
       by_work (Deleting uuids plan) e =
           let planned : plan ≡ Some s = sym (ap (λ x. swap_of f x t.root) e) ∙ is in
           drawn k t uuids s name bytes out.there (e ∙ ap (λ (p : Option Swap). Deleting uuids p) planned) own
@@ -95,7 +95,7 @@ module _ (f : Formats) (w : World) (shelf : List Shelved) (law : Law f w shelf) 
       let x : ShardLaw f (HeldIn f w) w.root w.ops k t s.ref.id s.number = law.lawful.sound.carried.shards k t out.there out.out s.ref.id s.number work in
       elim (split_at o t.op) [
         | inl same ↦
-            let one : x.op ≡ op = some_same _ _ (sym x.op_there ∙ ap (fin.get w.ops) (sym same) ∙ there) in
+            let one : x.op ≡ op = same_Some _ _ (sym x.op_there ∙ ap (fin.get w.ops) (sym same) ∙ there) in
             let is : s ≡ x.s = (law.lawful.sound.carried.ops o op there).distinct s x.s m (subst (λ (y : Op). Has y.shards x.s) one x.s_there) (sym x.index_is) (sym x.shard_is) in
             pending_out (sym state ∙ ap (λ (y : ShardWork). y.state) is ∙ x.state)
         | inr away ↦ (law.lawful.sound.carried.together o t.op op x.op away there x.op_there).uuids (uuid ∙ sym x.uuid_is)

@@ -1,6 +1,5 @@
 -- No unit fails where each world of the history is lawful and free.
-use Rattle.std.proofs.Common.{◌≡◌, ◌⊎◌, ℕ, Bool, true, false, true≢false, List, ◌∷◌, ◌++◌, Option, Some, None, refl, sym, ap, ◌∙◌, subst, inl, inr}
-use Rattle.std.proofs.Common.{append_assoc}
+use Rattle.std.proofs.Common.{◌≡◌, ◌⊎◌, ℕ, Bool, true, false, true≢false, List, ◌∷◌, ◌++◌, Option, Some, None, refl, sym, ap, ◌∙◌, subst, inl, inr, append_assoc}
 use Rattle.std.specs.Prelude.{length}
 use Rattle.std.specs.FinMap as fin
 use Rattle.esr_model.specs.Names.{BlobName, ShardSnap, ShardIndex}
@@ -26,12 +25,13 @@ use Rattle.esr_desk.specs.Evidence.{Evidence, HadFetch, WasUnreadable, FetchShow
 use Rattle.esr_quiet.specs.Caused.{AreCaused}
 use Rattle.esr_quiet.specs.Smooth.{IsSpent, IsSmooth, NoneFailed}
 use Rattle.esr_quiet.specs.Prefixes.{Prefixes}
-use Rattle.esr_quiet.proofs.Prefixes.{told_at, place_of, has_front, has_at}
-use Rattle.esr_quiet.proofs.Passing.{quiet_at, legal_at}
-use Rattle.esr_quiet.proofs.Quiet.{IsSteadyAt}
+use Rattle.esr_quiet.specs.PrefixLaws.{place_of, has_front, has_at, quiet_at, legal_at}
+use Rattle.esr_quiet.proofs.Prefixes.{told_at}
+use Rattle.esr_quiet.specs.QuietWorlds.{IsSteadyAt}
 use Rattle.esr_quiet.proofs.Bases.{is_there, does_read, not_ahead}
 use Rattle.esr_quiet.proofs.Sources.{source_there, source_reads}
-use Rattle.esr_quiet.proofs.Rules.{ruled_at, no_rule, no_abort_rule}
+use Rattle.esr_quiet.specs.Askers.{no_abort_rule}
+use Rattle.esr_quiet.proofs.Rules.{ruled_at, no_rule}
 
 -- ---- what a step tells
 
@@ -158,7 +158,8 @@ module _ (s : Start) (log : List Moment) (smooth : IsSmooth s log) (prefixes : P
       let p = place_of front m h.there in
       found p.front (p.back ++ back) m (is ∙ ap (λ (l : List Moment). l ++ back) p.is ∙ append_assoc p.front (m ∷ p.back) back) name refl refl
 
-  unread_base : (front back : List Moment) → log ≡ front ++ back → (who : ℕ) → IsOut (world_of s front) who (ticket_of s front who) → (name : BlobName) → IsBase (ticket_of s front who) name → (reason : Reason) → WasUnreadable hands.Unit s front who name reason → ⊥
+  unread_base : (front back : List Moment) → log ≡ front ++ back → (who : ℕ) → IsOut (world_of s front) who (ticket_of s front who) → (name : BlobName) → IsBase (ticket_of s front who) name → (reason : Reason)
+      → WasUnreadable hands.Unit s front who name reason → ⊥
   unread_base front back is who out name base reason (bytes, read, refuses) =
       let law = prefixes.lawful front back is in
       let t : Ticket = ticket_of s front who in
@@ -166,7 +167,8 @@ module _ (s : Start) (log : List Moment) (smooth : IsSmooth s log) (prefixes : P
       does_read (formats_of s) (world_of s front) law.0 law.1 who t out base.index base.number base.base base.work base.base_is bytes there
       (unreadable_reads_not s.known s.told (ShardIndex base.index base.number base.base) bytes reason (subst (λ (n : BlobName). unreadable n bytes ≡ Some reason) base.name_is refuses))
 
-  unread_source : (front back : List Moment) → log ≡ front ++ back → (who : ℕ) → IsOut (world_of s front) who (ticket_of s front who) → (name : BlobName) → IsCopied (ticket_of s front who) name → (reason : Reason) → WasUnreadable hands.Unit s front who name reason → ⊥
+  unread_source : (front back : List Moment) → log ≡ front ++ back → (who : ℕ) → IsOut (world_of s front) who (ticket_of s front who) → (name : BlobName) → IsCopied (ticket_of s front who) name → (reason : Reason)
+      → WasUnreadable hands.Unit s front who name reason → ⊥
   unread_source front back is who out name from reason (bytes, read, refuses) =
       let law = prefixes.lawful front back is in
       let t : Ticket = ticket_of s front who in
@@ -175,7 +177,8 @@ module _ (s : Start) (log : List Moment) (smooth : IsSmooth s log) (prefixes : P
       (unreadable_reads_not s.known s.told (ShardSnap from.index from.number from.source) bytes reason (subst (λ (n : BlobName). unreadable n bytes ≡ Some reason) from.name_is refuses))
 
   -- and reads
-  unread : (front back : List Moment) → log ≡ front ++ back → (who : ℕ) → IsOut (world_of s front) who (ticket_of s front who) → (name : BlobName) → IsToFetch (ticket_of s front who) name → (reason : Reason) → WasUnreadable hands.Unit s front who name reason → ⊥
+  unread : (front back : List Moment) → log ≡ front ++ back → (who : ℕ) → IsOut (world_of s front) who (ticket_of s front who) → (name : BlobName) → IsToFetch (ticket_of s front who) name → (reason : Reason)
+      → WasUnreadable hands.Unit s front who name reason → ⊥
   unread front back is who out name fetched reason unreadable_is = elim (to_fetch (ticket_of s front who) name fetched) [
     | inl base ↦ unread_base front back is who out name base reason unreadable_is
     | inr from ↦ unread_source front back is who out name from reason unreadable_is
@@ -216,7 +219,8 @@ module _ (s : Start) (log : List Moment) (smooth : IsSmooth s log) (prefixes : P
   unspent front back is who refusal spent h = let r = had front back is who refusal h in smooth.unspent r.0 r.1 (subst IsSpent (sym r.2) spent)
 
   -- no cause is shown
-  shows : {S F H T : Type 0} (e : Evidence S F H T) (front back : List Moment) → log ≡ front ++ back → (who : ℕ) → IsOut (world_of s front) who (ticket_of s front who) → (why : Why) (b : By S F H T) → IsUnitShown e s front who why b → ⊥
+  shows : {S F H T : Type 0} (e : Evidence S F H T) (front back : List Moment) → log ≡ front ++ back → (who : ℕ) → IsOut (world_of s front) who (ticket_of s front who) → (why : Why) (b : By S F H T) → IsUnitShown e s front who why b
+      → ⊥
   shows e front back is who out OfDepot b h = no_depot_fault e s smooth.quiet (HadFault s front who) b h
   shows e front back is who out OfSource b h = source e (ticket_of s front who) ((quiet_at s log smooth front back is).tickets who (ticket_of s front who) out.there).steady b h
   shows e front back is who out (OfChange first_len first_digest second_len second_digest) b h = untold (ticket_of s front who) (read_shown b _ h).untold

@@ -1,6 +1,8 @@
 -- A blob that a ticket commits is its own: what else is to be written stays free.
 use Rattle.std.proofs.Common.{◌≡◌, ◌⊎◌, ℕ, ◌<◌, List, [], true, Some, None, sym, ap, ◌∙◌, subst, inl, inr, arith}
 use Rattle.std.specs.FinMap as fin
+use Rattle.std.proofs.lemmas.Option.{same_Some, none-some}
+use Rattle.esr_core.specs.Laws.NumberMaps.{was_in}
 use Rattle.esr_model.specs.Names.{BlobName, Root, ShardSnap, ShardIndex}
 use Rattle.esr_model.specs.Values.{Bytes, Has, SnapList, ShardFiles, Formats}
 use Rattle.esr_model.specs.Shelf.{Shelved}
@@ -10,9 +12,7 @@ use Rattle.esr_core.specs.Generations.{Base}
 use Rattle.esr_core.specs.Restores.{IsTestOf}
 use Rattle.esr_core.specs.Steps.{IsOut, ShardCommits, MayCommit}
 use Rattle.esr_core.specs.Ids.{Law}
-use Rattle.esr_core.proofs.Adds.{at_kept, at_was}
-use Rattle.esr_core.proofs.Queues.{was_in}
-use Rattle.esr_core.proofs.Reading.{some_same, none_some}
+use Rattle.esr_core.specs.Laws.BlobFrames.{at_kept, at_was}
 use Rattle.esr_quiet.specs.Free.{IsInUse}
 use Rattle.esr_quiet.proofs.CommitNames.{plan_one, as_root, only_one, no_snap}
 use Rattle.esr_quiet.proofs.FreeFrame.{IsFree, Own, own_all, Follows}
@@ -31,7 +31,7 @@ module _ (f : Formats) (w : World) (shelf : List Shelved) (law : Law f w shelf) 
   pub used_below : (index number g : ℕ) (held : ShardFiles) (l : SnapList) → IsInUse w index number g → Reads (At f w.blobs) (ShardIndex index number g) f.shard_index held → Has held.snapshots l → l.uuid < w.next_id
   used_below index number g held l used reads m =
       let stands = used_stands index number g used in
-      let same : held ≡ stands.held = some_same _ _ (sym reads.reads ∙ ap f.shard_index.read (some_same _ _ (sym reads.there.0 ∙ stands.held_reads.there.0.0)) ∙ stands.held_reads.reads) in
+      let same : held ≡ stands.held = same_Some _ _ (sym reads.reads ∙ ap f.shard_index.read (same_Some _ _ (sym reads.there.0 ∙ stands.held_reads.there.0.0)) ∙ stands.held_reads.reads) in
       let a : l.uuid < g = stands.below l (subst (λ (x : ShardFiles). Has x.snapshots l) same m) in
       let b : g < w.next_id = (law.ids.blobs (ShardIndex index number g) (reads.bytes, reads.there)).1 in
       omega (arith, a, b)
@@ -124,7 +124,7 @@ module _ (f : Formats) (w : World) (shelf : List Shelved) (law : Law f w shelf) 
   reads_was index number g held used reads = elim (at_old (ShardIndex index number g) reads.bytes reads.there) [
     | inl is ↦
         let stands = used_stands f w shelf law index number g used in
-        absurd (none_some stands.held_reads.bytes (sym absent ∙ ap (λ n. fin.get w.blobs (f.names.text n)) (sym is) ∙ stands.held_reads.there.0.0))
+        absurd (none-some stands.held_reads.bytes (sym absent ∙ ap (λ n. fin.get w.blobs (f.names.text n)) (sym is) ∙ stands.held_reads.there.0.0))
     | inr old ↦ record { bytes = reads.bytes; there = old; reads = reads.reads }
   ]
 

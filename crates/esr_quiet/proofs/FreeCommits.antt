@@ -1,12 +1,12 @@
 -- A name that a ticket may commit is that of no blob, where the world is free.
 use Rattle.std.proofs.Common.{◌≡◌, ◌⊎◌, ℕ, List, [], ◌∷◌, Option, Some, None, map, sym, ap, subst, inl, inr}
+use Rattle.std.proofs.lemmas.Option.{same_Some}
 use Rattle.esr_model.specs.Names.{BlobName, IndexMeta}
 use Rattle.esr_model.specs.Values.{Bytes, Has, IndexRef, RootData, SnapInfo, Formats}
 use Rattle.esr_model.specs.Image.{Present}
 use Rattle.esr_core.specs.World.{World, Work, Shard, Finalize, Deleting, Drop, Swap, swap_of, metadata}
 use Rattle.esr_core.specs.Allowed.{Commits, IsMetadata}
 use Rattle.esr_quiet.specs.Free.{Free}
-use Rattle.esr_core.specs.NumberMaps.{some_same}
 
 -- the name of a blob among a finalization's metadata
 named_metadata : (f : Formats) (info : SnapInfo) (name : BlobName) (bytes : Bytes) → Has (metadata f info) (name, bytes) → IsMetadata name
@@ -23,9 +23,10 @@ no_swap : (s : Swap) → None ≡ Some s → ⊥
 no_swap s e = cc
 
 -- what a swap writes beside its root is metadata, where it is no delete's plan
-pub own_metadata : (f : Formats) (work : Work) (root : RootData) (s : Swap) → swap_of f work root ≡ Some s → (name : BlobName) (bytes : Bytes) → Has s.own (name, bytes) → IsMetadata name ⊎ ((uuids : List ℕ) × (work ≡ Deleting uuids (Some s)))
+pub own_metadata : (f : Formats) (work : Work) (root : RootData) (s : Swap) → swap_of f work root ≡ Some s → (name : BlobName) (bytes : Bytes) → Has s.own (name, bytes)
+    → IsMetadata name ⊎ ((uuids : List ℕ) × (work ≡ Deleting uuids (Some s)))
 own_metadata f (Shard index number) root s e name bytes h = absurd (no_swap s e)
-own_metadata f (Finalize info results made) root s e name bytes h = inl (named_metadata f info name bytes (subst (λ (x : Swap). Has x.own (name, bytes)) (sym (some_same _ s e)) h))
+own_metadata f (Finalize info results made) root s e name bytes h = inl (named_metadata f info name bytes (subst (λ (x : Swap). Has x.own (name, bytes)) (sym (same_Some _ s e)) h))
 own_metadata f (Deleting uuids plan) root s e name bytes h = inr (uuids, ap (λ (p : Option Swap). Deleting uuids p) e)
 own_metadata f Drop root s e name bytes h = absurd (no_swap s e)
 

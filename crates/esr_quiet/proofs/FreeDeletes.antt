@@ -4,6 +4,9 @@ use Rattle.std.specs.Prelude.{if◌then◌else◌, filter}
 use Rattle.std.specs.Ordering.{nat_cmp}
 use Rattle.std.specs.FinMap.{FinMap}
 use Rattle.std.specs.FinMap as fin
+use Rattle.std.proofs.lemmas.Bool.{cases_Bool, cond-true, cond-false}
+use Rattle.std.proofs.lemmas.Option.{none-some, same_Some}
+use Rattle.esr_core.specs.Laws.NumberMaps.{left_in}
 use Rattle.esr_model.specs.Names.{BlobName, ShardIndex}
 use Rattle.esr_model.specs.Values.{Bytes, Has, RootSnap, RootData, SnapList, ShardFiles, Formats}
 use Rattle.esr_model.specs.Shelf.{Shelved, names_uuid}
@@ -21,22 +24,18 @@ use Rattle.esr_core.specs.Turns.{Aborts}
 use Rattle.esr_core.specs.Entry.{DeleteSnapshots, Cleanup, Prune, RemoveDoomed, AskStep, PruneStep, DepotFault, Reply, WasRemoved, Refused}
 use Rattle.esr_core.specs.After.{with_given, change, told_blob, is_stale, deletes_left, delete_settled, delete_failed_by, delete_failed, blobs_in}
 use Rattle.esr_core.specs.Allowed.{Told, SameBlobs, MayPlan, SettlesDeletion, RemovesDoomed, DeleteAllows, GoingInto, NotNamed, CloneStands, RestoreStands, FullOfOps, DeleteFault, CleanupAllows, OpeningCleanup, OpStands, TicketStands, CleanupFault, PruneAllows, FetchingShard, ShardMissing, FetchShardFails, Planning, PlanSpent, SettlingDelete, SettleDeleteStale, SettleDeleteFails, RemovingDoomed, RemoveDoomedFails, EndingDelete, FailingDelete}
-use Rattle.esr_core.proofs.AskedDeletes.{aborts}
-use Rattle.esr_core.proofs.DeletedRoots.{uuid_was}
-use Rattle.esr_core.proofs.Deleting.{bool_told}
-use Rattle.esr_core.proofs.DeletesHold.{names_has, bytes_same}
-use Rattle.esr_core.proofs.DeletionLaws.{dooms_is}
-use Rattle.esr_core.proofs.DoomedNames.{IsDoomed, TheRoot, ASnap, AMeta, AnIndexMeta, AnIndex, AList, APart, doomed_is}
-use Rattle.esr_core.proofs.Moments.{moment, delete_settled_plain}
-use Rattle.esr_core.proofs.Pieces.{in_parts}
-use Rattle.esr_core.proofs.PrunedShards.{of_indices}
-use Rattle.esr_core.proofs.Queues.{left_in}
-use Rattle.esr_core.proofs.Reading.{none_some, some_same, Has-mapped}
-use Rattle.esr_core.proofs.Results.{choose_true, choose_false}
+use Rattle.esr_core.specs.Laws.DeleteAsks.{aborts}
+use Rattle.esr_core.specs.Laws.DeleteRoots.{uuid_was, names_has, bytes_same}
+use Rattle.esr_core.specs.Laws.DoomNames.{dooms_is, IsDoomed, TheRoot, ASnap, AMeta, AnIndexMeta, AnIndex, AList, APart, doomed_is}
+use Rattle.esr_core.specs.Laws.Moments.{moment, delete_settled_plain}
+use Rattle.esr_core.specs.Laws.PartNames.{in_parts}
+use Rattle.esr_core.specs.Laws.PruneShards.{of_indices}
+use Rattle.esr_model.specs.Lists.{Has-mapped}
 use Rattle.esr_quiet.proofs.Alone.{IsAlone}
 use Rattle.esr_quiet.proofs.FreeFrame.{IsFree, own_all, Tests, Follows, Waited, IsNewShard, ListsDone, framed, heard_after}
 use Rattle.esr_quiet.proofs.FreeNames.{one_place}
-use Rattle.esr_quiet.proofs.FreeParts.{Were, Back, at_same, told_same, was_shards, own_were, tests_was, tests_none, follows_same, came_all, came_put, own_put, own_drawn, waited_left, live_left}
+use Rattle.esr_quiet.specs.QuietWorlds.{was_shards}
+use Rattle.esr_quiet.proofs.FreeParts.{Were, Back, at_same, told_same, own_were, tests_was, tests_none, follows_same, came_all, came_put, own_put, own_drawn, waited_left, live_left}
 use Rattle.esr_quiet.proofs.PlanNames.{plan_no_shard, new_plan}
 use Rattle.esr_quiet.proofs.FreeTickets.{waited, kept, called, changed, ended, fetches, ends}
 
@@ -58,19 +57,19 @@ doomed_no_test f safe old new uuids read id name (APart p was e part gone reads 
 own_text : (f : Formats) (read : List (BlobName × Bytes)) (left : List ℕ) (shards : List PrunedShard) (next : ℕ) (name : BlobName) (b : Bytes) → Has (pruned_blobs f read left next shards) (name, b)
     → (p : PrunedShard) × Has shards p × (b ≡ left_text f left (files_read f read p))
 own_text f read left [] next name b m = absurd m
-own_text f read left (p ∷ shards) next name b m = elim (bool_told p.kept) [
-  | inl t ↦ elim (subst (λ (l : List (BlobName × Bytes)). Has l (name, b)) (choose_true _ _ _ t) m) [
+own_text f read left (p ∷ shards) next name b m = elim (cases_Bool p.kept) [
+  | inl t ↦ elim (subst (λ (l : List (BlobName × Bytes)). Has l (name, b)) (cond-true _ _ _ t) m) [
     | inl e ↦ (p, inl refl, ap (λ (x : BlobName × Bytes). x.1) (sym e))
     | inr later ↦ let r = own_text f read left shards (suc next) name b later in (r.0, inr r.1, r.2)
   ]
-  | inr t ↦ let r = own_text f read left shards next name b (subst (λ (l : List (BlobName × Bytes)). Has l (name, b)) (choose_false _ _ _ t) m) in (r.0, inr r.1, r.2)
+  | inr t ↦ let r = own_text f read left shards next name b (subst (λ (l : List (BlobName × Bytes)). Has l (name, b)) (cond-false _ _ _ t) m) in (r.0, inr r.1, r.2)
 ]
 
 passed : {A : Type 0} (test : A → Bool) (xs : List A) (x : A) → Has (filter test xs) x → test x ≡ true
 passed {A} test [] x m = absurd m
-passed {A} test (y ∷ ys) x m = elim (bool_told (test y)) [
-  | inl b ↦ elim (subst (λ (l : List A). Has l x) (choose_true _ _ _ b) m) [ inl same ↦ ap test (sym same) ∙ b | inr later ↦ passed test ys x later ]
-  | inr b ↦ passed test ys x (subst (λ (l : List A). Has l x) (choose_false _ _ _ b) m)
+passed {A} test (y ∷ ys) x m = elim (cases_Bool (test y)) [
+  | inl b ↦ elim (subst (λ (l : List A). Has l x) (cond-true _ _ _ b) m) [ inl same ↦ ap test (sym same) ∙ b | inr later ↦ passed test ys x later ]
+  | inr b ↦ passed test ys x (subst (λ (l : List A). Has l x) (cond-false _ _ _ b) m)
 ]
 
 -- what is left of a shard lists left snapshots alone
@@ -133,7 +132,8 @@ module _ (f : Formats) (w : World) (shelf : List Shelved) (law : Law f w shelf) 
   goes_into names None None blobs back =
       aborted (aborted_ops w (named_uuids w names) w.next_op) w.next_op (aborts w (named_uuids w names) w.next_op) (fin.insert w.deletes w.next_op (record { uuids = named_uuids w names; clean = false; failed = false })) (suc w.next_op) blobs back
 
-  pub asks_delete : (names : List Bytes) (reply : Reply) (image : Option Image) → reply ≢ Refused DepotFault → DeleteAllows w names reply → SameBlobs w image → IsFree f (heard_after f w (moment 0 (AskStep (DeleteSnapshots names)) reply image))
+  pub asks_delete : (names : List Bytes) (reply : Reply) (image : Option Image) → reply ≢ Refused DepotFault → DeleteAllows w names reply → SameBlobs w image
+      → IsFree f (heard_after f w (moment 0 (AskStep (DeleteSnapshots names)) reply image))
   asks_delete names reply image calm (GoingInto acc) same = goes_into names (waiting_delete w) (running_delete w (named_uuids w names)) (blobs_in image w.blobs) (at_same f w image same)
   asks_delete names reply image calm (NotNamed place clear first) same = anew (blobs_in image w.blobs) (at_same f w image same)
   asks_delete names reply image calm (CloneStands o clear named lowest) same = anew (blobs_in image w.blobs) (at_same f w image same)
@@ -201,14 +201,15 @@ module _ (f : Formats) (w : World) (shelf : List Shelved) (law : Law f w shelf) 
         (h.was, ap (files_by f) (bytes_same s.t.read p (bare_shard _ _ p.base) h.index_is h.number_is refl) ∙ h.reads)
 
     -- a new index lists listed snapshots alone
-    lists_listed : (i n g : ℕ) → IsNewIndex f w.ops s.s.own i n g → (held : ShardFiles) → Reads (At f w.blobs) (ShardIndex i n g) f.shard_index held → (list : SnapList) → Has held.snapshots list → (snap : RootSnap) × Has w.root.snapshots snap × (snap.uuid ≡ list.uuid)
+    lists_listed : (i n g : ℕ) → IsNewIndex f w.ops s.s.own i n g → (held : ShardFiles) → Reads (At f w.blobs) (ShardIndex i n g) f.shard_index held → (list : SnapList) → Has held.snapshots list
+        → (snap : RootSnap) × Has w.root.snapshots snap × (snap.uuid ≡ list.uuid)
     lists_listed i n g x held reads list m =
         let text : Bytes = f.shard_index.text x.index_of in
         let own : Has (pruned_blobs f s.t.read (left_uuids s.uuids (uuids_of s.t.root)) s.t.first (pruned_shards f s.t.clean s.t.root s.uuids s.t.read)) (ShardIndex i n g, text) = subst (λ (y : Swap). Has y.own (ShardIndex i n g, text)) plan.swap_is x.there in
         let (p, there, is) = own_text f s.t.read (left_uuids s.uuids (uuids_of s.t.root)) (pruned_shards f s.t.clean s.t.root s.uuids s.t.read) s.t.first (ShardIndex i n g) text own in
         let (was, read) = was_read p there in
-        let bytes : reads.bytes ≡ f.shard_index.text (surviving left was) = some_same reads.bytes text (sym reads.there.0 ∙ (written (ShardIndex i n g) text x.there).0) ∙ is ∙ ap (left_text f left) read in
-        let same : held ≡ surviving left was = some_same held (surviving left was) (sym reads.reads ∙ ap f.shard_index.read bytes ∙ plan.writable p was there read) in
+        let bytes : reads.bytes ≡ f.shard_index.text (surviving left was) = same_Some reads.bytes text (sym reads.there.0 ∙ (written (ShardIndex i n g) text x.there).0) ∙ is ∙ ap (left_text f left) read in
+        let same : held ≡ surviving left was = same_Some held (surviving left was) (sym reads.reads ∙ ap f.shard_index.read bytes ∙ plan.writable p was there read) in
         let listed : Has (uuids_of s.t.root) list.uuid = uuid_was s.uuids (uuids_of s.t.root) list.uuid (left_alone left was list (subst (λ (y : ShardFiles). Has y.snapshots list) same m)) in
         Has-mapped (λ (y : RootSnap). y.uuid) w.root.snapshots list.uuid (subst (λ (y : RootData). Has (uuids_of y) list.uuid) root_is listed)
 
@@ -245,7 +246,7 @@ module _ (f : Formats) (w : World) (shelf : List Shelved) (law : Law f w shelf) 
 
       -- a cleanup's would, but it isn't worked while a verification is open
       unnamed : (id : ℕ) (name : BlobName) → IsTestOf id name → w.caller.drawn ≡ Some id → Has names name → ⊥
-      unnamed id name test drawn m = elim (bool_told r.t.clean) [
+      unnamed id name test drawn m = elim (cases_Bool r.t.clean) [
         | inl clean ↦ alone id k r.t drawn r.deleting.out.there clean r.deleting.out.out
         | inr deletes ↦
             doomed_no_test f r.t.safe r.t.root r.s.root r.uuids r.t.read id name
@@ -270,15 +271,17 @@ module _ (f : Formats) (w : World) (shelf : List Shelved) (law : Law f w shelf) 
 
   -- ---- each answer, where the image is told
 
-  removes_told : IsAlone w → (k : ℕ) (names : List BlobName) (image : Option Image) (i : Image) → image ≡ Some i → RemovesDoomed f w k names image → Told image (λ blobs. Removes f w.blobs blobs names × ((name : BlobName) → Has names name → fin.get blobs (f.names.text name) ≡ None))
+  removes_told : IsAlone w → (k : ℕ) (names : List BlobName) (image : Option Image) (i : Image) → image ≡ Some i → RemovesDoomed f w k names image
+      → Told image (λ blobs. Removes f w.blobs blobs names × ((name : BlobName) → Has names name → fin.get blobs (f.names.text name) ≡ None))
       → IsFree f (heard_after f w (moment k (PruneStep (RemoveDoomed names)) WasRemoved image))
-  removes_told alone k names None i told r away = absurd (none_some i told)
+  removes_told alone k names None i told r away = absurd (none-some i told)
   removes_told alone k names (Some x) i told r away = removes alone k names x r away.0
 
   still : (image : Option Image) → SameBlobs w image → IsFree f (record w { blobs = blobs_in image w.blobs })
   still image same = kept f w shelf law l (blobs_in image w.blobs) (at_same f w image same)
 
-  pub prunes : IsAlone w → (k : ℕ) (prune : Prune) (reply : Reply) (image : Option Image) → reply ≢ Refused DepotFault → (i : Image) → image ≡ Some i → PruneAllows f w k prune reply image → IsFree f (heard_after f w (moment k (PruneStep prune) reply image))
+  pub prunes : IsAlone w → (k : ℕ) (prune : Prune) (reply : Reply) (image : Option Image) → reply ≢ Refused DepotFault → (i : Image) → image ≡ Some i → PruneAllows f w k prune reply image
+      → IsFree f (heard_after f w (moment k (PruneStep prune) reply image))
   prunes alone k prune reply image calm i told (FetchingShard j name im g found) =
       fetches f w shelf law l j g.t g.deleting.out.there name (told_blob f im name) (blobs_in im w.blobs)
       (at_same f w im (told_same w im (λ blobs. (bytes : Bytes) × (fin.get w.blobs (f.names.text name) ≡ Some bytes) × (blobs ≡ w.blobs)) (λ blobs h. h.2) found))

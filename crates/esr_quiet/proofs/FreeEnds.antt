@@ -1,6 +1,8 @@
 -- What is live after a shard is done, and after a settle.
 use Rattle.std.proofs.Common.{◌≡◌, ◌≢◌, ◌⊎◌, ℕ, List, [], ◌∷◌, false, true≢false, Option, Some, None, map, refl, sym, ap, ◌∙◌, subst, inl, inr}
 use Rattle.std.specs.FinMap as fin
+use Rattle.std.proofs.lemmas.Option.{same_Some}
+use Rattle.esr_core.specs.Laws.NumberMaps.{was_in}
 use Rattle.esr_model.specs.Names.{ShardIndex}
 use Rattle.esr_model.specs.Values.{Has, FileEntry, SnapList, ShardFiles, ShardResult, ReadsBack, Formats}
 use Rattle.esr_model.specs.Shelf.{Shelved}
@@ -14,13 +16,10 @@ use Rattle.esr_core.specs.Steps.{IsOut, completing}
 use Rattle.esr_core.specs.Ids.{Law}
 use Rattle.esr_core.specs.Written.{WroteLaw}
 use Rattle.esr_core.specs.Allowed.{Based, DoneAs, Settles}
-use Rattle.esr_core.proofs.Finalizing.{finalizes, root_one_each}
-use Rattle.esr_core.proofs.Marked.{marked_is}
-use Rattle.esr_core.proofs.Queues.{was_in}
-use Rattle.esr_core.proofs.Reading.{some_same, Has-append, Has-mapped, Has-right}
-use Rattle.esr_core.proofs.Results.{done_same, found_done}
-use Rattle.esr_core.proofs.SettleShards.{of_swap}
-use Rattle.esr_core.proofs.Staging.{larger_is}
+use Rattle.esr_core.specs.Laws.NewRoots.{finalizes, root_one_each, of_swap, larger_is}
+use Rattle.esr_core.specs.Laws.ShardStates.{marked_is}
+use Rattle.esr_model.specs.Lists.{Has-append, Has-mapped, Has-right}
+use Rattle.esr_core.specs.Laws.DoneShards.{done_same, found_done}
 use Rattle.esr_quiet.proofs.FreeFrame.{IsFree, own_all, ListsDone, Waited, framed}
 use Rattle.esr_quiet.proofs.FreeParts.{Back, tests_was, follows_same, came_put, own_put, WaitedBy, waited_as, waited_map, live_left}
 
@@ -78,7 +77,7 @@ module _ (f : Formats) (w : World) (shelf : List Shelved) (law : Law f w shelf) 
   index_there = wrote.there (ShardIndex r.index r.shard r.generation) (f.shard_index.text held_now) by.wrote
 
   held_is : (held : ShardFiles) → Reads (At f w.blobs) (ShardIndex r.index r.shard r.generation) f.shard_index held → held ≡ held_now
-  held_is held reads = some_same _ _ (sym reads.reads ∙ ap f.shard_index.read (some_same _ _ (sym reads.there.0 ∙ index_there.0)) ∙ by.index_back)
+  held_is held reads = same_Some _ _ (sym reads.reads ∙ ap f.shard_index.read (same_Some _ _ (sym reads.there.0 ∙ index_there.0)) ∙ by.index_back)
 
   -- what its base lists is of no shard that waits
   of_base : (op_w : Op) (s : ShardWork) (list : SnapList) (o : ℕ) → fin.get w.ops o ≡ Some op_w → Has op_w.shards s → Waits s.state → s.ref.id ≡ r.index → s.number ≡ r.shard → Has by.base.snapshots list → list.uuid ≢ op_w.uuid
@@ -103,7 +102,7 @@ module _ (f : Formats) (w : World) (shelf : List Shelved) (law : Law f w shelf) 
   own_shard : (z : ShardWork) → Has op.shards z → z.state ≡ Out k → (z.ref.id ≡ r.index) × (z.number ≡ r.shard)
   own_shard z m state =
       let h = law.lawful.sound.carried.held t.op op z k op_there m state in
-      let same : h.t ≡ t = some_same _ _ (sym h.there ∙ out.there) in
+      let same : h.t ≡ t = same_Some _ _ (sym h.there ∙ out.there) in
       one_shard (sym h.work ∙ ap (λ (x : Ticket). x.work) same ∙ is)
     where
       one_shard : {i n j m : ℕ} → Shard i n ≡ Shard j m → (i ≡ j) × (n ≡ m)
@@ -123,7 +122,7 @@ module _ (f : Formats) (w : World) (shelf : List Shelved) (law : Law f w shelf) 
       its = law.lawful.sound.carried.shards k t out.there out.out r.index r.shard is
 
       op_uuid : op.uuid ≡ t.uuid
-      op_uuid = ap (λ (x : Op). x.uuid) (some_same _ _ (sym op_there ∙ its.op_there)) ∙ its.uuid_is
+      op_uuid = ap (λ (x : Op). x.uuid) (same_Some _ _ (sym op_there ∙ its.op_there)) ∙ its.uuid_is
 
       apart : q.uuid ≡ t.uuid → ⊥
       apart e = elim (was_in w.ops t.op op_now o q there) [

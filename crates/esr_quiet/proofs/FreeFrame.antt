@@ -3,6 +3,7 @@ use Rattle.std.proofs.Common.{◌≡◌, ◌≢◌, ◌⊎◌, ℕ, List, true, 
 use Rattle.std.specs.Ordering.{nat_cmp}
 use Rattle.std.specs.FinMap.{FinMap}
 use Rattle.std.specs.FinMap as fin
+use Rattle.std.proofs.lemmas.Option.{none-some}
 use Rattle.esr_model.specs.Names.{BlobName, Root, ShardSnap, ShardIndex}
 use Rattle.esr_model.specs.Values.{Bytes, Has, SnapList, ShardFiles, Formats}
 use Rattle.esr_model.specs.Image.{Blobs, At, Present, Reads}
@@ -13,7 +14,6 @@ use Rattle.esr_core.specs.Restores.{IsTestOf}
 use Rattle.esr_core.specs.Steps.{Drew, ShardCommits}
 use Rattle.esr_core.specs.Entry.{Entry, Moment}
 use Rattle.esr_core.specs.After.{stepped, heard}
-use Rattle.esr_core.proofs.Reading.{none_some}
 use Rattle.esr_quiet.specs.Free.{IsInUse, AreOwnTests, Free}
 use Rattle.esr_quiet.proofs.FreeNames.{IsDrawnIndex, drawn_like, index_no_test, commits_no_test}
 
@@ -158,7 +158,7 @@ module _ (f : Formats) (w v : World) (l : IsFree f w)
       | inl r ↦ h.2.noted (Root n) (l.free.roots k n h.0 h.1 r (was (Root n) (λ id test. test) p))
       | inr none ↦ absurd (none (was (Root n) (λ id test. test) p))
     ]
-    | inr new ↦ absurd (none_some n (sym new.unraised ∙ raised))
+    | inr new ↦ absurd (none-some n (sym new.unraised ∙ raised))
   ]
 
   -- what was in use doesn't list it

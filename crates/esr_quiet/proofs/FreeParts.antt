@@ -1,8 +1,10 @@
 -- What a step changes of tickets and ops, as far as what is free reads it.
-use Rattle.std.proofs.Common.{◌≡◌, ◌≢◌, ◌⊎◌, ℕ, ◌+◌, ◌<◌, ◌≤◌, List, [], true, Option, Some, None, map, refl, sym, ap, ◌∙◌, subst, inl, inr, arith}
+use Rattle.std.proofs.Common.{◌≡◌, ◌≢◌, ℕ, ◌+◌, ◌<◌, ◌≤◌, List, [], true, Option, Some, None, map, refl, sym, ap, ◌∙◌, subst, inl, inr, arith}
 use Rattle.std.specs.Ordering.{nat_cmp}
 use Rattle.std.specs.FinMap.{FinMap}
 use Rattle.std.specs.FinMap as fin
+use Rattle.std.proofs.lemmas.Option.{same_Some, none-some}
+use Rattle.esr_core.specs.Laws.NumberMaps.{was_in, left_in}
 use Rattle.esr_model.specs.Names.{BlobName}
 use Rattle.esr_model.specs.Values.{Bytes, Has, IndexRef, RootData, Formats}
 use Rattle.esr_model.specs.Shelf.{Shelved}
@@ -14,8 +16,7 @@ use Rattle.esr_core.specs.Steps.{Drew}
 use Rattle.esr_core.specs.Ids.{Law}
 use Rattle.esr_core.specs.Allowed.{Told, SameBlobs}
 use Rattle.esr_core.specs.After.{blobs_in}
-use Rattle.esr_core.proofs.Queues.{was_in, left_in}
-use Rattle.esr_core.proofs.Reading.{some_same, none_some, Has-mapped}
+use Rattle.esr_model.specs.Lists.{Has-mapped}
 use Rattle.esr_core.specs.Restores.{IsTestOf}
 use Rattle.esr_quiet.specs.Free.{AreOwnTests}
 use Rattle.esr_quiet.proofs.FreeFrame.{IsFree, Tests, OwnRoots, OwnIds, Own, Follows, IsNewTicket, Came, Waited}
@@ -55,7 +56,7 @@ tests_was f w l blobs back =
 -- no verification is open
 pub tests_none : (f : Formats) (blobs : Blobs) (caller : Caller) → caller.drawn ≡ None → caller.wrote ≡ [] → Tests f blobs caller
 tests_none f blobs caller none empty =
-    (λ id name drawn test p. absurd (none_some id (sym none ∙ drawn)), λ name b h left. absurd (unwritten name b h), λ name b h. absurd (unwritten name b h))
+    (λ id name drawn test p. absurd (none-some id (sym none ∙ drawn)), λ name b h left. absurd (unwritten name b h), λ name b h. absurd (unwritten name b h))
   where
     unwritten : (name : BlobName) (b : Bytes) → Has caller.wrote (name, b) → ⊥
     unwritten name b h = subst (λ (list : List (BlobName × Bytes)). Has list (name, b)) empty h
@@ -127,20 +128,21 @@ module _ (tickets : FinMap nat_cmp Ticket) (own : Own tickets) where
   own_raised k t v there first drawn only = (roots_insert k v only, ids_put k t v there first drawn)
 
   -- it draws ids above all that were drawn
-  pub own_drawn : (k : ℕ) (t v : Ticket) (next : ℕ) → fin.get tickets k ≡ Some t → v.raised ≡ t.raised → next ≤ v.first → ((j : ℕ) (u : Ticket) → fin.get tickets j ≡ Some u → u.first + u.drawn ≤ next) → Own (fin.insert tickets k v)
+  pub own_drawn : (k : ℕ) (t v : Ticket) (next : ℕ) → fin.get tickets k ≡ Some t → v.raised ≡ t.raised → next ≤ v.first → ((j : ℕ) (u : Ticket) → fin.get tickets j ≡ Some u → u.first + u.drawn ≤ next)
+      → Own (fin.insert tickets k v)
   own_drawn k t v next there same above below =
       (roots_put k t v there same, ids_insert k v (λ id j u mine away e its. let a : v.first ≤ id = mine.from in let b : id < u.first + u.drawn = its.below in let c : u.first + u.drawn ≤ next = below j u e in omega (arith, above, a, b, c)))
 
   -- one that has neither raised nor drawn
   pub own_new : (k : ℕ) (v : Ticket) → v.raised ≡ None → v.drawn ≡ 0 → Own (fin.insert tickets k v)
-  own_new k v none undrawn = (roots_insert k v (λ n j u is away e raised. none_some n (sym none ∙ is)), ids_insert k v (λ id j u mine away e its. none_drawn v id undrawn mine))
+  own_new k v none undrawn = (roots_insert k v (λ n j u is away e raised. none-some n (sym none ∙ is)), ids_insert k v (λ id j u mine away e its. none_drawn v id undrawn mine))
 
 -- the next root to be begun no ticket has raised
 pub own_pending : (f : Formats) (w : World) (shelf : List Shelved) → Law f w shelf → Own w.tickets → (k : ℕ) (t : Ticket) → fin.get w.tickets k ≡ Some t → Own (fin.insert w.tickets k (record t { raised = Some w.pending }))
 own_pending f w shelf law own k t there = own_raised w.tickets own k t (record t { raised = Some w.pending }) there refl refl alone
   where
     one : (m : ℕ) → ◌≡◌ {A = Option ℕ} (Some w.pending) (Some m) → w.pending ≡ m
-    one m e = some_same _ _ e
+    one m e = same_Some _ _ e
 
     alone : (m j : ℕ) (u : Ticket) → Some w.pending ≡ Some m → j ≢ k → fin.get w.tickets j ≡ Some u → u.raised ≡ Some m → ⊥
     alone m j u e away there raised =
@@ -149,11 +151,6 @@ own_pending f w shelf law own k t there = own_raised w.tickets own k t (record t
         omega (arith, b, same)
 
 -- ---- ops
-
--- an op that a delete may have aborted
-pub was_shards : (op old : Op) (by : ℕ) → (op ≡ old) ⊎ (op ≡ record old { aborted = Some by }) → (op.shards ≡ old.shards) × (op.uuid ≡ old.uuid) × (op.source ≡ old.source)
-was_shards op old by (inl e) = (ap (λ (x : Op). x.shards) e, ap (λ (x : Op). x.uuid) e, ap (λ (x : Op). x.source) e)
-was_shards op old by (inr e) = (ap (λ (x : Op). x.shards) e, ap (λ (x : Op). x.uuid) e, ap (λ (x : Op). x.source) e)
 
 pub waited_all : (w : World) (o : ℕ) (op : Op) (s : ShardWork) → fin.get w.ops o ≡ Some op → Has op.shards s → Waits s.state → Waited w op s
 waited_all w o op s there m waits = record { number = o; old = op; there = there; z = s; z_there = m; uuid = refl; index = refl; shard = refl; waits = waits; pending = λ e. e }

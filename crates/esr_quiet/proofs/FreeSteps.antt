@@ -21,19 +21,17 @@ use Rattle.esr_core.specs.Entry.{AskedIndex, CloneOf, Snapshot, Clone, Restore, 
 use Rattle.esr_core.specs.After.{new_names, asked, asked_op, cloned_op, taken_by, taken_shard, taken_restore, taken_restore_shard, read_told, shard_over, read_over, caller_told, caller_wrote, with_given, committing, told_blob, done_of, done_by, failed_of, failed_by, is_stale, settled_of, dropped_of, blobs_in, after}
 use Rattle.esr_core.specs.Allowed as allowed
 use Rattle.esr_core.specs.Allowed.{latest_text, Told, SameBlobs, Adds, Gives, Commits, Settles, Fails, Dones, Drops, MayDrawTest, IsOwnTest, RestoreAllows, OpeningRestore, NotListed, NamedByDelete, FullOfRestores, ReadAllows, ReadFound, ReadMissing, ReadFault, RestoringShard, ReaderFailing, CheckingAll, CheckFailing, VerifyAllows, DrawingTest, TestSpent, BeginningTest, BeginTestFails, CommittingTest, TestTaken, CommitTestFails, RemovingTests, RemoveTestsFails, VerifyingAll, VerifyFailing, CloneAllows, OpeningClone, CloneUsed, SourceNotListed, SourceDeleted, IndexMissing, FullOfClones, CloneSpent, CloneFault, Allows, Allowed}
-use Rattle.esr_core.proofs.Accepting.{in_all}
-use Rattle.esr_core.proofs.AskedClones.{copied_pending}
+use Rattle.esr_core.specs.Laws.SnapshotOps.{in_all}
+use Rattle.esr_core.specs.Laws.CloneOps.{copied_pending}
 use Rattle.std.specs.Cmp.Lexicographic.{nat_list_cmp_total}
-use Rattle.esr_core.proofs.Adds.{text_one, at_kept, at_new, at_was}
-use Rattle.esr_core.proofs.Evolving.{out_pending, pending_done, failed_is, failed_goes}
-use Rattle.esr_core.proofs.Blocked.{blocked_stays}
-use Rattle.esr_core.proofs.LatestPut.{at_back}
-use Rattle.esr_core.proofs.Maps.{get_other, texts_same}
-use Rattle.esr_core.proofs.Moments.{moment, settled_plain}
-use Rattle.esr_core.proofs.Ops.{live_was}
-use Rattle.esr_core.proofs.Queues.{was_in}
-use Rattle.esr_core.proofs.Reading.{none_some, some_same, Has-left, Has-right}
-use Rattle.esr_core.proofs.TakeShard.{given_is, goes_on}
+use Rattle.std.proofs.lemmas.Option.{none-some, same_Some}
+use Rattle.esr_core.specs.Laws.NumberMaps.{was_in}
+use Rattle.esr_core.specs.Laws.BlobFrames.{text_one, at_kept, at_new, at_was, at_back}
+use Rattle.esr_core.specs.Laws.ShardStates.{out_pending, failed_is, failed_goes, live_was, given_is, goes_on, pending_done}
+use Rattle.esr_core.specs.Laws.Asides.{blocked_stays}
+use Rattle.esr_core.specs.Laws.Maps.{get_other, texts_same}
+use Rattle.esr_core.specs.Laws.Moments.{moment, settled_plain}
+use Rattle.esr_model.specs.Lists.{Has-left, Has-right}
 use Rattle.esr_quiet.specs.Free.{AreOwnTests}
 use Rattle.esr_quiet.proofs.FreeFrame.{IsFree, own_all, Tests, IsNewTicket, Waited, IsNewShard, ListsDone, framed, framed_aside, heard_after, with_entries}
 use Rattle.esr_quiet.proofs.FreeNames.{one_place, snap_alone, test_id_below}
@@ -59,8 +57,8 @@ fails_waits k z waits = elim (failed_is k z) [
 ]
 
 -- a plan that isn't there yet
-unplanned : (uuids us : List ℕ) (s : Swap) → Deleting uuids None ≡ Deleting us (Some s) → ⊥
-unplanned uuids us s e = none_some s (same_plan e)
+pub unplanned : (uuids us : List ℕ) (s : Swap) → Deleting uuids None ≡ Deleting us (Some s) → ⊥
+unplanned uuids us s e = none-some s (same_plan e)
   where
     same_plan : {a b : List ℕ} {p q : Option Swap} → Deleting a p ≡ Deleting b q → p ≡ q
     same_plan h = cc
@@ -141,8 +139,8 @@ module _ (f : Formats) (w : World) (shelf : List Shelved) (law : Law f w shelf) 
       shard_same e = (cc, cc)
 
       on : (b : Option ℕ) → Largest w s.ref.id s.number b → (gen : ℕ) → b ≡ Some gen → IsLive w.root w.ops s.ref.id s.number gen
-      on None h gen e = absurd (none_some gen e)
-      on (Some x) h gen e = subst (IsLive w.root w.ops s.ref.id s.number) (some_same _ _ e) h.0
+      on None h gen e = absurd (none-some gen e)
+      on (Some x) h gen e = subst (IsLive w.root w.ops s.ref.id s.number) (same_Some _ _ e) h.0
 
       never : (uuids : List ℕ) (plan : Swap) → Shard s.ref.id s.number ≡ Deleting uuids (Some plan) → ⊥
       never uuids plan e = cc
@@ -239,12 +237,12 @@ module _ (f : Formats) (w : World) (shelf : List Shelved) (law : Law f w shelf) 
   -- no blob has the id that it draws
   draws_test : MayDrawTest w → (blobs : Blobs) → Back f blobs w.blobs → IsFree f (record w { next_id = suc w.next_id; blobs = blobs; caller = record w.caller { drawn = Some w.next_id } })
   draws_test idle blobs back =
-      framed f w (record w { next_id = suc w.next_id; blobs = blobs; caller = record w.caller { drawn = Some w.next_id } }) l (came_all f w) (own_all f w l) (waited f w shelf law l) (λ i n g h. inl h) back.were (new, (tests_was f w l blobs back).1, λ name b h. let t = l.wrote_tests name b h in absurd (none_some t.0 (sym idle.undrawn ∙ t.2)))
+      framed f w (record w { next_id = suc w.next_id; blobs = blobs; caller = record w.caller { drawn = Some w.next_id } }) l (came_all f w) (own_all f w l) (waited f w shelf law l) (λ i n g h. inl h) back.were (new, (tests_was f w l blobs back).1, λ name b h. let t = l.wrote_tests name b h in absurd (none-some t.0 (sym idle.undrawn ∙ t.2)))
     where
       new : AreOwnTests f blobs (record w.caller { drawn = Some w.next_id })
       new id name drawn test p =
           let below : id < w.next_id = test_id_below id name w.next_id test (law.ids.blobs name (p.0, back.were name p.0 p.1)) in
-          let same : w.next_id ≡ id = some_same _ _ drawn in
+          let same : w.next_id ≡ id = same_Some _ _ drawn in
           absurd (omega (arith, below, same))
 
   commits_test : (name : BlobName) (bytes : Bytes) → IsOwnTest f w name → (blobs : Blobs) → Adds f w name bytes blobs
@@ -270,7 +268,7 @@ module _ (f : Formats) (w : World) (shelf : List Shelved) (law : Law f w shelf) 
 
 module _ (f : Formats) (size : ℕ) (w : World) (shelf : List Shelved) (law : Law f w shelf) (l : IsFree f w) (alone : IsAlone w) where
   commits : (k : ℕ) (name : BlobName) (image : Option Image) (c : Commits f size w k name) → Told image (Adds f w name c.bytes) → (i : Image) → image ≡ Some i → IsFree f (heard_after f w (moment k (CommitStep name) WasDone image))
-  commits k name None c adds i told = absurd (none_some i told)
+  commits k name None c adds i told = absurd (none-some i told)
   commits k name (Some x) c adds i told =
       let o : Option Bytes = fin.get x.blobs (f.names.text name) in
       let n = noted f w shelf law l c.t name o in
@@ -278,13 +276,14 @@ module _ (f : Formats) (size : ℕ) (w : World) (shelf : List Shelved) (law : La
       (subst (λ b. IsFree f (record w { blobs = b; tickets = fin.insert w.tickets k (committing name (fin.get x.blobs (f.names.text name)) c.t) })) (sym adds.1)
       (free_committed f w shelf law l k c.t c.out name c.bytes c.may c.named adds.0 (committing name (fin.get x.blobs (f.names.text name)) c.t) n.0 n.1 n.2 n.3 n.4))
 
-  replaces : (k : ℕ) (image : Option Image) (t : Ticket) → fin.get w.tickets k ≡ Some t → (n : ℕ) → ReadsBack f.names Latest → Told image (λ blobs. blobs ≡ fin.insert w.blobs (f.names.text Latest) (latest_text n)) → (i : Image) → image ≡ Some i
+  replaces : (k : ℕ) (image : Option Image) (t : Ticket) → fin.get w.tickets k ≡ Some t → (n : ℕ) → ReadsBack f.names Latest → Told image (λ blobs. blobs ≡ fin.insert w.blobs (f.names.text Latest) (latest_text n)) → (i : Image)
+      → image ≡ Some i
       → IsFree f (heard_after f w (moment k LatestStep WasReplaced image))
-  replaces k None t there n named puts i told = absurd (none_some i told)
+  replaces k None t there n named puts i told = absurd (none-some i told)
   replaces k (Some x) t there n named puts i told = tries f w shelf law l k t there x.blobs (latest_back f w.blobs x.blobs (latest_text n) puts named)
 
   does : (k : ℕ) (r : ShardResult) (image : Option Image) → Dones f size w k r image → SameBlobs w image → (i : Image) → image ≡ Some i → IsFree f (record (done_of w k r (fin.get w.tickets k)) { blobs = blobs_in image w.blobs })
-  does k r None d same i told = absurd (none_some i told)
+  does k r None d same i told = absurd (none-some i told)
   does k r (Some x) d same i told =
       subst (λ o. IsFree f (record (done_of w k r o) { blobs = x.blobs })) (sym d.out.there)
       (subst (λ o. IsFree f (record (done_by w k r d.t o) { blobs = x.blobs })) (sym d.op_there)
@@ -349,14 +348,14 @@ module _ (f : Formats) (size : ℕ) (w : World) (shelf : List Shelved) (law : La
   reads k read reply image calm (CheckFailing why im looked) same = anew im same no_caller refl refl
 
   adds_test : (name : BlobName) (bytes : Bytes) (image : Option Image) (i : Image) → image ≡ Some i → IsOwnTest f w name → Told image (Adds f w name bytes) → IsFree f (heard_after f w (moment 0 (ReadStep (CommitTest name)) WasDone image))
-  adds_test name bytes None i told own adds = absurd (none_some i told)
+  adds_test name bytes None i told own adds = absurd (none-some i told)
   adds_test name bytes (Some x) i told own adds =
       let there : fin.get x.blobs (f.names.text name) ≡ Some bytes = ap (λ (blobs : Blobs). fin.get blobs (f.names.text name)) adds.1 ∙ (at_new f w.blobs name bytes own.stored adds.0 []).0 in
       subst (λ (o : Option Bytes). IsFree f (record w { doomed = name ∷ w.doomed; blobs = x.blobs; caller = caller_wrote w.caller name o })) (sym there) (commits_test f w shelf law l name bytes own x.blobs adds)
 
   removes_tests : (names : List BlobName) (image : Option Image) (i : Image) → image ≡ Some i → Told image (λ blobs. Removes f w.blobs blobs names × ((name : BlobName) → Has names name → fin.get blobs (f.names.text name) ≡ None))
       → IsFree f (heard_after f w (moment 0 (ReadStep (RemoveTests names)) WasRemoved image))
-  removes_tests names None i told left = absurd (none_some i told)
+  removes_tests names None i told left = absurd (none-some i told)
   removes_tests names (Some x) i told left =
       let were : Were f x.blobs w.blobs = λ name b h. (left.0.left (f.names.text name) b h.0, h.1) in
       called f w shelf law l x.blobs were (record w.caller { removed = names ++ w.caller.removed }) (
@@ -434,7 +433,8 @@ module _ (f : Formats) (size : ℕ) (w : World) (shelf : List Shelved) (law : La
   free_by who step reply image calm i told (allowed.DropFails k im c same) = absurd (calm refl)
   free_by who step reply image calm i told (allowed.ElectFails im room same) = absurd (calm refl)
 
-pub step_free : (f : Formats) (size : ℕ) (w : World) (shelf : List Shelved) → Law f w shelf → IsFree f w → IsAlone w → (m : Moment) → m.entry.reply ≢ Refused DepotFault → (i : Image) → m.image ≡ Some i → Allowed f size w m → IsFree f (after f w m)
+pub step_free : (f : Formats) (size : ℕ) (w : World) (shelf : List Shelved) → Law f w shelf → IsFree f w → IsAlone w → (m : Moment) → m.entry.reply ≢ Refused DepotFault → (i : Image) → m.image ≡ Some i → Allowed f size w m
+    → IsFree f (after f w m)
 step_free f size w shelf law l alone m calm i told a = elim a.answered [
   | inl alive ↦ with_entries f (heard_after f w m) (after f w m).entries (free_by f size w shelf law l alone m.entry.who m.entry.step m.entry.reply m.image calm i told alive.1)
   | inr dead ↦ subst (IsFree f) (sym (blocked_stays f w m dead)) (with_entries f w (with_entry w.entries m.entry) l)

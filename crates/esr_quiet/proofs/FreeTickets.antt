@@ -3,6 +3,7 @@ use Rattle.std.proofs.Common.{◌≡◌, ◌≢◌, ◌⊎◌, ℕ, suc, ◌+◌
 use Rattle.std.specs.Ordering.{nat_cmp}
 use Rattle.std.specs.FinMap.{FinMap}
 use Rattle.std.specs.FinMap as fin
+use Rattle.std.proofs.lemmas.Option.{same_Some}
 use Rattle.esr_model.specs.Names.{BlobName}
 use Rattle.esr_model.specs.Values.{Bytes, Has, Formats}
 use Rattle.esr_model.specs.Shelf.{Shelved}
@@ -15,7 +16,6 @@ use Rattle.esr_core.specs.Steps.{with_ticket, listing}
 use Rattle.esr_core.specs.Ids.{Law}
 use Rattle.esr_core.specs.After.{with_given, change, committing, fetching, tried}
 use Rattle.esr_core.specs.Allowed.{Raises}
-use Rattle.esr_core.proofs.Reading.{some_same}
 use Rattle.esr_quiet.proofs.FreeFrame.{IsFree, own_all, Tests, Follows, Waited, IsNewShard, framed}
 use Rattle.esr_quiet.proofs.FreeNames.{drew_same, commits_same, drawn_new}
 use Rattle.esr_quiet.proofs.FreeParts.{Were, Back, tests_was, follows_same, came_all, came_put, own_put, own_pending, own_drawn, waited_all}
@@ -46,7 +46,8 @@ module _ (f : Formats) (w : World) (shelf : List Shelved) (law : Law f w shelf) 
 
   -- ---- a ticket that goes on
 
-  pub put : (k : ℕ) (t v : Ticket) → fin.get w.tickets k ≡ Some t → Follows f w t v → v.raised ≡ t.raised → v.first ≡ t.first → v.drawn ≡ t.drawn → (blobs : Blobs) → Back f blobs w.blobs → IsFree f (record w { tickets = fin.insert w.tickets k v; blobs = blobs })
+  pub put : (k : ℕ) (t v : Ticket) → fin.get w.tickets k ≡ Some t → Follows f w t v → v.raised ≡ t.raised → v.first ≡ t.first → v.drawn ≡ t.drawn → (blobs : Blobs) → Back f blobs w.blobs
+      → IsFree f (record w { tickets = fin.insert w.tickets k v; blobs = blobs })
   put k t v there like same first drawn blobs back =
       framed f w (record w { tickets = fin.insert w.tickets k v; blobs = blobs }) l (came_put f w k t v there like) (own_put w.tickets (own_all f w l) k t v there same first drawn) waited (λ i n g h. inl h) back.were (tests_was f w l blobs back)
 
@@ -56,7 +57,8 @@ module _ (f : Formats) (w : World) (shelf : List Shelved) (law : Law f w shelf) 
   pub ended : (t : Ticket) → Follows f w t (record t { out = false })
   ended t = follows_same f w t (record t { out = false }) refl refl (λ e. absurd (true≢false (sym e))) (λ name h. h) refl refl refl refl
 
-  pub noted : (t : Ticket) (name : BlobName) (o : Option Bytes) → Follows f w t (committing name o t) × Has (committing name o t).noted name × ((committing name o t).raised ≡ t.raised) × ((committing name o t).first ≡ t.first) × ((committing name o t).drawn ≡ t.drawn)
+  pub noted : (t : Ticket) (name : BlobName) (o : Option Bytes)
+      → Follows f w t (committing name o t) × Has (committing name o t).noted name × ((committing name o t).raised ≡ t.raised) × ((committing name o t).first ≡ t.first) × ((committing name o t).drawn ≡ t.drawn)
   noted t name None = (follows_same f w t (committing name None t) refl refl (λ e. e) (λ m h. inr h) refl refl refl refl, inl refl, refl, refl, refl)
   noted t name (Some bytes) = (follows_same f w t (committing name (Some bytes) t) refl refl (λ e. e) (λ m h. inr h) refl refl refl refl, inl refl, refl, refl, refl)
 
@@ -107,7 +109,7 @@ module _ (f : Formats) (w : World) (shelf : List Shelved) (law : Law f w shelf) 
       (came_put f w k r.may.t (record r.may.t { raised = Some w.pending }) r.may.out.there like) (own_pending f w shelf law (own_all f w l) k r.may.t r.may.out.there) waited (λ i m g h. inl h) back.were (tests_was f w l blobs back))
     where
       one : (m : ℕ) → ◌≡◌ {A = Option ℕ} (Some w.pending) (Some m) → w.pending ≡ m
-      one m e = some_same _ _ e
+      one m e = same_Some _ _ e
 
       like : Follows f w r.may.t (record r.may.t { raised = Some w.pending })
       like =

@@ -1,6 +1,7 @@
 -- Over a history in which no call of the container failed what is still to be written is free.
-use Rattle.std.proofs.Common.{◌≡◌, ℕ, List, [], ◌∷◌, ◌++◌, Some, refl, sym, ap, subst, inl, inr}
-use Rattle.esr_model.specs.Values.{Has, Formats}
+use Rattle.std.proofs.Common.{◌≡◌, ℕ, List, [], ◌∷◌, ◌++◌, Some, refl, sym, ap, subst}
+use Rattle.esr_quiet.specs.PrefixLaws.{told_front, has_at}
+use Rattle.esr_model.specs.Values.{Formats}
 use Rattle.esr_model.specs.Shelf.{Shelved}
 use Rattle.esr_model.specs.Image.{Image}
 use Rattle.esr_model.specs.Kept.{Kept}
@@ -9,7 +10,7 @@ use Rattle.esr_core.specs.Entry.{Moment}
 use Rattle.esr_core.specs.After.{after}
 use Rattle.esr_core.specs.Allowed.{Allowed}
 use Rattle.esr_core.specs.History.{world_from, IsLegal, AreTold}
-use Rattle.esr_core.proofs.Opening.{nothing}
+use Rattle.esr_core.specs.Laws.Maps.{nothing}
 use Rattle.esr_quiet.specs.Free.{Free}
 use Rattle.esr_quiet.specs.Smooth.{AreCalm}
 use Rattle.esr_quiet.proofs.Core.{CoreLaws}
@@ -28,17 +29,9 @@ legal_next : (f : Formats) (size : ℕ) (w : World) (log rest : List Moment) (m 
 legal_next f size w [] rest m legal = legal.0
 legal_next f size w (x ∷ log) rest m legal = legal_next f size (after f w x) log rest m legal.1
 
-told_front : (log rest : List Moment) → AreTold (log ++ rest) → AreTold log
-told_front [] rest told = tt
-told_front (m ∷ log) rest told = (told.0, told_front log rest told.1)
-
 told_next : (log rest : List Moment) (m : Moment) → AreTold (log ++ m ∷ rest) → (image : Image) × (m.image ≡ Some image)
 told_next [] rest m told = told.0
 told_next (x ∷ log) rest m told = told_next log rest m told.1
-
-has_next : (log rest : List Moment) (m : Moment) → Has (log ++ m ∷ rest) m
-has_next [] rest m = inl refl
-has_next (x ∷ log) rest m = inr (has_next log rest m)
 
 one_more : (log rest : List Moment) (m : Moment) → (log ++ m ∷ []) ++ rest ≡ log ++ m ∷ rest
 one_more [] rest m = refl
@@ -81,7 +74,7 @@ module _ (laws : CoreLaws) (f : Formats) (part_size : ℕ) (image : Image) (shel
   free_from (m ∷ rest) log l legal told calm alone =
       let law = laws.lawful f part_size image shelf w log kept opens (legal_front f part_size w log (m ∷ rest) legal) (told_front log (m ∷ rest) told) in
       let (i, is) = told_next log rest m told in
-      let next = step_free f part_size (world_from f w log) _ law l (alone log (m ∷ rest) refl) m (calm m (has_next log rest m)) i is (legal_next f part_size w log rest m legal) in
+      let next = step_free f part_size (world_from f w log) _ law l (alone log (m ∷ rest) refl) m (calm m (has_at log rest m)) i is (legal_next f part_size w log rest m legal) in
       let same : log ++ m ∷ rest ≡ (log ++ m ∷ []) ++ rest = sym (one_more log rest m) in
       subst (λ xs. IsFree f (world_from f w xs)) (sym same)
       (free_from rest (log ++ m ∷ []) (subst (IsFree f) (sym (world_next f w log m)) next) (subst (IsLegal f part_size w) same legal) (subst AreTold same told) (subst AreCalm same calm) (subst (AreAlone f w) same alone))

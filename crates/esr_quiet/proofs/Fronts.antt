@@ -32,7 +32,8 @@ module _ (has : BlobName → Bytes → Type 0) (one : IsOne has) where
       let same : read.0 ≡ part = one name read.0 part read.1 there in
       front_whole size part front len (read.2 ∙ ap (front_of size) same)
 
-  whole : (len size : ℕ) (names : List BlobName) (parts fronts : List Bytes) → AllPairs has names parts → AreFull size parts → length (image.concat parts) ≡ len → AllPairs (IsFront has) (sized len size names) fronts → Whole (sized len size names) parts fronts
+  whole : (len size : ℕ) (names : List BlobName) (parts fronts : List Bytes) → AllPairs has names parts → AreFull size parts → length (image.concat parts) ≡ len → AllPairs (IsFront has) (sized len size names) fronts
+      → Whole (sized len size names) parts fronts
   whole len size [] [] [] there full sum read = record { same = refl; exact = tt }
   whole len size [] [] (y ∷ ys) there full sum read = absurd read
   whole len size [] (p ∷ ps) fronts there full sum read = absurd there
@@ -55,7 +56,8 @@ module _ (has : BlobName → Bytes → Type 0) (one : IsOne has) where
       record { same = ap (λ (b : Bytes). b ∷ ys) same ∙ ap (λ (l : List Bytes). p ∷ l) rest.same; exact = (ap (λ (l : Bytes). length l) same ∙ long, rest.exact) }
 
   -- so the fronts joined are the file, and each is exact
-  pub file_whole : (f : Formats) (index number : ℕ) (e : FileEntry) (bytes : Bytes) (fronts : List Bytes) → FileStands f has index number e bytes → AreFronts has index number e fronts → (concat fronts ≡ bytes) × AreExact index number e fronts
+  pub file_whole : (f : Formats) (index number : ℕ) (e : FileEntry) (bytes : Bytes) (fronts : List Bytes) → FileStands f has index number e bytes → AreFronts has index number e fronts
+      → (concat fronts ≡ bytes) × AreExact index number e fronts
   file_whole f index number e bytes fronts stands read =
       let sum : length (image.concat stands.parts) ≡ e.len = ap (λ (l : Bytes). length l) stands.joined ∙ stands.len in
       let h = whole e.len e.part_size (part_names index number e) stands.parts fronts stands.there stands.full sum read in

@@ -7,8 +7,8 @@ use Rattle.esr_core.specs.Entry.{Step, Refusal, Moment}
 use Rattle.esr_core.specs.After.{after}
 use Rattle.esr_core.specs.Allowed.{Blocks, ByFailedSwap, ByDelete}
 use Rattle.esr_core.specs.History.{world_from}
-use Rattle.esr_core.proofs.StepFrames.{step_frame}
-use Rattle.esr_core.specs.NumberMaps.{some_none}
+use Rattle.esr_core.specs.Laws.StepFrames.{step_frame}
+use Rattle.esr_core.specs.Laws.NumberMaps.{some_none}
 
 -- no ticket has the number 0, nor will the next one
 pub record Numbered (w : World) : Type 0 where

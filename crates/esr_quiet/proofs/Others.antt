@@ -10,12 +10,12 @@ use Rattle.esr_core.specs.After.{taken_shard, taken_restore_shard, taken_restore
 use Rattle.esr_core.specs.Allowed.{Allowed}
 use Rattle.esr_core.specs.Changes.{StepChange, NoChange, NewOp, NewDeletion, MergedDeletion, NewRestore, NewTicket, NewReader, OwnTicket, Settlement, UnitEnd, DeletionFailure, OpDrop, Election, ReaderFetch, ReaderEnd, PlainDraw, TestBlob, SwapFault}
 use Rattle.esr_core.specs.History.{world_from, IsLegal}
-use Rattle.esr_core.proofs.Causes.{take_gave}
-use Rattle.esr_core.proofs.Changes.{change_of}
+use Rattle.esr_core.specs.Laws.TakeAnswers.{take_gave}
+use Rattle.esr_core.specs.Laws.ChangeLaws.{change_of}
 use Rattle.esr_desk.specs.Start.{Start, Legal, formats_of, or_no_ticket, ticket_of}
 use Rattle.esr_desk.specs.Grew.{AllOf}
-use Rattle.esr_core.specs.NumberMaps.{get_other}
-use Rattle.esr_quiet.proofs.Prefixes.{world_both, legal_rest}
+use Rattle.esr_core.specs.Laws.NumberMaps.{other_in}
+use Rattle.esr_quiet.specs.PrefixLaws.{world_both, legal_rest}
 
 abbrev held : World → ℕ → Option Ticket
 held w q = fin.get w.tickets q
@@ -28,7 +28,7 @@ GivesNone reply = (ticket op : ℕ) (unit : Given) → reply ≢ Gave ticket op 
 
 others_shard : (w : World) (o : ℕ) (op : Op) (base : Option ℕ) (s : Option ShardWork) (q : ℕ) → q ≢ w.next_ticket → held (taken_shard w o op base s) q ≡ held w q
 others_shard w o op base None q apart = refl
-others_shard w o op base (Some s) q apart = get_other w.tickets w.next_ticket _ q apart
+others_shard w o op base (Some s) q apart = other_in w.tickets w.next_ticket _ q apart
 
 others_restore_shard : (w : World) (o : ℕ) (r : Restoring) (s : Option RestoreShard) (q : ℕ) → held (taken_restore_shard w o r s) q ≡ held w q
 others_restore_shard w o r None q = refl
@@ -43,12 +43,12 @@ others_taken f w o (GivenShard index number base) (Some op) q apart = others_sha
 others_taken f w o (GivenShard index number base) None q apart = refl
 others_taken f w o (GivenClone index number source base) (Some op) q apart = others_shard w o op base (shard_of op.shards index number) q apart
 others_taken f w o (GivenClone index number source base) None q apart = refl
-others_taken f w o (GivenFinalize info results) (Some op) q apart = get_other w.tickets w.next_ticket _ q apart
+others_taken f w o (GivenFinalize info results) (Some op) q apart = other_in w.tickets w.next_ticket _ q apart
 others_taken f w o (GivenFinalize info results) None q apart = refl
-others_taken f w o GivenDrop op q apart = get_other w.tickets w.next_ticket _ q apart
+others_taken f w o GivenDrop op q apart = other_in w.tickets w.next_ticket _ q apart
 others_taken f w o (GivenRestore index number uuid) op q apart = others_restore w o index number (fin.get w.restores o) q
-others_taken f w o (GivenDelete uuids) op q apart = get_other w.tickets w.next_ticket _ q apart
-others_taken f w o GivenCleanup op q apart = get_other w.tickets w.next_ticket _ q apart
+others_taken f w o (GivenDelete uuids) op q apart = other_in w.tickets w.next_ticket _ q apart
+others_taken f w o GivenCleanup op q apart = other_in w.tickets w.next_ticket _ q apart
 
 -- that gives none
 take_leaves : (f : Formats) (w : World) (k : ℕ) (reply : Reply) (image : Option Image) (q : ℕ) → GivesNone reply → held (answered f w k TakeStep reply image) q ≡ held w q
@@ -72,11 +72,11 @@ module _ (f : Formats) (w : World) (k : ℕ) (step : Step) (no_take : IsTake ste
   kept new (NewRestore ask r) = refl
   kept new (NewTicket take t is ops same) = absurd (no_take (subst IsTake (sym take) tt))
   kept new (NewReader take o r s there) = refl
-  kept new (OwnTicket t v there unit settled next_id pending id_above above) = get_other w.tickets k v q apart
-  kept new (Settlement is t s n names deletes there swapped raised left) = get_other w.tickets k _ q apart
-  kept new (UnitEnd t op v completed there op_there same) = get_other w.tickets k _ q apart
-  kept new (DeletionFailure t x there found) = get_other w.tickets k _ q apart
-  kept new (OpDrop is t there) = get_other w.tickets k _ q apart
+  kept new (OwnTicket t v there unit settled next_id pending id_above above) = other_in w.tickets k v q apart
+  kept new (Settlement is t s n names deletes there swapped raised left) = other_in w.tickets k _ q apart
+  kept new (UnitEnd t op v completed there op_there same) = other_in w.tickets k _ q apart
+  kept new (DeletionFailure t x there found) = other_in w.tickets k _ q apart
+  kept new (OpDrop is t there) = other_in w.tickets k _ q apart
   kept new (Election is) = refl
   kept new (ReaderFetch reader name bytes there) = refl
   kept new (ReaderEnd reader r state there found) = refl
@@ -115,7 +115,8 @@ module _ (s : Start) where
   pub steps_stay : (log more : List Moment) (who k : ℕ) → Legal s (log ++ more) → AllOf who more → who ≢ 0 → k ≢ who → ticket_of s (log ++ more) k ≡ ticket_of s log k
   steps_stay log more who k legal own ticket apart = goes_on log more k (others_stay f s.part_size more (world_from f s.world log) who k (legal_rest f s.part_size log more s.world legal) own ticket apart)
 
-  pub gift_stays : (log : List Moment) (m : Moment) (ticket op : ℕ) (unit : Given) (k : ℕ) → Legal s (log ++ m ∷ []) → m.entry.step ≡ TakeStep → m.entry.reply ≡ Gave ticket op unit → k ≢ ticket → ticket_of s (log ++ m ∷ []) k ≡ ticket_of s log k
+  pub gift_stays : (log : List Moment) (m : Moment) (ticket op : ℕ) (unit : Given) (k : ℕ) → Legal s (log ++ m ∷ []) → m.entry.step ≡ TakeStep → m.entry.reply ≡ Gave ticket op unit → k ≢ ticket
+      → ticket_of s (log ++ m ∷ []) k ≡ ticket_of s log k
   gift_stays log m ticket op unit k legal step reply apart =
       let w : World = world_from f s.world log in
       let is : (m.entry.who ≡ 0) × (ticket ≡ w.next_ticket) = given_by f s.part_size w m (legal_rest f s.part_size log (m ∷ []) s.world legal).0 ticket op unit reply in

@@ -6,13 +6,12 @@ use Rattle.esr_core.specs.Entry.{Refusal, HasEnded, Refused, Moment}
 use Rattle.esr_core.specs.After.{after}
 use Rattle.esr_core.specs.Allowed.{Allowed}
 use Rattle.esr_core.specs.History.{world_from, IsLegal, AreTold}
-use Rattle.esr_core.proofs.Blocked.{blocked_stays}
+use Rattle.esr_core.specs.Laws.Asides.{blocked_stays}
 use Rattle.esr_desk.specs.Start.{Start, formats_of, world_of}
 use Rattle.esr_quiet.specs.Smooth.{IsSmooth}
 use Rattle.esr_quiet.specs.Prefixes.{Prefixes}
 use Rattle.esr_quiet.specs.OverKept.{OverKept, IsLawful}
-use Rattle.esr_quiet.proofs.Prefixes.{world_both, legal_rest, legal_front, told_front}
-use Rattle.esr_quiet.proofs.Passing.{quiet_at}
+use Rattle.esr_quiet.specs.PrefixLaws.{world_both, legal_rest, legal_front, told_front, quiet_at}
 
 -- ---- its fronts
 

@@ -1,5 +1,6 @@
 -- A plan that is made is a delete's, and the names of its indices are new.
 use Rattle.std.proofs.Common.{◌≡◌, ℕ, ◌<◌, ◌≤◌, List, Option, Some, sym, ap, ◌∙◌, subst, arith}
+use Rattle.std.proofs.lemmas.Option.{same_Some}
 use Rattle.esr_model.specs.Names.{BlobName}
 use Rattle.esr_model.specs.Values.{Has, Formats}
 use Rattle.esr_model.specs.Shelf.{Shelved}
@@ -10,11 +11,10 @@ use Rattle.esr_core.specs.World.{World, Shard, Deleting, Swap}
 use Rattle.esr_core.specs.Pruning.{delete_swap, planned_work, planned}
 use Rattle.esr_core.specs.Ids.{Law}
 use Rattle.esr_core.specs.Allowed.{MayPlan}
-use Rattle.esr_core.proofs.Plans.{own_is}
-use Rattle.esr_core.proofs.Reading.{some_same}
+use Rattle.esr_core.specs.Laws.DeletePlans.{own_is}
 use Rattle.esr_quiet.proofs.FreeFrame.{IsNewPlan}
 
-same_plan : {a b : List ℕ} {p q : Option Swap} → Deleting a p ≡ Deleting b q → p ≡ q
+pub same_plan : {a b : List ℕ} {p q : Option Swap} → Deleting a p ≡ Deleting b q → p ≡ q
 same_plan e = cc
 
 shard_plan : {i n : ℕ} {us : List ℕ} {p : Option Swap} → Deleting us p ≡ Shard i n → ⊥
@@ -33,7 +33,7 @@ module _ (f : Formats) (w : World) (shelf : List Shelved) (law : Law f w shelf) 
   -- its indices are new
   pub new_plan : (uuids : List ℕ) (s : Swap) → (planned f shards w.next_id p.t).work ≡ Deleting uuids (Some s) → IsNewPlan f w (planned f shards w.next_id p.t) s
   new_plan uuids s e name bytes own =
-      let same : its ≡ s = some_same its s (same_plan (sym work_is ∙ e)) in
+      let same : its ≡ s = same_Some its s (same_plan (sym work_is ∙ e)) in
       let o = own_is f p.t.read (left_uuids p.uuids (uuids_of p.t.root)) shards w.next_id name bytes (subst (λ (x : Swap). Has x.own (name, bytes)) (sym same) own) in (
         record { index = o.q.index; number = o.q.number; id = o.id; name_is = o.name_is; drew = record { from = o.from; below = o.below } },
         λ present.

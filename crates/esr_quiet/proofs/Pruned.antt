@@ -1,6 +1,7 @@
 -- Nothing of a lawful world is at fault in the indices of shards that a delete or cleanup reads.
 use Rattle.std.proofs.Common.{◌≡◌, ℕ, true, false, List, Option, Some, None, sym, ap, ◌∙◌, subst, inl}
 use Rattle.std.specs.FinMap as fin
+use Rattle.std.proofs.lemmas.Option.{same_Some}
 use Rattle.esr_model.specs.Names.{ShardIndex}
 use Rattle.esr_model.specs.Values.{Bytes, Has, RootIndex, RootData, Formats}
 use Rattle.esr_model.specs.Shelf.{Shelved}
@@ -8,9 +9,9 @@ use Rattle.esr_model.specs.Image.{At, Generation, IndexStands, at_shard_of}
 use Rattle.esr_core.specs.World.{World, Deleting, Ticket, Swap, HeldIn}
 use Rattle.esr_core.specs.Pruning.{IsToRead}
 use Rattle.esr_core.specs.Ids.{Law}
-use Rattle.esr_core.proofs.DeletedRoots.{one_found}
-use Rattle.esr_core.proofs.Finalizing.{root_one_each}
-use Rattle.esr_core.specs.NumberMaps.{some_same, some_none}
+use Rattle.esr_core.specs.Laws.DeleteRoots.{one_found}
+use Rattle.esr_core.specs.Laws.NewRoots.{root_one_each}
+use Rattle.esr_core.specs.Laws.NumberMaps.{some_none}
 
 module _ (f : Formats) (w : World) (shelf : List Shelved) (l : Law f w shelf) (k : ℕ) (t : Ticket) (uuids : List ℕ) (plan : Option Swap) (there : fin.get w.tickets k ≡ Some t) (out : t.out ≡ true) (unsettled : t.settled ≡ false) (present : t.term ≡ w.term)
     (work : t.work ≡ Deleting uuids plan) (index number base : ℕ) (to_read : IsToRead t.clean t.root uuids index number base) where
@@ -34,4 +35,4 @@ module _ (f : Formats) (w : World) (shelf : List Shelved) (l : Law f w shelf) (k
   pub does_read : (bytes : Bytes) → Has t.read (ShardIndex index number base, bytes) → f.shard_index.read bytes ≡ None → ⊥
   does_read bytes read none =
       let at : At f w.blobs (ShardIndex index number base) bytes = ((l.pruned.unsettled k t uuids plan there out unsettled present work).held (ShardIndex index number base) bytes read).0 in
-      some_none stands.held (sym stands.held_reads.reads ∙ ap f.shard_index.read (some_same stands.held_reads.bytes bytes (sym stands.held_reads.there.0.0 ∙ at.0)) ∙ none)
+      some_none stands.held (sym stands.held_reads.reads ∙ ap f.shard_index.read (same_Some stands.held_reads.bytes bytes (sym stands.held_reads.there.0.0 ∙ at.0)) ∙ none)

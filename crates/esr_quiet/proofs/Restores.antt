@@ -18,9 +18,8 @@ use Rattle.esr_core.specs.History.{world_from, IsLegal, AreTold}
 use Rattle.esr_core.specs.Ids.{Law}
 use Rattle.esr_core.specs.ReadLaw.{ReadLaw}
 use Rattle.esr_core.specs.Restored.{IsServed}
-use Rattle.esr_core.proofs.Reading.{reads_one, held_one}
-use Rattle.esr_core.proofs.TurningIds.{pairs_has}
-use Rattle.esr_core.proofs.Frames.{AllPairs-map}
+use Rattle.esr_core.specs.Laws.OneValue.{reads_one, held_one}
+use Rattle.esr_model.specs.Lists.{pairs_has, AllPairs-map}
 use Rattle.esr_formats.specs.Reasons.{unreadable, unreadable_reads_not}
 use Rattle.esr_desk.specs.declared.fault.FailedObject.TheVariants as objects
 use Rattle.esr_desk.specs.declared.hand.Hand.TheVariants as hands
@@ -36,9 +35,9 @@ use Rattle.esr_quiet.specs.Caused.{AreCaused}
 use Rattle.esr_quiet.specs.Smooth.{IsSmooth, NoneUnrestored}
 use Rattle.esr_quiet.specs.OverKept.{OverKept, IsLawful}
 use Rattle.esr_quiet.specs.Undamaged.{IsDamage, NoRestoreFindsDamage}
-use Rattle.esr_core.specs.NumberMaps.{some_none}
-use Rattle.esr_quiet.proofs.Prefixes.{told_at, place_of, has_at}
-use Rattle.esr_quiet.proofs.Passing.{quiet_at, legal_at}
+use Rattle.esr_core.specs.Laws.NumberMaps.{some_none}
+use Rattle.esr_quiet.specs.PrefixLaws.{place_of, has_at, quiet_at, legal_at}
+use Rattle.esr_quiet.proofs.Prefixes.{told_at}
 use Rattle.esr_quiet.proofs.OverKept.{IsAlive, kept_front, lawful_front, step_at, smooth_alive, alive_before}
 use Rattle.esr_quiet.proofs.Fronts.{file_whole}
 use Rattle.esr_quiet.proofs.Failures.{read_shown, no_fetch_fault}
@@ -79,7 +78,8 @@ told_by f size w m present a = elim a.answered [
 ]
 
 -- a report is that of a ticket that is out
-pub reading_at : (f : Formats) (size : ℕ) (w : World) (m : Moment) (why : Why) → w.deposed ≡ false → Allowed f size w m → m.entry.step ≡ ReadStep (ReadFails why) → m.entry.reply ≡ HasEnded → 1 ≤ m.entry.who → (q : Reader) × IsReading w m.entry.who q
+pub reading_at : (f : Formats) (size : ℕ) (w : World) (m : Moment) (why : Why) → w.deposed ≡ false → Allowed f size w m → m.entry.step ≡ ReadStep (ReadFails why) → m.entry.reply ≡ HasEnded → 1 ≤ m.entry.who
+    → (q : Reader) × IsReading w m.entry.who q
 reading_at f size w m why present a step reply = subst (λ st. Tells f w m.entry.who st HasEnded m.image) step (subst (λ r. Tells f w m.entry.who m.entry.step r m.image) reply (told_by f size w m present a))
 
 -- what a ticket may read that found nothing
@@ -95,13 +95,15 @@ by_reader f w name image who some none (ByCheck may) = absurd (omega (arith, som
 by_reader f w name image who some none (ByVerify may) = absurd (omega (arith, some))
 
 -- a fetch that found nothing
-pub missed_at : (f : Formats) (size : ℕ) (w : World) (m : Moment) (name : BlobName) → w.deposed ≡ false → Allowed f size w m → m.entry.step ≡ ReadStep (ReadBlob name) → m.entry.reply ≡ WasAbsent → (image : Image) → m.image ≡ Some image
+pub missed_at : (f : Formats) (size : ℕ) (w : World) (m : Moment) (name : BlobName) → w.deposed ≡ false → Allowed f size w m → m.entry.step ≡ ReadStep (ReadBlob name) → m.entry.reply ≡ WasAbsent → (image : Image)
+    → m.image ≡ Some image
     → Fetcher f w name (Some image) m.entry.who × (fin.get w.blobs (f.names.text name) ≡ None)
 missed_at f size w m name present a step reply image is =
     subst (λ im. Tells f w m.entry.who (ReadStep (ReadBlob name)) WasAbsent im) is
     (subst (λ st. Tells f w m.entry.who st WasAbsent m.image) step (subst (λ r. Tells f w m.entry.who m.entry.step r m.image) reply (told_by f size w m present a)))
 
-misses_at : (f : Formats) (size : ℕ) (w : World) (m : Moment) (name : BlobName) → w.deposed ≡ false → Allowed f size w m → m.entry.step ≡ ReadStep (ReadBlob name) → m.entry.reply ≡ WasAbsent → (image : Image) → m.image ≡ Some image → 1 ≤ m.entry.who
+misses_at : (f : Formats) (size : ℕ) (w : World) (m : Moment) (name : BlobName) → w.deposed ≡ false → Allowed f size w m → m.entry.step ≡ ReadStep (ReadBlob name) → m.entry.reply ≡ WasAbsent → (image : Image)
+    → m.image ≡ Some image → 1 ≤ m.entry.who
     → Misses f w m.entry.who name (Some image)
 misses_at f size w m name present a step reply image is some =
     let h = missed_at f size w m name present a step reply image is in
@@ -196,7 +198,8 @@ module _ (s : Start) (log : List Moment) (lawful : IsLawful s log) (alive : IsAl
       found p.front (p.back ++ back) m (is ∙ ap (λ (l : List Moment). l ++ back) p.is ∙ append_assoc p.front (m ∷ p.back) back) name refl refl some
 
   -- and reads
-  unread : (front back : List Moment) → log ≡ front ++ back → (who : ℕ) → IsReading (world_of s front) who (reader_of s front who) → (name : BlobName) (reason : Reason) → IsSnap (reader_of s front who) name → WasUnreadable hands.Restore s front who name reason → ⊥
+  unread : (front back : List Moment) → log ≡ front ++ back → (who : ℕ) → IsReading (world_of s front) who (reader_of s front who) → (name : BlobName) (reason : Reason) → IsSnap (reader_of s front who) name
+      → WasUnreadable hands.Restore s front who name reason → ⊥
   unread front back is who reading name reason name_is (bytes, read, refuses) =
       let q : Reader = reader_of s front who in
       let snap : BlobName = ShardSnap q.index q.number q.uuid in
@@ -222,7 +225,8 @@ module _ (s : Start) (log : List Moment) (lawful : IsLawful s log) (alive : IsAl
   uncut front back is who reading name other h = let x = file_of front back is who reading name h.fronts h.file in h.cut x.2
 
   -- no damage is shown
-  undamaged : {S F H T : Type 0} (e : Evidence S F H T) (front back : List Moment) → log ≡ front ++ back → (who : ℕ) → 1 ≤ who → IsReading (world_of s front) who (reader_of s front who) → (why : Why) (b : By S F H T) → IsDamage why → IsRestoreShown e s front who why b → ⊥
+  undamaged : {S F H T : Type 0} (e : Evidence S F H T) (front back : List Moment) → log ≡ front ++ back → (who : ℕ) → 1 ≤ who → IsReading (world_of s front) who (reader_of s front who) → (why : Why) (b : By S F H T) → IsDamage why
+      → IsRestoreShown e s front who why b → ⊥
   undamaged e front back is who some reading (OfAbsence name) b damage h = missing front back is who some name (read_shown b _ h)
   undamaged e front back is who some reading (OfUnreadable name reason) b damage h = let x = read_shown b _ h in unread front back is who reading name reason x.0 x.1
   undamaged e front back is who some reading (OfPrint name stated_len stated_digest found_len found_digest) b damage h = printed front back is who reading name stated_len stated_digest found_len found_digest (read_shown b _ h)
@@ -272,7 +276,8 @@ module _ (s : Start) (log : List Moment) (smooth : IsSmooth s log) (lawful : IsL
   target_of e q by.Nothing h = h
 
   -- no cause is shown
-  shows : {S F H T : Type 0} (e : Evidence S F H T) (front back : List Moment) → log ≡ front ++ back → (who : ℕ) → 1 ≤ who → IsReading (world_of s front) who (reader_of s front who) → (why : Why) (b : By S F H T) → IsRestoreShown e s front who why b → ⊥
+  shows : {S F H T : Type 0} (e : Evidence S F H T) (front back : List Moment) → log ≡ front ++ back → (who : ℕ) → 1 ≤ who → IsReading (world_of s front) who (reader_of s front who) → (why : Why) (b : By S F H T)
+      → IsRestoreShown e s front who why b → ⊥
   shows e front back is who some reading OfDepot b h = no_fetch_fault e s smooth.quiet (HadFetchFault hands.Restore front who) b h
   shows e front back is who some reading OfTarget b h = target_of e (reader_of s front who) b h
   shows e front back is who some reading (OfAbsence name) b h = undamaged s log lawful (smooth_alive s log smooth) all_serve e front back is who some reading (OfAbsence name) b tt h

@@ -6,7 +6,7 @@ use Rattle.esr_model.specs.Values.{Bytes, Has, Formats}
 use Rattle.esr_model.specs.Image.{Image, Present}
 use Rattle.esr_core.specs.World.{World, Ticket}
 use Rattle.esr_core.specs.Steps.{IsOut}
-use Rattle.esr_core.specs.Entry.{Asked, Snapshot, Clone, CloneOf, DeleteSnapshots, Restore, Cleanup, is_recorded, Read, CommitTest, Prune, SettlePruned, Step, AskStep, CommitStep, RaiseStep, SettleStep, DroppedStep, ReadStep, PruneStep, CleanupRunning, StaleTerm, NameTaken, AbortedBy, Refusal, Reply, Refused, DepotFault, Moment}
+use Rattle.esr_core.specs.Entry.{Asked, Snapshot, Clone, CloneOf, DeleteSnapshots, Restore, Cleanup, is_recorded, Read, CommitTest, Prune, SettlePruned, Step, AskStep, CommitStep, RaiseStep, SettleStep, DroppedStep, ReadStep, PruneStep, CleanupRunning, StaleTerm, NameTaken, Refusal, Reply, Refused, DepotFault, Moment}
 use Rattle.esr_core.specs.Allowed as allowed
 use Rattle.esr_core.specs.Allowed.{Told, IsMetadata, CloneAllows, OpeningClone, CloneUsed, SourceNotListed, SourceDeleted, IndexMissing, FullOfClones, CloneSpent, CloneFault, DeleteAllows, GoingInto, NotNamed, CloneStands, RestoreStands, FullOfOps, DeleteFault, CleanupAllows, OpeningCleanup, OpStands, TicketStands, CleanupFault, RestoreAllows, OpeningRestore, NotListed, NamedByDelete, FullOfRestores, ReadAllows, ReadFound, ReadMissing, ReadFault, RestoringShard, ReaderFailing, CheckingAll, CheckFailing, VerifyAllows, DrawingTest, TestSpent, BeginningTest, BeginTestFails, CommittingTest, TestTaken, CommitTestFails, RemovingTests, RemoveTestsFails, VerifyingAll, VerifyFailing, PruneAllows, FetchingShard, ShardMissing, FetchShardFails, Planning, PlanSpent, SettlingDelete, SettleDeleteStale, SettleDeleteFails, RemovingDoomed, RemoveDoomedFails, EndingDelete, FailingDelete, Allows}
 use Rattle.esr_desk.specs.Start.{Start, formats_of, world_of, or_no_ticket}
@@ -14,12 +14,12 @@ use Rattle.esr_quiet.specs.Free.{Free}
 use Rattle.esr_quiet.specs.Smooth.{IsSpent, IsSmooth}
 use Rattle.esr_quiet.specs.Refusals.{IsByRule, HasAskedCleanup, IsOfCleanup, IsOfRule, IsSwapStep, IsOfTerm, AreByRule}
 use Rattle.esr_quiet.specs.Prefixes.{Prefixes}
-use Rattle.esr_quiet.proofs.Prefixes.{told_at, place_of, has_at}
-use Rattle.esr_quiet.proofs.Askers.{AsksOrElects, asker}
+use Rattle.esr_quiet.specs.PrefixLaws.{place_of, has_at, quiet_at, legal_at, smooth_front}
+use Rattle.esr_quiet.proofs.Prefixes.{told_at}
+use Rattle.esr_quiet.specs.Askers.{AsksOrElects, asker}
 use Rattle.esr_quiet.proofs.Terms.{stale_or_present}
-use Rattle.esr_quiet.proofs.Quiet.{IsQuiet}
+use Rattle.esr_quiet.specs.QuietWorlds.{IsQuiet}
 use Rattle.esr_quiet.proofs.FreeCommits.{taken}
-use Rattle.esr_quiet.proofs.Passing.{quiet_at, legal_at, smooth_front}
 use Rattle.esr_quiet.proofs.Unaborted.{none_blocked}
 
 -- ---- each refusal
@@ -68,7 +68,8 @@ module _ (s : Start) (log : List Moment) (f : Formats) (size : ℕ) (w : World) 
   asks_restore name place reply image (NamedByDelete uuid d im listed named) = inl ((Restore name place, refl), tt, tt)
   asks_restore name place reply image (FullOfRestores uuid im listed spared full) = inl ((Restore name place, refl), tt, tt)
 
-  asks_clone : (source name : Bytes) (names : List Bytes) (moment : ℕ) (taken : Option CloneOf) (reply : Reply) (image : Option Image) → (reply ≢ Refused DepotFault) → (IsSpent reply → ⊥) → CloneAllows f w source name names moment taken reply image
+  asks_clone : (source name : Bytes) (names : List Bytes) (moment : ℕ) (taken : Option CloneOf) (reply : Reply) (image : Option Image) → (reply ≢ Refused DepotFault) → (IsSpent reply → ⊥)
+      → CloneAllows f w source name names moment taken reply image
       → IsRuled log w 0 (AskStep (Clone source name names moment taken)) reply
   asks_clone source name names moment taken reply image calm unspent (OpeningClone t o im acc) = tt
   asks_clone source name names moment taken reply image calm unspent (CloneUsed uuid im clear is) = inl ((Clone source name names moment None, refl), tt, tt)
@@ -125,7 +126,8 @@ module _ (s : Start) (log : List Moment) (f : Formats) (size : ℕ) (w : World) 
   prunes k prune reply image calm unspent (FailingDelete j why im x same) = tt
 
   -- a test blob that is there is one that who 0 committed
-  verifies : (read : Read) (reply : Reply) (image : Option Image) (i : Image) → image ≡ Some i → (reply ≢ Refused DepotFault) → (IsSpent reply → ⊥) → IsNewTest w (ReadStep read) → VerifyAllows f w read reply image → IsRuled log w 0 (ReadStep read) reply
+  verifies : (read : Read) (reply : Reply) (image : Option Image) (i : Image) → image ≡ Some i → (reply ≢ Refused DepotFault) → (IsSpent reply → ⊥) → IsNewTest w (ReadStep read) → VerifyAllows f w read reply image
+      → IsRuled log w 0 (ReadStep read) reply
   verifies read reply image i told calm unspent new (DrawingTest im idle fits same) = tt
   verifies read reply image i told calm unspent new (TestSpent im idle spent same) = absurd (unspent tt)
   verifies read reply image i told calm unspent new (BeginningTest name im own same) = tt
@@ -138,7 +140,8 @@ module _ (s : Start) (log : List Moment) (f : Formats) (size : ℕ) (w : World) 
   verifies read reply image i told calm unspent new (VerifyingAll im done same) = tt
   verifies read reply image i told calm unspent new (VerifyFailing why im begun same) = tt
 
-  ruled : (who : ℕ) (step : Step) (reply : Reply) (image : Option Image) (i : Image) → image ≡ Some i → (reply ≢ Refused DepotFault) → (IsSpent reply → ⊥) → IsNew w who step → IsNewTest w step → AsksApart w step → Allows f size w who step reply image → IsRuled log w who step reply
+  ruled : (who : ℕ) (step : Step) (reply : Reply) (image : Option Image) (i : Image) → image ≡ Some i → (reply ≢ Refused DepotFault) → (IsSpent reply → ⊥) → IsNew w who step → IsNewTest w step → AsksApart w step
+      → Allows f size w who step reply image → IsRuled log w who step reply
   ruled who step reply image i told calm unspent new new_test apart_ask (allowed.AskingRestore name place rep im h same) = asks_restore name place rep im h
   ruled who step reply image i told calm unspent new new_test apart_ask (allowed.AskingClone source name names moment taken rep im h same) = asks_clone source name names moment taken rep im calm unspent h
   ruled who step reply image i told calm unspent new new_test apart_ask (allowed.AskingDelete names rep im h same) = asks_delete names rep calm h
@@ -223,11 +226,3 @@ no_rule (Restore of place) name h = h
 no_rule (Clone source of names time taken) name h = h
 no_rule (DeleteSnapshots names) name h = h
 no_rule Cleanup name h = h
-
--- and no delete aborts a step
-pub no_abort_rule : (command : Asked) (op : ℕ) → IsByRule command (AbortedBy op) → ⊥
-no_abort_rule (Snapshot of indices time) op h = h
-no_abort_rule (Restore of place) op h = h
-no_abort_rule (Clone source of names time taken) op h = h
-no_abort_rule (DeleteSnapshots names) op h = h
-no_abort_rule Cleanup op h = h

@@ -1,6 +1,7 @@
 -- A blob that a ticket commits, or that a commit left which failed, is its own: what else is to be written stays spare.
 use Rattle.std.proofs.Common.{◌≡◌, ◌⊎◌, ℕ, List, [], true, Some, None, sym, subst, inl, inr}
 use Rattle.std.specs.FinMap as fin
+use Rattle.esr_core.specs.Laws.NumberMaps.{was_in}
 use Rattle.esr_model.specs.Names.{BlobName, Root, ShardSnap}
 use Rattle.esr_model.specs.Values.{Bytes, Has, Formats}
 use Rattle.esr_model.specs.Shelf.{Shelved}
@@ -8,8 +9,7 @@ use Rattle.esr_model.specs.Image.{IsStored, Blobs, At, Present}
 use Rattle.esr_core.specs.World.{World, Op, ShardWork, Pending, Deleting, Ticket, Swap}
 use Rattle.esr_core.specs.Steps.{IsOut, ShardCommits, MayCommit}
 use Rattle.esr_core.specs.Ids.{Law}
-use Rattle.esr_core.proofs.Adds.{at_was}
-use Rattle.esr_core.proofs.Queues.{was_in}
+use Rattle.esr_core.specs.Laws.BlobFrames.{at_was}
 use Rattle.esr_quiet.proofs.CommitNames.{plan_one, as_root, only_one, no_snap}
 use Rattle.esr_quiet.proofs.FreeFrame.{ArePlansDrawn, Own}
 use Rattle.esr_quiet.proofs.FreeNames.{drawn_like}

@@ -3,14 +3,15 @@ use Rattle.std.proofs.Common.{◌≡◌, ◌⊎◌, ℕ, List, true, false, true
 use Rattle.std.specs.Ordering.{nat_cmp}
 use Rattle.std.specs.FinMap.{FinMap}
 use Rattle.std.specs.FinMap as fin
+use Rattle.std.proofs.lemmas.Option.{none-some}
+use Rattle.esr_core.specs.Laws.NumberMaps.{was_in, left_in}
 use Rattle.esr_model.specs.Names.{BlobName, Root, ShardSnap}
 use Rattle.esr_model.specs.Values.{Bytes, Has, Formats}
 use Rattle.esr_model.specs.Image.{Blobs, At, Present}
 use Rattle.esr_core.specs.World.{World, Op, ShardWork, Pending, Deleting, Ticket, Swap}
 use Rattle.esr_core.specs.Restores.{IsTestOf}
 use Rattle.esr_core.specs.Steps.{ShardCommits}
-use Rattle.esr_core.proofs.Queues.{was_in, left_in}
-use Rattle.esr_core.proofs.Reading.{none_some, Has-mapped}
+use Rattle.esr_model.specs.Lists.{Has-mapped}
 use Rattle.esr_quiet.proofs.FreeFrame.{ArePlansDrawn, Own, IsSamePlan, IsNewPlan}
 use Rattle.esr_quiet.proofs.FreeNames.{drawn_like, drew_same, index_no_test, commits_same, commits_no_test}
 
@@ -117,7 +118,7 @@ module _ (f : Formats) (tried : ℕ → BlobName → Type 0) (w : World) (l : Sp
       | inl r ↦ l.roots k n h.0 h.1 r (was (Root n) (λ id test. test) p)
       | inr none ↦ absurd (none (was (Root n) (λ id test. test) p))
     ]
-    | inr new ↦ absurd (none_some n (sym new.unraised ∙ raised))
+    | inr new ↦ absurd (none-some n (sym new.unraised ∙ raised))
   ]
 
   pub framed : IsSpare f tried blobs ops tickets
@@ -168,7 +169,8 @@ pending_left f w o p q s e m state = inl (pending_same w p q s (left_in w.ops o 
 abbrev pub KeepsPending : (ShardWork → ShardWork) → Op → Type 0
 KeepsPending g op = (z : ShardWork) → Has op.shards z → (g z).state ≡ Pending → g z ≡ z
 
-pub pending_map : (f : Formats) (w : World) (o : ℕ) (op now : Op) (g : ShardWork → ShardWork) → fin.get w.ops o ≡ Some op → now.uuid ≡ op.uuid → now.shards ≡ map g op.shards → KeepsPending g op → ArePending f w (fin.insert w.ops o now)
+pub pending_map : (f : Formats) (w : World) (o : ℕ) (op now : Op) (g : ShardWork → ShardWork) → fin.get w.ops o ≡ Some op → now.uuid ≡ op.uuid → now.shards ≡ map g op.shards → KeepsPending g op
+    → ArePending f w (fin.insert w.ops o now)
 pending_map f w o op now g there uuid shards keeps p q s e m state = elim (was_in w.ops o now p q e) [
   | inr h ↦ inl (pending_same w p q s h.1 m state)
   | inl h ↦

@@ -2,6 +2,8 @@
 use Rattle.std.proofs.Common.{◌≡◌, ◌⊎◌, ℕ, zero, suc, ◌<◌, ◌≤◌, List, [], Bool, true, false, Option, Some, None, map, refl, sym, ap, ◌∙◌, subst, inl, inr, arith}
 use Rattle.std.specs.Prelude.{if◌then◌else◌}
 use Rattle.std.specs.FinMap as fin
+use Rattle.std.proofs.lemmas.Option.{none-some, same_Some}
+use Rattle.esr_quiet.proofs.FreeSteps.{unplanned}
 use Rattle.esr_model.specs.Names.{BlobName, Latest, ShardSnap}
 use Rattle.esr_model.specs.Values.{Bytes, Has, ShardResult, ReadsBack, Formats}
 use Rattle.esr_model.specs.Shelf.{Shelved}
@@ -20,18 +22,15 @@ use Rattle.esr_core.specs.Entry.{CloneOf, Clone, DeleteSnapshots, Restore, Clean
 use Rattle.esr_core.specs.After.{asked_op, cloned_op, taken_by, taken_shard, taken_restore, taken_restore_shard, with_given, change, committing, fetching, told_blob, settled_of, delete_settled, delete_failed_by, delete_failed, done_of, done_by, is_stale, failed_by, failed_of, dropped_of, read_told, shard_over, read_over, is_latest, test_left, blobs_in, after}
 use Rattle.esr_core.specs.Allowed as allowed
 use Rattle.esr_core.specs.Allowed.{latest_text, Told, SameBlobs, Adds, Gives, Commits, Raises, Settles, IsOwnTest, MayPlan, SettlesDeletion, RestoreAllows, OpeningRestore, NotListed, NamedByDelete, FullOfRestores, CloneAllows, OpeningClone, CloneUsed, SourceNotListed, SourceDeleted, IndexMissing, FullOfClones, CloneSpent, CloneFault, DeleteAllows, GoingInto, NotNamed, CloneStands, RestoreStands, FullOfOps, DeleteFault, CleanupAllows, OpeningCleanup, OpStands, TicketStands, CleanupFault, ReadAllows, ReadFound, ReadMissing, ReadFault, RestoringShard, ReaderFailing, CheckingAll, CheckFailing, VerifyAllows, DrawingTest, TestSpent, BeginningTest, BeginTestFails, CommittingTest, TestTaken, CommitTestFails, RemovingTests, RemoveTestsFails, VerifyingAll, VerifyFailing, PruneAllows, FetchingShard, ShardMissing, FetchShardFails, Planning, PlanSpent, SettlingDelete, SettleDeleteStale, SettleDeleteFails, RemovingDoomed, RemoveDoomedFails, EndingDelete, FailingDelete, Allows, Allowed}
-use Rattle.esr_core.proofs.Adds.{at_was}
-use Rattle.esr_core.proofs.AskedDeletes.{aborts}
-use Rattle.esr_core.proofs.Evolving.{out_pending, pending_done, failed_is}
-use Rattle.esr_core.proofs.Blocked.{blocked_stays}
-use Rattle.esr_core.proofs.LatestPut.{at_back}
-use Rattle.esr_core.proofs.Marked.{marked_is}
-use Rattle.esr_core.proofs.Moments.{moment, settled_plain, delete_settled_plain}
-use Rattle.esr_core.proofs.Reading.{none_some, some_same}
-use Rattle.esr_core.proofs.TakeShard.{given_is}
+use Rattle.esr_core.specs.Laws.BlobFrames.{at_was, at_back}
+use Rattle.esr_core.specs.Laws.DeleteAsks.{aborts}
+use Rattle.esr_core.specs.Laws.ShardStates.{out_pending, failed_is, marked_is, given_is, pending_done}
+use Rattle.esr_core.specs.Laws.Asides.{blocked_stays}
+use Rattle.esr_core.specs.Laws.Moments.{moment, settled_plain, delete_settled_plain}
 use Rattle.esr_quiet.specs.Untaken.{MayLeave}
 use Rattle.esr_quiet.proofs.FreeNames.{drew_same, commits_same, one_place, snap_alone, drawn_new}
-use Rattle.esr_quiet.proofs.FreeParts.{was_shards, own_put, own_new, own_pending, own_drawn}
+use Rattle.esr_quiet.specs.QuietWorlds.{was_shards}
+use Rattle.esr_quiet.proofs.FreeParts.{own_put, own_new, own_pending, own_drawn}
 use Rattle.esr_quiet.proofs.PlanNames.{plan_no_shard, new_plan}
 use Rattle.esr_quiet.proofs.SpareFrame.{Ops, IsSpare, Spare, Goes, IsFresh, ArePending, Were, KeepsPending, framed, goes_same, goes_out, came_all, came_put, came_new, pending_all, pending_left, pending_map, pending_new}
 use Rattle.esr_quiet.proofs.SpareBlobs.{beside_put, added_spare}
@@ -41,12 +40,6 @@ not_less n = omega arith
 
 given_up_pending : GivenUp ≡ Pending → ⊥
 given_up_pending e = cc
-
-same_plan : {a b : List ℕ} {p q : Option Swap} → Deleting a p ≡ Deleting b q → p ≡ q
-same_plan h = cc
-
-unplanned : (uuids us : List ℕ) (s : Swap) → Deleting uuids None ≡ Deleting us (Some s) → ⊥
-unplanned uuids us s e = none_some s (same_plan e)
 
 shard_same : {i n j k : ℕ} → Shard i n ≡ Shard j k → (i ≡ j) × (n ≡ k)
 shard_same e = (cc, cc)
@@ -88,10 +81,12 @@ module _ (f : Formats) (tried : ℕ → BlobName → Type 0) (w : World) (shelf 
 
   -- ---- a ticket goes on
 
-  put : (k : ℕ) (t v : Ticket) → fin.get w.tickets k ≡ Some t → Goes f w t v → v.raised ≡ t.raised → v.first ≡ t.first → v.drawn ≡ t.drawn → (blobs : Blobs) → Were f w blobs → IsSpare f tried blobs w.ops (fin.insert w.tickets k v)
+  put : (k : ℕ) (t v : Ticket) → fin.get w.tickets k ≡ Some t → Goes f w t v → v.raised ≡ t.raised → v.first ≡ t.first → v.drawn ≡ t.drawn → (blobs : Blobs) → Were f w blobs
+      → IsSpare f tried blobs w.ops (fin.insert w.tickets k v)
   put k t v there goes same first drawn blobs were = framed f tried w l blobs w.ops (fin.insert w.tickets k v) (came_put f w k t v there goes) (own_put w.tickets l.own k t v there same first drawn) (pending_all f w) were
 
-  changed : (k : ℕ) (t : Ticket) → fin.get w.tickets k ≡ Some t → (g : Ticket → Ticket) → Goes f w t (g t) → (g t).raised ≡ t.raised → (g t).first ≡ t.first → (g t).drawn ≡ t.drawn → (blobs : Blobs) → Were f w blobs → IsSpare f tried blobs (change w k g).ops (change w k g).tickets
+  changed : (k : ℕ) (t : Ticket) → fin.get w.tickets k ≡ Some t → (g : Ticket → Ticket) → Goes f w t (g t) → (g t).raised ≡ t.raised → (g t).first ≡ t.first → (g t).drawn ≡ t.drawn → (blobs : Blobs) → Were f w blobs
+      → IsSpare f tried blobs (change w k g).ops (change w k g).tickets
   changed k t there g goes same first drawn blobs were = subst (λ o. IsSpare f tried blobs (with_given w k g o).ops (with_given w k g o).tickets) (sym there) (put k t (g t) there goes same first drawn blobs were)
 
   ends : (k : ℕ) (t : Ticket) → fin.get w.tickets k ≡ Some t → (blobs : Blobs) → Were f w blobs → IsSpare f tried blobs (change w k (λ (x : Ticket). record x { out = false })).ops (change w k (λ (x : Ticket). record x { out = false })).tickets
@@ -104,11 +99,13 @@ module _ (f : Formats) (tried : ℕ → BlobName → Type 0) (w : World) (shelf 
   fetches k t there name None blobs were = changed k t there (fetching name None) (goes_same f w t t refl (λ e. e) refl refl refl refl) refl refl refl blobs were
   fetches k t there name (Some bytes) blobs were = changed k t there (fetching name (Some bytes)) (goes_same f w t (fetching name (Some bytes) t) refl (λ e. e) refl refl refl refl) refl refl refl blobs were
 
-  finds : (k : ℕ) (t : Ticket) → fin.get w.tickets k ≡ Some t → (name : BlobName) (blobs : Blobs) → Were f w blobs → IsSpare f tried blobs (change w k (λ (x : Ticket). noting x name)).ops (change w k (λ (x : Ticket). noting x name)).tickets
+  finds : (k : ℕ) (t : Ticket) → fin.get w.tickets k ≡ Some t → (name : BlobName) (blobs : Blobs) → Were f w blobs
+      → IsSpare f tried blobs (change w k (λ (x : Ticket). noting x name)).ops (change w k (λ (x : Ticket). noting x name)).tickets
   finds k t there name blobs were = changed k t there (λ (x : Ticket). noting x name) (goes_same f w t (noting t name) refl (λ e. e) refl refl refl refl) refl refl refl blobs were
 
   -- it has listed a page more
-  lists : (k : ℕ) (t : Ticket) → fin.get w.tickets k ≡ Some t → (page : List BlobSize) (blobs : Blobs) → Were f w blobs → IsSpare f tried blobs (change w k (λ (x : Ticket). listing x page)).ops (change w k (λ (x : Ticket). listing x page)).tickets
+  lists : (k : ℕ) (t : Ticket) → fin.get w.tickets k ≡ Some t → (page : List BlobSize) (blobs : Blobs) → Were f w blobs
+      → IsSpare f tried blobs (change w k (λ (x : Ticket). listing x page)).ops (change w k (λ (x : Ticket). listing x page)).tickets
   lists k t there page blobs were = changed k t there (λ (x : Ticket). listing x page) (goes_same f w t (listing t page) refl (λ e. e) refl refl refl refl) refl refl refl blobs were
 
   -- a begin, of `index.latest` or not
@@ -142,7 +139,7 @@ module _ (f : Formats) (tried : ℕ → BlobName → Type 0) (w : World) (shelf 
       (own_pending f w shelf law l.own k r.may.t r.may.out.there) (pending_all f w) were)
     where
       one : (m : ℕ) → ◌≡◌ {A = Option ℕ} (Some w.pending) (Some m) → w.pending ≡ m
-      one m e = some_same _ _ e
+      one m e = same_Some _ _ e
 
       like : Goes f w r.may.t (record r.may.t { raised = Some w.pending })
       like =
@@ -215,13 +212,15 @@ module _ (f : Formats) (tried : ℕ → BlobName → Type 0) (w : World) (shelf 
       dropping (Some op) = gives_plain (plain_ticket w o Drop) (plain_fresh f w (plain_ticket w o Drop) (λ i n e. cc) refl (λ uuids plan e. cc)) refl blobs were
 
   -- the op goes on, and its ticket ends
-  marks : (k : ℕ) (t : Ticket) → fin.get w.tickets k ≡ Some t → (op now : Op) (g : ShardWork → ShardWork) → fin.get w.ops t.op ≡ Some op → now.uuid ≡ op.uuid → now.shards ≡ map g op.shards → KeepsPending g op → (blobs : Blobs) → Were f w blobs
+  marks : (k : ℕ) (t : Ticket) → fin.get w.tickets k ≡ Some t → (op now : Op) (g : ShardWork → ShardWork) → fin.get w.ops t.op ≡ Some op → now.uuid ≡ op.uuid → now.shards ≡ map g op.shards → KeepsPending g op
+      → (blobs : Blobs) → Were f w blobs
       → IsSpare f tried blobs (fin.insert w.ops t.op now) (fin.insert w.tickets k (record t { out = false }))
   marks k t there op now g op_there uuid shards keeps blobs were =
       framed f tried w l blobs (fin.insert w.ops t.op now) (fin.insert w.tickets k (record t { out = false })) (came_put f w k t (record t { out = false }) there (goes_out f w t))
       (own_put w.tickets l.own k t (record t { out = false }) there refl refl refl) (pending_map f w t.op op now g op_there uuid shards keeps) were
 
-  does : (k : ℕ) (r : ShardResult) (t : Ticket) → fin.get w.tickets k ≡ Some t → (op : Op) → fin.get w.ops t.op ≡ Some op → (blobs : Blobs) → Were f w blobs → IsSpare f tried blobs (done_of w k r (fin.get w.tickets k)).ops (done_of w k r (fin.get w.tickets k)).tickets
+  does : (k : ℕ) (r : ShardResult) (t : Ticket) → fin.get w.tickets k ≡ Some t → (op : Op) → fin.get w.ops t.op ≡ Some op → (blobs : Blobs) → Were f w blobs
+      → IsSpare f tried blobs (done_of w k r (fin.get w.tickets k)).ops (done_of w k r (fin.get w.tickets k)).tickets
   does k r t there op op_there blobs were =
       subst (λ o. IsSpare f tried blobs (done_of w k r o).ops (done_of w k r o).tickets) (sym there)
       (subst (λ o. IsSpare f tried blobs (done_by w k r t o).ops (done_by w k r t o).tickets) (sym op_there)
@@ -245,7 +244,8 @@ module _ (f : Formats) (tried : ℕ → BlobName → Type 0) (w : World) (shelf 
       by false = fails_op k t there (fin.get w.ops t.op) refl blobs were
 
   -- its op is over
-  leaves_op : (k o : ℕ) (t v : Ticket) → fin.get w.tickets k ≡ Some t → Goes f w t v → v.raised ≡ t.raised → v.first ≡ t.first → v.drawn ≡ t.drawn → (blobs : Blobs) → Were f w blobs → IsSpare f tried blobs (fin.remove w.ops o) (fin.insert w.tickets k v)
+  leaves_op : (k o : ℕ) (t v : Ticket) → fin.get w.tickets k ≡ Some t → Goes f w t v → v.raised ≡ t.raised → v.first ≡ t.first → v.drawn ≡ t.drawn → (blobs : Blobs) → Were f w blobs
+      → IsSpare f tried blobs (fin.remove w.ops o) (fin.insert w.tickets k v)
   leaves_op k o t v there goes same first drawn blobs were =
       framed f tried w l blobs (fin.remove w.ops o) (fin.insert w.tickets k v) (came_put f w k t v there goes) (own_put w.tickets l.own k t v there same first drawn) (pending_left f w o) were
 
@@ -348,7 +348,7 @@ module _ (f : Formats) (size : ℕ) (tried : ℕ → BlobName → Type 0) (w : W
   committed t name (Some bytes) = (goes_same f w t (committing name (Some bytes) t) refl (λ e. e) refl refl refl refl, refl, refl, refl)
 
   commits : (k : ℕ) (name : BlobName) (image : Option Image) (c : Commits f size w k name) → Told image (Adds f w name c.bytes) → (i : Image) → image ≡ Some i → tried k name → Next k (CommitStep name) WasDone image
-  commits k name None c adds i told mine = absurd (none_some i told)
+  commits k name None c adds i told mine = absurd (none-some i told)
   commits k name (Some x) c adds i told mine =
       let o : Option Bytes = fin.get x.blobs (f.names.text name) in
       let n = committed c.t name o in
@@ -357,20 +357,23 @@ module _ (f : Formats) (size : ℕ) (tried : ℕ → BlobName → Type 0) (w : W
       (added_spare f tried w shelf law l k c.t c.out name c.bytes c.may c.named adds.0 mine (fin.insert w.tickets k (committing name (fin.get x.blobs (f.names.text name)) c.t))
       (beside_put f w k c.t (committing name (fin.get x.blobs (f.names.text name)) c.t) n.0) (own_put w.tickets l.own k c.t (committing name (fin.get x.blobs (f.names.text name)) c.t) c.out.there n.1 n.2 n.3))))
 
-  leaves : (k : ℕ) (name : BlobName) (image : Option Image) (c : Commits f size w k name) → Told image (λ blobs. (blobs ≡ w.blobs) ⊎ Adds f w name c.bytes blobs) → (i : Image) → image ≡ Some i → tried k name → Next k (CommitStep name) (Refused DepotFault) image
-  leaves k name None c left i told mine = absurd (none_some i told)
+  leaves : (k : ℕ) (name : BlobName) (image : Option Image) (c : Commits f size w k name) → Told image (λ blobs. (blobs ≡ w.blobs) ⊎ Adds f w name c.bytes blobs) → (i : Image) → image ≡ Some i → tried k name
+      → Next k (CommitStep name) (Refused DepotFault) image
+  leaves k name None c left i told mine = absurd (none-some i told)
   leaves k name (Some x) c left i told mine = elim left [
     | inl same ↦ inr (kept f tried w shelf law l x.blobs (λ m b no_test h. subst (λ (y : Blobs). At f y m b) same h))
     | inr adds ↦ inr (subst (λ b. IsSpare f tried b w.ops w.tickets) (sym adds.1) (added_spare f tried w shelf law l k c.t c.out name c.bytes c.may c.named adds.0 mine w.tickets (λ j u e. inr e) l.own))
   ]
 
-  replaces : (k : ℕ) (image : Option Image) (t : Ticket) → fin.get w.tickets k ≡ Some t → (n : ℕ) → ReadsBack f.names Latest → Told image (λ blobs. blobs ≡ fin.insert w.blobs (f.names.text Latest) (latest_text n)) → (i : Image) → image ≡ Some i → Next k LatestStep WasReplaced image
-  replaces k None t there n named puts i told = absurd (none_some i told)
+  replaces : (k : ℕ) (image : Option Image) (t : Ticket) → fin.get w.tickets k ≡ Some t → (n : ℕ) → ReadsBack f.names Latest → Told image (λ blobs. blobs ≡ fin.insert w.blobs (f.names.text Latest) (latest_text n)) → (i : Image)
+      → image ≡ Some i → Next k LatestStep WasReplaced image
+  replaces k None t there n named puts i told = absurd (none-some i told)
   replaces k (Some x) t there n named puts i told = inr (tries f tried w shelf law l k t there x.blobs (latest_were f tried w shelf law l x.blobs (latest_text n) named puts))
 
-  unreplaced : (k : ℕ) (image : Option Image) (t : Ticket) → fin.get w.tickets k ≡ Some t → (n : ℕ) → ReadsBack f.names Latest → Told image (λ blobs. (blobs ≡ w.blobs) ⊎ (blobs ≡ fin.insert w.blobs (f.names.text Latest) (latest_text n))) → (i : Image) → image ≡ Some i
+  unreplaced : (k : ℕ) (image : Option Image) (t : Ticket) → fin.get w.tickets k ≡ Some t → (n : ℕ) → ReadsBack f.names Latest
+      → Told image (λ blobs. (blobs ≡ w.blobs) ⊎ (blobs ≡ fin.insert w.blobs (f.names.text Latest) (latest_text n))) → (i : Image) → image ≡ Some i
       → Next k LatestStep (Refused DepotFault) image
-  unreplaced k None t there n named puts i told = absurd (none_some i told)
+  unreplaced k None t there n named puts i told = absurd (none-some i told)
   unreplaced k (Some x) t there n named puts i told = inr (tries f tried w shelf law l k t there x.blobs (elim puts [
     | inl same ↦ λ m b no_test h. subst (λ (y : Blobs). At f y m b) same h
     | inr put ↦ latest_were f tried w shelf law l x.blobs (latest_text n) named put
@@ -382,7 +385,8 @@ module _ (f : Formats) (size : ℕ) (tried : ℕ → BlobName → Type 0) (w : W
   asks_restore name place reply image (NamedByDelete uuid d im listed named) same = inr (still f tried w shelf law l im same)
   asks_restore name place reply image (FullOfRestores uuid im listed spared full) same = inr (still f tried w shelf law l im same)
 
-  asks_clone : (source name : Bytes) (names : List Bytes) (time : ℕ) (taken : Option CloneOf) (reply : Reply) (image : Option Image) → CloneAllows f w source name names time taken reply image → SameBlobs w image → Next 0 (AskStep (Clone source name names time taken)) reply image
+  asks_clone : (source name : Bytes) (names : List Bytes) (time : ℕ) (taken : Option CloneOf) (reply : Reply) (image : Option Image) → CloneAllows f w source name names time taken reply image → SameBlobs w image
+      → Next 0 (AskStep (Clone source name names time taken)) reply image
   asks_clone source name names time taken reply image (OpeningClone t o im acc) same = inr (opens f tried w shelf law l (cloned_op w name time t) refl (blobs_in im w.blobs) (same_were f tried w shelf law l im same))
   asks_clone source name names time taken reply image (CloneUsed uuid im clear is) same = inr (still f tried w shelf law l im same)
   asks_clone source name names time taken reply image (SourceNotListed im may none) same = inr (still f tried w shelf law l im same)
@@ -433,7 +437,7 @@ module _ (f : Formats) (size : ℕ) (tried : ℕ → BlobName → Type 0) (w : W
 
   -- of blobs that a told image has
   at_told : (image : Option Image) (P : Blobs → Type 0) → ((now : Blobs) → P now → Were f w now) → (i : Image) → image ≡ Some i → Told image P → Were f w (blobs_in image w.blobs)
-  at_told None P by i told h = absurd (none_some i told)
+  at_told None P by i told h = absurd (none-some i told)
   at_told (Some x) P by i told h = by x.blobs h
 
   test_or_not : (name : BlobName) (bytes : Bytes) → IsOwnTest f w name → (now : Blobs) → (now ≡ w.blobs) ⊎ Adds f w name bytes now → Were f w now
@@ -471,7 +475,8 @@ module _ (f : Formats) (size : ℕ) (tried : ℕ → BlobName → Type 0) (w : W
   prunes k prune reply image i told (EndingDelete j im e same) = inr (ends f tried w shelf law l j e.t e.deleting.out.there (blobs_in im w.blobs) (same_were f tried w shelf law l im same))
   prunes k prune reply image i told (FailingDelete j why im c same) = inr (fails_delete f tried w shelf law l j c.t c.deleting.out.there (blobs_in im w.blobs) (same_were f tried w shelf law l im same))
 
-  spare_by : (who : ℕ) (step : Step) (reply : Reply) (image : Option Image) → ((name : BlobName) → step ≡ CommitStep name → MayLeave reply → tried who name) → (i : Image) → image ≡ Some i → Allows f size w who step reply image → Next who step reply image
+  spare_by : (who : ℕ) (step : Step) (reply : Reply) (image : Option Image) → ((name : BlobName) → step ≡ CommitStep name → MayLeave reply → tried who name) → (i : Image) → image ≡ Some i → Allows f size w who step reply image
+      → Next who step reply image
   spare_by who step reply image mine i told (allowed.Accepting name indices time o im acc same) = inr (opens f tried w shelf law l (asked_op w name indices time) refl (blobs_in im w.blobs) (same_were f tried w shelf law l im same))
   spare_by who step reply image mine i told (allowed.GivingNothing im none same) = inr (still f tried w shelf law l im same)
   spare_by who step reply image mine i told (allowed.Giving k o unit im is lowest g same) = inr (gives f tried w shelf law l o unit g (blobs_in im w.blobs) (same_were f tried w shelf law l im same))
@@ -525,7 +530,8 @@ module _ (f : Formats) (size : ℕ) (tried : ℕ → BlobName → Type 0) (w : W
   spare_by who step reply image mine i told (allowed.DropFails k im c same) = inl refl
   spare_by who step reply image mine i told (allowed.ElectFails im room same) = inl refl
 
-  pub step_spare : (m : Moment) → ((name : BlobName) → m.entry.step ≡ CommitStep name → MayLeave m.entry.reply → tried m.entry.who name) → (i : Image) → m.image ≡ Some i → Allowed f size w m → ((after f w m).deposed ≡ true) ⊎ Spare f tried (after f w m)
+  pub step_spare : (m : Moment) → ((name : BlobName) → m.entry.step ≡ CommitStep name → MayLeave m.entry.reply → tried m.entry.who name) → (i : Image) → m.image ≡ Some i → Allowed f size w m
+      → ((after f w m).deposed ≡ true) ⊎ Spare f tried (after f w m)
   step_spare m mine i told a = elim a.answered [
     | inl alive ↦ spare_by m.entry.who m.entry.step m.entry.reply m.image mine i told alive.1
     | inr dead ↦ subst (λ (x : World). (x.deposed ≡ true) ⊎ Spare f tried x) (sym (blocked_stays f w m dead)) (inr l)

@@ -10,7 +10,7 @@ use Rattle.esr_core.specs.Allowed as allowed
 use Rattle.esr_core.specs.Allowed.{Allows, Allowed}
 use Rattle.esr_desk.specs.Start.{Start, Legal, formats_of, world_of}
 use Rattle.esr_desk.specs.Last.{IsLast}
-use Rattle.esr_quiet.proofs.Prefixes.{world_both, legal_rest}
+use Rattle.esr_quiet.specs.PrefixLaws.{world_both, legal_rest}
 
 abbrev empty_take : Option Image → Moment
 empty_take image = record { entry = record { who = 0; step = TakeStep; reply = NothingReady }; image = image }

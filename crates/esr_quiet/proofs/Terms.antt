@@ -4,6 +4,8 @@ use Rattle.std.specs.Prelude.{◌≢◌}
 use Rattle.std.proofs.lemmas.Bool.Decides.{eqb_tells}
 use Rattle.std.specs.FinMap.{FinMap}
 use Rattle.std.specs.FinMap as fin
+use Rattle.std.proofs.lemmas.Bool.{cases_Bool}
+use Rattle.std.proofs.lemmas.Option.{same_Some}
 use Rattle.esr_model.specs.Values.{Has, Formats}
 use Rattle.esr_model.specs.Image.{Image}
 use Rattle.esr_core.specs.World.{World, Ticket, Opened, OpenedEmpty, OpenedRecord}
@@ -12,15 +14,15 @@ use Rattle.esr_core.specs.After.{answered, after}
 use Rattle.esr_core.specs.Allowed.{Allowed}
 use Rattle.esr_core.specs.Changes.{StepChange, Election, SwapFault}
 use Rattle.esr_core.specs.History.{world_from, IsLegal}
-use Rattle.esr_core.proofs.Blocked.{blocked_stays}
-use Rattle.esr_core.proofs.Changes.{change_of}
-use Rattle.esr_core.proofs.StepFrames.{step_frame}
+use Rattle.esr_core.specs.Laws.Asides.{blocked_stays}
+use Rattle.esr_core.specs.Laws.ChangeLaws.{change_of}
+use Rattle.esr_core.specs.Laws.StepFrames.{step_frame}
 use Rattle.esr_desk.specs.Start.{Start, formats_of, world_of, Legal, or_no_ticket}
 use Rattle.esr_quiet.specs.Smooth.{HasElection, IsStaleTicket}
 use Rattle.esr_quiet.specs.OverKept.{IsLawful}
-use Rattle.esr_core.specs.NumberMaps.{some_same, nothing}
-use Rattle.esr_quiet.proofs.Askers.{AsksOrElects, asker}
-use Rattle.esr_quiet.proofs.Prefixes.{world_both, legal_front, has_front}
+use Rattle.esr_core.specs.Laws.NumberMaps.{nothing}
+use Rattle.esr_quiet.specs.Askers.{AsksOrElects, asker}
+use Rattle.esr_quiet.specs.PrefixLaws.{world_both, legal_front, has_front}
 
 -- who 0 elected no master
 abbrev AreUnelected : List Moment → Type 0
@@ -78,16 +80,12 @@ elect_step : (step : Step) → is_elect step ≡ true → step ≡ ElectStep
 elect_step ElectStep e = refl
 elect_step step e = absurd (true≢false (sym e))
 
-bool_told : (b : Bool) → (b ≡ true) ⊎ (b ≡ false)
-bool_told true = inl refl
-bool_told false = inr refl
-
 elected_or_not : (log : List Moment) → HasElection log ⊎ AreUnelected log
 elected_or_not [] = inr (λ n has who is. has)
 elected_or_not (m ∷ log) = elim (elected_or_not log) [
   | inl e ↦ inl (e.0, inr e.1, e.2, e.3)
   | inr none ↦ elim (eqb_tells m.entry.who 0) [
-    | inl nobody ↦ elim (bool_told (is_elect m.entry.step)) [
+    | inl nobody ↦ elim (cases_Bool (is_elect m.entry.step)) [
       | inl elects ↦ inl (m, inl refl, nobody.1, elect_step m.entry.step elects)
       | inr other ↦ inr (λ n has who is. elim has [ inl same ↦ true≢false (sym (ap is_elect (ap (λ (x : Moment). x.entry.step) same ∙ is)) ∙ other) | inr later ↦ none n later who is ])
     ]
@@ -96,7 +94,8 @@ elected_or_not (m ∷ log) = elim (elected_or_not log) [
 ]
 
 -- it is stale
-pub stale_or_present : (s : Start) (log : List Moment) (image : Image) → Opened (formats_of s) image s.world → Legal s log → (k : ℕ) (t : Ticket) → fin.get (world_of s log).tickets k ≡ Some t → (t.term ≡ (world_of s log).term) ⊎ IsStaleTicket s log k
+pub stale_or_present : (s : Start) (log : List Moment) (image : Image) → Opened (formats_of s) image s.world → Legal s log → (k : ℕ) (t : Ticket) → fin.get (world_of s log).tickets k ≡ Some t
+    → (t.term ≡ (world_of s log).term) ⊎ IsStaleTicket s log k
 stale_or_present s log image opened legal k t there = elim (eqb_tells t.term (world_of s log).term) [
   | inl same ↦ inl same.1
   | inr other ↦
@@ -146,11 +145,12 @@ module _ (s : Start) (log : List Moment) (lawful : IsLawful s log) where
       (v, end, same ∙ unit.term)
 
   -- one that is of the present term at the end was so in each world that has it
-  pub of_term_before : (front back : List Moment) → log ≡ front ++ back → (k : ℕ) (t v : Ticket) → fin.get (world_of s front).tickets k ≡ Some t → fin.get (world_of s log).tickets k ≡ Some v → v.term ≡ (world_of s log).term → t.term ≡ (world_of s front).term
+  pub of_term_before : (front back : List Moment) → log ≡ front ++ back → (k : ℕ) (t v : Ticket) → fin.get (world_of s front).tickets k ≡ Some t → fin.get (world_of s log).tickets k ≡ Some v → v.term ≡ (world_of s log).term
+      → t.term ≡ (world_of s front).term
   of_term_before front back is k t v there end present =
       let law = lawful.lawful front back is in
       let (u, at, same) = term_stays front back is k t there in
-      let kept : v.term ≡ t.term = ap (λ (x : Ticket). x.term) (some_same v u (sym end ∙ at)) ∙ same in
+      let kept : v.term ≡ t.term = ap (λ (x : Ticket). x.term) (same_Some v u (sym end ∙ at)) ∙ same in
       let rises : (world_of s front).term ≤ (world_of s log).term =
       subst (λ (x : World). (world_of s front).term ≤ x.term) (sym (ap (world_of s) is ∙ world_both (formats_of s) front back s.world)) (terms_rise (formats_of s) back (world_of s front)) in
       between t.term v.term (world_of s front).term (world_of s log).term kept present (law.1.lawful.sound.rooted.tickets k t there).term rises

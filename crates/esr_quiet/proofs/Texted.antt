@@ -2,6 +2,7 @@
 use Rattle.std.proofs.Common.{◌≡◌, ℕ, zero, suc, Bool, true, false, List, [], ◌∷◌, ◌++◌, append-nil, append_assoc, Option, Some, None, refl, sym, ap, ◌∙◌, subst, inl, inr}
 use Rattle.std.specs.Prelude.{if◌then◌else◌}
 use Rattle.std.specs.FinMap as fin
+use Rattle.std.proofs.lemmas.Option.{same_Some}
 use Rattle.esr_model.specs.Names.{BlobName, Root, Latest, Snap, Meta, IndexMeta, ShardSnap, ShardIndex, File, Part, TestMaster, TestNode}
 use Rattle.esr_model.specs.Values.{Bytes, Has, FileEntry, RootData, Formats}
 use Rattle.esr_model.specs.Parts.{part_names}
@@ -13,18 +14,18 @@ use Rattle.esr_core.specs.Entry.{Why, Read, ReadBlob, RestoredShard, CommitTest,
 use Rattle.esr_core.specs.After.{is_heard, caller_told, caller_wrote, caller_read, caller_by, caller_after}
 use Rattle.esr_core.specs.Allowed as allowed
 use Rattle.esr_core.specs.Allowed.{MayRead, MayVerify, InReach, Fetcher, ByReader, ByCheck, ByVerify, SameBlobs, IsOwnTest, ReadAllows, ReadFound, ReadMissing, ReadFault, RestoringShard, ReaderFailing, CheckingAll, CheckFailing, VerifyAllows, DrawingTest, TestSpent, BeginningTest, BeginTestFails, CommittingTest, TestTaken, CommitTestFails, RemovingTests, RemoveTestsFails, VerifyingAll, VerifyFailing, Allows}
-use Rattle.esr_core.proofs.Blocked.{blocked_stays}
-use Rattle.esr_core.proofs.Pieces.{in_parts}
+use Rattle.esr_core.specs.Laws.Asides.{blocked_stays}
+use Rattle.esr_core.specs.Laws.PartNames.{in_parts}
 use Rattle.esr_names.specs.IdText.{id_text}
 use Rattle.esr_desk.specs.Start.{Start, formats_of, world_of, told_bytes}
 use Rattle.esr_desk.specs.Own.{caller_of}
 use Rattle.esr_quiet.specs.Free.{Free}
 use Rattle.esr_quiet.specs.Smooth.{IsSmooth}
 use Rattle.esr_quiet.specs.Prefixes.{Prefixes}
-use Rattle.esr_core.specs.NumberMaps.{some_same, some_none}
-use Rattle.esr_quiet.proofs.Prefixes.{world_both, told_at, has_at}
-use Rattle.esr_quiet.proofs.Passing.{legal_at}
-use Rattle.esr_quiet.proofs.Callers.{caller_one}
+use Rattle.esr_core.specs.Laws.NumberMaps.{some_none}
+use Rattle.esr_quiet.specs.PrefixLaws.{world_both, has_at, legal_at}
+use Rattle.esr_quiet.proofs.Prefixes.{told_at}
+use Rattle.esr_quiet.specs.CallerSteps.{caller_one}
 
 -- ---- who fetches a test blob
 
@@ -97,12 +98,13 @@ module _ (f : Formats) (size : ℕ) (w : World) (free : Free f w) (h : IsTexted 
     ];
   }
 
-  fetched_same : (name : BlobName) (image : Image) → image.blobs ≡ w.blobs → (v who : ℕ) (bytes : Bytes) → Fetcher f w name (Some image) who → IsTestOf v name → fin.get image.blobs (f.names.text name) ≡ Some bytes → Has w.caller.wrote (name, bytes)
+  fetched_same : (name : BlobName) (image : Image) → image.blobs ≡ w.blobs → (v who : ℕ) (bytes : Bytes) → Fetcher f w name (Some image) who → IsTestOf v name → fin.get image.blobs (f.names.text name) ≡ Some bytes
+      → Has w.caller.wrote (name, bytes)
   fetched_same name image same v who bytes by test is =
       let may : MayVerify w name = by_verify f w name image v who test by in
       let (b, wrote) = h.written name may.committed in
       let there = free.wrote name b wrote may.unremoved in
-      let equal : bytes ≡ b = some_same bytes b (sym is ∙ ap (λ (blobs : Blobs). fin.get blobs (f.names.text name)) same ∙ there.0) in
+      let equal : bytes ≡ b = same_Some bytes b (sym is ∙ ap (λ (blobs : Blobs). fin.get blobs (f.names.text name)) same ∙ there.0) in
       subst (λ (x : Bytes). Has w.caller.wrote (name, x)) (sym equal) wrote
 
   found_texted : (k : ℕ) (name : BlobName) (image : Option Image) (i : Image) → image ≡ Some i → SameBlobs w image → Fetcher f w name image k → IsTexted (caller_by f w.caller k (ReadBlob name) WasFetched image)
@@ -156,10 +158,11 @@ module _ (f : Formats) (size : ℕ) (w : World) (free : Free f w) (h : IsTexted 
     same = λ m bytes v test there. inr (h.same m bytes v test there);
   }
 
-  commits_texted : (name : BlobName) (image : Option Image) → IsOwnTest f w name → AddsText w (ReadStep (CommitTest name)) WasDone (caller_read f w.caller (CommitTest name) WasDone image) → IsTexted (caller_read f w.caller (CommitTest name) WasDone image)
+  commits_texted : (name : BlobName) (image : Option Image) → IsOwnTest f w name → AddsText w (ReadStep (CommitTest name)) WasDone (caller_read f w.caller (CommitTest name) WasDone image)
+      → IsTexted (caller_read f w.caller (CommitTest name) WasDone image)
   commits_texted name image own adds =
       let (id, drawn, is) = adds name refl refl in
-      let one : own.id ≡ id = some_same own.id id (sym own.drawn ∙ drawn) in
+      let one : own.id ≡ id = same_Some own.id id (sym own.drawn ∙ drawn) in
       subst IsTexted (sym is) (wrote_texted name id drawn (subst (λ (n : ℕ). IsTestOf n name) one own.test))
 
   verifies_texted : (read : Read) (reply : Reply) (image : Option Image) → AddsText w (ReadStep read) reply (caller_read f w.caller read reply image) → VerifyAllows f w read reply image → IsTexted (caller_read f w.caller read reply image)
@@ -175,7 +178,8 @@ module _ (f : Formats) (size : ℕ) (w : World) (free : Free f w) (h : IsTexted 
   verifies_texted read reply image adds (VerifyingAll im done same) = none_texted None
   verifies_texted read reply image adds (VerifyFailing why im begun same) = none_texted None
 
-  by_read : (who : ℕ) (read : Read) (reply : Reply) (image : Option Image) (i : Image) → image ≡ Some i → AddsText w (ReadStep read) reply (caller_by f w.caller who read reply image) → Allows f size w who (ReadStep read) reply image → IsTexted (caller_by f w.caller who read reply image)
+  by_read : (who : ℕ) (read : Read) (reply : Reply) (image : Option Image) (i : Image) → image ≡ Some i → AddsText w (ReadStep read) reply (caller_by f w.caller who read reply image) → Allows f size w who (ReadStep read) reply image
+      → IsTexted (caller_by f w.caller who read reply image)
   by_read who read reply image i told adds (allowed.Reading k r rep im a same) = reads_texted k r rep im i told same a
   by_read who read reply image i told adds (allowed.Verifying r rep im a) = verifies_texted r rep im adds a
 
@@ -188,7 +192,8 @@ module _ (f : Formats) (size : ℕ) (w : World) (free : Free f w) (h : IsTexted 
   looked_texted true = none_texted None
   looked_texted false = h
 
-  step_texted : (who : ℕ) (step : Step) (reply : Reply) (image : Option Image) (i : Image) → image ≡ Some i → AddsText w step reply (caller_after f w.caller who step reply image) → Allows f size w who step reply image → IsTexted (caller_after f w.caller who step reply image)
+  step_texted : (who : ℕ) (step : Step) (reply : Reply) (image : Option Image) (i : Image) → image ≡ Some i → AddsText w step reply (caller_after f w.caller who step reply image) → Allows f size w who step reply image
+      → IsTexted (caller_after f w.caller who step reply image)
   step_texted who (AskStep command) reply image i told adds a = asked_texted (is_heard reply)
   step_texted who LookStep reply image i told adds a = looked_texted (is_heard reply)
   step_texted who (ReadStep read) reply image i told adds a = by_read who read reply image i told adds a

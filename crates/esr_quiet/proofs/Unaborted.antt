@@ -2,6 +2,7 @@
 use Rattle.std.proofs.Common.{◌≡◌, ◌≢◌, ℕ, true, false, true≢false, List, [], ◌∷◌, ◌++◌, append-nil, append_assoc, map, Option, Some, None, refl, sym, ap, ◌∙◌, subst, inl, inr, nat_cmp}
 use Rattle.std.specs.FinMap.{FinMap}
 use Rattle.std.specs.FinMap as fin
+use Rattle.std.proofs.lemmas.Option.{same_Some}
 use Rattle.esr_model.specs.Values.{Formats}
 use Rattle.esr_model.specs.Image.{Image}
 use Rattle.esr_core.specs.World.{World, Op, Deletion, ShardWork, Deleting, Drop, Swap, Ticket, RestoreShard, Restoring, Opened, OpenedEmpty, OpenedRecord}
@@ -11,15 +12,14 @@ use Rattle.esr_core.specs.Entry.{Asked, Given, GivenShard, GivenFinalize, GivenD
 use Rattle.esr_core.specs.After.{taken_by, taken_shard, taken_restore, taken_restore_shard, answered, after}
 use Rattle.esr_core.specs.Allowed.{Gives, GivesShard, Blocks, ByFailedSwap, ByDelete, Allowed}
 use Rattle.esr_core.specs.Changes.{IsAsk, SameUnit, SameOps, AsBefore, OneAnew, StepChange, NoChange, NewOp, NewDeletion, MergedDeletion, NewRestore, NewTicket, NewReader, OwnTicket, Settlement, UnitEnd, DeletionFailure, OpDrop, Election, ReaderFetch, ReaderEnd, PlainDraw, TestBlob, SwapFault}
-use Rattle.esr_core.proofs.Changes.{settled_unit, change_of}
-use Rattle.esr_core.proofs.Causes.{take_gave}
+use Rattle.esr_core.specs.Laws.ChangeLaws.{settled_unit, change_of}
+use Rattle.esr_core.specs.Laws.TakeAnswers.{take_gave}
 use Rattle.esr_desk.specs.Start.{Start, formats_of, world_of, or_no_ticket}
 use Rattle.esr_quiet.specs.Smooth.{IsSmooth}
 use Rattle.esr_quiet.specs.Prefixes.{Prefixes}
-use Rattle.esr_quiet.proofs.Askers.{AsksOrElects, asker}
-use Rattle.esr_core.specs.NumberMaps.{some_same, some_none, get_same, get_was, get_left, nothing}
-use Rattle.esr_quiet.proofs.Prefixes.{world_both}
-use Rattle.esr_quiet.proofs.Passing.{quiet_at, legal_at}
+use Rattle.esr_quiet.specs.Askers.{AsksOrElects, asker}
+use Rattle.esr_core.specs.Laws.NumberMaps.{some_none, nothing, same_in, was_in, left_in}
+use Rattle.esr_quiet.specs.PrefixLaws.{world_both, quiet_at, legal_at}
 
 abbrev Ops : Type 0
 Ops = FinMap nat_cmp Op
@@ -47,13 +47,13 @@ ops_same : (ops : Ops) → GoOn ops ops
 ops_same ops o v e = (v, e, refl)
 
 ops_put : (ops : Ops) (o : ℕ) (op v : Op) → fin.get ops o ≡ Some op → v.aborted ≡ op.aborted → GoOn ops (fin.insert ops o v)
-ops_put ops o op v there same p u e = elim (get_was ops o v p u e) [
+ops_put ops o op v there same p u e = elim (was_in ops o v p u e) [
   | inl x ↦ (op, ap (fin.get ops) x.0 ∙ there, ap (λ (q : Op). q.aborted) (sym x.1) ∙ same)
   | inr x ↦ (u, x.1, refl)
 ]
 
 ops_less : (ops : Ops) (o : ℕ) → GoOn ops (fin.remove ops o)
-ops_less ops o p u e = (u, (get_left ops o p u e).1, refl)
+ops_less ops o p u e = (u, (left_in ops o p u e).1, refl)
 
 -- ---- tickets
 
@@ -73,7 +73,7 @@ module _ (was now : Ops) (on : GoOn was now) (tickets : Tickets) (h : AreUnabort
 
   -- one goes on as the same unit
   goes_on : (k : ℕ) (t v : Ticket) → fin.get tickets k ≡ Some t → SameUnit t v → AreUnaborted now (fin.insert tickets k v)
-  goes_on k t v there unit j u op e out work op_there = elim (get_was tickets k v j u e) [
+  goes_on k t v there unit j u op e out work op_there = elim (was_in tickets k v j u e) [
     | inl x ↦
         let same_unit : SameUnit t u = subst (SameUnit t) x.1 unit in
         stay k t op there (same_unit.out out) (λ drop. work (was_drop t u same_unit drop)) (ap (fin.get now) (sym same_unit.op) ∙ op_there)
@@ -82,14 +82,14 @@ module _ (was now : Ops) (on : GoOn was now) (tickets : Tickets) (h : AreUnabort
 
   -- one ends
   ends : (k : ℕ) (t : Ticket) → AreUnaborted now (fin.insert tickets k (record t { out = false }))
-  ends k t j u op e out work op_there = elim (get_was tickets k (record t { out = false }) j u e) [
+  ends k t j u op e out work op_there = elim (was_in tickets k (record t { out = false }) j u e) [
     | inl x ↦ absurd (true≢false (sym out ∙ sym (ap (λ (y : Ticket). y.out) x.1)))
     | inr x ↦ stay j u op x.1 out work op_there
   ]
 
   -- one comes
   comes : (k : ℕ) (t : Ticket) → ((op : Op) → t.work ≢ Drop → fin.get now t.op ≡ Some op → op.aborted ≡ None) → AreUnaborted now (fin.insert tickets k t)
-  comes k t mine j u op e out work op_there = elim (get_was tickets k t j u e) [
+  comes k t mine j u op e out work op_there = elim (was_in tickets k t j u e) [
     | inl x ↦ subst (λ (y : Ticket). y.work ≢ Drop → fin.get now y.op ≡ Some op → op.aborted ≡ None) x.1 (mine op) work op_there
     | inr x ↦ stay j u op x.1 out work op_there
   ]
@@ -132,7 +132,7 @@ module _ (f : Formats) (w : World) (h : AreUnabortedIn w) where
     gives_shard o index number source base g =
         let v : Op = record g.op { shards = map (given w.next_ticket g.s.ref.id g.s.number) g.op.shards } in
         comes w.ops (fin.insert w.ops o v) (ops_put w.ops o g.op v g.ready.op_there refl) w.tickets h w.next_ticket (shard_ticket w o g.op g.s base)
-        (λ op work there. ap (λ (q : Op). q.aborted) (some_same op v (sym there ∙ get_same w.ops o v)) ∙ g.ready.goes.unaborted)
+        (λ op work there. ap (λ (q : Op). q.aborted) (same_Some op v (sym there ∙ same_in w.ops o v)) ∙ g.ready.goes.unaborted)
 
     gives : (o : ℕ) (unit : Given) → Gives f w o unit → AreUnabortedIn (taken_by f w o unit (fin.get w.ops o))
     gives o (GivenShard index number base) g =
@@ -144,7 +144,7 @@ module _ (f : Formats) (w : World) (h : AreUnabortedIn w) where
     gives o (GivenFinalize info results) g =
         subst (λ (y : Option Op). AreUnabortedIn (taken_by f w o (GivenFinalize info results) y)) (sym g.ready.op_there)
         (comes w.ops w.ops (ops_same w.ops) w.tickets h w.next_ticket (final_ticket f w o g.op results)
-        (λ op work there. ap (λ (q : Op). q.aborted) (some_same op g.op (sym there ∙ g.ready.op_there)) ∙ g.ready.goes.unaborted))
+        (λ op work there. ap (λ (q : Op). q.aborted) (same_Some op g.op (sym there ∙ g.ready.op_there)) ∙ g.ready.goes.unaborted))
     gives o GivenDrop g = comes w.ops w.ops (ops_same w.ops) w.tickets h w.next_ticket (plain_ticket w o Drop) (λ op work there. absurd (work refl))
     gives o (GivenRestore index number uuid) g =
         subst (λ (y : Option Restoring). AreUnabortedIn (taken_restore w o index number y)) (sym g.ready.there)
@@ -159,7 +159,8 @@ module _ (f : Formats) (w : World) (h : AreUnabortedIn w) where
     take who (Refused refusal) image given = h
     take who reply image given = h
 
-    by_step : (who : ℕ) (step : Step) (reply : Reply) (image : Option Image) → ((k o : ℕ) (unit : Given) → reply ≡ Gave k o unit → Gives f w o unit) → (IsAsk step → NoneOutIn w.tickets) → AreUnabortedIn (answered f w who step reply image)
+    by_step : (who : ℕ) (step : Step) (reply : Reply) (image : Option Image) → ((k o : ℕ) (unit : Given) → reply ≡ Gave k o unit → Gives f w o unit) → (IsAsk step → NoneOutIn w.tickets)
+        → AreUnabortedIn (answered f w who step reply image)
     by_step who TakeStep reply image given none = take who reply image given
     by_step who step reply image given none = kept who step (answered f w who step reply image) (change_of f w who step reply image) none (λ x. x)
 

@@ -10,17 +10,16 @@ use Rattle.esr_core.specs.Entry.{Restore, GivenRestore, Read, ReadBlob, Restored
 use Rattle.esr_core.specs.After.{taken_restore, told_blob, read_told, read_over, read_step, read_by, test_left, faulted, answered, after}
 use Rattle.esr_core.specs.Allowed.{Allowed}
 use Rattle.esr_core.specs.History.{world_from, IsLegal}
-use Rattle.esr_core.proofs.Blocked.{blocked_stays}
+use Rattle.esr_core.specs.Laws.Asides.{blocked_stays}
 use Rattle.esr_core.specs.Ids.{InTerm}
-use Rattle.esr_core.proofs.Going.{goes_answered}
-use Rattle.esr_core.proofs.Makers.{maker}
+use Rattle.esr_core.specs.Laws.RestoreFrames.{goes_answered}
+use Rattle.esr_core.specs.Laws.Makers.{maker}
 use Rattle.esr_desk.specs.Start.{Start, formats_of, world_of}
 use Rattle.esr_quiet.specs.Smooth.{IsSmooth, NoneAsked, NoneUnrestored}
 use Rattle.esr_quiet.specs.Prefixes.{Prefixes}
-use Rattle.esr_quiet.proofs.Askers.{AsksOrElects, made_zero}
-use Rattle.esr_core.specs.NumberMaps.{nothing}
-use Rattle.esr_quiet.proofs.Prefixes.{legal_front, place_of, has_front}
-use Rattle.esr_quiet.proofs.Passing.{quiet_at, legal_at}
+use Rattle.esr_quiet.specs.Askers.{AsksOrElects, made_zero}
+use Rattle.esr_core.specs.Laws.NumberMaps.{nothing}
+use Rattle.esr_quiet.specs.PrefixLaws.{legal_front, place_of, has_front, quiet_at, legal_at}
 use Rattle.esr_quiet.proofs.Restores.{reading_at}
 
 -- no restore is open, and none has a ticket
@@ -91,7 +90,8 @@ none_one f size w room n m a asks = elim (maker f size w m a) [
   | inr blocked ↦ subst HasNone (sym (blocked_stays f w m blocked)) (record { restores = n.restores; readers = n.readers })
 ]
 
-none_history : (f : Formats) (size : ℕ) (log : List Moment) (w : World) → HasNone w → IsLegal f size w log → ((front back : List Moment) → log ≡ front ++ back → HasRoom (world_from f w front)) → NoneAsked log → HasNone (world_from f w log)
+none_history : (f : Formats) (size : ℕ) (log : List Moment) (w : World) → HasNone w → IsLegal f size w log → ((front back : List Moment) → log ≡ front ++ back → HasRoom (world_from f w front)) → NoneAsked log
+    → HasNone (world_from f w log)
 none_history f size [] w n legal rooms asks = n
 none_history f size (m ∷ log) w n legal rooms asks =
     none_history f size log (after f w m) (none_one f size w (rooms [] (m ∷ log) refl) n m legal.0 (λ name place. asks m name place (inl refl))) legal.1

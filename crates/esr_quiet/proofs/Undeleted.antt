@@ -6,9 +6,8 @@ use Rattle.esr_model.specs.Names.{BlobName, ShardIndex}
 use Rattle.esr_model.specs.Values.{Has, Formats}
 use Rattle.esr_model.specs.Image.{Image}
 use Rattle.esr_core.specs.World.{World, Ticket}
-use Rattle.esr_core.specs.Entry.{Reason, Why, OfDepot, OfSource, OfChange, OfAbsence, OfUnreadable, OfAhead, OfTaken, OfAbort, OfIdsSpent, OfGenerationsSpent, OfTarget, OfPrint, OfDisagreement, Prune, FetchShard, DeleteFails, Step, PruneStep, IdsSpent, GenerationsSpent, Reply, WasAbsent, HasEnded, Moment, Refusal, Refused}
-use Rattle.esr_core.specs.Allowed as allowed
-use Rattle.esr_core.specs.Allowed.{Told, FetchesShard, FailsDeletion, PruneAllows, ShardMissing, FailingDelete, Allows, Allowed}
+use Rattle.esr_core.specs.Entry.{Reason, Why, OfDepot, OfSource, OfChange, OfAbsence, OfUnreadable, OfAhead, OfTaken, OfAbort, OfIdsSpent, OfGenerationsSpent, OfTarget, OfPrint, OfDisagreement, FetchShard, PruneStep, IdsSpent, GenerationsSpent, WasAbsent, Moment}
+use Rattle.esr_core.specs.Allowed.{Told, FetchesShard, FailsDeletion, Allowed}
 use Rattle.esr_formats.specs.Reasons.{unreadable, unreadable_reads_not}
 use Rattle.esr_desk.specs.declared.hand.Hand.TheVariants as hands
 use Rattle.esr_desk.specs.declared.fault.Fault.{Fault}
@@ -21,8 +20,9 @@ use Rattle.esr_quiet.specs.Smooth.{IsSmooth, NoneUndeleted}
 use Rattle.esr_quiet.specs.Prefixes.{Prefixes}
 use Rattle.esr_quiet.specs.OverKept.{IsLawful}
 use Rattle.esr_quiet.specs.Undamaged.{IsDamage, NoDeleteFindsDamage}
-use Rattle.esr_quiet.proofs.Prefixes.{told_at, place_of, has_at}
-use Rattle.esr_quiet.proofs.Passing.{quiet_at, legal_at, smooth_front}
+use Rattle.esr_quiet.specs.PrefixLaws.{place_of, has_at, quiet_at, legal_at, smooth_front}
+use Rattle.esr_quiet.specs.DeleteTells.{Tells, told_by, fails_at}
+use Rattle.esr_quiet.proofs.Prefixes.{told_at}
 use Rattle.esr_quiet.proofs.Terms.{stale_or_present, of_term_before}
 use Rattle.esr_quiet.proofs.OverKept.{IsAlive, lawful_front, step_at, smooth_lawful, smooth_alive, alive_before}
 use Rattle.esr_quiet.proofs.Pruned.{is_there, does_read}
@@ -30,38 +30,8 @@ use Rattle.esr_quiet.proofs.Failures.{read_shown, step_shown, no_depot_fault, un
 
 -- ---- what a step tells
 
--- of a fetch that found nothing, and of a report
-abbrev Tells : Formats → World → ℕ → Step → Reply → Option Image → Type 0
-Tells f w who (PruneStep (FetchShard name)) WasAbsent image = FetchesShard f w who name × Told image (λ blobs. (fin.get w.blobs (f.names.text name) ≡ None) × (blobs ≡ w.blobs))
-Tells f w who (PruneStep (DeleteFails why)) HasEnded image = FailsDeletion w who
-Tells f w who step reply image = Unit {0}
-
-prune_tells : (f : Formats) (w : World) (who : ℕ) (prune : Prune) (reply : Reply) (image : Option Image) → PruneAllows f w who prune reply image → Tells f w who (PruneStep prune) reply image
-prune_tells f w who prune reply image (ShardMissing k name im g found) = (g, found)
-prune_tells f w who prune reply image (FailingDelete k why im c same) = c
-prune_tells f w who prune reply image a = tt
-
-tells : (f : Formats) (size : ℕ) (w : World) (who : ℕ) (step : Step) (reply : Reply) (image : Option Image) → Allows f size w who step reply image → Tells f w who step reply image
-tells f size w who step reply image (allowed.Pruning k prune rep im a) = prune_tells f w k prune rep im a
-tells f size w who step reply image a = tt
-
--- a refusal tells nothing
-refused_tells : (f : Formats) (w : World) (who : ℕ) (step : Step) (refusal : Refusal) (image : Option Image) → Tells f w who step (Refused refusal) image
-refused_tells f w who (PruneStep (FetchShard name)) refusal image = tt
-refused_tells f w who (PruneStep (DeleteFails why)) refusal image = tt
-refused_tells f w who step refusal image = tt
-
-told_by : (f : Formats) (size : ℕ) (w : World) (m : Moment) → w.deposed ≡ false → Allowed f size w m → Tells f w m.entry.who m.entry.step m.entry.reply m.image
-told_by f size w m present a = elim a.answered [
-  | inl alive ↦ tells f size w m.entry.who m.entry.step m.entry.reply m.image alive.1
-  | inr dead ↦ subst (λ (r : Reply). Tells f w m.entry.who m.entry.step r m.image) (sym dead.refused) (refused_tells f w m.entry.who m.entry.step dead.refusal m.image)
-]
-
-pub fails_at : (f : Formats) (size : ℕ) (w : World) (m : Moment) (why : Why) → w.deposed ≡ false → Allowed f size w m → m.entry.step ≡ PruneStep (DeleteFails why) → m.entry.reply ≡ HasEnded → FailsDeletion w m.entry.who
-fails_at f size w m why present a step reply =
-    subst (λ st. Tells f w m.entry.who st HasEnded m.image) step (subst (λ r. Tells f w m.entry.who m.entry.step r m.image) reply (told_by f size w m present a))
-
-misses_at : (f : Formats) (size : ℕ) (w : World) (m : Moment) (name : BlobName) → w.deposed ≡ false → Allowed f size w m → m.entry.step ≡ PruneStep (FetchShard name) → m.entry.reply ≡ WasAbsent → (image : Image) → m.image ≡ Some image
+misses_at : (f : Formats) (size : ℕ) (w : World) (m : Moment) (name : BlobName) → w.deposed ≡ false → Allowed f size w m → m.entry.step ≡ PruneStep (FetchShard name) → m.entry.reply ≡ WasAbsent → (image : Image)
+    → m.image ≡ Some image
     → FetchesShard f w m.entry.who name × (fin.get w.blobs (f.names.text name) ≡ None)
 misses_at f size w m name present a step reply image is =
     let h = subst (λ st. Tells f w m.entry.who st WasAbsent m.image) step (subst (λ r. Tells f w m.entry.who m.entry.step r m.image) reply (told_by f size w m present a)) in

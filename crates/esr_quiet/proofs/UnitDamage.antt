@@ -2,6 +2,7 @@
 use Rattle.std.proofs.Common.{◌≡◌, ℕ, List, [], ◌∷◌, ◌++◌, append-nil, append_assoc, Some, None, refl, sym, ap, ◌∙◌, subst, inl, inr}
 use Rattle.std.specs.Prelude.{length}
 use Rattle.std.specs.FinMap as fin
+use Rattle.std.proofs.lemmas.Option.{same_Some}
 use Rattle.esr_model.specs.Names.{BlobName, ShardSnap}
 use Rattle.esr_model.specs.Values.{Bytes, Has, Formats}
 use Rattle.esr_model.specs.Shelf.{Shelved}
@@ -11,7 +12,7 @@ use Rattle.esr_core.specs.Ready.{IsShard}
 use Rattle.esr_core.specs.Steps.{IsOut, IsToFetch}
 use Rattle.esr_core.specs.Ids.{Law}
 use Rattle.esr_core.specs.Entry.{Reason, Why, OfDepot, OfSource, OfChange, OfAbsence, OfUnreadable, OfAhead, OfTaken, OfAbort, OfIdsSpent, OfGenerationsSpent, OfTarget, OfPrint, OfDisagreement, FetchStep, WasAbsent, Moment}
-use Rattle.esr_core.proofs.Copying.{SourceStands, source_stands}
+use Rattle.esr_core.specs.Laws.CloneSources.{SourceStands, source_stands}
 use Rattle.esr_formats.specs.Reasons.{IsUnreadable, unreadable_reads_not}
 use Rattle.esr_desk.specs.declared.hand.Hand.TheVariants as hands
 use Rattle.esr_desk.specs.declared.fault.Fault.{Fault}
@@ -22,8 +23,9 @@ use Rattle.esr_desk.specs.Unit.Shown.{IsUnitShown}
 use Rattle.esr_quiet.specs.Caused.{AreCaused}
 use Rattle.esr_quiet.specs.OverKept.{IsLawful}
 use Rattle.esr_quiet.specs.Undamaged.{IsDamage, NoUnitFindsDamage}
-use Rattle.esr_core.specs.NumberMaps.{some_same, some_none}
-use Rattle.esr_quiet.proofs.Prefixes.{told_at, place_of, has_at}
+use Rattle.esr_core.specs.Laws.NumberMaps.{some_none}
+use Rattle.esr_quiet.specs.PrefixLaws.{place_of, has_at}
+use Rattle.esr_quiet.proofs.Prefixes.{told_at}
 use Rattle.esr_quiet.proofs.Bases as bases
 use Rattle.esr_quiet.proofs.OverKept.{IsAlive, lawful_front, step_at, alive_before}
 use Rattle.esr_quiet.proofs.Failures.{misses_at, fails_at, read_shown}
@@ -43,7 +45,7 @@ module _ (f : Formats) (w : World) (shelf : List Shelved) (l : Law f w shelf) (k
     copied_reads : (bytes : Bytes) → Has t.read (ShardSnap index number source, bytes) → f.shard_snap.read bytes ≡ None → ⊥
     copied_reads bytes read none =
         let at : At f w.blobs (ShardSnap index number source) bytes = (l.written k t out.there out.out (subst IsShard (sym work) tt)).source index number source bytes work source_is read in
-        some_none stands.lists.snap (sym stands.lists.snap_reads.reads ∙ ap f.shard_snap.read (some_same stands.lists.snap_reads.bytes bytes (sym stands.lists.snap_reads.there.0.0 ∙ at.0)) ∙ none)
+        some_none stands.lists.snap (sym stands.lists.snap_reads.reads ∙ ap f.shard_snap.read (same_Some stands.lists.snap_reads.bytes bytes (sym stands.lists.snap_reads.there.0.0 ∙ at.0)) ∙ none)
 
   -- each blob that it is to fetch is there
   fetched_there : (name : BlobName) → IsToFetch t name → fin.get w.blobs (f.names.text name) ≡ None → ⊥
@@ -76,13 +78,15 @@ module _ (s : Start) (log : List Moment) (lawful : IsLawful s log) (alive : IsAl
       let p = place_of front m h.there in
       found p.front (p.back ++ back) m (is ∙ ap (λ (l : List Moment). l ++ back) p.is ∙ append_assoc p.front (m ∷ p.back) back) name refl refl
 
-  unread : (front back : List Moment) → log ≡ front ++ back → (who : ℕ) → IsOut (world_of s front) who (ticket_of s front who) → (name : BlobName) → IsToFetch (ticket_of s front who) name → (reason : Reason) → WasUnreadable hands.Unit s front who name reason → ⊥
+  unread : (front back : List Moment) → log ≡ front ++ back → (who : ℕ) → IsOut (world_of s front) who (ticket_of s front who) → (name : BlobName) → IsToFetch (ticket_of s front who) name → (reason : Reason)
+      → WasUnreadable hands.Unit s front who name reason → ⊥
   unread front back is who out name to_fetch reason (bytes, read, refuses) =
       let law = lawful.lawful front back is in
       fetched_reads (formats_of s) (world_of s front) law.0 law.1 who (ticket_of s front who) out name bytes to_fetch (read.read lawful.over.tells) (unreadable_reads_not s.known s.told name bytes reason refuses)
 
   -- no damage is shown
-  undamaged : {S F H T : Type 0} (e : Evidence S F H T) (front back : List Moment) → log ≡ front ++ back → (who : ℕ) → IsOut (world_of s front) who (ticket_of s front who) → (why : Why) (b : By S F H T) → IsDamage why → IsUnitShown e s front who why b → ⊥
+  undamaged : {S F H T : Type 0} (e : Evidence S F H T) (front back : List Moment) → log ≡ front ++ back → (who : ℕ) → IsOut (world_of s front) who (ticket_of s front who) → (why : Why) (b : By S F H T) → IsDamage why
+      → IsUnitShown e s front who why b → ⊥
   undamaged e front back is who out (OfAbsence name) b damage h = let x = read_shown b _ h in missing front back is who name x.1
   undamaged e front back is who out (OfUnreadable name reason) b damage h = let x = read_shown b _ h in unread front back is who out name x.0 reason x.1
   undamaged e front back is who out (OfPrint name stated_len stated_digest found_len found_digest) b damage h = h

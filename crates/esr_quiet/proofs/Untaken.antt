@@ -9,17 +9,18 @@ use Rattle.esr_core.specs.Entry.{Step, CommitStep, NameTaken, Refusal, DepotFaul
 use Rattle.esr_core.specs.After.{after}
 use Rattle.esr_core.specs.Allowed as allowed
 use Rattle.esr_core.specs.Allowed.{Told, Commits, IsMetadata, Allows, Blocks, ByFailedSwap, ByDelete, Allowed}
-use Rattle.esr_core.proofs.Blocked.{blocked_stays}
-use Rattle.esr_core.proofs.Opening.{nothing}
+use Rattle.esr_core.specs.Laws.Asides.{blocked_stays}
+use Rattle.esr_core.specs.Laws.Maps.{nothing}
 use Rattle.esr_desk.specs.Once.{IsSingle, uncounted, WasMade, NoneTwice}
 use Rattle.esr_desk.specs.Start.{Start, formats_of, world_of}
 use Rattle.esr_quiet.specs.OverKept.{IsLawful}
 use Rattle.esr_quiet.specs.Untaken.{MayLeave, WasTried, NoneTaken}
 use Rattle.esr_quiet.proofs.FreeCommits.{own_metadata}
-use Rattle.esr_core.specs.NumberMaps.{some_none}
+use Rattle.esr_core.specs.Laws.NumberMaps.{some_none}
 use Rattle.esr_quiet.proofs.Numbers.{Numbered, numbered_from}
 use Rattle.esr_quiet.proofs.OverKept.{step_at}
-use Rattle.esr_quiet.proofs.Prefixes.{world_both, told_at, place_of, has_at}
+use Rattle.esr_quiet.specs.PrefixLaws.{world_both, place_of, has_at}
+use Rattle.esr_quiet.proofs.Prefixes.{told_at}
 use Rattle.esr_quiet.proofs.SpareFrame.{Spare}
 use Rattle.esr_quiet.proofs.SpareSteps.{step_spare}
 

@@ -1,6 +1,7 @@
 -- No verification fails where each world of the history is lawful and free.
 use Rattle.std.proofs.Common.{◌≡◌, ℕ, List, [], ◌∷◌, ◌++◌, Some, refl, sym, ap, ◌∙◌, subst, inr}
 use Rattle.std.specs.Prelude.{length}
+use Rattle.std.proofs.lemmas.Option.{same_Some}
 use Rattle.esr_model.specs.Names.{BlobName}
 use Rattle.esr_model.specs.Values.{Bytes, Has, Formats}
 use Rattle.esr_core.specs.World.{World, Caller}
@@ -17,9 +18,9 @@ use Rattle.esr_desk.specs.Verify.Shown.{HadAfterDraw, HadRefusalIn, HadNoId, IsA
 use Rattle.esr_quiet.specs.Caused.{AreVerifyCaused}
 use Rattle.esr_quiet.specs.Smooth.{IsSmooth, NoneUnverified}
 use Rattle.esr_quiet.specs.Prefixes.{Prefixes}
-use Rattle.esr_core.specs.NumberMaps.{some_same, some_none}
-use Rattle.esr_quiet.proofs.Prefixes.{told_at, place_of, has_front}
-use Rattle.esr_quiet.proofs.Passing.{quiet_at, legal_at}
+use Rattle.esr_core.specs.Laws.NumberMaps.{some_none}
+use Rattle.esr_quiet.specs.PrefixLaws.{place_of, has_front, quiet_at, legal_at}
+use Rattle.esr_quiet.proofs.Prefixes.{told_at}
 use Rattle.esr_quiet.proofs.Failures.{read_shown, step_shown, no_depot_fault}
 use Rattle.esr_quiet.proofs.Restores.{missed_at}
 use Rattle.esr_quiet.proofs.Rules.{ruled_at, no_rule}
@@ -71,19 +72,21 @@ module _ (s : Start) (log : List Moment) (smooth : IsSmooth s log) (prefixes : P
       found r.front r.back r.moment r.is r.there text.0 name text.2 r.step_is r.reply_is
 
   -- and what was read of it is the text of its id
-  text_of : (front back : List Moment) → log ≡ front ++ back → (id : ℕ) (name : BlobName) (bytes : Bytes) → (caller_of s front).drawn ≡ Some id → Has (caller_of s front).committed name → WasRead (caller_of s front).read name bytes → bytes ≡ id_text id
+  text_of : (front back : List Moment) → log ≡ front ++ back → (id : ℕ) (name : BlobName) (bytes : Bytes) → (caller_of s front).drawn ≡ Some id → Has (caller_of s front).committed name → WasRead (caller_of s front).read name bytes
+      → bytes ≡ id_text id
   text_of front back is id name bytes drawn committed read =
       let h = texted front back is in
       let (first, wrote) = h.written name committed in
       let test = h.texts name first wrote in
       let text = h.texts name bytes (h.same name bytes test.0 test.2 read) in
-      let one : text.0 ≡ id = some_same text.0 id (sym text.1 ∙ drawn) in
+      let one : text.0 ≡ id = same_Some text.0 id (sym text.1 ∙ drawn) in
       text.3 ∙ ap id_text one
 
   other : (front back : List Moment) → log ≡ front ++ back → (name : BlobName) → IsOther s (caller_of s front) name → ⊥
   other front back is name h = h.differ (text_of front back is h.id name h.bytes h.drawn h.committed (h.read smooth.tells))
 
-  printed : (front back : List Moment) → log ≡ front ++ back → (name : BlobName) (stated_len : ℕ) (stated_digest : Bytes) (found_len : ℕ) (found_digest : Bytes) → IsMisprinted s (caller_of s front) name stated_len stated_digest found_len found_digest → ⊥
+  printed : (front back : List Moment) → log ≡ front ++ back → (name : BlobName) (stated_len : ℕ) (stated_digest : Bytes) (found_len : ℕ) (found_digest : Bytes)
+      → IsMisprinted s (caller_of s front) name stated_len stated_digest found_len found_digest → ⊥
   printed front back is name stated_len stated_digest found_len found_digest h =
       let text : h.bytes ≡ id_text h.id = text_of front back is h.id name h.bytes h.drawn h.committed (h.read smooth.tells) in
       h.differ (h.stated_len_is ∙ ap (λ (b : Bytes). length b) (sym text) ∙ sym h.found_len_is) (h.stated_digest_is ∙ ap (formats_of s).digest (sym text) ∙ sym h.found_digest_is)

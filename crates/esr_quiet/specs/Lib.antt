@@ -9,3 +9,9 @@ pub mod Caused
 pub mod OverKept
 pub mod Undamaged
 pub mod Untaken
+pub mod Askers
+pub mod QuietWorlds
+pub mod PrefixLaws
+pub mod CallerSteps
+pub mod DeleteTells
+pub mod RootNames

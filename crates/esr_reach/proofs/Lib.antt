@@ -1,4 +1,3 @@
-pub mod Loops
 pub mod Pushing
 pub mod Comparing
 pub mod Apart

@@ -15,11 +15,12 @@ use Rattle.esr_reach.specs.Held.{HeldShard}
 use Rattle.esr_reach.specs.Listing.{is_listed, snap_names, index_names, root_names}
 use Rattle.esr_reach.specs.Reading.{HasEach, ReadsAsHeld}
 use Rattle.esr_reach.specs.Reached.{names_reached, reached_names}
-use Rattle.esr_reach.proofs.Pushing.{pushed_more}
+use Rattle.esr_reach.specs.NamePieces.{pushed_more}
 
 -- all of them were appended
 pub names_ordered : (root : CodeRoot) (snaps : List CodeSnap) (indices : List CodeIndex) (listed : ℕ → Bool) (held : List HeldShard) (first mid new : List CodeName) → first ≡ [] → snaps ≡ root.snapshots → indices ≡ root.indices
-    → listed ≡ is_listed (map root_snap_of snaps) → Pushed first mid (flat_map snap_names (map root_snap_of snaps)) → Pushed mid new (flat_map (index_names listed held) (map root_index_of indices)) → map name_of new ≡ root_names (root_of root) held
+    → listed ≡ is_listed (map root_snap_of snaps) → Pushed first mid (flat_map snap_names (map root_snap_of snaps)) → Pushed mid new (flat_map (index_names listed held) (map root_index_of indices))
+    → map name_of new ≡ root_names (root_of root) held
 names_ordered root snaps indices listed held first mid new none snaps_is indices_is listed_is one two =
     let names : List CodeSnap → List CodeIndex → (ℕ → Bool) → List BlobName = λ ss is p. flat_map snap_names (map root_snap_of ss) ++ flat_map (index_names p held) (map root_index_of is) in
     pushed_more first mid new (flat_map snap_names (map root_snap_of snaps)) (flat_map (index_names listed held) (map root_index_of indices)) one two

@@ -1,8 +1,9 @@
 -- Shards by their places in the list of generations.
-use Rattle.std.proofs.Common.{◌≡◌, ◌⊎◌, ℕ, zero, suc, ◌+◌, ◌<◌, true, false, List, [], ◌∷◌, ◌++◌, map, length, take, get_or, Option, Some, None, option_map, is_some, IsSome, Bor, inl, inr, refl, sym, ap, ◌∙◌, subst, arith}
+use Rattle.std.proofs.Common.{◌≡◌, ℕ, ◌+◌, ◌<◌, true, false, List, map, length, take, get_or, Option, Some, None, option_map, is_some, IsSome, Bor, inl, inr, refl, sym, ◌∙◌, subst, arith}
 use Rattle.std.proofs.lemmas.Bool.{true≢false}
 use Rattle.std.proofs.lemmas.List.{length-map, length-take-le}
 use Rattle.std.specs.Option.{option_copied}
+use Rattle.esr_model.specs.Loops.{next, item_is}
 use Rattle.esr_names.specs.declared.ids.Id.{Id}
 use Rattle.esr_formats.specs.Ids.{number_of}
 use Rattle.esr_model.specs.Values.{Has, RootIndex, RootData}
@@ -10,18 +11,7 @@ use Rattle.esr_model.specs.Image.{at_shard}
 use Rattle.esr_reach.specs.Held.{HeldShard, held_at}
 use Rattle.esr_reach.specs.Reading.{HasShards, HasEach}
 use Rattle.esr_reach.specs.Reached.{index_found}
-use Rattle.esr_reach.proofs.Loops.{next, item_is}
-
-pub at_place : {A : Type 0} (h : A → Option ℕ) (xs : List A) (k : ℕ) (d : A) → k < length xs → at_shard (map h xs) k ≡ h (get_or xs k d)
-at_place h [] k d less = absurd (omega arith)
-at_place h (x ∷ xs) zero d less = refl
-at_place h (x ∷ xs) (suc k) d less = at_place h xs k d (omega arith)
-
-pub at_push : (gs : List (Option ℕ)) (g : Option ℕ) (k v : ℕ) → at_shard (gs ++ g ∷ []) k ≡ Some v → (at_shard gs k ≡ Some v) ⊎ ((k ≡ length gs) × (g ≡ Some v))
-at_push [] g zero v e = inr (refl, e)
-at_push [] g (suc k) v e = absurd (cc)
-at_push (h ∷ gs) g zero v e = inl e
-at_push (h ∷ gs) g (suc k) v e = elim (at_push gs g k v e) [ inl before ↦ inl before | inr last ↦ inr (ap suc last.0, last.1) ]
+use Rattle.esr_reach.specs.ShardPlaces.{at_place, at_push}
 
 number_some : (o : Option Id) (v : ℕ) → option_map number_of o ≡ Some v → is_some o ≡ true
 number_some None v e = absurd (cc)

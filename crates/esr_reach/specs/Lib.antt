@@ -5,3 +5,8 @@ pub mod Listing
 pub mod PartNames
 pub mod Reading
 pub mod Reached
+pub mod NameOrder
+pub mod NamePieces
+pub mod NameSets
+pub mod OnceEach
+pub mod ShardPlaces

@@ -1,31 +1,12 @@
 -- Members of lists, and lists in which none stands twice.
 use Rattle.std.specs.Prelude.{◌≡◌, ◌⊎◌, Bool, true, false, if◌then◌else◌, List, [], ◌∷◌, ◌++◌, map, flat_map}
 use Rattle.std.specs.List.{AllByRecursion, IsDistinct}
-use Rattle.std.proofs.Common.{inl, inr, refl, sym, ap, subst}
+use Rattle.std.proofs.Common.{inl, inr, refl, sym, subst}
+use Rattle.esr_model.specs.Lists.{Has-left, Has-right, Has-either, Has-mapped, Has-map}
 use Rattle.esr_model.specs.Values.{Has}
 use Rattle.esr_reach.specs.Names.{AreOnce}
 
 -- ---- members
-
-pub has_push : {A : Type 0} (xs : List A) (y z : A) → Has (xs ++ y ∷ []) z → Has xs z ⊎ (y ≡ z)
-has_push [] y z (inl last) = inr last
-has_push [] y z (inr none) = absurd none
-has_push (x ∷ xs) y z (inl here) = inl (inl here)
-has_push (x ∷ xs) y z (inr later) = elim (has_push xs y z later) [ inl before ↦ inl (inr before) | inr last ↦ inr last ]
-
-pub has_left : {A : Type 0} (xs ys : List A) (z : A) → Has xs z → Has (xs ++ ys) z
-has_left [] ys z none = absurd none
-has_left (x ∷ xs) ys z (inl here) = inl here
-has_left (x ∷ xs) ys z (inr later) = inr (has_left xs ys z later)
-
-pub has_right : {A : Type 0} (xs ys : List A) (z : A) → Has ys z → Has (xs ++ ys) z
-has_right [] ys z has = has
-has_right (x ∷ xs) ys z has = inr (has_right xs ys z has)
-
-pub has_either : {A : Type 0} (xs ys : List A) (z : A) → Has (xs ++ ys) z → Has xs z ⊎ Has ys z
-has_either [] ys z has = inr has
-has_either (x ∷ xs) ys z (inl here) = inl (inl here)
-has_either (x ∷ xs) ys z (inr later) = elim (has_either xs ys z later) [ inl left ↦ inl (inr left) | inr right ↦ inr right ]
 
 pub has_only : {A : Type 0} (x z : A) → Has (x ∷ []) z → z ≡ x
 has_only x z (inl here) = sym here
@@ -39,27 +20,17 @@ pub in_then : {A : Type 0} (b : Bool) (xs ys : List A) (z : A) → b ≡ true �
 in_then true xs ys z is has = has
 in_then false xs ys z is has = absurd (cc)
 
-pub has_map : {A B : Type 0} (f : A → B) (xs : List A) (z : B) → Has (map f xs) z → (x : A) × Has xs x × (f x ≡ z)
-has_map f [] z none = absurd none
-has_map f (x ∷ xs) z (inl here) = (x, inl refl, here)
-has_map f (x ∷ xs) z (inr later) = let found = has_map f xs z later in (found.0, inr found.1, found.2)
-
-pub in_map : {A B : Type 0} (f : A → B) (xs : List A) (x : A) → Has xs x → Has (map f xs) (f x)
-in_map f [] x none = absurd none
-in_map f (y ∷ ys) x (inl here) = inl (ap f here)
-in_map f (y ∷ ys) x (inr later) = inr (in_map f ys x later)
-
 pub has_flat : {A B : Type 0} (f : A → List B) (xs : List A) (z : B) → Has (flat_map f xs) z → (x : A) × Has xs x × Has (f x) z
 has_flat f [] z none = absurd none
-has_flat f (x ∷ xs) z has = elim (has_either (f x) (flat_map f xs) z has) [
+has_flat f (x ∷ xs) z has = elim (Has-either (f x) (flat_map f xs) z has) [
   | inl here ↦ (x, inl refl, here)
   | inr later ↦ let found = has_flat f xs z later in (found.0, inr found.1, found.2)
 ]
 
 pub in_flat : {A B : Type 0} (f : A → List B) (xs : List A) (x : A) (z : B) → Has xs x → Has (f x) z → Has (flat_map f xs) z
 in_flat f [] x z none has = absurd none
-in_flat {A} {B} f (y ∷ ys) x z (inl here) has = has_left (f y) (flat_map f ys) z (subst (λ (w : A). Has (f w) z) (sym here) has)
-in_flat f (y ∷ ys) x z (inr later) has = has_right (f y) (flat_map f ys) z (in_flat f ys x z later has)
+in_flat {A} {B} f (y ∷ ys) x z (inl here) has = Has-left (f y) (flat_map f ys) z (subst (λ (w : A). Has (f w) z) (sym here) has)
+in_flat f (y ∷ ys) x z (inr later) has = Has-right (f y) (flat_map f ys) z (in_flat f ys x z later has)
 
 pub all_has : {A : Type 0} (P : A → Type 0) (xs : List A) (x : A) → AllByRecursion P xs → Has xs x → P x
 all_has P [] x all none = absurd none
@@ -71,7 +42,7 @@ all_has P (y ∷ ys) x all (inr later) = all_has P ys x all.1 later
 pub once_both : {A : Type 0} (xs ys : List A) → AreOnce xs → AreOnce ys → ((z : A) → Has xs z → Has ys z → ⊥) → AreOnce (xs ++ ys)
 once_both [] ys one two apart = two
 once_both (x ∷ xs) ys one two apart = (
-  λ has. elim (has_either xs ys x has) [ inl left ↦ one.0 left | inr right ↦ apart x (inl refl) right ],
+  λ has. elim (Has-either xs ys x has) [ inl left ↦ one.0 left | inr right ↦ apart x (inl refl) right ],
   once_both xs ys one.1 two (λ z left right. apart z (inr left) right),
 )
 
@@ -83,13 +54,13 @@ once_flat {A} {B} {K} key f (x ∷ xs) keys each apart =
     once_both (f x) (flat_map f xs) (each x (inl refl)) (once_flat key f xs keys.1 (λ y has. each y (inr has)) apart)
     (λ z here there.
     let found = has_flat f xs z there in
-    keys.0 (subst (λ (k : K). Has (map key xs) k) (sym (apart x found.0 z here found.2)) (in_map key xs found.0 found.1)))
+    keys.0 (subst (λ (k : K). Has (map key xs) k) (sym (apart x found.0 z here found.2)) (Has-map key xs found.0 found.1)))
 
 -- values that a test tells apart have different keys
 pub once_distinct : {A K : Type 0} (same : A → A → Bool) (key : A → K) → ((x y : A) → same x y ≡ false → key x ≡ key y → ⊥) → (xs : List A) → IsDistinct same xs → AreOnce (map key xs)
 unfolding IsDistinct
 once_distinct same key differ [] distinct = tt
 once_distinct {A} {K} same key differ (x ∷ xs) distinct = (
-  λ has. let found = has_map key xs (key x) has in differ x found.0 (all_has (λ (y : A). same x y ≡ false) xs found.0 distinct.0 found.1) (sym found.2),
+  λ has. let found = Has-mapped key xs (key x) has in differ x found.0 (all_has (λ (y : A). same x y ≡ false) xs found.0 distinct.0 found.1) (sym found.2),
   once_distinct same key differ xs distinct.1,
 )

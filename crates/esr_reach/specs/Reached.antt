@@ -3,13 +3,14 @@ use Rattle.std.specs.Prelude.{◌≡◌, ℕ, zero, suc, ◌+◌, ◌≤◌, ◌
 use Rattle.std.proofs.Common.{inl, inr, refl, sym, ap, ◌∙◌, subst, arith}
 use Rattle.std.proofs.lemmas.Bool.{cases_Bool}
 use Rattle.std.proofs.lemmas.Bool.Decides.{eqb_tells}
+use Rattle.esr_model.specs.Lists.{Has-left, Has-right, Has-either}
 use Rattle.esr_model.specs.Names.{BlobName, Root, Latest, Snap, Meta, IndexMeta, ShardSnap, ShardIndex, File, Part, TestMaster, TestNode}
 use Rattle.esr_model.specs.Values.{Bytes, Has, IsOneEach, RootSnap, RootIndex, RootData, FileEntry, SnapList, ShardFiles, Formats}
 use Rattle.esr_model.specs.Parts.{part_count, parts_from, part_names}
 use Rattle.esr_model.specs.Image.{IsOne, Reads, Generation, index_at, at_shard, at_shard_of}
 use Rattle.esr_model.specs.Reach.{Reached, ReachSnap, ReachMeta, ReachIndexMeta, ReachIndex, ReachShardSnap, ReachPart}
 use Rattle.esr_reach.specs.Names.{AreOnce}
-use Rattle.esr_reach.specs.Members.{has_left, has_right, has_either, has_only, has_if, in_then, has_flat, in_flat, once_both, once_flat}
+use Rattle.esr_reach.specs.Members.{has_only, has_if, in_then, has_flat, in_flat, once_both, once_flat}
 use Rattle.esr_reach.specs.Held.{HeldShard, held_at, IsApart, AreApart}
 use Rattle.esr_reach.specs.Listing.{is_listed, snap_names, meta_names, list_names, held_names, known_names, shard_names, place_names, shards_names, index_names, root_names}
 use Rattle.esr_reach.specs.Reading.{HasEach, ReadsAsHeld}
@@ -157,17 +158,17 @@ data IsHeld (listed : ℕ → Bool) (i k : ℕ) (held : ShardFiles) (z : BlobNam
   OfFile : (e : FileEntry) → Has held.files e → Has (part_names i k e) z → IsHeld listed i k held z
 
 held_is : (listed : ℕ → Bool) (i k : ℕ) (held : ShardFiles) (z : BlobName) → Has (held_names listed i k held) z → IsHeld listed i k held z
-held_is listed i k held z has = elim (has_either (flat_map (list_names listed i k) held.snapshots) (flat_map (part_names i k) held.files) z has) [
+held_is listed i k held z has = elim (Has-either (flat_map (list_names listed i k) held.snapshots) (flat_map (part_names i k) held.files) z has) [
   | inl list ↦ let found = has_flat (list_names listed i k) held.snapshots z list in let is = list_is listed i k found.0 z found.2 in OfList found.0 found.1 is.0 is.1
   | inr part ↦ let found = has_flat (part_names i k) held.files z part in OfFile found.0 found.1 found.2
 ]
 
 of_held : (listed : ℕ → Bool) (i k : ℕ) (held : ShardFiles) (z : BlobName) → IsHeld listed i k held z → Has (held_names listed i k held) z
 of_held listed i k held z (OfList l has told is) =
-    has_left (flat_map (list_names listed i k) held.snapshots) (flat_map (part_names i k) held.files) z
+    Has-left (flat_map (list_names listed i k) held.snapshots) (flat_map (part_names i k) held.files) z
     (in_flat (list_names listed i k) held.snapshots l z has (in_then (listed l.uuid) (ShardSnap i k l.uuid ∷ []) [] z told (inl (sym is))))
 of_held listed i k held z (OfFile e has part) =
-    has_right (flat_map (list_names listed i k) held.snapshots) (flat_map (part_names i k) held.files) z (in_flat (part_names i k) held.files e z has part)
+    Has-right (flat_map (list_names listed i k) held.snapshots) (flat_map (part_names i k) held.files) z (in_flat (part_names i k) held.files e z has part)
 
 held_under : (listed : ℕ → Bool) (i k : ℕ) (held : ShardFiles) (z : BlobName) → IsHeld listed i k held z → IsUnder i k z
 held_under listed i k held z (OfList l has told is) = record { index_is = ap index_of is; shard_is = ap shard_of is }
@@ -240,7 +241,7 @@ module _ (listed : ℕ → Bool) (held : List HeldShard) (i : ℕ) where
       let later = shards_is (suc first) gs z has in
       let same : suc first + later.number ≡ first + suc later.number = omega arith in
       record { number = suc later.number; generation = later.generation; in_list = later.in_list; is = subst (λ (n : ℕ). IsOfShard listed held i n later.generation z) same later.is }
-  shards_is first (Some g ∷ gs) z has = elim (has_either (shard_names listed held i first g) (shards_names listed held i (suc first) gs) z has) [
+  shards_is first (Some g ∷ gs) z has = elim (Has-either (shard_names listed held i first g) (shards_names listed held i (suc first) gs) z has) [
     | inl here ↦
         let same : first ≡ first + 0 = omega arith in
         record { number = 0; generation = g; in_list = refl; is = subst (λ (n : ℕ). IsOfShard listed held i n g z) same (shard_is first g z here) }
@@ -254,11 +255,11 @@ module _ (listed : ℕ → Bool) (held : List HeldShard) (i : ℕ) where
   of_shards first k g [] z e is = absurd (cc)
   of_shards first zero g (h ∷ gs) z e is =
       let same : first + 0 ≡ first = omega arith in
-      has_left (place_names listed held i first h) (shards_names listed held i (suc first) gs) z
+      Has-left (place_names listed held i first h) (shards_names listed held i (suc first) gs) z
       (subst (λ (o : Option ℕ). Has (place_names listed held i first o) z) (sym e) (of_shard first g z (subst (λ (n : ℕ). IsOfShard listed held i n g z) same is)))
   of_shards first (suc k) g (h ∷ gs) z e is =
       let same : first + suc k ≡ suc first + k = omega arith in
-      has_right (place_names listed held i first h) (shards_names listed held i (suc first) gs) z (of_shards (suc first) k g gs z e (subst (λ (n : ℕ). IsOfShard listed held i n g z) same is))
+      Has-right (place_names listed held i first h) (shards_names listed held i (suc first) gs) z (of_shards (suc first) k g gs z e (subst (λ (n : ℕ). IsOfShard listed held i n g z) same is))
 
   shards_once : (first : ℕ) (gs : List (Option ℕ)) → AreApart held → AreOnce (shards_names listed held i first gs)
   shards_once first [] apart = tt
@@ -276,7 +277,7 @@ module _ (listed : ℕ → Bool) (held : List HeldShard) (i : ℕ) where
       (under.index_is, (0 + found.number, under.shard_is))
 
 index_under : (listed : ℕ → Bool) (held : List HeldShard) (x : RootIndex) (z : BlobName) → Has (index_names listed held x) z → index_of z ≡ Some x.id
-index_under listed held x z has = elim (has_either (flat_map (meta_names x.id) x.snapshots) (shards_names listed held x.id 0 x.generations) z has) [
+index_under listed held x z has = elim (Has-either (flat_map (meta_names x.id) x.snapshots) (shards_names listed held x.id 0 x.generations) z has) [
   | inl metas ↦ let found = has_flat (meta_names x.id) x.snapshots z metas in (metas_under x.id found.0 z found.2).0
   | inr shards ↦ (shards_under listed held x.id x.generations z shards).0
 ]
@@ -363,7 +364,7 @@ module _ (f : Formats) (has : BlobName → Bytes → Type 0) (root : RootData) (
   snap_reached s there z (inr (inr none)) = absurd none
 
   index_reached : (x : RootIndex) → Has root.indices x → (z : BlobName) → Has (index_names (is_listed root.snapshots) held x) z → Reached f has root z
-  index_reached x there z has_z = elim (has_either (flat_map (meta_names x.id) x.snapshots) (shards_names (is_listed root.snapshots) held x.id 0 x.generations) z has_z) [
+  index_reached x there z has_z = elim (Has-either (flat_map (meta_names x.id) x.snapshots) (shards_names (is_listed root.snapshots) held x.id 0 x.generations) z has_z) [
     | inl metas ↦
         let found = has_flat (meta_names x.id) x.snapshots z metas in
         subst (Reached f has root) (sym (has_only (IndexMeta x.id found.0) z found.2)) (ReachIndexMeta x found.0 there found.1)
@@ -376,17 +377,17 @@ module _ (f : Formats) (has : BlobName → Bytes → Type 0) (root : RootData) (
 
   -- each listed name is reached
   pub names_reached : (z : BlobName) → Has (root_names root held) z → Reached f has root z
-  names_reached z has_z = elim (has_either (flat_map snap_names root.snapshots) (flat_map (index_names (is_listed root.snapshots) held) root.indices) z has_z) [
+  names_reached z has_z = elim (Has-either (flat_map snap_names root.snapshots) (flat_map (index_names (is_listed root.snapshots) held) root.indices) z has_z) [
     | inl snaps ↦ let found = has_flat snap_names root.snapshots z snaps in snap_reached found.0 found.1 z found.2
     | inr indices ↦ let found = has_flat (index_names (is_listed root.snapshots) held) root.indices z indices in index_reached found.0 found.1 z found.2
   ]
 
   of_snap : (s : RootSnap) → Has root.snapshots s → (z : BlobName) → Has (snap_names s) z → Has (root_names root held) z
-  of_snap s there z has_z = has_left (flat_map snap_names root.snapshots) (flat_map (index_names (is_listed root.snapshots) held) root.indices) z (in_flat snap_names root.snapshots s z there has_z)
+  of_snap s there z has_z = Has-left (flat_map snap_names root.snapshots) (flat_map (index_names (is_listed root.snapshots) held) root.indices) z (in_flat snap_names root.snapshots s z there has_z)
 
   of_index : (x : RootIndex) → Has root.indices x → (z : BlobName) → Has (index_names (is_listed root.snapshots) held x) z → Has (root_names root held) z
   of_index x there z has_z =
-      has_right (flat_map snap_names root.snapshots) (flat_map (index_names (is_listed root.snapshots) held) root.indices) z (in_flat (index_names (is_listed root.snapshots) held) root.indices x z there has_z)
+      Has-right (flat_map snap_names root.snapshots) (flat_map (index_names (is_listed root.snapshots) held) root.indices) z (in_flat (index_names (is_listed root.snapshots) held) root.indices x z there has_z)
 
   of_root_shard : (i k g : ℕ) → Generation root i k g → (z : BlobName) → IsOfShard (is_listed root.snapshots) held i k g z → Has (root_names root held) z
   of_root_shard i k g is z p =
@@ -395,7 +396,7 @@ module _ (f : Formats) (has : BlobName → Bytes → Type 0) (root : RootData) (
       let same : k ≡ 0 + k = omega arith in
       let at : IsOfShard (is_listed root.snapshots) held x.id (0 + k) g z =
       subst (λ (n : ℕ). IsOfShard (is_listed root.snapshots) held n (0 + k) g z) (sym found.2) (subst (λ (n : ℕ). IsOfShard (is_listed root.snapshots) held i n g z) same p) in
-      of_index x found.1 z (has_right (flat_map (meta_names x.id) x.snapshots) (shards_names (is_listed root.snapshots) held x.id 0 x.generations) z (of_shards (is_listed root.snapshots) held x.id 0 k g x.generations z found.3 at))
+      of_index x found.1 z (Has-right (flat_map (meta_names x.id) x.snapshots) (shards_names (is_listed root.snapshots) held x.id 0 x.generations) z (of_shards (is_listed root.snapshots) held x.id 0 k g x.generations z found.3 at))
 
   module _ (one : IsOne has) where
     -- what is held is what the index reads as
@@ -413,7 +414,7 @@ module _ (f : Formats) (has : BlobName → Bytes → Type 0) (root : RootData) (
     reached_names z (ReachMeta s there) = of_snap s there (Meta s.uuid) (inr (inl refl))
     reached_names z (ReachIndexMeta x u there has_u) =
         of_index x there (IndexMeta x.id u)
-        (has_left (flat_map (meta_names x.id) x.snapshots) (shards_names (is_listed root.snapshots) held x.id 0 x.generations) (IndexMeta x.id u) (in_flat (meta_names x.id) x.snapshots u (IndexMeta x.id u) has_u (inl refl)))
+        (Has-left (flat_map (meta_names x.id) x.snapshots) (shards_names (is_listed root.snapshots) held x.id 0 x.generations) (IndexMeta x.id u) (in_flat (meta_names x.id) x.snapshots u (IndexMeta x.id u) has_u (inl refl)))
     reached_names z (ReachIndex i k g is) = of_root_shard i k g is (ShardIndex i k g) (OfIndex refl)
     reached_names z (ReachShardSnap i k g s v l is read has_l there same) =
         let told = ap (is_listed root.snapshots) same ∙ has_listed root.snapshots s there in

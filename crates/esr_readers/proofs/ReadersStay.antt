@@ -3,6 +3,8 @@ use Rattle.std.proofs.Common.{◌≡◌, ◌≢◌, ℕ, zero, suc, ◌<◌, ◌
 use Rattle.std.specs.Prelude.{Bool, T}
 use Rattle.std.specs.FinMap.{FinMap}
 use Rattle.std.specs.FinMap as fin
+use Rattle.std.proofs.lemmas.Option.{same_Some}
+use Rattle.esr_core.specs.Laws.NumberMaps.{was_in, same_in, other_in, split_at}
 use Rattle.esr_model.specs.Names.{BlobName}
 use Rattle.esr_model.specs.Values.{Bytes, Has, IndexRef, Formats}
 use Rattle.esr_model.specs.Kept.{first_id}
@@ -18,18 +20,15 @@ use Rattle.esr_core.specs.Causes.{TakeGave, RestoreBegan}
 use Rattle.esr_core.specs.History.{world_from, IsLegal}
 use Rattle.esr_core.specs.Tracked.{Tracked}
 use Rattle.esr_core.specs.ReadTracked.{ReaderTracked, RestoresTracked, ReadTracked}
-use Rattle.esr_core.specs.RestoreShards.{shard_is}
+use Rattle.esr_core.specs.Laws.RestoreShards.{shard_is}
+use Rattle.esr_readers.specs.Order.{OrderLaws}
 use Rattle.esr_readers.specs.Readers.{RestoresIn, IsSameReader, IsThereAs, IsGiven, IsReaderOf, IsRestoreOf, ReadsAs}
 use Rattle.esr_readers.specs.RestoredShards.{restores_out}
-use Rattle.esr_core.proofs.Reading.{some_same, Has-map, Has-mapped}
-use Rattle.esr_core.proofs.Histories.{legal_parts}
-use Rattle.esr_core.proofs.Blocked.{blocked_stays}
-use Rattle.esr_core.proofs.Queues.{was_in, same_in, other_in, split_at}
-use Rattle.esr_core.proofs.Restoring.{LeavesPlace, handed_is, ended_is, handed_place, ended_place, apart_one, put_was}
-use Rattle.esr_core.proofs.Going.{goes_answered}
-use Rattle.esr_core.proofs.TrackingSteps.{tracked_step, tracked_history}
-use Rattle.esr_core.proofs.ReadSteps.{read_step_tracked, read_history_tracked}
-use Rattle.esr_core.proofs.ReadLaws.{places_mapped, places_begun}
+use Rattle.esr_model.specs.Lists.{Has-map, Has-mapped}
+use Rattle.esr_core.specs.Laws.Histories.{legal_parts}
+use Rattle.esr_core.specs.Laws.Asides.{blocked_stays}
+use Rattle.esr_core.specs.Laws.RestoreMaps.{LeavesPlace, handed_is, ended_is, handed_place, ended_place, apart_one, put_was, places_mapped, places_begun}
+use Rattle.esr_core.specs.Laws.RestoreFrames.{goes_answered}
 
 abbrev Restores : Type 0
 Restores = FinMap nat_cmp Restoring
@@ -165,7 +164,7 @@ same_reader_trans a b c p q = record { op_is = q.op_is ∙ p.op_is; uuid_is = q.
 put_same_reader : (readers : Readers) (j : ℕ) (x y : Reader) → fin.get readers j ≡ Some x → IsSameReader x y → (k : ℕ) (q : Reader) → fin.get readers k ≡ Some q → (z : Reader) × (fin.get (fin.insert readers j y) k ≡ Some z) × IsSameReader q z
 put_same_reader readers j x y there same k q e = elim (split_at k j) [
   | inl at ↦
-      let one : x ≡ q = some_same x q (sym there ∙ ap (fin.get readers) (sym at) ∙ e) in
+      let one : x ≡ q = same_Some x q (sym there ∙ ap (fin.get readers) (sym at) ∙ e) in
       (y, ap (fin.get (fin.insert readers j y)) at ∙ same_in readers j y, subst (λ v. IsSameReader v y) one same)
   | inr away ↦ (q, other_in readers j y k away ∙ e, same_reader q)
 ]
@@ -183,11 +182,11 @@ there_on w new l (MakesEnd j x r state there r_there over a b c) k q e =
     let (z, at, same) = put_same_reader w.readers j x (record x { out = false }) there (record { op_is = refl; uuid_is = refl; index_is = refl; number_is = refl; name_is = refl; place_is = refl }) k q e in
     record { q = z; there = ap (λ (m : Readers). fin.get m k) b ∙ at; same = same }
 
-pub stays_there : (f : Formats) (size : ℕ) (w : World) (log : List Moment) (k : ℕ) (q : Reader) → Tracked w → ReadTracked w → IsLegal f size w log → fin.get w.readers k ≡ Some q → IsThereAs (world_from f w log) k q
-stays_there f size w [] k q t l legal e = record { q = q; there = e; same = same_reader q }
-stays_there f size w (m ∷ log) k q t l legal e =
+pub stays_there : (laws : OrderLaws) (f : Formats) (size : ℕ) (w : World) (log : List Moment) (k : ℕ) (q : Reader) → Tracked w → ReadTracked w → IsLegal f size w log → fin.get w.readers k ≡ Some q → IsThereAs (world_from f w log) k q
+stays_there laws f size w [] k q t l legal e = record { q = q; there = e; same = same_reader q }
+stays_there laws f size w (m ∷ log) k q t l legal e =
     let h = there_on w (after f w m) l.tracked (makes_step f size w m t legal.0) k q e in
-    let rest = stays_there f size (after f w m) log k h.q (tracked_step f size w m t legal.0) (read_step_tracked f size w m t l legal.0) legal.1 h.there in
+    let rest = stays_there laws f size (after f w m) log k h.q (laws.step f size w m t legal.0) (laws.read_step f size w m t l legal.0) legal.1 h.there in
     record { q = rest.q; there = rest.there; same = same_reader_trans q h.q rest.q h.same rest.same }
 
 -- ---- a ticket is given
@@ -302,9 +301,9 @@ module _ (o uuid : ℕ) (place : Bytes) (indices : List IndexRef) where
         ];
       }
 
-  reads_legal : (f : Formats) (size : ℕ) (log : List Moment) (w : World) → Tracked w → IsLegal f size w log → ReadsAs w o uuid place indices → ReadsAs (world_from f w log) o uuid place indices
-  reads_legal f size [] w t legal h = h
-  reads_legal f size (m ∷ log) w t legal h = reads_legal f size log (after f w m) (tracked_step f size w m t legal.0) legal.1 (reads_on w (after f w m) (makes_step f size w m t legal.0) h)
+  reads_legal : (laws : OrderLaws) (f : Formats) (size : ℕ) (log : List Moment) (w : World) → Tracked w → IsLegal f size w log → ReadsAs w o uuid place indices → ReadsAs (world_from f w log) o uuid place indices
+  reads_legal laws f size [] w t legal h = h
+  reads_legal laws f size (m ∷ log) w t legal h = reads_legal laws f size log (after f w m) (laws.step f size w m t legal.0) legal.1 (reads_on w (after f w m) (makes_step f size w m t legal.0) h)
 
   reader_is : (w : World) → ReadTracked w → ReadsAs w o uuid place indices → (k : ℕ) (q : Reader) → IsReading w k q → q.op ≡ o → IsReaderOf q uuid place indices
   reader_is w l h k q reading op =
@@ -324,16 +323,16 @@ world_parts : (f : Formats) (xs ys : List Moment) (w : World) → world_from f w
 world_parts f [] ys w = refl
 world_parts f (x ∷ xs) ys w = world_parts f xs ys (after f w x)
 
-pub readers_are : AsksBegin → (f : Formats) (size : ℕ) (w : World) (before rest : List Moment) (m : Moment) (name place : Bytes) (o uuid : ℕ) (indices : List IndexRef) (k : ℕ) (q : Reader) → Tracked w → ReadTracked w → IsLegal f size w (before ++ m ∷ rest)
+pub readers_are : OrderLaws → AsksBegin → (f : Formats) (size : ℕ) (w : World) (before rest : List Moment) (m : Moment) (name place : Bytes) (o uuid : ℕ) (indices : List IndexRef) (k : ℕ) (q : Reader) → Tracked w → ReadTracked w → IsLegal f size w (before ++ m ∷ rest)
     → m.entry.step ≡ AskStep (Restore name place) → m.entry.reply ≡ AcceptedRestore o uuid indices → IsReading (world_from f w (before ++ m ∷ rest)) k q → q.op ≡ o → IsReaderOf q uuid place indices
-readers_are begins f size w before rest m name place o uuid indices k q t l legal is e reading op =
+readers_are laws begins f size w before rest m name place o uuid indices k q t l legal is e reading op =
     let v : World = world_from f w before in
     let parts = legal_parts f size before (m ∷ rest) w legal in
-    let tv : Tracked v = tracked_history f size before w t parts.0 in
-    let lv : ReadTracked v = read_history_tracked f size before w t l parts.0 in
+    let tv : Tracked v = laws.history f size w before t parts.0 in
+    let lv : ReadTracked v = laws.read_history f size w before t l parts.0 in
     let begun : ReadsAs (after f v m) o uuid place indices = reads_begun begins f size v m o uuid indices parts.1.0 e name place is in
-    let last : ReadsAs (world_from f v (m ∷ rest)) o uuid place indices = reads_legal o uuid place indices f size rest (after f v m) (tracked_step f size v m tv parts.1.0) parts.1.1 begun in
-    reader_is o uuid place indices (world_from f v (m ∷ rest)) (read_history_tracked f size (m ∷ rest) v tv lv parts.1) last k q (subst (λ x. IsReading x k q) (world_parts f before (m ∷ rest) w) reading) op
+    let last : ReadsAs (world_from f v (m ∷ rest)) o uuid place indices = reads_legal o uuid place indices laws f size rest (after f v m) (laws.step f size v m tv parts.1.0) parts.1.1 begun in
+    reader_is o uuid place indices (world_from f v (m ∷ rest)) (laws.read_history f size v (m ∷ rest) tv lv parts.1) last k q (subst (λ x. IsReading x k q) (world_parts f before (m ∷ rest) w) reading) op
 
 -- ---- what was restored waits no more
 
@@ -406,9 +405,9 @@ module _ (o index number : ℕ) where
         ];
       }
 
-  past_legal : (f : Formats) (size : ℕ) (log : List Moment) (w : World) → Tracked w → IsLegal f size w log → IsPast w o index number → IsPast (world_from f w log) o index number
-  past_legal f size [] w t legal h = h
-  past_legal f size (m ∷ log) w t legal h = past_legal f size log (after f w m) (tracked_step f size w m t legal.0) legal.1 (past_on w (after f w m) (makes_step f size w m t legal.0) h)
+  past_legal : (laws : OrderLaws) (f : Formats) (size : ℕ) (log : List Moment) (w : World) → Tracked w → IsLegal f size w log → IsPast w o index number → IsPast (world_from f w log) o index number
+  past_legal laws f size [] w t legal h = h
+  past_legal laws f size (m ∷ log) w t legal h = past_legal laws f size log (after f w m) (laws.step f size w m t legal.0) legal.1 (past_on w (after f w m) (makes_step f size w m t legal.0) h)
 
   -- so no ticket is out for it
   none_reads : (w : World) → ReadTracked w → IsPast w o index number → (k : ℕ) (q : Reader) → IsReading w k q → o ≡ q.op → index ≡ q.index → number ≡ q.number → ⊥
@@ -422,7 +421,7 @@ module _ (o index number : ℕ) where
 reader_out : (f : Formats) (size : ℕ) (w : World) (m : Moment) (k files bytes : ℕ) (q : Reader) → Allowed f size w m → RestoresIn m k files bytes → fin.get w.readers k ≡ Some q → IsReading w k q
 reader_out f size w m k files bytes q a is there =
     let (z, reading) = restores_out f size w m k files bytes a is in
-    record { there = there; out = ap (λ (x : Reader). x.out) (some_same q z (sym there ∙ reading.there)) ∙ reading.out }
+    record { there = there; out = ap (λ (x : Reader). x.out) (same_Some q z (sym there ∙ reading.there)) ∙ reading.out }
 
 -- the world after it
 restored_is : (f : Formats) (w : World) (k files bytes : ℕ) (image : Option Image) (q : Reader) (r : Restoring) → 1 ≤ k → fin.get w.readers k ≡ Some q → fin.get w.restores q.op ≡ Some r
@@ -458,20 +457,20 @@ past_begun f size w m k files bytes q l a is q_there =
       ];
     }
 
-pub once_restored : (f : Formats) (size : ℕ) (w : World) (before between : List Moment) (a b : Moment) (j k files bytes more total : ℕ) (p q : Reader) → Tracked w → ReadTracked w → IsLegal f size w (before ++ a ∷ between ++ b ∷ [])
+pub once_restored : (laws : OrderLaws) (f : Formats) (size : ℕ) (w : World) (before between : List Moment) (a b : Moment) (j k files bytes more total : ℕ) (p q : Reader) → Tracked w → ReadTracked w → IsLegal f size w (before ++ a ∷ between ++ b ∷ [])
     → RestoresIn a j files bytes → RestoresIn b k more total → fin.get (world_from f w before).readers j ≡ Some p → fin.get (world_from f w (before ++ a ∷ between)).readers k ≡ Some q
     → p.op ≡ q.op → p.index ≡ q.index → p.number ≡ q.number → ⊥
-once_restored f size w before between a b j k files bytes more total p q t l legal a_is b_is p_there q_there op id num =
+once_restored laws f size w before between a b j k files bytes more total p q t l legal a_is b_is p_there q_there op id num =
     let v : World = world_from f w before in
     let log : List Moment = before ++ a ∷ between in
     let last : World = world_from f w log in
     let ends = legal_parts f size log (b ∷ []) w legal in
     let parts = legal_parts f size before (a ∷ between) w ends.0 in
-    let tv : Tracked v = tracked_history f size before w t parts.0 in
-    let lv : ReadTracked v = read_history_tracked f size before w t l parts.0 in
+    let tv : Tracked v = laws.history f size w before t parts.0 in
+    let lv : ReadTracked v = laws.read_history f size w before t l parts.0 in
     let begun : IsPast (after f v a) p.op p.index p.number = past_begun f size v a j files bytes p lv parts.1.0 a_is p_there in
-    let past : IsPast last p.op p.index p.number = subst (λ x. IsPast x p.op p.index p.number) (sym (world_parts f before (a ∷ between) w)) (past_legal p.op p.index p.number f size between (after f v a) (tracked_step f size v a tv parts.1.0) parts.1.1 begun) in
-    none_reads p.op p.index p.number last (read_history_tracked f size log w t l ends.0) past k q (reader_out f size last b k more total q ends.1.0 b_is q_there) op id num
+    let past : IsPast last p.op p.index p.number = subst (λ x. IsPast x p.op p.index p.number) (sym (world_parts f before (a ∷ between) w)) (past_legal p.op p.index p.number laws f size between (after f v a) (laws.step f size v a tv parts.1.0) parts.1.1 begun) in
+    none_reads p.op p.index p.number last (laws.read_history f size w log t l ends.0) past k q (reader_out f size last b k more total q ends.1.0 b_is q_there) op id num
 
 -- ---- the numbers of ops never fall
 
@@ -482,11 +481,11 @@ rises_on w new (MakesReader p x s there s_there unread a b c) = omega (arith, c)
 rises_on w new (MakesMore k q name bytes there a b c) = omega (arith, c)
 rises_on w new (MakesEnd k q x state q_there there over a b c) = omega (arith, c)
 
-pub ops_rise : (f : Formats) (size : ℕ) (w : World) (log : List Moment) → Tracked w → IsLegal f size w log → w.next_op ≤ (world_from f w log).next_op
-ops_rise f size w [] t legal = omega arith
-ops_rise f size w (m ∷ log) t legal =
+pub ops_rise : (laws : OrderLaws) (f : Formats) (size : ℕ) (w : World) (log : List Moment) → Tracked w → IsLegal f size w log → w.next_op ≤ (world_from f w log).next_op
+ops_rise laws f size w [] t legal = omega arith
+ops_rise laws f size w (m ∷ log) t legal =
     let here : w.next_op ≤ (after f w m).next_op = rises_on w (after f w m) (makes_step f size w m t legal.0) in
-    let there : (after f w m).next_op ≤ (world_from f (after f w m) log).next_op = ops_rise f size (after f w m) log (tracked_step f size w m t legal.0) legal.1 in
+    let there : (after f w m).next_op ≤ (world_from f (after f w m) log).next_op = ops_rise laws f size (after f w m) log (laws.step f size w m t legal.0) legal.1 in
     omega (arith, here, there)
 
 -- ---- what lines ask for leaves the tickets

@@ -9,7 +9,8 @@ use Rattle.esr_core.specs.Allowed as allowed
 use Rattle.esr_core.specs.Allowed.{ReadAllows, RestoringShard, Allows, Allowed}
 use Rattle.esr_readers.specs.Readers.{RestoresIn}
 
-alive_allows : (f : Formats) (size : ℕ) (w : World) (m : Moment) (reply : Reply) → ((refusal : Refusal) → reply ≡ Refused refusal → ⊥) → Allowed f size w m → m.entry.reply ≡ reply → Allows f size w m.entry.who m.entry.step reply m.image
+alive_allows : (f : Formats) (size : ℕ) (w : World) (m : Moment) (reply : Reply) → ((refusal : Refusal) → reply ≡ Refused refusal → ⊥) → Allowed f size w m → m.entry.reply ≡ reply
+    → Allows f size w m.entry.who m.entry.step reply m.image
 alive_allows f size w m reply not a is = elim a.answered [
   | inl alive ↦ subst (λ x. Allows f size w m.entry.who m.entry.step x m.image) is alive.1
   | inr blocked ↦ absurd (not blocked.refusal (sym is ∙ blocked.refused))

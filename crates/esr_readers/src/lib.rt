@@ -12,6 +12,7 @@ ghost use Rattle.esr_core.specs.History.{world_from, IsLegal};
 ghost use Rattle.esr_core.specs.Restores.{IsReading};
 ghost use Rattle.esr_core.specs.Tracked.{Tracked};
 ghost use Rattle.esr_core.specs.ReadTracked.{ReadTracked};
+ghost use Rattle.esr_readers.specs.Order.{OrderLaws};
 ghost use Rattle.esr_readers.specs.Readers.{RestoresIn, IsThereAs, IsGiven, IsReaderOf};
 
 /// Tickets of restores are given for the shard that the answer tells, over any container, and stay what they are.
@@ -20,6 +21,7 @@ pub fn readers_stay_as_given()
     ensures stay { (f : Formats) (part_size : ℕ) (w : World) (log : List Moment) (k : ℕ) (q : Reader) → Tracked w → ReadTracked w → IsLegal f part_size w log → fin.get w.readers k ≡ Some q → IsThereAs (world_from f w log) k q }
 {
     esr_core::answers_tell_their_steps();
+    steps_keep_order();
 }
 
 /// While a restore is open its tickets read the shards of the indices that its answer told, of the snapshot that it told, for
@@ -37,6 +39,7 @@ pub fn readers_are_of_their_ask()
     ensures rises { (f : Formats) (part_size : ℕ) (w : World) (log : List Moment) → Tracked w → IsLegal f part_size w log → w.next_op ≤ (world_from f w log).next_op }
 {
     esr_core::answers_tell_their_steps();
+    steps_keep_order();
 }
 
 /// No shard of a restore is restored twice, over any container.
@@ -44,7 +47,9 @@ pub fn no_shard_is_restored_twice()
     ensures { (f : Formats) (part_size : ℕ) (w : World) (before between : List Moment) (a b : Moment) (j k files bytes more total : ℕ) (p q : Reader) → Tracked w → ReadTracked w → IsLegal f part_size w (before ++ a ∷ between ++ b ∷ [])
         → RestoresIn a j files bytes → RestoresIn b k more total → fin.get (world_from f w before).readers j ≡ Some p → fin.get (world_from f w (before ++ a ∷ between)).readers k ≡ Some q
         → p.op ≡ q.op → p.index ≡ q.index → p.number ≡ q.number → ⊥ }
-{}
+{
+    steps_keep_order();
+}
 
 /// What lines ask for leaves the tickets of restores, over any container: a command, a look at the safe root, and the steps of a
 /// check or a verification.
@@ -53,3 +58,13 @@ pub fn lines_leave_readers()
     ensures looks { (f : Formats) (part_size : ℕ) (w : World) (m : Moment) → Tracked w → Allowed f part_size w m → m.entry.step ≡ LookStep → (after f w m).readers ≡ w.readers }
     ensures reads { (f : Formats) (w : World) (m : Moment) (read : Read) → m.entry.who ≡ 0 → m.entry.step ≡ ReadStep read → (after f w m).readers ≡ w.readers }
 {}
+
+/// Each step, and each legal history, keeps the order of ops and of restores, whatever the container tells.
+pub(crate) fn steps_keep_order()
+    ensures { OrderLaws }
+{
+    esr_core::each_step_is_tracked();
+    esr_core::each_step_tracks_restores();
+    esr_core::each_history_is_tracked();
+    esr_core::each_history_tracks_restores();
+}

@@ -1,15 +1,11 @@
 -- What stands in maps of none, of one and of two.
-use Rattle.std.proofs.Common.{◌≡◌, ◌⊎◌, ℕ, Bool, true, false, cond, Some, None, Ordering, Less, Equal, Greater, is_eq, nat_cmp, refl, sym, ap, ◌∙◌, inl, inr, true≢false}
+use Rattle.std.proofs.Common.{◌≡◌, ◌⊎◌, ℕ, Bool, true, false, cond, Some, None, nat_cmp, refl, sym, ap, ◌∙◌, inl, inr}
 use Rattle.std.specs.Ordering.{eq_by_cmp}
-use Rattle.std.specs.Cmp.{nat_cmp_total, eq_by_cmp_equiv}
+use Rattle.std.specs.Cmp.{nat_cmp_total}
 use Rattle.std.specs.FinMap.{FinMap, nat_cmp-IsAntisymmetric}
 use Rattle.std.specs.FinMap as fin
+use Rattle.esr_core.specs.Laws.NumberMaps.{tied, same_in}
 use Rattle.esr_ready_trials.specs.Rows.{one, two}
-
-tied : (r : Ordering) → is_eq r ≡ true → r ≡ Equal
-tied Less e = absurd (true≢false (sym e))
-tied Equal e = refl
-tied Greater e = absurd (true≢false (sym e))
 
 -- it was put, or was there
 inserted : {A : Type 0} (m : FinMap nat_cmp A) (n : ℕ) (x : A) (q : ℕ) (y : A) → fin.get (fin.insert m n x) q ≡ Some y → (q ≡ n) ⊎ (fin.get m q ≡ Some y)
@@ -31,14 +27,11 @@ of_one n x q y e = elim (inserted fin.empty n x q y e) [ inl is ↦ is | inr the
 pub of_two : {A : Type 0} (n : ℕ) (x : A) (k : ℕ) (y : A) (q : ℕ) (z : A) → fin.get (two n x k y) q ≡ Some z → (q ≡ k) ⊎ (q ≡ n)
 of_two n x k y q z e = elim (inserted (one n x) k y q z e) [ inl is ↦ inl is | inr there ↦ inr (of_one n x q z there) ]
 
-put : {A : Type 0} (m : FinMap nat_cmp A) (n : ℕ) (x : A) → fin.get (fin.insert m n x) n ≡ Some x
-put m n x = fin.get-insert nat_cmp_total m n x n ∙ ap (λ c. cond c (Some x) (fin.get m n)) ((eq_by_cmp_equiv nat_cmp_total).refl n)
-
 pub at_one : {A : Type 0} (n : ℕ) (x : A) → fin.get (one n x) n ≡ Some x
-at_one n x = put fin.empty n x
+at_one n x = same_in fin.empty n x
 
 pub at_second : {A : Type 0} (n : ℕ) (x : A) (k : ℕ) (y : A) → fin.get (two n x k y) k ≡ Some y
-at_second n x k y = put (one n x) k y
+at_second n x k y = same_in (one n x) k y
 
 pub at_first : {A : Type 0} (n : ℕ) (x : A) (k : ℕ) (y : A) → eq_by_cmp nat_cmp n k ≡ false → fin.get (two n x k y) n ≡ Some x
 at_first n x k y apart = fin.get-insert nat_cmp_total (one n x) k y n ∙ ap (λ c. cond c (Some y) (fin.get (one n x) n)) apart ∙ at_one n x

@@ -1,12 +1,11 @@
 -- Ops whose numbers rise, with one more and with fewer.
-use Rattle.std.proofs.Common.{◌≡◌, ℕ, ◌<◌, ◌≤◌, ◌==◌, not, Bool, if◌then◌else◌, true, false, List, [], ◌∷◌, ◌++◌, Ok, slice_get, length, ◌-◌, suc, Some, inl, inr, arith, refl, ◌^◌}
+use Rattle.std.proofs.Common.{◌≡◌, ℕ, ◌≤◌, Bool, if◌then◌else◌, true, false, List, [], ◌∷◌, ◌++◌, Ok, slice_get, length, ◌-◌, suc, Some, inl, inr, arith, refl}
 use Rattle.std.specs.List.{filter, list_any}
 use Rattle.std.proofs.lemmas.Bool.{cases_Bool}
-use Rattle.std.proofs.lemmas.List.{append_assoc, append-nil}
 use Rattle.serde_json.specs.Data.{Data}
 use Rattle.esr_names.specs.declared.ids.Id.{Id}
 use Rattle.esr_record.specs.declared.op.RecordOp.{RecordOp}
-use Rattle.esr_record.specs.Op.{is_id, AreUuids, IsOp, AreOps, last_from, last_op}
+use Rattle.esr_record.specs.Op.{is_id, IsOp, AreOps, last_from, last_op}
 use Rattle.esr_record.specs.Reading.{uuid_item, uuids_from, op_of, ops_from}
 
 pub AreOps_push : (last : ℕ) (os : List RecordOp) (o : RecordOp) → AreOps last os → IsOp (last_from last os) o → AreOps last (os ++ o ∷ [])
@@ -38,14 +37,6 @@ AreOps_filter last (o ∷ os) test h =
       | inl kept ↦ rw kept (h.0, rest)
       | inr gone ↦ rw gone (AreOps_below last o.op (filter test os) (omega arith) rest)
     ]
-
-AreUuids-append : (before us : List Id) (u : Id) → AreUuids before us → u.number < 2 ^ 128 → list_any (is_id u) (before ++ us) ≡ false → AreUuids before (us ++ u ∷ [])
-AreUuids-append before [] u h small fresh = (small, rw append-nil at fresh, tt)
-AreUuids-append before (v ∷ us) u h small fresh =
-    (h.0, h.1, AreUuids-append (before ++ v ∷ []) us u h.2 small (rw (append_assoc before (v ∷ []) us) fresh))
-
-pub AreUuids_push : (us : List Id) (u : Id) → AreUuids [] us → u.number < 2 ^ 128 → list_any (is_id u) us ≡ false → AreUuids [] (us ++ u ∷ [])
-AreUuids_push us u h small fresh = AreUuids-append [] us u h small fresh
 
 -- reading goes on after one more uuid
 pub uuids_from_push : (us : List Id) (u : Id) (d : Data) (ds : List Data) → uuid_item d ≡ Ok u → list_any (is_id u) us ≡ false

@@ -3,3 +3,5 @@ pub mod Record
 pub mod Steps
 pub mod Reading
 pub mod Text
+pub mod RoundTrip
+pub mod UuidLists

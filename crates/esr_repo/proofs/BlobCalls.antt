@@ -1,11 +1,12 @@
 -- Entries of steps that call the container for a blob.
-use Rattle.std.proofs.Common.{◌≡◌, ◌⊎◌, ℕ, zero, suc, ◌≤◌, Bool, true, false, cond, List, [], ◌∷◌, ◌++◌, Option, Some, None, Result, Ok, Err, IsSome, IfSome, refl, sym, ap, ◌∙◌, subst, inl, inr, nat_cmp, Ordering, Less, Equal, Greater, is_eq, true≢false}
+use Rattle.std.proofs.Common.{◌≡◌, ◌⊎◌, ℕ, zero, suc, ◌≤◌, Bool, true, false, cond, List, [], ◌∷◌, ◌++◌, Option, Some, None, Result, Ok, Err, IsSome, IfSome, refl, sym, ap, ◌∙◌, subst, inl, inr, nat_cmp}
 use Rattle.std.specs.Prelude.{option_map, if◌then◌else◌}
 use Rattle.std.specs.Ordering.{eq_by_cmp}
 use Rattle.std.specs.Cmp.{nat_cmp_total, eq_by_cmp_equiv}
 use Rattle.std.specs.Cmp.Lexicographic.{nat_list_cmp_total}
 use Rattle.std.specs.FinMap.{FinMap, nat_cmp-IsAntisymmetric}
 use Rattle.std.specs.FinMap as fin
+use Rattle.esr_core.specs.Laws.NumberMaps.{some_none, tied}
 use Rattle.esr_model.specs.Names.{BlobName, Latest}
 use Rattle.esr_model.specs.Values.{Bytes, ReadsBack, Formats}
 use Rattle.esr_model.specs.Image.{Blobs, Image}
@@ -25,11 +26,11 @@ use Rattle.esr_depot.specs.Calls.{Change, Passed, SameImage, Called}
 use Rattle.esr_depot.specs.Changes.{Committed, CommitMay, Replaced, ReplaceMay}
 use Rattle.esr_formats.specs.Clusters.{cluster_kind}
 use Rattle.esr_formats.specs.Names.{name_of, name_kind}
-use Rattle.esr_formats.proofs.NameTexts.{name_reads_back}
+use Rattle.esr_formats.specs.ReadBack.{name_reads_back}
 use Rattle.esr_names.specs.Layout.{IsName, HasIds}
 use Rattle.esr_names.specs.declared.blob.BlobName.{BlobName as CodeName}
 use Rattle.esr_names.specs.declared.blob.BlobName.TheVariants as code
-use Rattle.esr_ops.specs.Plan.{Plan, seat_of, reader_seat, IsPlanOf}
+use Rattle.esr_ops.specs.Plan.{Plan, seat_out, reader_out, IsPlanOf}
 use Rattle.esr_desk.specs.Start.{Start, formats_of, world_of, Legal}
 use Rattle.esr_desk.specs.Own.{caller_of}
 use Rattle.esr_desk.specs.Conditions.{Holds}
@@ -44,9 +45,6 @@ use Rattle.esr_repo.specs.InfosAfter.{LeavesInfos}
 use Rattle.esr_repo.proofs.Frames.{rests_answered}
 use Rattle.esr_repo.proofs.Logs.{Goes, goes_passed, image_now, log_goes, log_stays}
 use Rattle.esr_repo.proofs.Repos.{cluster_is, names_are, plan_aside, infos_over, kept_now, steady_now, can_tell, text_same, added_repo, repo_stays}
-
-some_none : {A : Type 0} (x : A) → Some x ≡ None → ⊥
-some_none x e = cc
 
 some_same : {A : Type 0} (x y : A) → Some x ≡ Some y → x ≡ y
 some_same x y e = cc
@@ -63,6 +61,9 @@ pub record Before (old : Look) (s : Start) (clock : ℕ) (es : List Entry) (k : 
   pub repo : IsRepo old s clock es k d
   pub view : log_of old clock es ≡ seen
   pub live : IsLive s seen
+
+pub before_step : {old : Look} {s : Start} {clock : ℕ} {es : List Entry} {k : Kept} {d : Option ℕ} {seen : List Moment} → Laws → IsRepo old s clock es k d → log_of old clock es ≡ seen → IsLive s seen → Before old s clock es k d seen
+before_step laws repo view live = record { laws = laws; repo = repo; view = view; live = live }
 
 -- the entries, after room was made and one was pushed
 pub record Pushed (es mid es' : List Entry) (e : Entry) : Type 0 where
@@ -132,20 +133,15 @@ pub record Idles (w new : World) : Type 0 where
 pub idles_same : (w : World) → Idles w w
 idles_same w = record { plan = λ p h. h; next = refl }
 
-tied : (r : Ordering) → is_eq r ≡ true → r ≡ Equal
-tied Less e = absurd (true≢false (sym e))
-tied Equal e = refl
-tied Greater e = absurd (true≢false (sym e))
-
-seats_stay : (tickets : FinMap nat_cmp Ticket) (k : ℕ) (t v : Ticket) → fin.get tickets k ≡ Some t → seat_of v ≡ seat_of t → (q : ℕ)
-    → option_map seat_of (fin.get (fin.insert tickets k v) q) ≡ option_map seat_of (fin.get tickets q)
-seats_stay tickets k t v there same q = ap (option_map seat_of) (fin.get-insert nat_cmp_total tickets k v q) ∙ go (eq_by_cmp nat_cmp q k) refl
+seats_stay : (tickets : FinMap nat_cmp Ticket) (k : ℕ) (t v : Ticket) → fin.get tickets k ≡ Some t → seat_out (Some v) ≡ seat_out (Some t) → (q : ℕ)
+    → seat_out (fin.get (fin.insert tickets k v) q) ≡ seat_out (fin.get tickets q)
+seats_stay tickets k t v there same q = ap seat_out (fin.get-insert nat_cmp_total tickets k v q) ∙ go (eq_by_cmp nat_cmp q k) refl
   where
-    go : (b : Bool) → eq_by_cmp nat_cmp q k ≡ b → option_map seat_of (cond b (Some v) (fin.get tickets q)) ≡ option_map seat_of (fin.get tickets q)
-    go true e = ap Some same ∙ sym (ap (option_map seat_of) (ap (fin.get tickets) (nat_cmp-IsAntisymmetric q k (tied (nat_cmp q k) e)) ∙ there))
+    go : (b : Bool) → eq_by_cmp nat_cmp q k ≡ b → seat_out (cond b (Some v) (fin.get tickets q)) ≡ seat_out (fin.get tickets q)
+    go true e = same ∙ sym (ap seat_out (ap (fin.get tickets) (nat_cmp-IsAntisymmetric q k (tied (nat_cmp q k) e)) ∙ there))
     go false e = refl
 
-idles_given : (w : World) (k : ℕ) (g : Ticket → Ticket) (o : Option Ticket) → fin.get w.tickets k ≡ o → ((t : Ticket) → seat_of (g t) ≡ seat_of t) → Idles w (with_given w k g o)
+idles_given : (w : World) (k : ℕ) (g : Ticket → Ticket) (o : Option Ticket) → fin.get w.tickets k ≡ o → ((t : Ticket) → seat_out (Some (g t)) ≡ seat_out (Some t)) → Idles w (with_given w k g o)
 idles_given w k g None there same = idles_same w
 idles_given w k g (Some t) there same =
     record {
@@ -153,14 +149,14 @@ idles_given w k g (Some t) there same =
       next = refl;
     }
 
-pub idles_change : (w : World) (k : ℕ) (g : Ticket → Ticket) → ((t : Ticket) → seat_of (g t) ≡ seat_of t) → Idles w (change w k g)
+pub idles_change : (w : World) (k : ℕ) (g : Ticket → Ticket) → ((t : Ticket) → seat_out (Some (g t)) ≡ seat_out (Some t)) → Idles w (change w k g)
 idles_change w k g same = idles_given w k g (fin.get w.tickets k) refl same
 
-seat_committing : (name : BlobName) (o : Option Bytes) (t : Ticket) → seat_of (committing name o t) ≡ seat_of t
+seat_committing : (name : BlobName) (o : Option Bytes) (t : Ticket) → seat_out (Some (committing name o t)) ≡ seat_out (Some t)
 seat_committing name None t = refl
 seat_committing name (Some bytes) t = refl
 
-seat_fetching : (name : BlobName) (o : Option Bytes) (t : Ticket) → seat_of (fetching name o t) ≡ seat_of t
+seat_fetching : (name : BlobName) (o : Option Bytes) (t : Ticket) → seat_out (Some (fetching name o t)) ≡ seat_out (Some t)
 seat_fetching name None t = refl
 seat_fetching name (Some bytes) t = refl
 
@@ -264,12 +260,12 @@ fetch_leaves (PruneStep (FetchShard it)) name reply h = tt
 fetch_leaves (ReadStep (ReadBlob it)) name reply h = tt
 fetch_leaves step name reply h = absurd h
 
-readers_stay : (readers : FinMap nat_cmp Reader) (k : ℕ) (q v : Reader) → fin.get readers k ≡ Some q → reader_seat v ≡ reader_seat q → (j : ℕ)
-    → option_map reader_seat (fin.get (fin.insert readers k v) j) ≡ option_map reader_seat (fin.get readers j)
-readers_stay readers k q v there same j = ap (option_map reader_seat) (fin.get-insert nat_cmp_total readers k v j) ∙ go (eq_by_cmp nat_cmp j k) refl
+readers_stay : (readers : FinMap nat_cmp Reader) (k : ℕ) (q v : Reader) → fin.get readers k ≡ Some q → reader_out (Some v) ≡ reader_out (Some q) → (j : ℕ)
+    → reader_out (fin.get (fin.insert readers k v) j) ≡ reader_out (fin.get readers j)
+readers_stay readers k q v there same j = ap reader_out (fin.get-insert nat_cmp_total readers k v j) ∙ go (eq_by_cmp nat_cmp j k) refl
   where
-    go : (b : Bool) → eq_by_cmp nat_cmp j k ≡ b → option_map reader_seat (cond b (Some v) (fin.get readers j)) ≡ option_map reader_seat (fin.get readers j)
-    go true e = ap Some same ∙ sym (ap (option_map reader_seat) (ap (fin.get readers) (nat_cmp-IsAntisymmetric j k (tied (nat_cmp j k) e)) ∙ there))
+    go : (b : Bool) → eq_by_cmp nat_cmp j k ≡ b → reader_out (cond b (Some v) (fin.get readers j)) ≡ reader_out (fin.get readers j)
+    go true e = same ∙ sym (ap reader_out (ap (fin.get readers) (nat_cmp-IsAntisymmetric j k (tied (nat_cmp j k) e)) ∙ there))
     go false e = refl
 
 idles_told : (w : World) (k : ℕ) (name : BlobName) (bytes : Option Bytes) (o : Option Reader) → fin.get w.readers k ≡ o → Idles w (read_told w k name bytes o)
@@ -465,7 +461,8 @@ module _ {old : Look} {s : Start} {clock : ℕ} {es : List Entry} {k : Kept} {d 
           }
 
       -- what is kept stays
-      pub call_made : LeavesInfos e.step e.reply → (mid es' : List Entry) → Pushed es mid es' e → IsCall old new s seen e → Idles (world_of s seen) (answered (formats_of s) (world_of s seen) e.who e.step e.reply (image_now new)) → Made old new s clock es es' k d seen e
+      pub call_made : LeavesInfos e.step e.reply → (mid es' : List Entry) → Pushed es mid es' e → IsCall old new s seen e → Idles (world_of s seen) (answered (formats_of s) (world_of s seen) e.who e.step e.reply (image_now new))
+          → Made old new s clock es es' k d seen e
       call_made leaves mid es' p c idles =
           let more = more_is es mid es' e p in
           let kept = kept_now old s clock es k d seen b.repo b.view b.live in
@@ -540,7 +537,8 @@ module _ {old : Look} {s : Start} {clock : ℕ} {es : List Entry} {k : Kept} {d 
           let left = commit_left (Some i) may in
           inr (inl (allowed_is (Some i) (record { who = who; step = step; reply = Refused DepotFault }) no_commit_swap goes left.0 (m.fails (named_of s nm back) (Some (image_of i)) (tell_of (Some i) left.0) left.1)))
 
-      pub commit_done : (found : Commit) → found ≡ commits.Done → Called old new (Committed text contents) (CommitMay text contents) (Ok found) → (mid es' : List Entry) → Pushed es mid es' (record { who = who; step = step; reply = WasDone })
+      pub commit_done : (found : Commit) → found ≡ commits.Done → Called old new (Committed text contents) (CommitMay text contents) (Ok found) → (mid es' : List Entry)
+          → Pushed es mid es' (record { who = who; step = step; reply = WasDone })
           → Made old new s clock es es' k d seen (record { who = who; step = step; reply = WasDone }) × (told_blob (formats_of s) (image_now new) nm ≡ contents)
       commit_done found what c mid es' p =
           let e : Entry = record { who = who; step = step; reply = WasDone } in
@@ -560,7 +558,8 @@ module _ {old : Look} {s : Start} {clock : ℕ} {es : List Entry} {k : Kept} {d 
             blobs_are i was,
           )
 
-      pub commit_found : (found : Commit) → found ≡ commits.Exists → Called old new (Committed text contents) (CommitMay text contents) (Ok found) → IsMetadata nm → (mid es' : List Entry) → Pushed es mid es' (record { who = who; step = step; reply = WasThere })
+      pub commit_found : (found : Commit) → found ≡ commits.Exists → Called old new (Committed text contents) (CommitMay text contents) (Ok found) → IsMetadata nm → (mid es' : List Entry)
+          → Pushed es mid es' (record { who = who; step = step; reply = WasThere })
           → Made old new s clock es es' k d seen (record { who = who; step = step; reply = WasThere })
       commit_found found what c metadata mid es' p =
           let e : Entry = record { who = who; step = step; reply = WasThere } in
@@ -580,7 +579,8 @@ module _ {old : Look} {s : Start} {clock : ℕ} {es : List Entry} {k : Kept} {d 
           (call_is e no_commit_swap (CommitMay name_text contents) goes (c'.passed refl) refl (text_same_image (now old) (now new) same) (m.taken (named_of s nm back) other (image_now new) (tell_of (now new) (text_same_image (now old) (now new) same)) (told_of (now new) (IsThere s seen nm) (told_there same c'.done.1))) (commit_cut (Refused (NameTaken nm)) (image_now new)))
           (idles_same (world_of s seen))
 
-      pub commit_fault : (error : CallError) → error ≡ Failed → Called old new (Committed text contents) (CommitMay text contents) (Err error) → (mid es' : List Entry) → Pushed es mid es' (record { who = who; step = step; reply = Refused DepotFault })
+      pub commit_fault : (error : CallError) → error ≡ Failed → Called old new (Committed text contents) (CommitMay text contents) (Err error) → (mid es' : List Entry)
+          → Pushed es mid es' (record { who = who; step = step; reply = Refused DepotFault })
           → Made old new s clock es es' k d seen (record { who = who; step = step; reply = Refused DepotFault })
       commit_fault error is c mid es' p =
           let e : Entry = record { who = who; step = step; reply = Refused DepotFault } in
@@ -646,7 +646,8 @@ module _ {old : Look} {s : Start} {clock : ℕ} {es : List Entry} {k : Kept} {d 
           let was : now old ≡ Some i = sym same ∙ e in
           (ap (λ (x : Blobs). fin.get x fetched_text) (sym (blobs_are i was)) ∙ is i was, blobs_are i was)
 
-      pub fetch_found : {F : Type 0} (o : Option F) (x : F) → o ≡ Some x → IfSome o (λ _. IsTaken (now old) text) → Called old new (λ _. SameImage) SameImage (Ok o) → (mid es' : List Entry) → Pushed es mid es' (record { who = who; step = step; reply = WasFetched })
+      pub fetch_found : {F : Type 0} (o : Option F) (x : F) → o ≡ Some x → IfSome o (λ _. IsTaken (now old) text) → Called old new (λ _. SameImage) SameImage (Ok o) → (mid es' : List Entry)
+          → Pushed es mid es' (record { who = who; step = step; reply = WasFetched })
           → Made old new s clock es es' k d seen (record { who = who; step = step; reply = WasFetched })
       fetch_found o x is taken c mid es' p =
           let e : Entry = record { who = who; step = step; reply = WasFetched } in
@@ -673,7 +674,8 @@ module _ {old : Look} {s : Start} {clock : ℕ} {es : List Entry} {k : Kept} {d 
       pub fetch_left : {F : Type 0} (left : F → Option Bytes) (o : Option F) (x : F) → o ≡ Some x → IfSome o (λ f. left f ≡ blob_known (now old) text) → left x ≡ blob_known (now old) text
       fetch_left left o x is h = subst (λ o. IfSome o (λ f. left f ≡ blob_known (now old) text)) is h
 
-      pub fetch_bytes : {F : Type 0} (o : Option F) (x : F) → o ≡ Some x → IfSome o (λ _. IsTaken (now old) text) → (left : Option Bytes) → left ≡ blob_known (now old) text → (bytes : Bytes) × (left ≡ (if s.tells then Some bytes else None))
+      pub fetch_bytes : {F : Type 0} (o : Option F) (x : F) → o ≡ Some x → IfSome o (λ _. IsTaken (now old) text) → (left : Option Bytes) → left ≡ blob_known (now old) text
+          → (bytes : Bytes) × (left ≡ (if s.tells then Some bytes else None))
       fetch_bytes o x what there left is = go (now old) refl
         where
           taken : IsTaken (now old) text
@@ -685,7 +687,8 @@ module _ {old : Look} {s : Start} {clock : ℕ} {es : List Entry} {k : Kept} {d 
               let found = some_of (blob i text) (taken i e) in
               (found.0, is ∙ ap (λ (x : Option Held). blob_known x text) e ∙ found.1 ∙ sym (ap (λ (t : Bool). if t then Some found.0 else None) (b.repo.tells.told i e)))
 
-      pub fetch_absent : {F : Type 0} (o : Option F) → o ≡ None → IsFree (now old) text → Called old new (λ _. SameImage) SameImage (Ok o) → (mid es' : List Entry) → Pushed es mid es' (record { who = who; step = step; reply = WasAbsent })
+      pub fetch_absent : {F : Type 0} (o : Option F) → o ≡ None → IsFree (now old) text → Called old new (λ _. SameImage) SameImage (Ok o) → (mid es' : List Entry)
+          → Pushed es mid es' (record { who = who; step = step; reply = WasAbsent })
           → Made old new s clock es es' k d seen (record { who = who; step = step; reply = WasAbsent })
       fetch_absent {F} o is free c mid es' p =
           let e : Entry = record { who = who; step = step; reply = WasAbsent } in

@@ -1,6 +1,6 @@
 -- Steps that are refused before they are looked at.
-use Rattle.std.proofs.Common.{◌≡◌, ◌≢◌, ℕ, Bool, true, false, Option, Some, None, option_map, refl, sym, ap, ◌∙◌, subst, true≢false}
-use Rattle.std.specs.Prelude.{not, ◌&&◌, if◌then◌else◌}
+use Rattle.std.proofs.Common.{◌≡◌, ◌≢◌, ℕ, Bool, true, false, Option, Some, None, refl, sym, ap, ◌∙◌, subst, true≢false}
+use Rattle.std.specs.Prelude.{not, if◌then◌else◌}
 use Rattle.std.specs.Ordering.{nat_cmp}
 use Rattle.std.specs.FinMap.{FinMap}
 use Rattle.std.specs.FinMap as fin
@@ -10,9 +10,10 @@ use Rattle.esr_core.specs.World.{World, Op, Ticket, Work, Shard, Finalize, Delet
 use Rattle.esr_core.specs.Entry.{Step, FailedStep, Refusal, Refused}
 use Rattle.esr_core.specs.After.{answered}
 use Rattle.esr_core.specs.Allowed.{IsFailure, IsAborted, Blocks, ByFailedSwap, ByDelete}
-use Rattle.esr_ops.specs.Plan.{Plan, kind_of, seat_of, IsPlanOf}
+use Rattle.esr_ops.specs.Plan.{Plan, kind_of, seat_of, seat_out, IsPlanOf}
 use Rattle.esr_ops.specs.Seats.{is_drop}
 use Rattle.esr_progress.specs.Aborts.{op_aborter, aborter}
+use Rattle.esr_progress.specs.Plans.{seat_there}
 use Rattle.esr_desk.specs.declared.refusal.EntryRefusal.{EntryRefusal}
 use Rattle.esr_desk.specs.declared.refusal.EntryRefusal.TheVariants as refusals
 use Rattle.esr_desk.specs.Refusals.{refusal_of}
@@ -33,10 +34,9 @@ block_stays f w who step refusal image (ByDelete by alive aborted) = refl
 
 -- ---- the delete that has aborted the op of a ticket
 
-picks : (out drops : Bool) (x : Option ℕ) → out ≡ true → drops ≡ false → (if out && not drops then x else None) ≡ x
-picks true false x out kept = refl
-picks true true x out kept = absurd (true≢false kept)
-picks false drops x out kept = absurd (true≢false (sym out))
+picks : (drops : Bool) (x : Option ℕ) → drops ≡ false → (if not drops then x else None) ≡ x
+picks false x kept = refl
+picks true x kept = absurd (true≢false kept)
 
 takes_none : (work : Work) → work ≢ Drop → is_drop (kind_of work) ≡ false
 takes_none (Shard index number) other = refl
@@ -59,18 +59,21 @@ module _ (w : World) (who : ℕ) (step : Step) (by : ℕ) (other : is_failure st
   by_op out no_drop (Some op) e a =
       record { t = t; out = record { there = there; out = out }; op = op; op_there = e; by_is = a; no_drop = λ is. true≢false (sym (ap (λ (x : Work). is_drop (kind_of x)) is) ∙ no_drop); no_failure = no_failure step other }
 
-  by_kind : (out drops : Bool) → t.out ≡ out → is_drop (kind_of t.work) ≡ drops → (if out && not drops then op_aborter (fin.get w.ops t.op) else None) ≡ Some by → IsAborted w who step by
-  by_kind true false out no_drop a = by_op out no_drop (fin.get w.ops t.op) refl a
-  by_kind true true out no_drop a = absurd (none_some by a)
-  by_kind false drops out no_drop a = absurd (none_some by a)
+  by_kind : (drops : Bool) → is_drop (kind_of t.work) ≡ drops → t.out ≡ true → (if not drops then op_aborter (fin.get w.ops t.op) else None) ≡ Some by → IsAborted w who step by
+  by_kind false no_drop out a = by_op out no_drop (fin.get w.ops t.op) refl a
+  by_kind true no_drop out a = absurd (none_some by a)
 
-by_ticket : (w : World) (who : ℕ) (step : Step) (by : ℕ) → is_failure step ≡ false → (o : Option Ticket) → fin.get w.tickets who ≡ o → aborter w.ops (option_map seat_of o) ≡ Some by → IsAborted w who step by
+  by_out : (out : Bool) → t.out ≡ out → aborter w.ops (if out then Some (seat_of t) else None) ≡ Some by → IsAborted w who step by
+  by_out true out a = by_kind (is_drop (kind_of t.work)) refl out a
+  by_out false out a = absurd (none_some by a)
+
+by_ticket : (w : World) (who : ℕ) (step : Step) (by : ℕ) → is_failure step ≡ false → (o : Option Ticket) → fin.get w.tickets who ≡ o → aborter w.ops (seat_out o) ≡ Some by → IsAborted w who step by
 by_ticket w who step by other None e a = absurd (none_some by a)
-by_ticket w who step by other (Some t) e a = by_kind w who step by other t e t.out (is_drop (kind_of t.work)) refl refl a
+by_ticket w who step by other (Some t) e a = by_out w who step by other t e t.out refl a
 
 module _ (w : World) (plan : Plan) (who : ℕ) (step : Step) (h : IsPlanOf w plan) where
   -- it is that of the world
-  aborter_is : aborter plan.ops (fin.get plan.seats who) ≡ aborter w.ops (option_map seat_of (fin.get w.tickets who))
+  aborter_is : aborter plan.ops (fin.get plan.seats who) ≡ aborter w.ops (seat_out (fin.get w.tickets who))
   aborter_is = ap (λ (ops : FinMap nat_cmp Op). aborter ops (fin.get plan.seats who)) h.ops ∙ ap (aborter w.ops) (h.seats who)
 
   aborted_is : (by : ℕ) → is_failure step ≡ false → aborter plan.ops (fin.get plan.seats who) ≡ Some by → IsAborted w who step by
@@ -79,8 +82,9 @@ module _ (w : World) (plan : Plan) (who : ℕ) (step : Step) (h : IsPlanOf w pla
   aborts : (by : ℕ) → IsAborted w who step by → aborter plan.ops (fin.get plan.seats who) ≡ Some by
   aborts by x =
       aborter_is
-      ∙ ap (λ (o : Option Ticket). aborter w.ops (option_map seat_of o)) x.out.there
-      ∙ picks x.t.out (is_drop (kind_of x.t.work)) (op_aborter (fin.get w.ops x.t.op)) x.out.out (takes_none x.t.work x.no_drop)
+      ∙ ap (λ (o : Option Ticket). aborter w.ops (seat_out o)) x.out.there
+      ∙ ap (aborter w.ops) (seat_there x.t x.out.out)
+      ∙ picks (is_drop (kind_of x.t.work)) (op_aborter (fin.get w.ops x.t.op)) (takes_none x.t.work x.no_drop)
       ∙ ap op_aborter x.op_there
       ∙ x.by_is
 

@@ -69,7 +69,8 @@ unheard f c who step refusal image h = refl
 block_caller : (s : Start) (old new : List Moment) (who : ℕ) (step : Step) (refusal : Refusal) → IsUnheard refusal → Added s old new who step (Refused refusal) → caller_of s new ≡ caller_of s old
 block_caller s old new who step refusal h a = added_caller s old new who step (Refused refusal) a ∙ unheard (formats_of s) (caller_of s old) who step refusal a.image h
 
-pub blocked_caller : (d : Option ℕ) (plan : Plan) (s : Start) (old new : List Moment) (who : ℕ) (step : Step) (refusal : EntryRefusal) → Tells d plan who step refusal → Added s old new who step (Refused (refusal_of refusal)) → caller_of s new ≡ caller_of s old
+pub blocked_caller : (d : Option ℕ) (plan : Plan) (s : Start) (old new : List Moment) (who : ℕ) (step : Step) (refusal : EntryRefusal) → Tells d plan who step refusal → Added s old new who step (Refused (refusal_of refusal))
+    → caller_of s new ≡ caller_of s old
 blocked_caller d plan s old new who step refusal (OfSwap place fell) a = block_caller s old new who step (DeposedAt place) tt a
 blocked_caller d plan s old new who step refusal (OfDelete op none aborted) a = block_caller s old new who step (AbortedBy op) tt a
 
@@ -107,11 +108,13 @@ tests_read f c VerifiedAll reply image own h = tests_ended c reply h
 tests_read f c (ReadFails why) reply image own h = tests_ended c reply h
 tests_read f c read reply image own h = h
 
-tests_by : (f : Formats) (c : Caller) (who : ℕ) (read : Read) (reply : Reply) (image : Option Image) → ((name : BlobName) → read ≡ CommitTest name → reply ≡ WasDone → IsTest name) → AreTests c → AreTests (caller_by f c who read reply image)
+tests_by : (f : Formats) (c : Caller) (who : ℕ) (read : Read) (reply : Reply) (image : Option Image) → ((name : BlobName) → read ≡ CommitTest name → reply ≡ WasDone → IsTest name) → AreTests c
+    → AreTests (caller_by f c who read reply image)
 tests_by f c zero read reply image own h = tests_read f c read reply image own h
 tests_by f c (suc k) read reply image own h = h
 
-tests_after : (f : Formats) (c : Caller) (who : ℕ) (step : Step) (reply : Reply) (image : Option Image) → ((name : BlobName) → step ≡ ReadStep (CommitTest name) → reply ≡ WasDone → IsTest name) → AreTests c → AreTests (caller_after f c who step reply image)
+tests_after : (f : Formats) (c : Caller) (who : ℕ) (step : Step) (reply : Reply) (image : Option Image) → ((name : BlobName) → step ≡ ReadStep (CommitTest name) → reply ≡ WasDone → IsTest name) → AreTests c
+    → AreTests (caller_after f c who step reply image)
 tests_after f c who (AskStep command) reply image own h = tests_either (is_heard reply) no_caller c (tests_none false) h
 tests_after f c who LookStep reply image own h = tests_either (is_heard reply) (record no_caller { looked = true }) c (tests_none true) h
 tests_after f c who (ReadStep read) reply image own h = tests_by f c who read reply image (λ name e d. own name (ap ReadStep e) d) h

@@ -88,7 +88,8 @@ committed_ended : (c : Caller) (reply : Reply) → Committed c → Committed (ca
 committed_ended c HasEnded h = λ name has. absurd has
 committed_ended c reply h = h
 
-committed_read : (f : Formats) (c : Caller) (read : Read) (reply : Reply) (image : Option Image) → ((name : BlobName) → read ≡ CommitTest name → reply ≡ WasDone → HasDrawn c) → Committed c → Committed (caller_read f c read reply image)
+committed_read : (f : Formats) (c : Caller) (read : Read) (reply : Reply) (image : Option Image) → ((name : BlobName) → read ≡ CommitTest name → reply ≡ WasDone → HasDrawn c) → Committed c
+    → Committed (caller_read f c read reply image)
 committed_read f c (ReadBlob name) WasFetched image own h = committed_told c name (told_blob f image name) h
 committed_read f c (ReadBlob name) reply image own h = h
 committed_read f c (RestoredShard files bytes) reply image own h = h
@@ -101,7 +102,8 @@ committed_read f c VerifiedAll reply image own h = committed_ended c reply h
 committed_read f c (ReadFails why) reply image own h = committed_ended c reply h
 committed_read f c read reply image own h = h
 
-committed_after : (f : Formats) (c : Caller) (step : Step) (reply : Reply) (image : Option Image) → ((name : BlobName) → step ≡ ReadStep (CommitTest name) → reply ≡ WasDone → HasDrawn c) → Committed c → Committed (caller_after f c 0 step reply image)
+committed_after : (f : Formats) (c : Caller) (step : Step) (reply : Reply) (image : Option Image) → ((name : BlobName) → step ≡ ReadStep (CommitTest name) → reply ≡ WasDone → HasDrawn c) → Committed c
+    → Committed (caller_after f c 0 step reply image)
 committed_after f c (AskStep command) reply image own h = committed_either (is_heard reply) no_caller c (λ name has. absurd has) h
 committed_after f c LookStep reply image own h = committed_either (is_heard reply) (record no_caller { looked = true }) c (λ name has. absurd has) h
 committed_after f c (ReadStep read) reply image own h = committed_read f c read reply image (λ name e d. own name (ap ReadStep e) d) h
@@ -148,7 +150,8 @@ module _ (f : Formats) (size : ℕ) (w : World) (of_ops : AreOfOps w) (h : Tells
       no_ticket : 1 ≤ 0 → ⊥
       no_ticket e = omega arith
 
-  own_told : (m : Moment) → m.entry.who ≡ 0 → ReadsOwn w.caller m.entry.who m.entry.step → Allowed f size w m → is_counted m.entry.reply ≡ true → begins_anew 0 m.entry.step ≡ false → TellsStep (caller_after f w.caller 0 m.entry.step m.entry.reply m.image) m.entry.step
+  own_told : (m : Moment) → m.entry.who ≡ 0 → ReadsOwn w.caller m.entry.who m.entry.step → Allowed f size w m → is_counted m.entry.reply ≡ true → begins_anew 0 m.entry.step ≡ false
+      → TellsStep (caller_after f w.caller 0 m.entry.step m.entry.reply m.image) m.entry.step
   own_told m who own a counted old = elim a.answered [
     | inl alive ↦ go m.entry.step m.entry.reply (subst (λ (k : ℕ). ReadsOwn w.caller k m.entry.step) who own) (subst (λ (k : ℕ). Allows f size w k m.entry.step m.entry.reply m.image) who alive.1)
     | inr dead ↦ absurd (no_block m.entry.step m.entry.reply counted dead.refusal (subst (λ (k : ℕ). Blocks w k m.entry.step dead.refusal) who dead.blocks) dead.refused)
@@ -230,7 +233,8 @@ own_step f size w m who of_ops a own h =
         go step = refl
     uncounted reply is = absurd cc
 
-    by : (counted : Bool) → is_counted m.entry.reply ≡ counted → (new : Bool) → begins_anew 0 m.entry.step ≡ new → (e : Entry) → Has (entries_by (with_entry w.entries m.entry) 0) e → TellsStep (caller_after f w.caller 0 m.entry.step m.entry.reply m.image) e.step
+    by : (counted : Bool) → is_counted m.entry.reply ≡ counted → (new : Bool) → begins_anew 0 m.entry.step ≡ new → (e : Entry) → Has (entries_by (with_entry w.entries m.entry) 0) e
+        → TellsStep (caller_after f w.caller 0 m.entry.step m.entry.reply m.image) e.step
     by false is new fresh e has =
         subst (λ (c : Caller). TellsStep c e.step) (sym (uncounted m.entry.reply is))
         (h.made e (subst (λ (b : Bool). Has (entries_by (if b then m.entry ∷ w.entries else w.entries) 0) e) is has))

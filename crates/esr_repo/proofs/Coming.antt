@@ -3,14 +3,14 @@ use Rattle.std.proofs.Common.{◌≡◌, ◌⊎◌, ℕ, ◌≤◌, false, List,
 use Rattle.std.specs.Cmp.{nat_cmp_total}
 use Rattle.std.specs.FinMap.{FinMap, nat_cmp-IsAntisymmetric}
 use Rattle.std.specs.FinMap as fin
+use Rattle.std.proofs.lemmas.Option.{same_Some}
 use Rattle.esr_model.specs.Values.{Has, Formats}
 use Rattle.esr_model.specs.Delete.{PrunedShard, left_uuids, uuids_of, deleted_root}
 use Rattle.esr_core.specs.World.{Op, Work, Shard, Finalize, Deleting, Drop, Swap, Ticket}
 use Rattle.esr_core.specs.Pruning.{delete_swap, planned_work, planned}
 use Rattle.esr_core.specs.Turns.{Aborts}
-use Rattle.esr_core.proofs.Reading.{some_same}
-use Rattle.esr_core.proofs.Maps.{get_was, get_left}
-use Rattle.esr_core.proofs.Plans.{own_is}
+use Rattle.esr_core.specs.Laws.Maps.{get_was, get_left}
+use Rattle.esr_core.specs.Laws.DeletePlans.{own_is}
 use Rattle.esr_repo.specs.Repo.{PlannedBy}
 
 -- ---- tickets of deletes
@@ -19,7 +19,8 @@ use Rattle.esr_repo.specs.Repo.{PlannedBy}
 pub data Came (settles : Option ℕ) (was : FinMap nat_cmp Ticket) (k : ℕ) (v : Ticket) (uuids : List ℕ) (plan : Option Swap) : Type 0 where
   WasGiven : plan ≡ None → v.settled ≡ false → Came settles was k v uuids plan
   Stayed : (t : Ticket) → fin.get was k ≡ Some t → t.work ≡ Deleting uuids plan → v.root ≡ t.root → v.settled ≡ t.settled → Came settles was k v uuids plan
-  HasPlanned : (t : Ticket) (before : Option Swap) → fin.get was k ≡ Some t → t.work ≡ Deleting uuids before → v.root ≡ t.root → v.settled ≡ t.settled → ((s : Swap) → plan ≡ Some s → PlannedBy v.root uuids s) → Came settles was k v uuids plan
+  HasPlanned : (t : Ticket) (before : Option Swap) → fin.get was k ≡ Some t → t.work ≡ Deleting uuids before → v.root ≡ t.root → v.settled ≡ t.settled → ((s : Swap) → plan ≡ Some s → PlannedBy v.root uuids s)
+      → Came settles was k v uuids plan
   HasSettled : settles ≡ Some k → (t : Ticket) → fin.get was k ≡ Some t → t.work ≡ Deleting uuids plan → v.root ≡ t.root → Came settles was k v uuids plan
 
 abbrev pub DeletesCome : Option ℕ → FinMap nat_cmp Ticket → FinMap nat_cmp Ticket → Type 0
@@ -69,14 +70,15 @@ planned_is f t us uuids shards first s same is =
     }
 
 -- with its plan, where it is a delete's
-pub come_planned : (f : Formats) (b : Option ℕ) (tickets : FinMap nat_cmp Ticket) (k : ℕ) (t : Ticket) (shards : List PrunedShard) (first : ℕ) → fin.get tickets k ≡ Some t → DeletesCome b tickets (fin.insert tickets k (planned f shards first t))
+pub come_planned : (f : Formats) (b : Option ℕ) (tickets : FinMap nat_cmp Ticket) (k : ℕ) (t : Ticket) (shards : List PrunedShard) (first : ℕ) → fin.get tickets k ≡ Some t
+    → DeletesCome b tickets (fin.insert tickets k (planned f shards first t))
 come_planned f b tickets k t shards first there = come_put b tickets k (planned f shards first t) (λ uuids plan e. by_work t.work refl uuids plan e)
   where
     by_work : (work : Work) → t.work ≡ work → (uuids : List ℕ) (plan : Option Swap) → planned_work f t shards first work ≡ Deleting uuids plan → Came b tickets k (planned f shards first t) uuids plan
     by_work (Deleting us p) is uuids plan e =
         let same : us ≡ uuids = uuids_same us uuids (Some (delete_swap f t.clean t.root t.read us shards first)) plan e in
         let new : plan ≡ Some (delete_swap f t.clean t.root t.read us shards first) = plan_same us uuids (Some (delete_swap f t.clean t.root t.read us shards first)) plan e in
-        HasPlanned t p there (is ∙ ap (λ (x : List ℕ). Deleting x p) same) refl refl (λ s q. planned_is f t us uuids shards first s same (some_same s (delete_swap f t.clean t.root t.read us shards first) (sym q ∙ new)))
+        HasPlanned t p there (is ∙ ap (λ (x : List ℕ). Deleting x p) same) refl refl (λ s q. planned_is f t us uuids shards first s same (same_Some s (delete_swap f t.clean t.root t.read us shards first) (sym q ∙ new)))
     by_work (Shard index number) is uuids plan e = absurd (cc)
     by_work (Finalize info results made) is uuids plan e = absurd (cc)
     by_work Drop is uuids plan e = absurd (cc)

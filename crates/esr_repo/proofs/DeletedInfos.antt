@@ -2,10 +2,11 @@
 use Rattle.std.proofs.Common.{◌≡◌, ◌⊎◌, ℕ, Bool, true, false, List, [], ◌∷◌, map, Some, refl, sym, ap, ◌∙◌, subst, inl, inr}
 use Rattle.std.specs.Prelude.{filter, ◌||◌}
 use Rattle.std.specs.List.{list_any}
-use Rattle.std.proofs.lemmas.Bool.{eqb-true, eq-eqb}
+use Rattle.std.proofs.lemmas.Bool.{eqb-true, eq-eqb, cond-true, cond-false, cases_Bool}
 use Rattle.std.specs.Cmp.{nat_cmp_total}
 use Rattle.std.specs.FinMap.{nat_cmp-IsAntisymmetric}
 use Rattle.std.specs.FinMap as fin
+use Rattle.std.proofs.lemmas.Option.{same_Some}
 use Rattle.esr_model.specs.Values.{Has, RootSnap, RootIndex, RootData}
 use Rattle.esr_model.specs.Delete.{names_uuid, left_snaps, left_uuids, left_root, renewed, deleted_root}
 use Rattle.esr_core.specs.World.{World, Ticket}
@@ -13,11 +14,9 @@ use Rattle.esr_core.specs.Steps.{IsOut}
 use Rattle.esr_core.specs.Tracked.{Tracked}
 use Rattle.esr_core.specs.Entry.{PruneStep, SettlePruned, Moment}
 use Rattle.esr_core.specs.Allowed.{AreIndicesIn, NoDeleting}
-use Rattle.esr_core.proofs.Maps.{get_same, get_other, split}
-use Rattle.esr_core.proofs.Reading.{some_same, Has-map, Has-mapped}
-use Rattle.esr_core.proofs.Results.{choose_true, choose_false}
-use Rattle.esr_core.proofs.Deleting.{bool_told, left_has}
-use Rattle.esr_core.proofs.DeletedRoots.{left_of, uuid_was, uuid_left, index_was, index_left, renewed_snapshots, renewed_index_was, renewed_index}
+use Rattle.esr_core.specs.Laws.Maps.{get_same, get_other, split}
+use Rattle.esr_model.specs.Lists.{Has-map, Has-mapped}
+use Rattle.esr_core.specs.Laws.DeleteRoots.{left_has, left_of, uuid_was, uuid_left, index_was, index_left, renewed_snapshots, renewed_index_was, renewed_index}
 use Rattle.esr_root.specs.Ids.{same_id}
 use Rattle.esr_root.specs.Snaps.{lists}
 use Rattle.esr_root.specs.Root.{Root}
@@ -50,7 +49,7 @@ any_has p (y ∷ ys) e = elim (either (p y) (list_any p ys) e) [
 any_of : {A : Type 0} (p : A → Bool) (xs : List A) (x : A) → Has xs x → p x ≡ true → list_any p xs ≡ true
 any_of p [] x m e = absurd m
 any_of p (y ∷ ys) x (inl same) e = let own : p y ≡ true = ap p same ∙ e in rw own refl
-any_of p (y ∷ ys) x (inr m) e = elim (bool_told (p y)) [
+any_of p (y ∷ ys) x (inr m) e = elim (cases_Bool (p y)) [
   | inl b ↦ rw b refl
   | inr b ↦ rw b (any_of p ys x m e)
 ]
@@ -58,7 +57,7 @@ any_of p (y ∷ ys) x (inr m) e = elim (bool_told (p y)) [
 kept_in : {A : Type 0} (p : A → Bool) (xs : List A) (x : A) → Has xs x → p x ≡ true → Has (filter p xs) x
 kept_in p [] x m e = absurd m
 kept_in p (y ∷ ys) x (inl same) e = let own : p y ≡ true = ap p same ∙ e in rw own (inl same)
-kept_in p (y ∷ ys) x (inr m) e = elim (bool_told (p y)) [
+kept_in p (y ∷ ys) x (inr m) e = elim (cases_Bool (p y)) [
   | inl b ↦ rw b (inr (kept_in p ys x m e))
   | inr b ↦ rw b (kept_in p ys x m e)
 ]
@@ -66,19 +65,19 @@ kept_in p (y ∷ ys) x (inr m) e = elim (bool_told (p y)) [
 -- it was there, and passes
 of_kept : {A : Type 0} (p : A → Bool) (xs : List A) (x : A) → Has (filter p xs) x → Has xs x × (p x ≡ true)
 of_kept {A} p [] x m = absurd m
-of_kept {A} p (y ∷ ys) x m = elim (bool_told (p y)) [
-  | inl b ↦ elim (subst (λ (l : List A). Has l x) (choose_true _ _ _ b) m) [
+of_kept {A} p (y ∷ ys) x m = elim (cases_Bool (p y)) [
+  | inl b ↦ elim (subst (λ (l : List A). Has l x) (cond-true _ _ _ b) m) [
     | inl same ↦ (inl same, ap p (sym same) ∙ b)
     | inr later ↦ let rest = of_kept p ys x later in (inr rest.0, rest.1)
   ]
-  | inr b ↦ let rest = of_kept p ys x (subst (λ (l : List A). Has l x) (choose_false _ _ _ b) m) in (inr rest.0, rest.1)
+  | inr b ↦ let rest = of_kept p ys x (subst (λ (l : List A). Has l x) (cond-false _ _ _ b) m) in (inr rest.0, rest.1)
 ]
 
 left_unnamed : (uuids : List ℕ) (ss : List RootSnap) (s : RootSnap) → Has (left_snaps uuids ss) s → names_uuid uuids s.uuid ≡ false
 left_unnamed uuids [] s m = absurd m
-left_unnamed uuids (x ∷ ss) s m = elim (bool_told (names_uuid uuids x.uuid)) [
-  | inl b ↦ left_unnamed uuids ss s (subst (λ (l : List RootSnap). Has l s) (choose_true _ _ _ b) m)
-  | inr b ↦ elim (subst (λ (l : List RootSnap). Has l s) (choose_false _ _ _ b) m) [
+left_unnamed uuids (x ∷ ss) s m = elim (cases_Bool (names_uuid uuids x.uuid)) [
+  | inl b ↦ left_unnamed uuids ss s (subst (λ (l : List RootSnap). Has l s) (cond-true _ _ _ b) m)
+  | inr b ↦ elim (subst (λ (l : List RootSnap). Has l s) (cond-false _ _ _ b) m) [
     | inl e ↦ ap (λ (y : RootSnap). names_uuid uuids y.uuid) (sym e) ∙ b
     | inr later ↦ left_unnamed uuids ss s later
   ]
@@ -161,7 +160,7 @@ module _ (s : Start) (log : List Moment) (k : ℕ) (root : Root) (infos : List I
   works_stay : KeepsWork w.tickets new.tickets
   works_stay j u there other = elim (split nat_cmp_total nat_cmp-IsAntisymmetric j k) [
     | inl is ↦
-        let one : u ≡ t = some_same u t (sym there ∙ ap (fin.get w.tickets) is ∙ out.there) in
+        let one : u ≡ t = same_Some u t (sym there ∙ ap (fin.get w.tickets) is ∙ out.there) in
         absurd (other can.uuids (Some can.settle.change) (ap (λ (x : Ticket). x.work) one ∙ can.work))
     | inr apart ↦ (u, get_other nat_cmp_total nat_cmp-IsAntisymmetric w.tickets k (settle t) j apart.0 ∙ there, refl)
   ]
@@ -174,7 +173,7 @@ module _ (s : Start) (log : List Moment) (k : ℕ) (root : Root) (infos : List I
   found_now i im found j u uuids plan there settled work = elim (split nat_cmp_total nat_cmp-IsAntisymmetric j k) [
     | inl is ↦
         let (snap, sm, same) = old.listed i im in
-        let one : u ≡ settle t = some_same u (settle t) (sym there ∙ ap (fin.get new.tickets) is ∙ get_same nat_cmp_total nat_cmp-IsAntisymmetric w.tickets k (settle t)) in
+        let one : u ≡ settle t = same_Some u (settle t) (sym there ∙ ap (fin.get new.tickets) is ∙ get_same nat_cmp_total nat_cmp-IsAntisymmetric w.tickets k (settle t)) in
         (snap, subst (λ (r : RootData). Has r.snapshots snap) (sym (ap (λ (x : Ticket). x.root) one ∙ copied)) sm, sym same)
     | inr apart ↦ found j u uuids plan (sym (get_other nat_cmp_total nat_cmp-IsAntisymmetric w.tickets k (settle t) j apart.0) ∙ there) settled work
   ]

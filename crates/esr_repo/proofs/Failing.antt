@@ -101,7 +101,8 @@ delete_never w names place h = elim h [ ]
 cleanup_never : (w : World) (place : ℕ) → CleanupAllows w (Refused (DeposedAt place)) → ⊥
 cleanup_never w place h = elim h [ ]
 
-clone_never : (f : Formats) (w : World) (source name : Bytes) (names : List Bytes) (moment : ℕ) (taken : Option CloneOf) (place : ℕ) (image : Option Image) → CloneAllows f w source name names moment taken (Refused (DeposedAt place)) image → ⊥
+clone_never : (f : Formats) (w : World) (source name : Bytes) (names : List Bytes) (moment : ℕ) (taken : Option CloneOf) (place : ℕ) (image : Option Image) → CloneAllows f w source name names moment taken (Refused (DeposedAt place)) image
+    → ⊥
 clone_never f w source name names moment taken place image h = elim h [ ]
 
 restore_never : (f : Formats) (w : World) (name : Bytes) (place : ℕ) (image : Option Image) → RestoreAllows f w name (Refused (DeposedAt place)) image → ⊥

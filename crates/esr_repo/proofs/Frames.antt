@@ -17,7 +17,7 @@ use Rattle.esr_core.specs.Steps.{with_ticket, noting, listing, given, completing
 use Rattle.esr_core.specs.Turns.{cleaning_ticket, fails}
 use Rattle.esr_core.specs.Entry.{Asked, Snapshot, Clone, DeleteSnapshots, Restore, Cleanup, Given, GivenShard, GivenFinalize, GivenDrop, GivenRestore, GivenClone, GivenDelete, GivenCleanup, Read, ReadBlob, RestoredShard, CheckedAll, DrawTest, CommitTest, ReadFails, Prune, FetchShard, PlanShards, SettlePruned, RemoveDoomed, EndDelete, DeleteFails, Step, AskStep, TakeStep, DrawStep, BeginStep, CommitStep, LatestStep, FetchStep, ListStep, RaiseStep, SettleStep, DoneStep, FailedStep, FinishStep, DroppedStep, ElectStep, ReadStep, PruneStep, DepotFault, Reply, AcceptedRestore, DrawnFrom, Gave, WasDone, WasThere, WasFetched, WasListed, HasEnded, Refused, Moment}
 use Rattle.esr_core.specs.After.{asked_op, new_names, cloned_op, asked, taken_shard, taken_restore_shard, taken_restore, taken_by, shard_of, with_given, committing, told_blob, fetching, settled_by, settled_of, done_by, done_of, is_stale, failed_by, failed_of, dropped_of, delete_settled_by, delete_settled, delete_failed_by, delete_failed, prune_step, read_told, shard_over, read_over, read_step, read_by, done_step, swaps_record, has_text, fallen, is_latest, test_left, faulted, answered, stepped}
-use Rattle.esr_core.proofs.AskedDeletes.{aborts}
+use Rattle.esr_core.specs.Laws.DeleteAsks.{aborts}
 use Rattle.esr_repo.specs.Log.{asks_container, calls}
 use Rattle.esr_repo.proofs.Coming.{DeletesCome, come_same, come_again, come_settled, come_plain, come_given, come_planned, OpsCome, ops_same, ops_put, ops_new, ops_less, ops_aborted}
 
@@ -191,14 +191,7 @@ frame_raised w k o there =
 
 frame_settled_by : (f : Formats) (w : World) (k : ℕ) (t : Ticket) → fin.get w.tickets k ≡ Some t → (s : Option Swap) (n : Option ℕ) → Frame (Some k) w (settled_by f w k t s n)
 frame_settled_by f w k t there (Some s) (Some n) =
-    record {
-      come = come_settled w.tickets k t (record t { settled = true }) there refl refl;
-      uuids = ops_less w.ops t.op w.next_id;
-      next = λ h. le_same w.next_id;
-      ops = le_next w.next_op;
-      tickets = le_next w.next_ticket;
-      caller = refl;
-    }
+    record { come = come_settled w.tickets k t (record t { settled = true }) there refl refl; uuids = ops_less w.ops t.op w.next_id; next = λ h. le_same w.next_id; ops = le_next w.next_op; tickets = le_next w.next_ticket; caller = refl }
 frame_settled_by f w k t there (Some s) None = frame_same (Some k) w
 frame_settled_by f w k t there None n = frame_same (Some k) w
 
@@ -272,14 +265,7 @@ frame_planned f w k shards (Some t) there = frame_put None w k (planned f shards
 
 frame_pruned_by : (f : Formats) (w : World) (k : ℕ) (t : Ticket) → fin.get w.tickets k ≡ Some t → (s : Option Swap) (n : Option ℕ) → Frame (Some k) w (delete_settled_by f w k t s n)
 frame_pruned_by f w k t there (Some s) (Some n) =
-    record {
-      come = come_settled w.tickets k t (record t { settled = true }) there refl refl;
-      uuids = ops_less w.ops t.op w.next_id;
-      next = λ h. le_same w.next_id;
-      ops = le_next w.next_op;
-      tickets = le_next w.next_ticket;
-      caller = refl;
-    }
+    record { come = come_settled w.tickets k t (record t { settled = true }) there refl refl; uuids = ops_less w.ops t.op w.next_id; next = λ h. le_same w.next_id; ops = le_next w.next_op; tickets = le_next w.next_ticket; caller = refl }
 frame_pruned_by f w k t there (Some s) None = frame_same (Some k) w
 frame_pruned_by f w k t there None n = frame_same (Some k) w
 

@@ -4,6 +4,8 @@ use Rattle.std.specs.Prelude.{if◌then◌else◌}
 use Rattle.std.specs.Ordering.{nat_cmp}
 use Rattle.std.specs.FinMap.{FinMap}
 use Rattle.std.specs.FinMap as fin
+use Rattle.std.proofs.lemmas.Option.{same_Some, none-some}
+use Rattle.std.proofs.lemmas.Bool.{cond-true, cond-false, cases_Bool}
 use Rattle.esr_model.specs.Names.{BlobName, Snap, File, Part}
 use Rattle.esr_model.specs.Values.{Bytes, Has, IndexRef, RootSnap, RootData, SnapInfo, FileEntry, ShardResult, Formats}
 use Rattle.esr_model.specs.Shelf.{Command, names_uuid}
@@ -19,14 +21,11 @@ use Rattle.esr_core.specs.After.{settled_of, delete_settled_by, delete_settled, 
 use Rattle.esr_core.specs.Allowed.{Settles, SettlesDeletion, PruneAllows, SettlingDelete, SettleDeleteStale, SettleDeleteFails, Allows, Allowed}
 use Rattle.esr_core.specs.Allowed as allowed
 use Rattle.esr_core.specs.Tracked.{FinalTracked, DeleteTracked, Tracked}
-use Rattle.esr_core.proofs.Cleaning.{cleaned_was}
-use Rattle.esr_core.proofs.DeletesHold.{has_names}
-use Rattle.esr_core.proofs.Reading.{some_same, none_some, Has-append, Has-map}
-use Rattle.esr_core.proofs.Results.{choose_true, choose_false}
-use Rattle.esr_core.proofs.Deleting.{bool_told, left_has}
-use Rattle.esr_core.proofs.DeletedRoots.{renewed_snapshots}
-use Rattle.esr_core.proofs.DoomedNames.{IsDoomed, TheRoot, ASnap, AMeta, AnIndexMeta, AnIndex, AList, APart, doomed_is}
-use Rattle.esr_core.proofs.Pieces.{in_parts}
+use Rattle.esr_core.specs.Laws.CleanupReach.{cleaned_was}
+use Rattle.esr_core.specs.Laws.DeleteRoots.{has_names, left_has, renewed_snapshots}
+use Rattle.esr_model.specs.Lists.{Has-append, Has-map}
+use Rattle.esr_core.specs.Laws.DoomNames.{IsDoomed, TheRoot, ASnap, AMeta, AnIndexMeta, AnIndex, AList, APart, doomed_is}
+use Rattle.esr_core.specs.Laws.PartNames.{in_parts}
 use Rattle.esr_meta.specs.Info.{Info}
 use Rattle.esr_formats.specs.Refs.{ref_of_code}
 use Rattle.esr_repo.specs.Repo.{PlannedBy, OwnIndices, TookAway, IsPast, Gone, ListsUuid, FoundBy, MadeOrFound}
@@ -43,7 +42,7 @@ pub own_step : (settles : Option ℕ) (w new : World) → DeletesCome settles w.
 own_step settles w new come own k v uuids s there work = go (come k v uuids (Some s) there work)
   where
     go : Came settles w.tickets k v uuids (Some s) → PlannedBy v.root uuids s
-    go (WasGiven none unsettled) = absurd (none_some s (sym none))
+    go (WasGiven none unsettled) = absurd (none-some s (sym none))
     go (Stayed t is same root settled) = subst (λ (r : RootData). PlannedBy r uuids s) (sym root) (own k t uuids s is same)
     go (HasPlanned t before is same root settled made) = made s refl
     go (HasSettled mine t is same root) = subst (λ (r : RootData). PlannedBy r uuids s) (sym root) (own k t uuids s is same)
@@ -52,9 +51,9 @@ own_step settles w new come own k v uuids s there work = go (come k v uuids (Som
 
 left_unnamed : (uuids : List ℕ) (snaps : List RootSnap) (s : RootSnap) → Has (left_snaps uuids snaps) s → names_uuid uuids s.uuid ≡ false
 left_unnamed uuids [] s m = absurd m
-left_unnamed uuids (x ∷ snaps) s m = elim (bool_told (names_uuid uuids x.uuid)) [
-  | inl b ↦ left_unnamed uuids snaps s (subst (λ (l : List RootSnap). Has l s) (choose_true _ _ _ b) m)
-  | inr b ↦ elim (subst (λ (l : List RootSnap). Has l s) (choose_false _ _ _ b) m) [ inl e ↦ ap (λ (y : RootSnap). names_uuid uuids y.uuid) (sym e) ∙ b | inr later ↦ left_unnamed uuids snaps s later ]
+left_unnamed uuids (x ∷ snaps) s m = elim (cases_Bool (names_uuid uuids x.uuid)) [
+  | inl b ↦ left_unnamed uuids snaps s (subst (λ (l : List RootSnap). Has l s) (cond-true _ _ _ b) m)
+  | inr b ↦ elim (subst (λ (l : List RootSnap). Has l s) (cond-false _ _ _ b) m) [ inl e ↦ ap (λ (y : RootSnap). names_uuid uuids y.uuid) (sym e) ∙ b | inr later ↦ left_unnamed uuids snaps s later ]
 ]
 
 deleted_snaps : (root : RootData) (uuids : List ℕ) (shards : List PrunedShard) (first : ℕ) → (deleted_root root uuids shards first).snapshots ≡ left_snaps uuids root.snapshots
@@ -72,7 +71,8 @@ not_low a next uuid low high e = absurd (omega (arith, low, high, e))
 lower : (a b c : ℕ) → a < b → b ≤ c → a < c
 lower a b c low high = omega (arith, low, high)
 
-past_by : (settles : Option ℕ) (w new : World) → Frame settles w new → Tracked w → (uuid : ℕ) → uuid < w.next_id → ((o : ℕ) (op : Op) → fin.get w.ops o ≡ Some op → op.uuid ≢ uuid) → ((snap : RootSnap) → Has new.root.snapshots snap → snap.uuid ≢ uuid)
+past_by : (settles : Option ℕ) (w new : World) → Frame settles w new → Tracked w → (uuid : ℕ) → uuid < w.next_id → ((o : ℕ) (op : Op) → fin.get w.ops o ≡ Some op → op.uuid ≢ uuid)
+    → ((snap : RootSnap) → Has new.root.snapshots snap → snap.uuid ≢ uuid)
     → IsPast new.root new.ops new.next_id uuid
 past_by settles w new frame tracked uuid below unopened unlisted =
     record {
@@ -88,7 +88,8 @@ not_both : (b : Bool) → b ≡ true → b ≡ false → ⊥
 not_both b p q = cc
 
 -- it was taken away before, but where the step settles
-away_by : (settles : Option ℕ) (w : World) (uuid : ℕ) (v : Ticket) (k : ℕ) (uuids : List ℕ) (plan : Option Swap) (t : Ticket) (before : Option Swap) → fin.get w.tickets k ≡ Some t → t.work ≡ Deleting uuids before → v.root ≡ t.root → t.settled ≡ true
+away_by : (settles : Option ℕ) (w : World) (uuid : ℕ) (v : Ticket) (k : ℕ) (uuids : List ℕ) (plan : Option Swap) (t : Ticket) (before : Option Swap) → fin.get w.tickets k ≡ Some t → t.work ≡ Deleting uuids before
+    → v.root ≡ t.root → t.settled ≡ true
     → (snap : RootSnap) → Has v.root.snapshots snap → names_uuid uuids snap.uuid ≡ true → snap.uuid ≡ uuid → TookAway w.tickets uuid
 away_by settles w uuid v k uuids plan t before there work root settled snap was named is =
     record { k = k; t = t; uuids = uuids; plan = before; there = there; settled = settled; work = work; snap = snap; was = subst (λ (r : RootData). Has r.snapshots snap) root was; named = named; is = is }
@@ -118,7 +119,7 @@ away_was settles w new come uuid a = go (come a.k a.t a.uuids a.plan a.there a.w
         inr (record { k = a.k; mine = mine; t = t; there = there; uuids = a.uuids; plan = a.plan; work = work; snap = a.snap; was = subst (λ (r : RootData). Has r.snapshots a.snap) root a.was; named = a.named; is = a.is })
 
 none_settled : (w : World) (uuid : ℕ) → Settled None w uuid → ⊥
-none_settled w uuid s = none_some s.k s.mine
+none_settled w uuid s = none-some s.k s.mine
 
 -- ---- over a step that settles nothing
 
@@ -138,7 +139,7 @@ some_number a b e = cc
 
 -- it is of the ticket that settles
 settled_ticket : (w : World) (k : ℕ) (t : Ticket) (uuid : ℕ) → fin.get w.tickets k ≡ Some t → (s : Settled (Some k) w uuid) → s.t ≡ t
-settled_ticket w k t uuid there s = some_same s.t t (sym s.there ∙ ap (fin.get w.tickets) (sym (some_number k s.k s.mine)) ∙ there)
+settled_ticket w k t uuid there s = same_Some s.t t (sym s.there ∙ ap (fin.get w.tickets) (sym (some_number k s.k s.mine)) ∙ there)
 
 module _ (f : Formats) (w : World) (k : ℕ) (tracked : Tracked w) (gone : Gone w) where
   module _ (s : Settles f w k) where
@@ -268,7 +269,7 @@ found_by was now uuid come found k v uuids plan there settled work = go (come k 
     go (WasGiven none unsettled) = absurd (not_both v.settled settled unsettled)
     go (Stayed t is same root before) = subst (λ (r : RootData). ListsUuid r uuid) (sym root) (found k t uuids plan is (sym before ∙ settled) same)
     go (HasPlanned t old is same root before made) = subst (λ (r : RootData). ListsUuid r uuid) (sym root) (found k t uuids old is (sym before ∙ settled) same)
-    go (HasSettled mine t is same root) = absurd (none_some k mine)
+    go (HasSettled mine t is same root) = absurd (none-some k mine)
 
 pub found_stays : (f : Formats) (w v : World) (uuid : ℕ) (indices : List IndexRef) → WorksStay w v → DeletesCome None w.tickets v.tickets → MadeOrFound f w uuid indices → MadeOrFound f v uuid indices
 found_stays f w v uuid indices works come (inl made) = inl (made_stays f w v uuid indices works made)
@@ -278,7 +279,8 @@ pub found_step : (f : Formats) (w : World) (m : Moment) (uuid : ℕ) (indices : 
 found_step f w m uuid indices tracked plain = found_stays f w (after f w m) uuid indices (works_step f w m tracked plain) (plain_come f w m.entry.who m.entry.step m.entry.reply m.image plain)
 
 -- over the settle of a finalization there is one more
-pub found_more : (f : Formats) (w v : World) (k : ℕ) (i : Info) → Tracked w → HasFinalized f w v k i → DeletesCome None w.tickets v.tickets → (infos : List Info) → ((j : Info) → Has infos j → MadeOrFound f w j.uuid.number (map ref_of_code j.indices))
+pub found_more : (f : Formats) (w v : World) (k : ℕ) (i : Info) → Tracked w → HasFinalized f w v k i → DeletesCome None w.tickets v.tickets → (infos : List Info)
+    → ((j : Info) → Has infos j → MadeOrFound f w j.uuid.number (map ref_of_code j.indices))
     → (j : Info) → Has (infos ++ i ∷ []) j → MadeOrFound f v j.uuid.number (map ref_of_code j.indices)
 found_more f w v k i tracked over come infos found j has = elim (Has-append infos i j has) [
   | inl before ↦ found_stays f w v j.uuid.number (map ref_of_code j.indices) over.works come (found j before)
@@ -327,7 +329,8 @@ snap_cleaned f t s snap planned listed m =
     (cleaned_was f t.raised s.root (s.own ++ t.read) t.listed (Snap snap.uuid) m).1
 
 -- what it dooms is the info of none that is listed, and that each of them found
-pub info_spared : (f : Formats) (w : World) (k : ℕ) (t : Ticket) (uuids : List ℕ) (s : Swap) (snap : RootSnap) → OwnIndices w → AreOfOps w → Gone w → fin.get w.tickets k ≡ Some t → t.settled ≡ true → t.work ≡ Deleting uuids (Some s)
+pub info_spared : (f : Formats) (w : World) (k : ℕ) (t : Ticket) (uuids : List ℕ) (s : Swap) (snap : RootSnap) → OwnIndices w → AreOfOps w → Gone w → fin.get w.tickets k ≡ Some t → t.settled ≡ true
+    → t.work ≡ Deleting uuids (Some s)
     → Has w.root.snapshots snap → FoundBy w.tickets snap.uuid → Has (dooms f t) (Snap snap.uuid) → ⊥
 info_spared f w k t uuids s snap own of_ops gone there settled work listed found m = by t.clean refl
   where

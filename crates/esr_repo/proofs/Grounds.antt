@@ -73,7 +73,8 @@ of_op s log who step by of_ops reads x =
     no_reader None e = refl
     no_reader (Some q) e = absurd (reads.apart.tickets who q x.t e x.out.there)
 
-pub grounds_of : (s : Start) (log : List Moment) → Refuses → Legal s log → (s.quiet ≡ true → length log ≤ 2 ^ 41 → NeverFailed log) → AreOfOps (world_of s log) → ReadTracked (world_of s log) → (who : ℕ) (step : Step) (refusal : EntryRefusal) → length log ≤ 2 ^ 41
+pub grounds_of : (s : Start) (log : List Moment) → Refuses → Legal s log → (s.quiet ≡ true → length log ≤ 2 ^ 41 → NeverFailed log) → AreOfOps (world_of s log) → ReadTracked (world_of s log)
+    → (who : ℕ) (step : Step) (refusal : EntryRefusal) → length log ≤ 2 ^ 41
     → IsLast log who step (Refused (refusal_of refusal)) → Grounds s log who (steps.Refused refusal)
 grounds_of s log refuses legal calm of_ops reads who step refusal few last =
     quiet_grounds s log who refusal

@@ -29,6 +29,7 @@ use Rattle.std.specs.Cmp.{nat_cmp_total}
 use Rattle.std.specs.Cmp.Lexicographic.{nat_list_cmp_total}
 use Rattle.std.specs.FinMap.{FinMap, nat_cmp-IsAntisymmetric}
 use Rattle.std.specs.FinMap as fin
+use Rattle.std.proofs.lemmas.Option.{same_Some}
 use Rattle.esr_model.specs.Names.{BlobName, Latest, Snap}
 use Rattle.esr_model.specs.Values.{Bytes, Has, IndexRef, RootSnap, RootData, SnapInfo, ShardResult, ReadsBack, Formats}
 use Rattle.esr_model.specs.Shelf.{Command}
@@ -47,19 +48,18 @@ use Rattle.esr_core.specs.Entry.{CloneOf, Snapshot, Restore, Clone, DeleteSnapsh
 use Rattle.esr_core.specs.After.{asked, taken_shard, taken_by, taken_restore, taken_restore_shard, shard_of, with_given, committing, told_blob, fetching, settled_by, settled_of, done_by, done_of, is_stale, failed_by, failed_of, dropped_of, delete_failed_by, delete_failed, read_told, read_over, shard_over, read_step, read_by, prune_step, done_step, swaps_record, has_text, fallen, is_latest, tried, test_left, faulted, answered, blobs_in, after}
 use Rattle.esr_core.specs.Allowed as allowed
 use Rattle.esr_core.specs.Allowed.{FetchingShard, ShardMissing, FetchShardFails, Planning, PlanSpent, SettlingDelete, SettleDeleteStale, SettleDeleteFails, RemovingDoomed, RemoveDoomedFails, EndingDelete, FailingDelete, PruneAllows, NoDeleting, HaveGenerations, RemovesDoomed, MayRemoveTests, Told, SameBlobs, Adds, WasMade, IsInInfo, AreIndicesIn, Settles, VerifyAllows, Allows, Allowed}
-use Rattle.esr_core.proofs.AskedDeletes.{delete_leaves}
-use Rattle.esr_core.proofs.PruneFrames.{SameTickets, prune_stays}
-use Rattle.esr_core.proofs.Maps.{get_same, get_other, get_kept, split, texts_same}
-use Rattle.esr_core.proofs.Adds.{text_one}
-use Rattle.esr_core.proofs.Reading.{some_same, Has-mapped, Has-append, Has-left, Has-right}
-use Rattle.esr_core.proofs.Results.{done_of as result_of, done_found, done_same}
-use Rattle.esr_core.proofs.Staging.{larger_old, larger_new}
-use Rattle.esr_core.proofs.Finalizing.{Suits, finalized_is}
+use Rattle.esr_core.specs.Laws.DeleteAsks.{delete_leaves}
+use Rattle.esr_core.specs.Laws.PruneFrames.{SameTickets, prune_stays}
+use Rattle.esr_core.specs.Laws.Maps.{get_same, get_other, get_kept, split, texts_same}
+use Rattle.esr_core.specs.Laws.BlobFrames.{text_one}
+use Rattle.esr_model.specs.Lists.{Has-mapped, Has-append, Has-left, Has-right}
+use Rattle.esr_core.specs.Laws.DoneShards.{done_of as result_of, done_found, done_same}
+use Rattle.esr_core.specs.Laws.NewRoots.{larger_old, larger_new, Suits, finalized_is}
 use Rattle.esr_names.specs.declared.index_ref.IndexRef.{IndexRef as CodeRef}
 use Rattle.esr_meta.specs.Info.{Info, IsInfo}
 use Rattle.esr_formats.specs.Refs.{ref_of_code}
 use Rattle.esr_formats.specs.Infos.{info_of_code}
-use Rattle.esr_newroot.proofs.Refs.{one_id, ids_distinct, other_later}
+use Rattle.esr_newroot.specs.RefLists.{one_id, ids_distinct, other_later}
 use Rattle.esr_progress.specs.Infos.{HasIndices, AreInfosOf}
 use Rattle.esr_repo.specs.Repo.{AreTests}
 use Rattle.esr_repo.specs.InfosAfter.{LeavesInfos}
@@ -144,7 +144,7 @@ works_same m k t e other = (t, e, refl)
 works_again : (m : FinMap nat_cmp Ticket) (j : ℕ) (old v : Ticket) → fin.get m j ≡ Some old → v.work ≡ old.work → KeepsWork m (fin.insert m j v)
 works_again m j old v there same k t e no_delete = elim (split nat_cmp_total nat_cmp-IsAntisymmetric k j) [
   | inl is ↦
-      let one : t ≡ old = some_same t old (sym e ∙ ap (fin.get m) is ∙ there) in
+      let one : t ≡ old = same_Some t old (sym e ∙ ap (fin.get m) is ∙ there) in
       (v, ap (fin.get (fin.insert m j v)) is ∙ get_same nat_cmp_total nat_cmp-IsAntisymmetric m j v, same ∙ ap (λ (x : Ticket). x.work) (sym one))
   | inr other ↦ (t, get_other nat_cmp_total nat_cmp-IsAntisymmetric m j v k other.0 ∙ e, refl)
 ]
@@ -163,7 +163,7 @@ works_given was now j (inr a) k t e other =
     let at : fin.get now k ≡ fin.get (fin.insert was j a.v) k = ap (λ (m : FinMap nat_cmp Ticket). fin.get m k) a.is in
     elim (split nat_cmp_total nat_cmp-IsAntisymmetric k j) [
       | inl is ↦
-          let one : t ≡ a.t = some_same t a.t (sym e ∙ ap (fin.get was) is ∙ a.there) in
+          let one : t ≡ a.t = same_Some t a.t (sym e ∙ ap (fin.get was) is ∙ a.there) in
           let work : t.work ≡ a.t.work = ap (λ (x : Ticket). x.work) one in
           (a.v, at ∙ ap (fin.get (fin.insert was j a.v)) is ∙ get_same nat_cmp_total nat_cmp-IsAntisymmetric was j a.v, a.other (λ uuids plan q. other uuids plan (work ∙ q)) ∙ sym work)
       | inr apart ↦ (t, at ∙ get_other nat_cmp_total nat_cmp-IsAntisymmetric was j a.v k apart.0 ∙ e, refl)
@@ -174,10 +174,11 @@ abbrev NoneOf : FinMap nat_cmp Ticket → Type 0
 NoneOf tickets = (k : ℕ) (t : Ticket) (uuids : List ℕ) (plan : Option Swap) → fin.get tickets k ≡ Some t → t.work ≡ Deleting uuids plan → ⊥
 
 -- so none was, where a delete's ticket stays one
-none_put : (m : FinMap nat_cmp Ticket) (j : ℕ) (old v : Ticket) → fin.get m j ≡ Some old → ((uuids : List ℕ) (plan : Option Swap) → old.work ≡ Deleting uuids plan → (p : Option Swap) × (v.work ≡ Deleting uuids p)) → NoneOf (fin.insert m j v) → NoneOf m
+none_put : (m : FinMap nat_cmp Ticket) (j : ℕ) (old v : Ticket) → fin.get m j ≡ Some old → ((uuids : List ℕ) (plan : Option Swap) → old.work ≡ Deleting uuids plan → (p : Option Swap) × (v.work ≡ Deleting uuids p))
+    → NoneOf (fin.insert m j v) → NoneOf m
 none_put m j old v there stays none k t uuids plan e work = elim (split nat_cmp_total nat_cmp-IsAntisymmetric k j) [
   | inl is ↦
-      let one : t ≡ old = some_same t old (sym e ∙ ap (fin.get m) is ∙ there) in
+      let one : t ≡ old = same_Some t old (sym e ∙ ap (fin.get m) is ∙ there) in
       let now = stays uuids plan (ap (λ (x : Ticket). x.work) (sym one) ∙ work) in
       none j v uuids now.0 (get_same nat_cmp_total nat_cmp-IsAntisymmetric m j v) now.1
   | inr other ↦ none k t uuids plan (get_other nat_cmp_total nat_cmp-IsAntisymmetric m j v k other.0 ∙ e) work
@@ -192,7 +193,8 @@ none_more m next v below none k t uuids plan e work = none k t uuids plan (get_o
     apart : k ≢ next
     apart is = let b : k < next = below k t e in absurd (omega (arith, is, b))
 
-none_given : (w : World) (k : ℕ) (g : Ticket → Ticket) (o : Option Ticket) → fin.get w.tickets k ≡ o → ((t : Ticket) (uuids : List ℕ) (plan : Option Swap) → t.work ≡ Deleting uuids plan → (p : Option Swap) × ((g t).work ≡ Deleting uuids p))
+none_given : (w : World) (k : ℕ) (g : Ticket → Ticket) (o : Option Ticket) → fin.get w.tickets k ≡ o
+    → ((t : Ticket) (uuids : List ℕ) (plan : Option Swap) → t.work ≡ Deleting uuids plan → (p : Option Swap) × ((g t).work ≡ Deleting uuids p))
     → NoneOf (with_given w k g o).tickets → NoneOf w.tickets
 none_given w k g None is stays none = none
 none_given w k g (Some t) is stays none = none_put w.tickets k t (g t) is (stays t) none
@@ -583,7 +585,8 @@ SparesInfos f w infos = (k : ℕ) (t : Ticket) (uuids : List ℕ) (s : Swap) (i 
 abbrev Removal : Formats → World → ℕ → List BlobName → Option Image → Type 0
 Removal f w who names image = RemovesDoomed f w who names image × Told image (λ blobs. Removes f w.blobs blobs names)
 
-all_gone : (f : Formats) (w : World) (names : List BlobName) (image : Option Image) → Told image (λ blobs. Removes f w.blobs blobs names × ((name : BlobName) → Has names name → fin.get blobs (f.names.text name) ≡ None)) → Told image (λ blobs. Removes f w.blobs blobs names)
+all_gone : (f : Formats) (w : World) (names : List BlobName) (image : Option Image) → Told image (λ blobs. Removes f w.blobs blobs names × ((name : BlobName) → Has names name → fin.get blobs (f.names.text name) ≡ None))
+    → Told image (λ blobs. Removes f w.blobs blobs names)
 all_gone f w names None told = tt
 all_gone f w names (Some image) told = told.0
 
@@ -836,7 +839,8 @@ of_ticket f w k n i t info results made out unsettled present work raised code a
       back = back;
     }
 
-pub infos_settled_of : (f : Formats) (w : World) (k n : ℕ) (t : Ticket) (tells : Bool) (infos : List Info) (i : Info) (info : SnapInfo) (results : List ShardResult) (made : Command) → Tracked w → IsOut w k t → t.settled ≡ false → t.term ≡ w.term
+pub infos_settled_of : (f : Formats) (w : World) (k n : ℕ) (t : Ticket) (tells : Bool) (infos : List Info) (i : Info) (info : SnapInfo) (results : List ShardResult) (made : Command) → Tracked w → IsOut w k t → t.settled ≡ false
+    → t.term ≡ w.term
     → t.work ≡ Finalize info results made → t.raised ≡ Some n → info_of_code i ≡ info → AreApart (map ref_of_code i.indices) → ReadsBack f.info info
     → AreListed w.root infos → AreInfosOf f w tells infos → AreInfosOf f (settled_of f w k (Some t)) tells (infos ++ i ∷ [])
 infos_settled_of f w k n t tells infos i info results made tr out unsettled present work raised code apart back listed h =
@@ -881,7 +885,7 @@ of_step f size w m i t info results made a step_is reply_is there work code apar
 
     from : Settles f w m.entry.who × SameBlobs w m.image → HasSettled f w (after f w m) m.entry.who i × InfosThere f w (after f w m)
     from (s, same) =
-        let one : s.t ≡ t = some_same s.t t (sym s.may.out.there ∙ there) in
+        let one : s.t ≡ t = same_Some s.t t (sym s.may.out.there ∙ there) in
         let was : settled_of f w m.entry.who (Some t) ≡ answered f w m.entry.who m.entry.step m.entry.reply m.image =
         (λ j. settled_of f w m.entry.who (sym there j)) ∙ (λ j. answered f w m.entry.who (sym step_is j) (sym reply_is j) m.image) in
         let over : HasSettled f w (settled_of f w m.entry.who (Some t)) m.entry.who i =
@@ -917,7 +921,7 @@ pub final_info : (w : World) (k : ℕ) (t : Ticket) (info : SnapInfo) (results :
     → (x : Op) (r : List ShardResult) → fin.get w.ops t.op ≡ Some x → AllDone x.shards r → info_of x r ≡ info
 final_info w k t info results made tr out unsettled present work x r there done =
     let law : FinalTracked w.root w.ops t info results = tr.finals k t info results made out.there out.out unsettled present work in
-    let one : x ≡ law.op = some_same x law.op (sym there ∙ law.op_there) in
+    let one : x ≡ law.op = same_Some x law.op (sym there ∙ law.op_there) in
     let same : r ≡ results = done_one law.op.shards r results (subst (λ (o : Op). AllDone o.shards r) one done) law.done in
     (λ j. info_of (one j) (same j)) ∙ sym law.info_is
 

@@ -107,7 +107,8 @@ module _ {old : Look} {s : Start} {clock : ℕ} {es : List Entry} {k : Kept} {d 
       (same_cut b (record { entry = e; image = image_now new })))
       (idles_change (world_of s seen) who (λ t. listing t (page_of page)) (λ t. refl))
 
-  pub list_ok : {T : Type 0} (x : T) (page : List Listed) (step : Step) → step ≡ ListStep from → depot.IsPage from (map size_of page) → ((i : Held) → now old ≡ Some i → map size_of page ≡ page_from from (sizes_of i.blobs)) → Called old new (λ _. SameImage) SameImage (Ok x)
+  pub list_ok : {T : Type 0} (x : T) (page : List Listed) (step : Step) → step ≡ ListStep from → depot.IsPage from (map size_of page) → ((i : Held) → now old ≡ Some i → map size_of page ≡ page_from from (sizes_of i.blobs))
+      → Called old new (λ _. SameImage) SameImage (Ok x)
       → GoesOn s seen who step → (mid es' : List Entry) → Pushed es mid es' (Listings page step) → Made old new s clock es es' k d seen (Listings page step)
   list_ok x page step is shape lists c =
       subst (λ (st : Step). GoesOn s seen who st → (mid es' : List Entry) → Pushed es mid es' (Listings page st) → Made old new s clock es es' k d seen (Listings page st)) (sym is) (list_so x page shape lists c)

@@ -50,7 +50,8 @@ abbrev IsFinal : Ticket → Type 0
 IsFinal t = (info : SnapInfo) × (results : List ShardResult) × (made : Command) × (t.work ≡ Finalize info results made)
 
 -- over a settle there is one more
-infos_more : (s : Start) (log : List Moment) (k : ℕ) (root : RootData) (info : Info) → IsMadeInfo s log k info → Tracked (world_of s log) → CanSettle s (ticket_of s log k) root → (ticket_of s log k).term ≡ (world_of s log).term → IsUnpruned (ticket_of s log k) → IsFinal (ticket_of s log k)
+infos_more : (s : Start) (log : List Moment) (k : ℕ) (root : RootData) (info : Info) → IsMadeInfo s log k info → Tracked (world_of s log) → CanSettle s (ticket_of s log k) root → (ticket_of s log k).term ≡ (world_of s log).term
+    → IsUnpruned (ticket_of s log k) → IsFinal (ticket_of s log k)
     → (old : List Info) → HasInfos s (world_of s log) old → HasInfos s (record (swapped_world s log k SettleStep) { blobs = (world_of s log).blobs }) (old ++ info ∷ [])
 infos_more s log k root info made tracked can present unpruned final old h =
     let w : World = world_of s log in

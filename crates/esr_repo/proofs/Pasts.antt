@@ -214,7 +214,8 @@ wanting_whole {T} {old} {s} {clock} {es} {k} {d} {seen} b past p new mid reserve
     }
 
 -- the infos are as they were
-pub same_infos : {l : Look} {s : Start} {clock : ℕ} {past : ℕ → Held → Type 0} {es : List Entry} {d : Option ℕ} (k : Kept) (infos : List Info) → infos ≡ k.infos → IsWhole l s clock past es k d → IsWhole l s clock past es (record k { infos = infos }) d
+pub same_infos : {l : Look} {s : Start} {clock : ℕ} {past : ℕ → Held → Type 0} {es : List Entry} {d : Option ℕ} (k : Kept) (infos : List Info) → infos ≡ k.infos → IsWhole l s clock past es k d
+    → IsWhole l s clock past es (record k { infos = infos }) d
 same_infos {l} {s} {clock} {past} {es} {d} k infos same w = subst (λ (x : List Info). IsWhole l s clock past es (record k { infos = x }) d) (sym same) w
 
 -- ---- the beginning

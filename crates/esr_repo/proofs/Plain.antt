@@ -64,7 +64,8 @@ noted_leaves s w who step (Refused refusal) image e = inl refl
 noted_leaves s w who step reply image e = inr (quiet_leaves step reply e)
 
 -- the infos stay over a step without a call
-infos_noted : (s : Start) (w : World) (m : Moment) (infos : List Info) → Tracked w → AreTests w.caller → OwnIndices w → AreOfOps w → Gone w → calls m.entry.step m.entry.reply ≡ false → SameBlobs w m.image → Allowed (formats_of s) s.part_size w m
+infos_noted : (s : Start) (w : World) (m : Moment) (infos : List Info) → Tracked w → AreTests w.caller → OwnIndices w → AreOfOps w → Gone w → calls m.entry.step m.entry.reply ≡ false → SameBlobs w m.image
+    → Allowed (formats_of s) s.part_size w m
     → HasInfos s w infos → HasInfos s (after (formats_of s) w m) infos
 infos_noted s w m infos tracked tests own of_ops gone plain same allowed h = elim (noted_leaves s w m.entry.who m.entry.step m.entry.reply m.image plain) [
   | inl e ↦ infos_aside s w (after (formats_of s) w m) infos (ap (λ (x : World). x.root) e) (ap (λ (x : World). x.tickets) e) (blobs_same w m.image same) h
@@ -218,7 +219,8 @@ module _ (laws : Laws) (l : Look) (s : Start) (clock : ℕ) (es mid es' : List E
         never n q = cc
 
 -- a step that nothing blocks goes on
-pub free_goes : (l : Look) (s : Start) (clock : ℕ) (es : List Entry) (k : Kept) (d : Option ℕ) (seen : List Moment) → IsRepo l s clock es k d → log_of l clock es ≡ seen → (who : ℕ) (step : Step) → block_of d k.plan who step ≡ None → IsFresh s seen who step → ReadsOwn (caller_of s seen) who step
+pub free_goes : (l : Look) (s : Start) (clock : ℕ) (es : List Entry) (k : Kept) (d : Option ℕ) (seen : List Moment) → IsRepo l s clock es k d → log_of l clock es ≡ seen → (who : ℕ) (step : Step) → block_of d k.plan who step ≡ None
+    → IsFresh s seen who step → ReadsOwn (caller_of s seen) who step
     → IsLive s seen × GoesOn s seen who step
 free_goes l s clock es k d seen r view who step free fresh own =
     let none : d ≡ None = block_none d k.plan who step free in
@@ -238,11 +240,13 @@ refused_answer s w who step refusal image plain = by refusal plain
     by DepotFault e = absurd (swaps e)
     by x e = refl
 
-pub refused_tickets : (s : Start) (old new : List Moment) (who : ℕ) (step : Step) (refusal : Refusal) → calls step (Refused refusal) ≡ false → Added s old new who step (Refused refusal) → (j : ℕ) → ticket_of s new j ≡ ticket_of s old j
+pub refused_tickets : (s : Start) (old new : List Moment) (who : ℕ) (step : Step) (refusal : Refusal) → calls step (Refused refusal) ≡ false → Added s old new who step (Refused refusal) → (j : ℕ)
+    → ticket_of s new j ≡ ticket_of s old j
 refused_tickets s old new who step refusal plain a j =
     added_ticket s old new who step (Refused refusal) a j ∙ ap (λ (w : World). or_no_ticket (fin.get w.tickets j)) (refused_answer s (world_of s old) who step refusal a.image plain)
 
-pub refused_readers : (s : Start) (old new : List Moment) (who : ℕ) (step : Step) (refusal : Refusal) → calls step (Refused refusal) ≡ false → Added s old new who step (Refused refusal) → (j : ℕ) → reader_of s new j ≡ reader_of s old j
+pub refused_readers : (s : Start) (old new : List Moment) (who : ℕ) (step : Step) (refusal : Refusal) → calls step (Refused refusal) ≡ false → Added s old new who step (Refused refusal) → (j : ℕ)
+    → reader_of s new j ≡ reader_of s old j
 refused_readers s old new who step refusal plain a j =
     added_reader s old new who step (Refused refusal) a j ∙ ap (λ (w : World). or_no_reader (fin.get w.readers j)) (refused_answer s (world_of s old) who step refusal a.image plain)
 

@@ -4,6 +4,7 @@ use Rattle.std.proofs.lemmas.List.{take_more, map-append}
 use Rattle.std.specs.Prelude.{All, Contains, option_map, slice_index_or}
 use Rattle.std.specs.Cmp.Lexicographic.{nat_list_cmp_total}
 use Rattle.std.specs.FinMap as fin
+use Rattle.esr_core.specs.Laws.NumberMaps.{some_none}
 use Rattle.esr_model.specs.Names.{BlobName}
 use Rattle.esr_model.specs.Values.{Bytes, Has, ReadsBack, Formats}
 use Rattle.esr_model.specs.Image.{Blobs, Image}
@@ -12,9 +13,9 @@ use Rattle.esr_core.specs.World.{World}
 use Rattle.esr_core.specs.After.{swaps_record, faulted, answered}
 use Rattle.esr_core.specs.Allowed.{Told}
 use Rattle.esr_core.specs.Left.{Leaves}
-use Rattle.esr_core.proofs.Maps.{get_left, get_stays, texts_same}
-use Rattle.esr_core.proofs.Adds.{text_one}
-use Rattle.esr_core.proofs.Reading.{Has-mapped, Has-append}
+use Rattle.esr_core.specs.Laws.Maps.{get_left, get_stays, texts_same}
+use Rattle.esr_core.specs.Laws.BlobFrames.{text_one}
+use Rattle.esr_model.specs.Lists.{Has-mapped, Has-append}
 use Rattle.esr_depot.specs.declared.error.CallError.TheVariants.{Failed}
 use Rattle.esr_depot.specs.Image.{Image as Held, without_names, without, drop_known}
 use Rattle.esr_depot.specs.Look.{Look, now}
@@ -57,9 +58,6 @@ left_stays : (gone : List Bytes) (m : Blobs) (text : Bytes) → (Has gone text �
 left_stays [] m text other = refl
 left_stays (g ∷ gone) m text other = left_stays gone (fin.remove m g) text (λ h. other (inr h)) ∙ get_stays nat_list_cmp_total texts_same m g text (λ e. other (inl (sym e)))
 
-some_none : {A : Type 0} (x : A) → Some x ≡ None → ⊥
-some_none x e = cc
-
 -- one that is named is gone
 left_none : (gone : List Bytes) (m : Blobs) (text : Bytes) → Has gone text → fin.get (without_names gone m) text ≡ None
 left_none gone m text named = go (fin.get (without_names gone m) text) refl
@@ -91,7 +89,8 @@ text_of_code code = name_kind.text (name_of code)
 abbrev pub AreRead : List CodeName → ℕ → List Bytes → Type 0
 AreRead codes k texts = (texts ≡ map (λ (code : CodeName). name_kind.text (name_of code)) (take k codes)) × ((code : CodeName) → Has (take k codes) code → ReadsBack name_kind (name_of code))
 
-pub more_read : (codes : List CodeName) (k : ℕ) (d : CodeName) (was texts : List Bytes) (text : Bytes) → k < length codes → AreRead codes k was → texts ≡ was ++ text ∷ [] → text ≡ name_kind.text (name_of (get_or codes k d)) → ReadsBack name_kind (name_of (get_or codes k d)) → AreRead codes (k + 1) texts
+pub more_read : (codes : List CodeName) (k : ℕ) (d : CodeName) (was texts : List Bytes) (text : Bytes) → k < length codes → AreRead codes k was → texts ≡ was ++ text ∷ [] → text ≡ name_kind.text (name_of (get_or codes k d))
+    → ReadsBack name_kind (name_of (get_or codes k d)) → AreRead codes (k + 1) texts
 more_read codes k d was texts text less h pushed text_is back = (
   pushed
       ∙ ap (λ (x : Bytes). was ++ x ∷ []) text_is

@@ -4,6 +4,7 @@ use Rattle.std.specs.Prelude.{option_map}
 use Rattle.std.specs.Ordering.{nat_cmp}
 use Rattle.std.specs.FinMap.{FinMap}
 use Rattle.std.specs.FinMap as fin
+use Rattle.esr_core.specs.Laws.NumberMaps.{some_none}
 use Rattle.esr_model.specs.Names.{Snap}
 use Rattle.esr_model.specs.Values.{Has, RootData, ReadsBack}
 use Rattle.esr_model.specs.Image.{Blobs, Image, At}
@@ -57,9 +58,6 @@ names_are s = refl
 
 -- ---- what is kept of a world
 
-some_none : {A : Type 0} (x : A) → Some x ≡ None → ⊥
-some_none x e = cc
-
 both : true ≡ false → ⊥
 both e = cc
 
@@ -104,7 +102,8 @@ blobs_same w None same = refl
 blobs_same w (Some image) same = same
 
 -- where no record swap has failed, what is kept is that of the world
-pub kept_now : (l : Look) (s : Start) (clock : ℕ) (es : List Entry) (k : Kept) (d : Option ℕ) (seen : List Moment) → IsRepo l s clock es k d → log_of l clock es ≡ seen → IsLive s seen → (d ≡ None) × IsKeptOf (world_of s seen) k × HasInfos s (world_of s seen) k.infos
+pub kept_now : (l : Look) (s : Start) (clock : ℕ) (es : List Entry) (k : Kept) (d : Option ℕ) (seen : List Moment) → IsRepo l s clock es k d → log_of l clock es ≡ seen → IsLive s seen
+    → (d ≡ None) × IsKeptOf (world_of s seen) k × HasInfos s (world_of s seen) k.infos
 kept_now l s clock es k d seen r view live = go d refl
   where
     alive : (world_of s (log_of l clock es)).deposed ≡ false
@@ -204,7 +203,8 @@ module _ (old new : Look) (s : Start) (clock : ℕ) (es es' : List Entry) (k k' 
         }
 
     -- and it is a container with its history again
-    pub added_repo : ReadsOwn (caller_of s seen) e.who e.step → (d' ≡ None → ((after (formats_of s) (world_of s seen) moment).deposed ≡ false) × IsKeptOf (after (formats_of s) (world_of s seen) moment) k' × HasInfos s (after (formats_of s) (world_of s seen) moment) k'.infos)
+    pub added_repo : ReadsOwn (caller_of s seen) e.who e.step
+        → (d' ≡ None → ((after (formats_of s) (world_of s seen) moment).deposed ≡ false) × IsKeptOf (after (formats_of s) (world_of s seen) moment) k' × HasInfos s (after (formats_of s) (world_of s seen) moment) k'.infos)
         → ((place : ℕ) → d' ≡ Some place → (after (formats_of s) (world_of s seen) moment).deposed ≡ true) → IsRepo new s clock es' k' d'
     added_repo own live fallen =
         record {

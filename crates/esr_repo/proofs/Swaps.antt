@@ -1,11 +1,12 @@
 -- Entries of steps that swap the cluster record.
-use Rattle.std.proofs.Common.{◌≡◌, ◌⊎◌, ℕ, ◌≤◌, Bool, true, false, List, [], ◌∷◌, Option, Some, None, Ok, Err, refl, sym, ap, ◌∙◌, subst, inl, inr, nat_cmp, Ordering, Less, Equal, Greater, is_eq, true≢false}
+use Rattle.std.proofs.Common.{◌≡◌, ◌⊎◌, ℕ, ◌≤◌, Bool, true, false, List, [], ◌∷◌, Option, Some, None, Ok, Err, refl, sym, ap, ◌∙◌, subst, inl, inr, nat_cmp, true≢false}
 use Rattle.std.specs.Prelude.{option_map, if◌then◌else◌}
 use Rattle.std.specs.Option.{unwrap_or}
 use Rattle.std.specs.Cmp.{eq_by_cmp_equiv}
 use Rattle.std.specs.Cmp.Lexicographic.{slice_cmp, nat_list_cmp_total}
 use Rattle.std.specs.FinMap.{nat_cmp-IsAntisymmetric, slice_cmp-IsAntisymmetric}
 use Rattle.std.specs.FinMap as fin
+use Rattle.esr_core.specs.Laws.NumberMaps.{some_none, tied}
 use Rattle.esr_model.specs.Values.{Bytes, ReadsBack, Formats}
 use Rattle.esr_model.specs.Uploads.{same_bytes}
 use Rattle.esr_model.specs.Image.{Image}
@@ -15,7 +16,7 @@ use Rattle.esr_core.specs.After.{with_given, done_step, swaps_record, text_is, h
 use Rattle.esr_core.specs.Allowed.{Accepts, Raises, AcceptsClone, CloneAllows, OpeningClone, CloneFault, DeleteAllows, GoingInto, DeleteFault, CleanupAllows, OpeningCleanup, CleanupFault, PruneAllows, SettlingDelete, SettleDeleteFails, Allows, SameBlobs, Told, Allowed}
 use Rattle.esr_core.specs.Allowed as allowed
 use Rattle.esr_core.specs.Left.{Leaves}
-use Rattle.esr_core.proofs.AskedDeletes.{delete_leaves}
+use Rattle.esr_core.specs.Laws.DeleteAsks.{delete_leaves}
 use Rattle.esr_root.specs.Root.{Root}
 use Rattle.esr_record.specs.Record.{Record}
 use Rattle.esr_meta.specs.Info.{Info}
@@ -36,9 +37,6 @@ use Rattle.esr_repo.proofs.Logs.{goes_passed, image_now}
 use Rattle.esr_repo.proofs.Repos.{cluster_is, plan_aside, infos_aside, blobs_same, kept_now, steady_now, can_tell, text_same, added_repo}
 use Rattle.esr_repo.proofs.BlobCalls.{Before, Pushed, IsCall, Made, more_is, made, failed_is, held_of, told_of}
 use Rattle.esr_repo.specs.Next.{GoesOn}
-
-some_none : {A : Type 0} (x : A) → Some x ≡ None → ⊥
-some_none x e = cc
 
 some_same : {A : Type 0} (x y : A) → Some x ≡ Some y → x ≡ y
 some_same x y e = cc
@@ -138,7 +136,8 @@ cleanup_may_fail : {w : World} {reply : Reply} → CleanupAllows w reply → is_
 cleanup_may_fail (OpeningCleanup acc) a = CleanupFault acc
 cleanup_may_fail other a = absurd cc
 
-clone_may_fail : {f : Formats} {w : World} {source name : Bytes} {names : List Bytes} {moment : ℕ} {taken : Option CloneOf} {reply : Reply} {image : Option Image} → CloneAllows f w source name names moment taken reply image → is_refused reply ≡ false
+clone_may_fail : {f : Formats} {w : World} {source name : Bytes} {names : List Bytes} {moment : ℕ} {taken : Option CloneOf} {reply : Reply} {image : Option Image} → CloneAllows f w source name names moment taken reply image
+    → is_refused reply ≡ false
     → CloneAllows f w source name names moment taken (Refused DepotFault) image
 clone_may_fail {f} {w} {source} {name} {names} {moment} (OpeningClone what o im acc) a = CloneFault what im (subst (λ n. AcceptsClone f w source name names moment n what im) acc.number acc)
 clone_may_fail other a = absurd cc
@@ -195,11 +194,6 @@ swapping_tells old new tells text t h = record { untold = λ n. go (now old) ref
     go (Some i) e n = absurd (some_none (h.told i e).0 (sym (h.told i e).1 ∙ n))
 
 -- ---- which of the two worlds it is
-
-tied : (r : Ordering) → is_eq r ≡ true → r ≡ Equal
-tied Less e = absurd (true≢false (sym e))
-tied Equal e = refl
-tied Greater e = absurd (true≢false (sym e))
 
 same_is : (a b : Bytes) → same_bytes a b ≡ true → a ≡ b
 same_is a b e = slice_cmp-IsAntisymmetric nat_cmp-IsAntisymmetric a b (tied (slice_cmp nat_cmp a b) e)
@@ -356,7 +350,8 @@ module _ {old : Look} {s : Start} {clock : ℕ} {es : List Entry} {k : Kept} {d 
         left = swap_since reply (c.passed refl);
       }
 
-  pub swap_ok : (x : Unit {0}) → Called old new (λ _. Swapped text) (SwapMay text) (Ok x) → (mid es' : List Entry) → Pushed es mid es' ok_entry → (k' : Kept) → Renews k cluster root left info plan next k' → Made old new s clock es es' k' d seen ok_entry
+  pub swap_ok : (x : Unit {0}) → Called old new (λ _. Swapped text) (SwapMay text) (Ok x) → (mid es' : List Entry) → Pushed es mid es' ok_entry → (k' : Kept) → Renews k cluster root left info plan next k'
+      → Made old new s clock es es' k' d seen ok_entry
   swap_ok x c mid es' p k' new_one =
       let more = more_is es mid es' ok_entry p in
       let kept = kept_now old s clock es k d seen b.repo b.view b.live in

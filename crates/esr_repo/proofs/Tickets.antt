@@ -1,11 +1,12 @@
 -- What holds of all tickets stays over each step.
-use Rattle.std.proofs.Common.{◌≡◌, ◌≢◌, ◌⊎◌, ℕ, suc, ◌<◌, ◌≤◌, Bool, true, false, cond, Ordering, Less, Equal, Greater, is_eq, nat_cmp, List, [], ◌∷◌, Option, Some, None, refl, sym, ap, ◌∙◌, subst, inl, inr, ⊎_elim, true≢false, arith}
+use Rattle.std.proofs.Common.{◌≡◌, ◌≢◌, ◌⊎◌, ℕ, suc, ◌<◌, ◌≤◌, Bool, true, false, cond, nat_cmp, List, [], ◌∷◌, Option, Some, None, refl, sym, ap, ◌∙◌, subst, inl, inr, ⊎_elim, true≢false, arith}
 use Rattle.std.specs.Prelude.{if◌then◌else◌, ◌==◌}
 use Rattle.std.proofs.lemmas.Bool.Decides.{eqb_tells}
 use Rattle.std.specs.Ordering.{eq_by_cmp}
 use Rattle.std.specs.Cmp.{nat_cmp_total, eq_by_cmp_equiv}
 use Rattle.std.specs.FinMap.{FinMap, nat_cmp-IsAntisymmetric}
 use Rattle.std.specs.FinMap as fin
+use Rattle.esr_core.specs.Laws.NumberMaps.{tied}
 use Rattle.esr_model.specs.Values.{Has, Formats}
 use Rattle.esr_model.specs.Image.{Image}
 use Rattle.esr_core.specs.World.{World, Op, Deletion, ShardWork, Restoring, RestoreShard, Deleting, Drop, Swap, Ticket}
@@ -63,7 +64,8 @@ of_term f size w who step image own now (OfRule refusal command is rule) = absur
 of_term f size w who step image own now (OfTerm t out other) = (t, out, other)
 
 -- a ticket of an older term stays one
-stays_over : (w new : World) (who : ℕ) (step : Step) (k : ℕ) (t : Ticket) → Tracked w → StepFrame w new who step → w.term ≤ new.term → fin.get w.tickets k ≡ Some t → t.term < w.term → (v : Ticket) × (fin.get new.tickets k ≡ Some v) × (v.term < new.term)
+stays_over : (w new : World) (who : ℕ) (step : Step) (k : ℕ) (t : Ticket) → Tracked w → StepFrame w new who step → w.term ≤ new.term → fin.get w.tickets k ≡ Some t → t.term < w.term
+    → (v : Ticket) × (fin.get new.tickets k ≡ Some v) × (v.term < new.term)
 stays_over w new who step k t tracked frame up there less =
     let stays = frame.stay k t (given k w.next_ticket (tracked.tickets k t there).0) there in
     (stays.0, stays.1, later stays.0.term t.term w.term new.term stays.2.term less up)
@@ -97,11 +99,6 @@ stale_step f size w m laws tracked a h k was =
     cause (inr of) = of_term f size w m.entry.who m.entry.step m.image was.own was.now of
 
 -- ---- ops and tickets as they come
-
-tied : (r : Ordering) → is_eq r ≡ true → r ≡ Equal
-tied Less e = cc
-tied Equal e = refl
-tied Greater e = cc
 
 none_some : {A : Type 0} (x : A) → None ≡ Some x → ⊥
 none_some x e = cc
@@ -200,7 +197,8 @@ module _ (f : Formats) (w : World) (tracked : Tracked w) (v : Ticket) where
       go (Some s) e = fresh_number e
 
   -- of the deletion that is open under this number
-  pruner_unit : (o : ℕ) (x : Deletion) (t : Ticket) → fin.get w.deletes o ≡ Some x → t.op ≡ o → (t.clean ≡ true → t.work ≡ Deleting [] None) → fin.get (fin.insert w.tickets w.next_ticket t) w.next_ticket ≡ Some v → IsPruner w.ops v
+  pruner_unit : (o : ℕ) (x : Deletion) (t : Ticket) → fin.get w.deletes o ≡ Some x → t.op ≡ o → (t.clean ≡ true → t.work ≡ Deleting [] None) → fin.get (fin.insert w.tickets w.next_ticket t) w.next_ticket ≡ Some v
+      → IsPruner w.ops v
   pruner_unit o x t there own bare e =
       ⊎_elim
       (λ (here : (w.next_ticket ≡ w.next_ticket) × (t ≡ v)). subst (IsPruner w.ops) here.1 (λ op is_open. tracked.apart o op x (ap (fin.get w.ops) (sym own) ∙ is_open) there, bare))
@@ -244,7 +242,8 @@ ended_settled w who t k v there is e =
     (key_was w.tickets who (record t { out = false }) k v e)
 
 -- it had settled before, where its op is open
-settled_come : (f : Formats) (w : World) (who : ℕ) (step : Step) (new : World) → StepChange f w who step new → (k : ℕ) (v : Ticket) (op : Op) → fin.get new.tickets k ≡ Some v → v.settled ≡ true → fin.get new.ops v.op ≡ Some op → HadSettled w k v.op
+settled_come : (f : Formats) (w : World) (who : ℕ) (step : Step) (new : World) → StepChange f w who step new → (k : ℕ) (v : Ticket) (op : Op) → fin.get new.tickets k ≡ Some v → v.settled ≡ true → fin.get new.ops v.op ≡ Some op
+    → HadSettled w k v.op
 settled_come f w who step new (NewTicket take t one ops same) k v op e is is_open =
     ⊎_elim
     (λ (here : (k ≡ w.next_ticket) × (t ≡ v)). absurd (true≢false (sym is ∙ ap (λ (x : Ticket). x.settled) (sym here.1) ∙ one.settled)))

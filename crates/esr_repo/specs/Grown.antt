@@ -14,6 +14,8 @@ use Rattle.esr_core.specs.Past.{with_entry}
 use Rattle.esr_core.specs.After.{with_given, change, answered, after}
 use Rattle.esr_core.specs.Allowed.{Allowed}
 use Rattle.esr_core.specs.History.{world_from, IsLegal}
+use Rattle.esr_ops.specs.Plan.{Plan, seat_of, seat_out, reader_seat, reader_out, IsPlanOf}
+use Rattle.esr_progress.specs.Plans.{seat_there, reader_there as reader_shown}
 use Rattle.esr_desk.specs.Start.{Start, formats_of, world_of, Legal, no_ticket, or_no_ticket, ticket_of}
 use Rattle.esr_desk.specs.Own.{no_reader, or_no_reader, reader_of, caller_of, as_client, own_of}
 use Rattle.esr_repo.specs.Next.{Added}
@@ -94,6 +96,14 @@ reading_is s log k out = go (fin.get (world_of s log).readers k) refl out
 -- what was put is there
 pub reader_there : (readers : FinMap nat_cmp Reader) (k : ℕ) (q : Reader) → fin.get (fin.insert readers k q) k ≡ Some q
 reader_there readers k q = fin.get-insert nat_cmp_total readers k q k ∙ ap (λ (b : Bool). cond b (Some q) (fin.get readers k)) ((eq_by_cmp_equiv nat_cmp_total).refl k)
+
+-- ---- what the list of ops keeps of those that are out
+
+pub seat_found : (s : Start) (log : List Moment) (k : ℕ) (p : Plan) → IsPlanOf (world_of s log) p → (ticket_of s log k).out ≡ true → fin.get p.seats k ≡ Some (seat_of (ticket_of s log k))
+seat_found s log k p h out = h.seats k ∙ ap seat_out (out_is s log k out).there ∙ seat_there (ticket_of s log k) out
+
+pub reader_found : (s : Start) (log : List Moment) (k : ℕ) (p : Plan) → IsPlanOf (world_of s log) p → (reader_of s log k).out ≡ true → fin.get p.readers k ≡ Some (reader_seat (reader_of s log k))
+reader_found s log k p h out = h.readers k ∙ ap reader_out (reading_is s log k out).there ∙ reader_shown (reader_of s log k) out
 
 -- ---- all that someone is and has done
 

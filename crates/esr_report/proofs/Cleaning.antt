@@ -67,7 +67,8 @@ inserted text [] key = refl
 inserted text (x ∷ keys) key = placed text key x keys (insert_key vec_cmp keys key) (vec_cmp key x) refl (inserted text keys key)
 
 -- the texts of some names were added, and now that of the next one
-pub texts_read : (names : List CodeName) (i : ℕ) (d : CodeName) (old now new : BTreeSet (Vec ℕ Global)) (key : Vec ℕ Global) (none written text : Bytes) → i < length names → none ≡ [] → written ≡ none ++ name_kind.text (name_of (get_or names i d)) → key.items ≡ written
+pub texts_read : (names : List CodeName) (i : ℕ) (d : CodeName) (old now new : BTreeSet (Vec ℕ Global)) (key : Vec ℕ Global) (none written text : Bytes) → i < length names → none ≡ []
+    → written ≡ none ++ name_kind.text (name_of (get_or names i d)) → key.items ≡ written
     → new.keys ≡ insert_key vec_cmp now.keys key → (holds_text old text || has_text (map name_of names) text) ≡ (holds_text now text || has_text (map name_of (drop i names)) text)
     → (holds_text old text || has_text (map name_of names) text) ≡ (holds_text new text || has_text (map name_of (drop (i + 1) names)) text)
 texts_read names i d old now new key none written text less empty appended moved keys read =
@@ -79,7 +80,8 @@ texts_read names i d old now new key none written text less empty appended moved
     read ∙ ap (λ (ns : List CodeName). holds_text now text || has_text (map name_of ns) text) (drop_more names i d less) ∙ or_swap (holds_text now text) named rest ∙ sym (or_both named (holds_text now text) rest)
     ∙ ap (λ (b : Bool). b || rest) (sym held)
 
-pub texts_all : (names : List CodeName) (i : ℕ) (old now : BTreeSet (Vec ℕ Global)) (text : Bytes) → length names ≤ i → (holds_text old text || has_text (map name_of names) text) ≡ (holds_text now text || has_text (map name_of (drop i names)) text)
+pub texts_all : (names : List CodeName) (i : ℕ) (old now : BTreeSet (Vec ℕ Global)) (text : Bytes) → length names ≤ i
+    → (holds_text old text || has_text (map name_of names) text) ≡ (holds_text now text || has_text (map name_of (drop i names)) text)
     → holds_text now text ≡ (holds_text old text || has_text (map name_of names) text)
 texts_all names i old now text past read = sym (read ∙ at_drop_all (λ (ns : List CodeName). holds_text now text || has_text (map name_of ns) text) names i past ∙ or_none (holds_text now text))
 

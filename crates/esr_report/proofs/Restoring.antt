@@ -1,6 +1,7 @@
 -- The shards of a restore, and how they ended.
 use Rattle.std.proofs.Common.{◌≡◌, ℕ, zero, suc, ◌+◌, ◌<◌, List, [], ◌∷◌, ◌++◌, map, length, take, drop, get_or, Option, Some, None, option_map, refl, sym, ap, ◌∙◌, append_assoc, append-nil, arith}
-use Rattle.std.proofs.lemmas.List.{drop_more, map_more, map-append}
+use Rattle.std.proofs.lemmas.List.{drop_more, map-append}
+use Rattle.esr_model.specs.Loops.{next}
 use Rattle.esr_names.specs.declared.ids.Id.{Id}
 use Rattle.esr_names.specs.declared.index_ref.IndexRef.{IndexRef as CodeRef}
 use Rattle.esr_formats.specs.Refs.{ref_of_code}
@@ -13,9 +14,6 @@ use Rattle.esr_report.specs.Replies.{ReadShard, ShardEnd, and_ends, ends_of, sha
 use Rattle.esr_report.specs.Ends.{shard_of_code, end_of_code}
 
 -- ---- one more shard, one more index
-
-next : {A B : Type 0} (f : A → B) (xs : List A) (i : ℕ) (x : A) → i < length xs → x ≡ get_or xs i x → map f (take (i + 1) xs) ≡ map f (take i xs) ++ f x ∷ []
-next {A} {B} f xs i x less is = map_more f xs i x less ∙ ap (λ (z : A). map f (take i xs) ++ f z ∷ []) (sym is)
 
 numbered_from : (r : IndexRef) (first n : ℕ) → numbered r first (suc n) ≡ numbered r first n ++ (r, first + n) ∷ []
 numbered_from r first zero = let same : first ≡ first + 0 = omega arith in ap (λ (k : ℕ). (r, k) ∷ []) same

@@ -7,8 +7,8 @@ use Rattle.esr_core.specs.After.{or_else, swaps_record}
 use Rattle.esr_core.specs.Entry as entry
 use Rattle.esr_core.specs.Entry.{Given, GivenShard, GivenFinalize, GivenDrop, GivenRestore, GivenClone, GivenDelete, GivenCleanup, Why, OfDepot, Read, RestoredShard, CheckedAll, VerifiedAll, ReadFails, SettlePruned, DeleteFails, Snapshot, Clone, DeleteSnapshots, Step, AskStep, SettleStep, FailedStep, FinishStep, DroppedStep, ElectStep, LookStep, ReadStep, PruneStep, Refusal, DeposedAt, DepotFault, Accepted, AcceptedRestore, Gave, WasSettled, HasEnded, ElectedTerm, Looked, Entry}
 use Rattle.esr_script.specs.declared.item.Item.{Item}
-use Rattle.esr_script.specs.declared.item.Item.TheVariants as items
 use Rattle.esr_script.specs.declared.item.ScriptLine.{ScriptLine}
+use Rattle.esr_script.specs.Kinds.{is_check, is_failover, is_wait}
 use Rattle.esr_report.specs.Cleaned.{is_cleanup_ticket, blobs_gone, bytes_gone}
 
 pub data Reply : Type 0 where
@@ -376,10 +376,6 @@ falls_before (e ∷ es) = if is_of_line e then false else (fails_swap e.step e.r
 
 -- ---- a check has two entries that belong to lines: its look, and its end
 
-abbrev pub is_check : Item → Bool
-is_check items.Check = true
-is_check item = false
-
 abbrev pub is_looked : entry.Reply → Bool
 is_looked (Looked snapshots safe) = true
 is_looked reply = false
@@ -428,10 +424,6 @@ line_reply item all [] = None
 line_reply item all (e ∷ es) = option_map (λ (r : Reply). (r, es)) (line_answer item all e.step e.reply)
 
 -- ---- failovers, each of which has the next election
-
-abbrev pub is_failover : Item → Bool
-is_failover items.Failover = true
-is_failover item = false
 
 abbrev pub is_election_step : Step → Bool
 is_election_step ElectStep = true
@@ -494,10 +486,6 @@ wait_answer false false = Some Waited
 -- failover had ended by then. `later`: the entries after the elections of the failovers before
 abbrev pub before_election : List Entry → List Entry → List Entry
 before_election later rest = take (length rest - length (from_election later)) rest
-
-abbrev pub is_wait : Item → Bool
-is_wait items.Wait = true
-is_wait item = false
 
 -- the reply of a line and those after it; a line without an answer ends the list
 abbrev pub and_more : Option (Reply × List Entry) → (List Entry → List Reply) → List Reply

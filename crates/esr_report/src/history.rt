@@ -1,6 +1,7 @@
 //! The replies of a script's lines.
 ghost use Rattle.std.specs.Prelude.{◌≡◌, map, IfOk, option_map};
-ghost use Rattle.esr_report.specs.Replies.{fails_swap, has_fallen, is_end, is_line_read, is_of_line, from_line, falls_before, deposed_by, refused_reply, ask_reply, is_failover, is_election, from_election, before_election, election_reply, failover_reply, past_first, look_reply, ended_reply, read_reply, answer_at, is_check, is_looked, is_look_answered, past_look, checked_reply, check_ended, down_reply, check_answer, line_answer, is_wait, is_short, has_none, is_cut, wait_answer, replies};
+ghost use Rattle.esr_report.specs.Replies.{fails_swap, has_fallen, is_end, is_line_read, is_of_line, from_line, falls_before, deposed_by, refused_reply, ask_reply, is_election, from_election, before_election, election_reply, failover_reply, past_first, look_reply, ended_reply, read_reply, answer_at, is_looked, is_look_answered, past_look, checked_reply, check_ended, down_reply, check_answer, line_answer, is_short, has_none, is_cut, wait_answer, replies};
+ghost use Rattle.esr_script.specs.Kinds.{is_check, is_failover, is_wait};
 ghost use Rattle.esr_core.specs.After.{or_else, swaps_record};
 ghost use Rattle.esr_core.specs.Entry.{is_recorded};
 ghost use Rattle.esr_ops.specs.Asked.{asked_of};
@@ -13,7 +14,7 @@ use crate::told::{ToldEnds, op_reply, restore_reply, told_ends};
 use crate::{Replies, Reply};
 use esr_desk::{Answer, Entry, EntryRefusal, History, Prune, Read, Step, Why};
 use esr_ops::Command;
-use esr_script::{Item, Script};
+use esr_script::{Item, Kind, Script};
 use std::alloc::{AllocError, Global};
 
 /// The cluster record has the op of the command.
@@ -235,7 +236,7 @@ fn answer_at(
 fn is_check(item: &Item) -> bool
     ensures { result ≡ is_check item.now }
 {
-    matches!(item, Item::Check)
+    matches!(item.kind(), Kind::Check)
 }
 
 fn is_looked(answer: &Answer) -> bool
@@ -336,7 +337,7 @@ fn line_answer(
 fn is_failover(item: &Item) -> bool
     ensures { result ≡ is_failover item.now }
 {
-    matches!(item, Item::Failover)
+    matches!(item.kind(), Kind::Failover)
 }
 
 fn is_election(entry: &Entry) -> bool
@@ -392,7 +393,7 @@ fn past_first(entries: &[Entry]) -> &[Entry]
 fn is_wait(item: &Item) -> bool
     ensures { result ≡ is_wait item.now }
 {
-    matches!(item, Item::Wait)
+    matches!(item.kind(), Kind::Wait)
 }
 
 /// Those of `rest` before the next election of a failover, after the elections of the failovers before.

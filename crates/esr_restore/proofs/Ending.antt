@@ -91,7 +91,8 @@ unsure true sure all is = absurd (both sure (all refl) is)
 unsure false sure all is = refl
 
 -- that the target has failed
-pub target_shown : {S F H T : Type 0} (e : Evidence S F H T) (s : Start) (log : List Moment) (who : ℕ) (target : T) → FaultyTarget (e.target_faults target) (e.target target).is_sure → (s.sure_targets ≡ true → (e.target target).is_sure ≡ true)
+pub target_shown : {S F H T : Type 0} (e : Evidence S F H T) (s : Start) (log : List Moment) (who : ℕ) (target : T) → FaultyTarget (e.target_faults target) (e.target target).is_sure
+    → (s.sure_targets ≡ true → (e.target target).is_sure ≡ true)
     → IsFor (reader_of s log who) (e.target target).made_for → HasFirst s (reader_of s log who) (e.target target).files → IsRestoreShown e s log who OfTarget (shows.Object (objects.Target target))
 target_shown e s log who target faulty sure of first = record {
   failed = faulty.0;
@@ -105,7 +106,8 @@ not_stale why b is = cc
 
 -- ---- how it ends then
 
-pub given_refused : {S F H T : Type 0} (e : Evidence S F H T) (s : Start) (old new : List Moment) (who : ℕ) (why : Why) (b : By S F H T) (result : UnitRefusal) → GivenUp hands.Restore e s old new who (endings.Failed why b) result → IsUnitRefused e s old new who result
+pub given_refused : {S F H T : Type 0} (e : Evidence S F H T) (s : Start) (old new : List Moment) (who : ℕ) (why : Why) (b : By S F H T) (result : UnitRefusal) → GivenUp hands.Restore e s old new who (endings.Failed why b) result
+    → IsUnitRefused e s old new who result
 given_refused e s old new who why b (units.Failed told) h =
     let done = subst (λ (w : Why). IsUnitRefused e s old new who (units.Failed w)) (sym h.0) ((reader_of s old who, worked_none (reader_of s old who), ap (λ (o : Own). o.reader) h.1), h.2) in
     done
@@ -135,7 +137,8 @@ module _ (law : RefusesSo) (s : Start) (old new : List Moment) (who files bytes 
 
 -- ---- a unit that went on before
 
-pub unit_refused_on : {S F H T : Type 0} (e : Evidence S F H T) (s : Start) (old mid new : List Moment) (who : ℕ) (refusal : UnitRefusal) → Worked (reader_of s old who) (reader_of s mid who) → IsUnitRefused e s mid new who refusal → IsUnitRefused e s old new who refusal
+pub unit_refused_on : {S F H T : Type 0} (e : Evidence S F H T) (s : Start) (old mid new : List Moment) (who : ℕ) (refusal : UnitRefusal) → Worked (reader_of s old who) (reader_of s mid who) → IsUnitRefused e s mid new who refusal
+    → IsUnitRefused e s old new who refusal
 unit_refused_on e s old mid new who (units.Failed why) worked h =
     ((h.0.0, worked_on (reader_of s old who) (reader_of s mid who) h.0.0 worked h.0.1, h.0.2), h.1)
 unit_refused_on e s old mid new who (units.Stopped refusal) worked h = (worked_on (reader_of s old who) (reader_of s mid who) (reader_of s new who) worked h.0, h.1)

@@ -28,7 +28,8 @@ use Rattle.esr_restore.specs.Worked.{Worked}
 use Rattle.esr_restore.specs.Snapped.{IsAt, HasSnap}
 use Rattle.esr_restore.specs.Files.{len_of, sum_files, IsFile, RestoredAll, HasFiles}
 use Rattle.esr_restore.specs.Restored.{HasRestored}
-use Rattle.esr_restore.proofs.Pairs.{pairs_map, pairs_of_map, pairs_to_map, pairs_length}
+use Rattle.esr_restore.specs.Pairs.{pairs_map}
+use Rattle.esr_restore.proofs.Pairs.{pairs_of_map, pairs_to_map, pairs_length}
 
 -- ---- what the files are
 
@@ -38,7 +39,8 @@ module _ (s : Start) (q : Reader) (at : ShardId) (uuid : ℕ) (is_at : IsAt q at
       subst (λ (i : ℕ). FileStands (formats_of s) (WasRead q.read) i q.number e bytes) (sym is_at.index_is) (subst (λ (n : ℕ). FileStands (formats_of s) (WasRead q.read) at.index.number n e bytes) (sym is_at.number_is) h)
 
   -- with their names
-  named : (es : List CodeEntry) (held : List (Bytes × Bytes)) → AllPairs (IsFile s q at) es held → AllPairs (λ (e : FileEntry) (file : Bytes × Bytes). (e.physical ≡ file.0) × FileStands (formats_of s) (WasRead q.read) q.index q.number e file.1) (map entry_of es) held
+  named : (es : List CodeEntry) (held : List (Bytes × Bytes)) → AllPairs (IsFile s q at) es held
+      → AllPairs (λ (e : FileEntry) (file : Bytes × Bytes). (e.physical ≡ file.0) × FileStands (formats_of s) (WasRead q.read) q.index q.number e file.1) (map entry_of es) held
   named es held each =
       pairs_of_map entry_of (λ (e : FileEntry) (file : Bytes × Bytes). (e.physical ≡ file.0) × FileStands (formats_of s) (WasRead q.read) q.index q.number e file.1) es held
       (pairs_map (IsFile s q at) (λ (e : CodeEntry) (file : Bytes × Bytes). (e.physical ≡ file.0) × FileStands (formats_of s) (WasRead q.read) q.index q.number (entry_of e) file.1)
@@ -70,7 +72,8 @@ sum_contents (h ∷ held) =
     ∙ sym (sum_by-cons (λ (b : Bytes). length b) h.1 (map (λ (file : Bytes × Bytes). file.1) held))
 
 -- the files that the snapshot has of the shard were read
-pub has_files : (s : Start) (q : Reader) (at : ShardId) (uuid : ℕ) (snap : SnapValue) (files_old files_new : Option (List (Bytes × Bytes))) → IsAt q at.index.number at.number uuid → HasSnap s q snap → RestoredAll s q at snap.files files_old files_new → HasFiles s q snap
+pub has_files : (s : Start) (q : Reader) (at : ShardId) (uuid : ℕ) (snap : SnapValue) (files_old files_new : Option (List (Bytes × Bytes))) → IsAt q at.index.number at.number uuid → HasSnap s q snap
+    → RestoredAll s q at snap.files files_old files_new → HasFiles s q snap
 has_files s q at uuid snap files_old files_new is_at read all = λ tells. record {
   snap = shard_snap_of snap;
   snap_read = read tells;
@@ -84,7 +87,8 @@ held_is : (all held : List (Bytes × Bytes)) (told : Option (List (Bytes × Byte
 held_is all held None is = cc
 held_is all held (Some fs) is = cc
 
-are_restored : (s : Start) (q : Reader) (at : ShardId) (uuid : ℕ) (snap : SnapValue) (files_old files_new : Option (List (Bytes × Bytes))) → IsAt q at.index.number at.number uuid → HasSnap s q snap → RestoredAll s q at snap.files files_old files_new
+are_restored : (s : Start) (q : Reader) (at : ShardId) (uuid : ℕ) (snap : SnapValue) (files_old files_new : Option (List (Bytes × Bytes))) → IsAt q at.index.number at.number uuid → HasSnap s q snap
+    → RestoredAll s q at snap.files files_old files_new
     → (held : List (Bytes × Bytes)) → files_new ≡ Some held → s.tells ≡ true → AreRestored (formats_of s) q held (length snap.files) (sum_files snap.files)
 are_restored s q at uuid snap files_old files_new is_at read all held is tells =
     let same = held_is all.held held files_old (sym all.are ∙ is) in
@@ -110,7 +114,8 @@ has_restored s old mid new who count bytes worked step ended = record {
 
 -- ---- the ticket as it was taken
 
-pub took_fresh : (w : Work) (op : ℕ) (q : Reader) (uuid : Id) (at : ShardId) (index place : Bytes) → w ≡ works.RestoreShard uuid at index place → TookWork w op q → (q ≡ fresh_reader op uuid.number at.index.number at.number index place) × (at.number < 1024)
+pub took_fresh : (w : Work) (op : ℕ) (q : Reader) (uuid : Id) (at : ShardId) (index place : Bytes) → w ≡ works.RestoreShard uuid at index place → TookWork w op q
+    → (q ≡ fresh_reader op uuid.number at.index.number at.number index place) × (at.number < 1024)
 took_fresh w op q uuid at index place is took = subst (λ (x : Work). TookWork x op q) is took
 
 fresh_at : (op uuid index number : ℕ) (name place : Bytes) → IsAt (fresh_reader op uuid index number name place) index number uuid
@@ -124,7 +129,8 @@ took_at w op q uuid at index place is took =
 fresh_of : (op uuid index number : ℕ) (name place : Bytes) → IsFor (fresh_reader op uuid index number name place) (address place name number)
 fresh_of op uuid index number name place = record { place = refl; index = refl; number = refl }
 
-pub took_of : (w : Work) (op : ℕ) (old new : Reader) (uuid : Id) (at : ShardId) (index place : Bytes) (made_for : Address) → w ≡ works.RestoreShard uuid at index place → TookWork w op old → made_for ≡ address place index at.number → Worked old new → IsFor new made_for
+pub took_of : (w : Work) (op : ℕ) (old new : Reader) (uuid : Id) (at : ShardId) (index place : Bytes) (made_for : Address) → w ≡ works.RestoreShard uuid at index place → TookWork w op old → made_for ≡ address place index at.number
+    → Worked old new → IsFor new made_for
 took_of w op old new uuid at index place made_for is took made worked =
     let fresh = (took_fresh w op old uuid at index place is took).0 in
     let of = subst (λ (r : Reader). IsFor r (address place index at.number)) (sym fresh) (fresh_of op uuid.number at.index.number at.number index place) in

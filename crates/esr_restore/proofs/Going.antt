@@ -72,7 +72,8 @@ read_worked : {F : Type 0} (left : F → Option Bytes) (name : BlobName) (o : Op
 read_worked left name None q = worked_none q
 read_worked left name (Some f) q = with_read_worked q name (left f)
 
-pub read_went : {F : Type 0} (left : F → Option Bytes) (name : BlobName) (o : Option F) (s : Start) (old new : List Moment) (who : ℕ) → GrewBy s who old new → own_of s new who ≡ own_fetched hands.Restore left name o (own_of s old who) → Went s old new who
+pub read_went : {F : Type 0} (left : F → Option Bytes) (name : BlobName) (o : Option F) (s : Start) (old new : List Moment) (who : ℕ) → GrewBy s who old new → own_of s new who ≡ own_fetched hands.Restore left name o (own_of s old who)
+    → Went s old new who
 read_went left name o s old new who grew own = record {
   grew = grew;
   worked = subst (λ (q : Reader). Worked (reader_of s old who) q) (sym (ap (λ (o : Own). o.reader) own)) (read_worked left name o (reader_of s old who));

@@ -31,7 +31,8 @@ use Rattle.esr_restore.specs.Files.{IsFile, RestoredAll}
 use Rattle.esr_restore.specs.Left.{WasReportRefused, IsLeft}
 use Rattle.esr_restore.specs.Snapped.{IsAt, HasSnap}
 use Rattle.esr_restore.specs.Worked.{Worked}
-use Rattle.esr_restore.proofs.Pairs.{pairs_map, pairs_of_map}
+use Rattle.esr_restore.specs.Pairs.{pairs_map}
+use Rattle.esr_restore.proofs.Pairs.{pairs_of_map}
 use Rattle.esr_restore.proofs.Listing.{FirstFiles, stands_more}
 use Rattle.esr_restore.proofs.Finishing.{stands_own}
 
@@ -51,7 +52,8 @@ again : (held : List (Bytes × Bytes)) (o files : Option (List (Bytes × Bytes))
 again held None files is = subst (λ (f : Option (List (Bytes × Bytes))). f ≡ option_map (λ _. held) f) (sym is) refl
 again held (Some fs) files is = subst (λ (f : Option (List (Bytes × Bytes))). f ≡ option_map (λ _. held) f) (sym is) refl
 
-held_first : (s : Start) (q : Reader) (at : ShardId) (uuid : ℕ) (snap : SnapValue) (es : List CodeEntry) (rest : List FileEntry) (held : List (Bytes × Bytes)) (files_old files : Option (List (Bytes × Bytes))) → IsAt q at.index.number at.number uuid → HasSnap s q snap
+held_first : (s : Start) (q : Reader) (at : ShardId) (uuid : ℕ) (snap : SnapValue) (es : List CodeEntry) (rest : List FileEntry) (held : List (Bytes × Bytes)) (files_old files : Option (List (Bytes × Bytes)))
+    → IsAt q at.index.number at.number uuid → HasSnap s q snap
     → map entry_of snap.files ≡ map entry_of es ++ rest → AllPairs (IsFile s q at) es held → files ≡ option_map (λ _. held) files_old → HasFirst s q files
 held_first s q at uuid snap es rest held files_old files is_at read is each are = record {
   entries = map entry_of es;
@@ -80,7 +82,8 @@ first_files s a b at uuid snap k files_old files_mid files_new worked is_at read
     (pairs_map (IsFile s a at) (IsFile s b at) (stands_more s a b at worked) (take k snap.files) so.held so.each) (same ∙ so.are)
 
 -- all files were ended
-pub first_all : (s : Start) (q : Reader) (at : ShardId) (uuid : ℕ) (snap : SnapValue) (files_old files : Option (List (Bytes × Bytes))) → IsAt q at.index.number at.number uuid → HasSnap s q snap → RestoredAll s q at snap.files files_old files → HasFirst s q files
+pub first_all : (s : Start) (q : Reader) (at : ShardId) (uuid : ℕ) (snap : SnapValue) (files_old files : Option (List (Bytes × Bytes))) → IsAt q at.index.number at.number uuid → HasSnap s q snap
+    → RestoredAll s q at snap.files files_old files → HasFirst s q files
 first_all s q at uuid snap files_old files is_at read all =
     held_first s q at uuid snap snap.files [] all.held files_old files is_at read (sym (append-nil (map entry_of snap.files))) all.each all.are
 
@@ -121,7 +124,8 @@ module _ {T : Type 0} (told : T → TargetTold) (s : Start) (old : Reader) (targ
   given_out log who refusal is = subst IsGiven (sym is) (of, first)
 
 -- the end of the ticket was refused, which gave the target back
-pub left_unended : {T : Type 0} (told : T → TargetTold) (s : Start) (q : Reader) (log : List Moment) (who : ℕ) (refusal : UnitRefusal) (made unended : RestoredTarget T) (given : Option T) → IsFor q (told made.target).made_for → HasFirst s q (told made.target).files
+pub left_unended : {T : Type 0} (told : T → TargetTold) (s : Start) (q : Reader) (log : List Moment) (who : ℕ) (refusal : UnitRefusal) (made unended : RestoredTarget T) (given : Option T) → IsFor q (told made.target).made_for
+    → HasFirst s q (told made.target).files
     → reader_of s log who ≡ q → unended ≡ made → given ≡ Some unended.target → IsLeft told s log who refusal given
 left_unended {T} told s q log who refusal made unended given of first same back is =
     subst (λ (o : Option T). IsLeft told s log who refusal o) (sym (is ∙ ap (λ (r : RestoredTarget T). Some r.target) back)) (given_out told s q made.target of first log who refusal same)
@@ -141,6 +145,7 @@ left_taken e s old new who b (units.Stopped refusal) h report = report_refused s
 left_taken e s old new who b units.Stale h report = absurd h
 
 -- the unit was stopped, and none is given back
-pub stopped_left : {T : Type 0} (told : T → TargetTold) (s : Start) (log : List Moment) (who : ℕ) (refusal : StepRefusal) (result : UnitRefusal) (target : Option T) → result ≡ units.Stopped refusal → target ≡ None → WasReportRefused log who (told_refusal refusal) → IsLeft told s log who result target
+pub stopped_left : {T : Type 0} (told : T → TargetTold) (s : Start) (log : List Moment) (who : ℕ) (refusal : StepRefusal) (result : UnitRefusal) (target : Option T) → result ≡ units.Stopped refusal → target ≡ None
+    → WasReportRefused log who (told_refusal refusal) → IsLeft told s log who result target
 stopped_left {T} told s log who refusal result target is none h =
     subst (λ (r : UnitRefusal). IsLeft told s log who r target) (sym is) (subst (λ (o : Option T). IsLeft told s log who (units.Stopped refusal) o) (sym none) h)

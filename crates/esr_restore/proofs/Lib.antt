@@ -1,7 +1,6 @@
 pub mod Going
 pub mod Reading
 pub mod Pairs
-pub mod Sizes
 pub mod Parts
 pub mod Standing
 pub mod Listing

@@ -17,13 +17,13 @@ use Rattle.esr_core.specs.Restores.{WasRead}
 use Rattle.esr_shardidx.specs.declared.entry.FileEntry.{FileEntry as CodeEntry}
 use Rattle.esr_shardidx.specs.Entries.{is_below, IsEntry}
 use Rattle.esr_shardidx.specs.Snapshots.{SnapValue, AreSnapFiles, IsShardSnap, NamesRise}
-use Rattle.esr_shardidx.proofs.Found.{snap_names_rise}
+use Rattle.esr_shardidx.specs.NamesRise.{snap_names_rise}
 use Rattle.esr_formats.specs.Shards.{entry_of, shard_snap_of}
 use Rattle.esr_desk.specs.Start.{Start}
 use Rattle.esr_restore.specs.Worked.{Worked}
 use Rattle.esr_restore.specs.Snapped.{HasSnap, IsListed}
 use Rattle.esr_restore.specs.Files.{IsFile, RestoredFile, RestoredAll}
-use Rattle.esr_restore.proofs.Pairs.{pairs_push, pairs_map}
+use Rattle.esr_restore.specs.Pairs.{pairs_push, pairs_map}
 
 -- ---- the entries of a snapshot
 
@@ -87,7 +87,8 @@ files_none s q at es files empty = record { held = []; each = tt; are = none fil
     none None h = refl
     none (Some fs) h = ap (λ (l : List (Bytes × Bytes)). Some l) h
 
-free_of : (held : List (Bytes × Bytes)) (name : Bytes) (o files : Option (List (Bytes × Bytes))) → files ≡ option_map (λ _. held) o → (Contains (map (λ (f : Bytes × Bytes). f.0) held) name → ⊥) → IfSome files (λ fs. Contains (map (λ (f : Bytes × Bytes). f.0) fs) name → ⊥)
+free_of : (held : List (Bytes × Bytes)) (name : Bytes) (o files : Option (List (Bytes × Bytes))) → files ≡ option_map (λ _. held) o → (Contains (map (λ (f : Bytes × Bytes). f.0) held) name → ⊥)
+    → IfSome files (λ fs. Contains (map (λ (f : Bytes × Bytes). f.0) fs) name → ⊥)
 free_of held name None files is h = subst (λ (x : Option (List (Bytes × Bytes))). IfSome x (λ fs. Contains (map (λ (f : Bytes × Bytes). f.0) fs) name → ⊥)) (sym is) tt
 free_of held name (Some old) files is h = subst (λ (x : Option (List (Bytes × Bytes))). IfSome x (λ fs. Contains (map (λ (f : Bytes × Bytes). f.0) fs) name → ⊥)) (sym is) h
 
@@ -126,7 +127,8 @@ files_next s a b at es k e files_old files_mid files_new worked less is so one =
       are = one.added ∙ ap (λ (o : Option (List (Bytes × Bytes))). option_map (λ fs. fs ++ (e.physical, one.bytes) ∷ []) o) so.are ∙ added_twice so.held (e.physical, one.bytes) files_old;
     }
 
-pub files_all : (s : Start) (q : Reader) (at : ShardId) (es : List CodeEntry) (k : ℕ) (files_old files_new : Option (List (Bytes × Bytes))) → length es ≤ k → FirstFiles s q at es k files_old files_new → RestoredAll s q at es files_old files_new
+pub files_all : (s : Start) (q : Reader) (at : ShardId) (es : List CodeEntry) (k : ℕ) (files_old files_new : Option (List (Bytes × Bytes))) → length es ≤ k → FirstFiles s q at es k files_old files_new
+    → RestoredAll s q at es files_old files_new
 files_all s q at es k files_old files_new all so = record {
   held = so.held;
   each = subst (λ (l : List CodeEntry). AllPairs (IsFile s q at) l so.held) (take_all k es all) so.each;

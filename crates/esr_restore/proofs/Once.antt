@@ -1,9 +1,10 @@
 -- No blob is read twice.
-use Rattle.std.proofs.Common.{◌≡◌, inl, inr, ℕ, zero, suc, ◌+◌, ◌-◌, ◌/◌, ◌<◌, nat_le, ◌||◌, Bool, true, false, List, [], ◌∷◌, ◌++◌, length, take, get_or, append-nil, append_assoc, refl, sym, ap, ◌∙◌, subst, true≢false, arith}
+use Rattle.std.proofs.Common.{◌≡◌, inl, inr, ℕ, zero, suc, ◌+◌, ◌-◌, ◌<◌, nat_le, ◌||◌, Bool, true, false, List, [], ◌∷◌, ◌++◌, length, take, get_or, append-nil, append_assoc, refl, sym, ap, ◌∙◌, subst, true≢false, arith}
 use Rattle.std.specs.Prelude.{if◌then◌else◌}
 use Rattle.std.specs.List.{list_any}
 use Rattle.std.proofs.lemmas.Bool.{eq-eqb}
 use Rattle.std.proofs.lemmas.List.{take_more}
+use Rattle.esr_model.specs.Lists.{Has-left}
 use Rattle.esr_names.specs.declared.blob.ShardId.{ShardId}
 use Rattle.esr_names.specs.declared.blob.BlobName.TheVariants as code
 use Rattle.esr_model.specs.Names.{BlobName, ShardSnap, File, Part}
@@ -17,28 +18,19 @@ use Rattle.esr_desk.specs.Start.{Start}
 use Rattle.esr_desk.specs.Once.{IsFresh}
 use Rattle.esr_desk.specs.Made.{ReadsOnly, reads_on, reads_more, still_unread}
 use Rattle.esr_restore.specs.Unread.{AreUnread, IsPartOf, IsPartBefore, IsPartOfAny}
+use Rattle.esr_restore.specs.PartsApart.{parts_differ}
 
 -- ---- parts
 
-number_is : (index number file i k : ℕ) → Part index number file i ≡ Part index number file k → i ≡ k
-number_is index number file i k same = cc
-
--- the parts of a file have different names
-pub parts_differ : (at : ShardId) (e : CodeEntry) (i k : ℕ) → i < k → k < part_count e.print.len e.part_size → name_of (part_name at e i) ≡ name_of (part_name at e k) → ⊥
-parts_differ at e i k less =
-    let parts : ℕ = (e.print.len + e.part_size - 1) / e.part_size in
-    elim (nat_le e.print.len e.part_size) as (λ b. k < (if b then 1 else parts) → name_of (if b then code.Whole at e.name else code.Part at e.name i) ≡ name_of (if b then code.Whole at e.name else code.Part at e.name k) → ⊥) [
-      | true ↦ λ (one : k < 1) same. omega (arith, less, one)
-      | false ↦ λ within same. let number : i ≡ k = number_is at.index.number at.number e.name.number i k same in omega (arith, less, number)
-    ]
-
 -- the next part is unread
-pub part_unread : (s : Start) (old now : List Moment) (who : ℕ) (at : ShardId) (e : CodeEntry) (k : ℕ) → AreUnread s old who (IsPartOf at e) → k < part_count e.print.len e.part_size → ReadsOnly s old now who (IsPartBefore at e k) → IsFresh s now who (ReadStep (ReadBlob (name_of (part_name at e k))))
+pub part_unread : (s : Start) (old now : List Moment) (who : ℕ) (at : ShardId) (e : CodeEntry) (k : ℕ) → AreUnread s old who (IsPartOf at e) → k < part_count e.print.len e.part_size → ReadsOnly s old now who (IsPartBefore at e k)
+    → IsFresh s now who (ReadStep (ReadBlob (name_of (part_name at e k))))
 part_unread s old now who at e k unread within reads =
     let name = name_of (part_name at e k) in
     still_unread s old now who name (IsPartBefore at e k) (unread name (k, refl)) reads (λ before. parts_differ at e before.0 k before.1 within before.2)
 
-pub part_more : (s : Start) (old mid new : List Moment) (who : ℕ) (at : ShardId) (e : CodeEntry) (k : ℕ) → ReadsOnly s old mid who (IsPartBefore at e k) → ReadsOnly s mid new who (λ n. n ≡ name_of (part_name at e k)) → ReadsOnly s old new who (IsPartBefore at e (k + 1))
+pub part_more : (s : Start) (old mid new : List Moment) (who : ℕ) (at : ShardId) (e : CodeEntry) (k : ℕ) → ReadsOnly s old mid who (IsPartBefore at e k) → ReadsOnly s mid new who (λ n. n ≡ name_of (part_name at e k))
+    → ReadsOnly s old new who (IsPartBefore at e (k + 1))
 part_more s old mid new who at e k first second =
     reads_on s old mid new who (IsPartBefore at e (k + 1))
     (reads_more s old mid who (IsPartBefore at e k) (IsPartBefore at e (k + 1)) (λ name before. let less : before.0 < k = before.1 in (before.0, omega (arith, less), before.2)) first)
@@ -96,17 +88,12 @@ file_unread s old now who at snap k e whole less is unread reads name part =
     still_unread s old now who name (IsPartOfAny at (take k snap.files)) (unread name (e, has_at snap.files k e less is, part)) reads
     (one_file at snap k e name whole less is part)
 
-has_left : {A : Type 0} (xs ys : List A) (y : A) → Has xs y → Has (xs ++ ys) y
-has_left [] ys y none = absurd none
-has_left (x ∷ xs) ys y (inl here) = inl here
-has_left (x ∷ xs) ys y (inr later) = inr (has_left xs ys y later)
-
 has_last : {A : Type 0} (xs : List A) (y : A) → Has (xs ++ y ∷ []) y
 has_last [] y = inl refl
 has_last (x ∷ xs) y = inr (has_last xs y)
 
 any_left : (at : ShardId) (xs ys : List CodeEntry) (name : BlobName) → IsPartOfAny at xs name → IsPartOfAny at (xs ++ ys) name
-any_left at xs ys name (r, has, part) = (r, has_left xs ys r has, part)
+any_left at xs ys name (r, has, part) = (r, Has-left xs ys r has, part)
 
 pub file_more : (s : Start) (old mid new : List Moment) (who : ℕ) (at : ShardId) (es : List CodeEntry) (k : ℕ) (e : CodeEntry) → k < length es → e ≡ get_or es k e
     → ReadsOnly s old mid who (IsPartOfAny at (take k es)) → ReadsOnly s mid new who (IsPartOf at e) → ReadsOnly s old new who (IsPartOfAny at (take (k + 1) es))
@@ -136,5 +123,6 @@ not_snap at uuid e k =
 not_any : (at : ShardId) (uuid : ℕ) (es : List CodeEntry) (name : BlobName) → IsPartOfAny at es name → name ≡ ShardSnap at.index.number at.number uuid → ⊥
 not_any at uuid es name (r, has, (i, part)) same = not_snap at uuid r i (part ∙ same)
 
-pub files_unread : (s : Start) (old now : List Moment) (who : ℕ) (at : ShardId) (uuid : ℕ) (es : List CodeEntry) → ((name : BlobName) → IsFresh s old who (ReadStep (ReadBlob name))) → ReadsOnly s old now who (λ n. n ≡ ShardSnap at.index.number at.number uuid) → AreUnread s now who (IsPartOfAny at es)
+pub files_unread : (s : Start) (old now : List Moment) (who : ℕ) (at : ShardId) (uuid : ℕ) (es : List CodeEntry) → ((name : BlobName) → IsFresh s old who (ReadStep (ReadBlob name)))
+    → ReadsOnly s old now who (λ n. n ≡ ShardSnap at.index.number at.number uuid) → AreUnread s now who (IsPartOfAny at es)
 files_unread s old now who at uuid es unread reads name part = still_unread s old now who name (λ n. n ≡ ShardSnap at.index.number at.number uuid) (unread name) reads (not_any at uuid es name part)

@@ -1,9 +1,9 @@
 -- The parts of a file that are read one after another.
-use Rattle.std.proofs.Common.{◌≡◌, inr, ℕ, suc, ◌+◌, ◌-◌, ◌*◌, ◌<◌, ◌≤◌, min, Bool, true, false, ◌&&◌, List, [], ◌∷◌, ◌++◌, length, take, Option, Some, None, IsSomeAnd, option_map, refl, sym, ap, ◌∙◌, subst, arith, append-nil, append_assoc, length-append, if◌then◌else◌}
-use Rattle.std.proofs.lemmas.List.{take_all, length-take, take-append-le}
-use Rattle.std.proofs.lemmas.List.Folds.{concat-append}
+use Rattle.std.proofs.Common.{◌≡◌, inr, ℕ, ◌+◌, ◌-◌, ◌*◌, ◌<◌, ◌≤◌, min, Bool, true, false, ◌&&◌, List, [], ◌∷◌, ◌++◌, length, take, Option, Some, None, IsSomeAnd, option_map, refl, sym, ap, ◌∙◌, subst, arith, append-nil, append_assoc, length-append}
+use Rattle.std.proofs.lemmas.List.{take_all, length-take}
 use Rattle.std.specs.List.{concat}
 use Rattle.std.specs.Io.KnownBytes.{append_known, Consumes}
+use Rattle.std.proofs.lemmas.Bool.{and_parts}
 use Rattle.esr_names.specs.declared.blob.ShardId.{ShardId}
 use Rattle.esr_model.specs.Names.{BlobName}
 use Rattle.esr_model.specs.Values.{Bytes, Has}
@@ -12,68 +12,25 @@ use Rattle.esr_model.specs.Image.{AllPairs}
 use Rattle.esr_core.specs.World.{Reader}
 use Rattle.esr_core.specs.Restores.{WasRead, IsPiece}
 use Rattle.esr_hash.specs.declared.hasher.Hasher.{Hasher}
-use Rattle.esr_hash.specs.Fed.{fed_count, HasFed}
-use Rattle.esr_parts.specs.Back.{HasExtent, ReadBack}
+use Rattle.esr_hash.specs.Fed.{HasFed}
+use Rattle.esr_parts.specs.Back.{ReadBack}
 use Rattle.esr_parts.specs.declared.back.Extent.{Extent}
-use Rattle.esr_parts.specs.declared.back.Extent.TheVariants.{Whole, Short, Long}
 use Rattle.esr_source.specs.Begun.{Begun, more}
 use Rattle.esr_shardidx.specs.declared.entry.FileEntry.{FileEntry as CodeEntry}
 use Rattle.esr_shardidx.specs.Parts.{part_count as code_count}
 use Rattle.esr_formats.specs.Shards.{entry_of}
 use Rattle.esr_desk.specs.Start.{Start}
 use Rattle.esr_desk.specs.Restore.Conditions.{CanRead}
-use Rattle.esr_desk.specs.Restore.Parts.{IsFront, front_of}
+use Rattle.esr_desk.specs.Restore.Parts.{IsFront}
 use Rattle.esr_restore.specs.Worked.{Worked}
 use Rattle.esr_restore.specs.Snapped.{IsAt, IsListed}
 use Rattle.esr_restore.specs.Parts.{Came, ReadPart, ReadParts}
-use Rattle.esr_restore.proofs.Pairs.{pairs_push, pairs_pop, pairs_map}
+use Rattle.esr_restore.specs.Pairs.{pairs_push, pairs_pop, pairs_map}
+use Rattle.esr_restore.specs.PartReads.{is_whole, front_read, told_some, extent_bound, extent_whole, extent_other, IsExact, concat_push, one_false}
 use Rattle.esr_restore.proofs.Reading.{told_read}
-use Rattle.esr_restore.proofs.Sizes.{blob_name, size_of, sizes, sizes_next, sizes_all, same_count, part_listed, part_piece}
+use Rattle.esr_restore.specs.PartSizes.{blob_name, size_of, sizes, sizes_next, sizes_all, same_count, part_listed, part_piece}
 
 -- ---- one part
-
--- the whole size
-abbrev pub is_whole : Extent → Bool
-is_whole Whole = true
-is_whole Short = false
-is_whole Long = false
-
-front_is : (extent : Extent) (size : ℕ) (piece rest : Bytes) → HasExtent extent size piece (Some rest) → piece ≡ take (suc size) (piece ++ rest)
-front_is Whole size piece rest has =
-    let fits : length piece ≤ suc size = omega (arith, has.0) in
-    sym (ap (λ (l : Bytes). take (suc size) (piece ++ l)) has.1 ∙ ap (λ (l : Bytes). take (suc size) l) (append-nil piece) ∙ take_all (suc size) piece fits)
-front_is Short size piece rest has =
-    let fits : length piece ≤ suc size = omega (arith, has.0) in
-    sym (ap (λ (l : Bytes). take (suc size) (piece ++ l)) has.1 ∙ ap (λ (l : Bytes). take (suc size) l) (append-nil piece) ∙ take_all (suc size) piece fits)
-front_is Long size piece rest has =
-    let len : length piece ≡ size + 1 = has in
-    let within : suc size ≤ length piece = omega (arith, len) in
-    let fits : length piece ≤ suc size = omega (arith, len) in
-    sym (take-append-le (suc size) piece rest within ∙ take_all (suc size) piece fits)
-
--- this is what a fetch of these bytes gives
-pub front_read : (left : Option Bytes) (extent : Extent) (size : ℕ) (bytes piece : Bytes) → Consumes (Some bytes) left piece → HasExtent extent size piece left → piece ≡ front_of size bytes
-front_read None extent size bytes piece took has = absurd took
-front_read (Some rest) extent size bytes piece took has = front_is extent size piece rest has ∙ ap (λ (l : Bytes). take (suc size) l) (sym took)
-
-pub told_some : (tells : Bool) (bytes : Bytes) → tells ≡ true → (if tells then Some bytes else None) ≡ Some bytes
-told_some true bytes yes_is = refl
-told_some false bytes yes_is = absurd cc
-
-pub extent_bound : (extent : Extent) (size : ℕ) (piece : Bytes) (left : Option Bytes) → HasExtent extent size piece left → length piece ≤ suc size
-extent_bound Whole size piece left has = omega (arith, has.0)
-extent_bound Short size piece left has = omega (arith, has.0)
-extent_bound Long size piece left has = let len : length piece ≡ size + 1 = has in omega (arith, len)
-
-pub extent_whole : (extent : Extent) (size : ℕ) (piece : Bytes) (left : Option Bytes) → HasExtent extent size piece left → is_whole extent ≡ true → length piece ≡ size
-extent_whole Whole size piece left has whole = has.0
-extent_whole Short size piece left has whole = absurd cc
-extent_whole Long size piece left has whole = absurd cc
-
-pub extent_other : (extent : Extent) (size : ℕ) (piece : Bytes) (left : Option Bytes) → HasExtent extent size piece left → is_whole extent ≡ false → length piece ≡ size → ⊥
-extent_other Whole size piece left has other = absurd cc
-extent_other Short size piece left has other = λ same. omega (arith, has.0, same)
-extent_other Long size piece left has other = λ same. let len : length piece ≡ size + 1 = has in omega (arith, len, same)
 
 pub part_read : (s : Start) (old new : Reader) (name : BlobName) (left left_new : Option Bytes) (sure : Bool) (hasher_old hasher_new : Hasher) (begun_old begun_new : Option Begun) (size : ℕ) (extent : Extent)
     → Came s old new name left sure → ReadBack left left_new hasher_old hasher_new begun_old begun_new size extent → ReadPart s new hasher_old hasher_new begun_old begun_new name size (is_whole extent)
@@ -93,7 +50,8 @@ part_read s old new name left left_new sure hasher_old hasher_new begun_old begu
 
 -- ---- which parts may be read
 
-pub can_read_part : (s : Start) (q : Reader) (at : ShardId) (uuid : ℕ) (e : CodeEntry) (k : ℕ) → IsAt q at.index.number at.number uuid → IsListed s q e → 1 ≤ e.part_size → k < code_count e.print.len e.part_size → CanRead s q (blob_name at e k)
+pub can_read_part : (s : Start) (q : Reader) (at : ShardId) (uuid : ℕ) (e : CodeEntry) (k : ℕ) → IsAt q at.index.number at.number uuid → IsListed s q e → 1 ≤ e.part_size → k < code_count e.print.len e.part_size
+    → CanRead s q (blob_name at e k)
 can_read_part s q at uuid e k is listed some less =
     let within : k < part_count e.print.len e.part_size = rw (sym (same_count e.print.len e.part_size some)) less in
     record {
@@ -141,14 +99,12 @@ more_twice x y (Some b) = ap (λ (c : Begun). Some c) (more_both b)
         let made : Option Bytes → ℕ → Begun = λ bytes room. record { name = b.name; bytes = bytes; room = room } in
         ap (λ (o : Option Bytes). made o (b.room - length x - length y)) (both_known b.bytes) ∙ ap (λ (n : ℕ). made (append_known b.bytes (x ++ y)) n) room
 
-room_next : (begun : Option Begun) (x : Bytes) (len before size after : ℕ) → IsSomeAnd begun (λ b. len ≤ b.room + before) → length x ≤ size → before + size ≡ after → after ≤ len → IsSomeAnd (option_map (more x) begun) (λ b. len ≤ b.room + after)
+room_next : (begun : Option Begun) (x : Bytes) (len before size after : ℕ) → IsSomeAnd begun (λ b. len ≤ b.room + before) → length x ≤ size → before + size ≡ after → after ≤ len
+    → IsSomeAnd (option_map (more x) begun) (λ b. len ≤ b.room + after)
 room_next None x len before size after room fits sum within = room
 room_next (Some b) x len before size after room fits sum within = omega (arith, room, fits, sum, within)
 
 -- ---- one part after another
-
-abbrev pub IsExact : BlobName × ℕ → Bytes → Type 0
-IsExact part front = length front ≡ part.1
 
 -- the first k parts were read
 pub record SoFar (s : Start) (q : Reader) (hasher : Hasher) (begun_old begun_new : Option Begun) (at : ShardId) (e : CodeEntry) (k : ℕ) (exact : Bool) : Type 0 where
@@ -178,21 +134,8 @@ so_far_none s q hasher begun at e fed room = record {
   room = some_room begun e.print.len (0 * e.part_size) room;
 }
 
-pub concat_push : (xs : List Bytes) (x : Bytes) → concat (xs ++ x ∷ []) ≡ concat xs ++ x
-concat_push xs x = concat-append xs (x ∷ []) ∙ ap (λ (l : Bytes). concat xs ++ l) (append-nil x)
-
 front_more : (a b : Reader) → Worked a b → (part : BlobName × ℕ) (front : Bytes) → IsFront (WasRead a.read) part front → IsFront (WasRead b.read) part front
 front_more a b worked part front h = (h.0, worked.more (part.0, h.0) h.1, h.2)
-
-pub both_true : (a b : Bool) → a && b ≡ true → (a ≡ true) × (b ≡ true)
-both_true true true h = (refl, refl)
-both_true true false h = absurd cc
-both_true false b h = absurd cc
-
-pub one_false : (a b : Bool) → a && b ≡ false → (a ≡ true → b ≡ true → ⊥)
-one_false true true h = absurd cc
-one_false true false h = λ x y. absurd cc
-one_false false b h = λ x y. absurd cc
 
 module _ (s : Start) (a b : Reader) (hasher_old hasher_new : Hasher) (begun_old begun_mid begun_new : Option Begun) (at : ShardId) (e : CodeEntry) (k size : ℕ) (exact whole : Bool)
     (worked : Worked a b) (so : SoFar s a hasher_old begun_old begun_mid at e k exact) (part : ReadPart s b hasher_old hasher_new begun_mid begun_new (blob_name at e k) size whole) (is : size ≡ size_of e.print.len e.part_size k) where
@@ -243,8 +186,8 @@ module _ (s : Start) (a b : Reader) (hasher_old hasher_new : Hasher) (begun_old 
         read = read_next;
         fed = subst (HasFed hasher_new) (sym (concat_push so.fronts part.front)) (part.fed.joined (concat so.fronts) so.fed);
         count = omega (arith, join, sum, so.count, part.bound);
-        whole = λ flag. let both = both_true exact whole flag in whole_next both.0 both.1;
-        grew = λ flag. let both = both_true exact whole flag in grew_next both.0 both.1;
+        whole = λ flag. let both = and_parts exact whole flag in whole_next both.0 both.1;
+        grew = λ flag. let both = and_parts exact whole flag in grew_next both.0 both.1;
         other = λ flag. other_next (one_false exact whole flag);
         room = subst (λ (o : Option Begun). IsSomeAnd o (λ x. e.print.len ≤ x.room + min ((k + 1) * e.part_size) e.print.len)) (sym part.grew)
             (room_next begun_mid (take size part.front) e.print.len (min (k * e.part_size) e.print.len) size (min ((k + 1) * e.part_size) e.print.len) so.room fits sum most);
@@ -252,14 +195,6 @@ module _ (s : Start) (a b : Reader) (hasher_old hasher_new : Hasher) (begun_old 
 
   pub so_far_flag : (flag : Bool) → flag ≡ exact && whole → SoFar s b hasher_new begun_old begun_new at e (k + 1) flag
   so_far_flag flag same = subst (λ (x : Bool). SoFar s b hasher_new begun_old begun_new at e (k + 1) x) (sym same) so_far_next
-
-pub and_then : (flag a b : Bool) → a ≡ true → flag ≡ b → flag ≡ a && b
-and_then flag true b yes_is is = is
-and_then flag false b yes_is is = absurd cc
-
-pub and_else : (flag a b : Bool) → a ≡ false → flag ≡ a → flag ≡ a && b
-and_else flag true b no_is is = absurd cc
-and_else flag false b no_is is = is
 
 -- all of them
 pub so_far_all : (s : Start) (q : Reader) (hasher : Hasher) (begun_old begun_new : Option Begun) (at : ShardId) (e : CodeEntry) (n : ℕ) (exact : Bool) → 1 ≤ e.part_size → n ≡ code_count e.print.len e.part_size
@@ -279,6 +214,3 @@ so_far_all s q hasher begun_old begun_new at e n exact some all so =
 pub room_for : (begun : Option Begun) (len place size here : ℕ) → IsSomeAnd begun (λ b. len ≤ b.room + min place len) → here ≡ min size (len - place) → IsSomeAnd begun (λ b. here ≤ b.room)
 room_for None len place size here room is = room
 room_for (Some b) len place size here room is = omega (arith, room, is)
-
-pub fed_most : (hasher : Hasher) (fronts : List Bytes) (place len k : ℕ) → HasFed hasher (concat fronts) → length (concat fronts) ≤ min place len + k → fed_count hasher ≤ min place len + k
-fed_most hasher fronts place len k fed count = omega (arith, fed.0, count)

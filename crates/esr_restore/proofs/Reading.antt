@@ -82,7 +82,8 @@ pub was_absent : {F : Type 0} (o : Option F) (s : Start) (old new : List Moment)
 was_absent None s old new who name is h = stepped_had s old new who (ReadStep (ReadBlob name)) WasAbsent h
 was_absent (Some f) s old new who name is h = absurd cc
 
-pub was_fetched : {F : Type 0} (o : Option F) (f : F) (s : Start) (old new : List Moment) (who : ℕ) (name : BlobName) → o ≡ Some f → Stepped s old new who (ReadStep (ReadBlob name)) (fetch_reply o) → HadFetch hands.Restore new who name WasFetched
+pub was_fetched : {F : Type 0} (o : Option F) (f : F) (s : Start) (old new : List Moment) (who : ℕ) (name : BlobName) → o ≡ Some f → Stepped s old new who (ReadStep (ReadBlob name)) (fetch_reply o)
+    → HadFetch hands.Restore new who name WasFetched
 was_fetched None f s old new who name is h = absurd cc
 was_fetched (Some g) f s old new who name is h = stepped_had s old new who (ReadStep (ReadBlob name)) WasFetched h
 

@@ -1,14 +1,12 @@
 -- A file as it was read: whether it is as the snapshot states.
-use Rattle.std.proofs.Common.{◌≡◌, ◌⊎◌, inl, inr, ℕ, suc, ◌-◌, ◌≤◌, min, Bool, true, false, List, [], ◌∷◌, ◌++◌, length, Option, Some, None, option_map, refl, sym, ap, ◌∙◌, subst, arith}
-use Rattle.std.proofs.lemmas.List.{take_all, length-take}
+use Rattle.std.proofs.Common.{◌≡◌, ◌⊎◌, inl, inr, ℕ, Bool, true, false, List, [], ◌∷◌, ◌++◌, Option, Some, None, option_map, refl, sym, ap, ◌∙◌, subst}
 use Rattle.std.specs.List.{concat}
 use Rattle.esr_names.specs.declared.ids.Id.{Id}
 use Rattle.esr_names.specs.declared.blob.ShardId.{ShardId}
-use Rattle.esr_model.specs.Names.{BlobName, File, ShardSnap}
+use Rattle.esr_model.specs.Names.{File, ShardSnap}
 use Rattle.esr_model.specs.Values.{Bytes}
-use Rattle.esr_model.specs.Parts.{part_names, AreFull}
-use Rattle.esr_model.specs.Image as image
-use Rattle.esr_model.specs.Image.{AllPairs, FileStands}
+use Rattle.esr_model.specs.Parts.{part_names}
+use Rattle.esr_model.specs.Image.{FileStands}
 use Rattle.esr_core.specs.World.{Reader}
 use Rattle.esr_core.specs.Restores.{WasRead}
 use Rattle.esr_core.specs.Entry.{Moment}
@@ -23,7 +21,7 @@ use Rattle.esr_formats.specs.Shards.{entry_of}
 use Rattle.esr_desk.specs.declared.entry.Why.{Why}
 use Rattle.esr_desk.specs.Start.{Start, formats_of}
 use Rattle.esr_desk.specs.Own.{reader_of}
-use Rattle.esr_desk.specs.Restore.Parts.{sized, IsFront, front_of, AreFronts, AreExact}
+use Rattle.esr_desk.specs.Restore.Parts.{AreFronts, AreExact}
 use Rattle.esr_desk.specs.Restore.Shown.{HasReadFile, IsMisprinted, IsMiscut, IsRestoreShown}
 use Rattle.esr_restore.specs.Snapped.{IsAt, IsListed}
 use Rattle.esr_restore.specs.Parts.{ReadParts}
@@ -32,44 +30,10 @@ use Rattle.esr_desk.specs.declared.fault.By.TheVariants as shows
 use Rattle.esr_desk.specs.Entries.{why_of}
 use Rattle.esr_desk.specs.Evidence.{Evidence}
 use Rattle.esr_restore.specs.Trouble.{IsOther, IsCutOtherwise, Judged}
-use Rattle.esr_restore.proofs.Parts.{IsExact}
+use Rattle.esr_restore.specs.PartReads.{there_sized, full_sized, same_concat}
 use Rattle.esr_restore.proofs.Reading.{snap_is}
 
 -- ---- parts that have their sizes
-
--- such a front is the whole blob
-whole_blob : (size : ℕ) (bytes front : Bytes) → front ≡ front_of size bytes → length front ≡ size → bytes ≡ front
-whole_blob size bytes front is len =
-    let cut : length front ≡ min (suc size) (length bytes) = ap (λ (l : Bytes). length l) is ∙ length-take (suc size) bytes in
-    let fits : length bytes ≤ suc size = omega (arith, cut, len) in
-    sym (is ∙ take_all (suc size) bytes fits)
-
-module _ (has : BlobName → Bytes → Type 0) where
-  has_front : (part : BlobName × ℕ) (front : Bytes) → IsFront has part front → IsExact part front → has part.0 front
-  has_front part front h exact = subst (λ (b : Bytes). has part.0 b) (whole_blob part.1 h.0 front h.2 exact) h.1
-
-  pub there_sized : (len size : ℕ) (parts : List BlobName) (fronts : List Bytes) → AllPairs (IsFront has) (sized len size parts) fronts → AllPairs IsExact (sized len size parts) fronts → AllPairs has parts fronts
-  there_sized len size [] [] h k = tt
-  there_sized len size [] (y ∷ ys) h k = absurd h
-  there_sized len size (p ∷ []) [] h k = absurd h
-  there_sized len size (p ∷ []) (y ∷ []) h k = (has_front (p, len) y h.0 k.0, tt)
-  there_sized len size (p ∷ []) (y ∷ z ∷ ys) h k = absurd h.1
-  there_sized len size (p ∷ n ∷ ps) [] h k = absurd h
-  there_sized len size (p ∷ n ∷ ps) (y ∷ ys) h k = (has_front (p, size) y h.0 k.0, there_sized (len - size) size (n ∷ ps) ys h.1 k.1)
-
-pub full_sized : (len size : ℕ) (parts : List BlobName) (fronts : List Bytes) → AllPairs IsExact (sized len size parts) fronts → AreFull size fronts
-full_sized len size [] [] k = tt
-full_sized len size [] (y ∷ ys) k = absurd k
-full_sized len size (p ∷ []) [] k = absurd k
-full_sized len size (p ∷ []) (y ∷ []) k = tt
-full_sized len size (p ∷ []) (y ∷ z ∷ ys) k = absurd k.1
-full_sized len size (p ∷ n ∷ ps) [] k = absurd k
-full_sized len size (p ∷ n ∷ ps) (y ∷ []) k = tt
-full_sized len size (p ∷ n ∷ ps) (y ∷ z ∷ ys) k = (k.0, full_sized (len - size) size (n ∷ ps) (z ∷ ys) k.1)
-
-pub same_concat : (xs : List Bytes) → image.concat xs ≡ concat xs
-same_concat [] = refl
-same_concat (x ∷ xs) = ap (λ (l : Bytes). x ++ l) (same_concat xs)
 
 -- the file stands as it was read
 stands : (s : Start) (q : Reader) (at : ShardId) (e : CodeEntry) (fronts : List Bytes) → AreFronts (WasRead q.read) at.index.number at.number (entry_of e) fronts → AreExact at.index.number at.number (entry_of e) fronts

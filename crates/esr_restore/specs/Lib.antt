@@ -8,3 +8,7 @@ pub mod Restored
 pub mod Refused
 pub mod Unread
 pub mod Left
+pub mod Pairs
+pub mod PartReads
+pub mod PartSizes
+pub mod PartsApart

@@ -31,7 +31,8 @@ reused-is (e ∷ es) physical p =
     ]
 
 -- one more file and its plan
-pub plan_more : (base : List FileEntry) (files : List ReadFile) (plans : List Planned) (f : ReadFile) (p : Planned) → IsPlan base files plans → p.physical ≡ f.physical → p.print ≡ f.print → option_map entry_of p.reused ≡ reused base f.physical f.print.len f.print.sha256
+pub plan_more : (base : List FileEntry) (files : List ReadFile) (plans : List Planned) (f : ReadFile) (p : Planned) → IsPlan base files plans → p.physical ≡ f.physical → p.print ≡ f.print
+    → option_map entry_of p.reused ≡ reused base f.physical f.print.len f.print.sha256
     → IsPlan base (files ++ f ∷ []) (plans ++ p ∷ [])
 plan_more base files plans f p was name print reuses =
     let own : Reuses base p = reuses ∙ sym (ap (λ (n : Bytes). reused base n f.print.len f.print.sha256) name) ∙ sym (ap (λ (q : Print). reused base p.physical q.len q.sha256) print) in

@@ -9,7 +9,7 @@ use Rattle.std.specs.Cmp.Lexicographic.{slice_cmp}
 use Rattle.std.specs.declared.cmp.Ordering.{Ordering}
 use Rattle.std.specs.declared.cmp.Ordering.TheVariants.{Less, Equal, Greater}
 use Rattle.std.proofs.lemmas.Cmp.{nat_list_cmp_total}
-use Rattle.std.proofs.lemmas.Bool.{cases_Bool, eqb-true, true≢false}
+use Rattle.std.proofs.lemmas.Bool.{cases_Bool, eqb-true, true≢false, or_parts, and_parts}
 use Rattle.std.proofs.lemmas.Slice.Eq.{bytes_eq-Decides}
 use Rattle.std.proofs.lemmas.List.Folds.{list_any-append}
 use Rattle.esr_names.specs.declared.ids.Id.{Id}
@@ -22,10 +22,10 @@ use Rattle.esr_root.specs.Root.{Root, IsRoot}
 use Rattle.esr_root.specs.Changes.{grown, first, with_index, with_each, Fits, MayAdd, add_of, generation_among, generation_at}
 use Rattle.esr_root.specs.declared.snaps.RootSnap.{RootSnap}
 use Rattle.esr_root.specs.declared.indices.RootIndex.{RootIndex}
-use Rattle.esr_root.proofs.Names.{same_name, other_below, other_above, flipped}
-use Rattle.esr_root.proofs.Ids.{same_id-flip, same_id-is, same_id-refl}
-use Rattle.esr_root.proofs.Lists.{or_false, and_true, all_push, all_weaken, all_both, distinct_push}
-use Rattle.esr_root.proofs.Roots.{AreGenerations-padded}
+use Rattle.esr_root.specs.NameOrder.{same_name, other_below, other_above, flipped}
+use Rattle.esr_root.specs.IdLaws.{same_id-flip, same_id-is, same_id-refl}
+use Rattle.esr_root.specs.Lists.{all_push, all_weaken, all_both, distinct_push}
+use Rattle.esr_root.specs.RootLists.{AreGenerations-padded}
 
 -- a name below the first of some that rise is below them all
 below_all : (name : List ℕ) (i : RootIndex) (is : List RootIndex) → slice_cmp nat_cmp name i.name ≡ Less → AllByRecursion (λ j. by_name i j ≡ Less) is
@@ -169,14 +169,14 @@ AreIndices-with_each uuid (x ∷ xs) is small good few names ids h takes =
 pub fresh_of : (ss : List RootSnap) (s : RootSnap) → list_any (λ old. clashes old s) ss ≡ false → lists ss s.uuid ≡ false
 fresh_of [] s h = refl
 fresh_of (t ∷ ss) s h =
-    let parts = or_false (clashes t s) (list_any (λ old. clashes old s) ss) h in
-    let own = or_false (bytes_eq t.name s.name) (same_id t.uuid s.uuid) parts.0 in
+    let parts = or_parts (clashes t s) (list_any (λ old. clashes old s) ss) h in
+    let own = or_parts (bytes_eq t.name s.name) (same_id t.uuid s.uuid) parts.0 in
     rw own.1 (fresh_of ss s parts.1)
 
 not_in : (ss : List RootSnap) (u : Id) (us : List Id) → lists ss u ≡ false → list_all (lists ss) us ≡ true → has_id u us ≡ false
 not_in ss u [] none all = refl
 not_in ss u (v ∷ us) none all =
-    let parts = and_true (lists ss v) (list_all (lists ss) us) all in
+    let parts = and_parts (lists ss v) (list_all (lists ss) us) all in
     rw (differs v parts.0) (not_in ss u us none parts.1)
   where
     differs : (v : Id) → lists ss v ≡ true → same_id v u ≡ false
@@ -203,13 +203,13 @@ lists_last (t ∷ ss) s = rw (lists_last ss s) (or_true (same_id t.uuid s.uuid))
 all_more : (ss : List RootSnap) (s : RootSnap) (us : List Id) → list_all (lists ss) us ≡ true → list_all (lists (ss ++ s ∷ [])) us ≡ true
 all_more ss s [] h = refl
 all_more ss s (u ∷ us) h =
-    let parts = and_true (lists ss u) (list_all (lists ss) us) h in
+    let parts = and_parts (lists ss u) (list_all (lists ss) us) h in
     rw (lists_more ss s u parts.0) (all_more ss s us parts.1)
 
 all_push_listed : (p : Id → Bool) (us : List Id) (u : Id) → list_all p us ≡ true → p u ≡ true → list_all p (us ++ u ∷ []) ≡ true
 all_push_listed p [] u h one = rw one refl
 all_push_listed p (v ∷ us) u h one =
-    let parts = and_true (p v) (list_all p us) h in
+    let parts = and_parts (p v) (list_all p us) h in
     rw parts.0 (all_push_listed p us u parts.1 one)
 
 listed_each : (ss : List RootSnap) (uuid : Id) (xs : List IndexRef) (is : List RootIndex) → lists ss uuid ≡ true → AllByRecursion (IsListed ss) is → AllByRecursion (IsListed ss) (with_each uuid xs is)

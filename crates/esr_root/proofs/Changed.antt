@@ -13,8 +13,8 @@ use Rattle.esr_root.specs.Root.{Root, IsRoot}
 use Rattle.esr_root.specs.Changes.{set_generation_in, set_generation_of, generation_among, generation_at}
 use Rattle.esr_root.specs.declared.indices.RootIndex.{RootIndex}
 use Rattle.esr_root.proofs.Added.{generation_in-padded}
-use Rattle.esr_root.proofs.Lists.{all_map, all_weaken}
-use Rattle.esr_root.proofs.Roots.{AreGenerations-padded}
+use Rattle.esr_root.specs.Lists.{all_map, all_weaken}
+use Rattle.esr_root.specs.RootLists.{AreGenerations-padded}
 
 -- ---- the list of generations
 

@@ -1,11 +1,4 @@
 pub mod Added
 pub mod Changed
-pub mod Ids
-pub mod Lists
-pub mod Names
-pub mod Ordered
-pub mod Plain
-pub mod ReadRoots
 pub mod Removed
-pub mod Roots
-pub mod RoundTrip
+pub mod Ordered

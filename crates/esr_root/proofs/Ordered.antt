@@ -2,7 +2,7 @@
 use Rattle.std.proofs.Common.{◌≡◌, Bool, true, false, ◌||◌, List, [], ◌∷◌, ◌++◌, ℕ, Option, map, refl, sym, ap, ◌∙◌, subst, inl, inr}
 use Rattle.std.specs.Prelude.{filter}
 use Rattle.std.specs.List.{AllByRecursion}
-use Rattle.std.proofs.lemmas.Bool.{cases_Bool, true≢false}
+use Rattle.std.proofs.lemmas.Bool.{cases_Bool, true≢false, or_parts}
 use Rattle.std.proofs.lemmas.List.{append-nil, map-append}
 use Rattle.std.proofs.lemmas.List.Elements.{filter-append}
 use Rattle.std.proofs.lemmas.List.Folds.{list_any-append}
@@ -15,8 +15,8 @@ use Rattle.esr_root.specs.Root.{Root, IsRoot, uuids_of, IsInRootOrder}
 use Rattle.esr_root.specs.Changes.{grown, first, with_each, MayAdd, thinned, has_some, without_of, set_generation_in}
 use Rattle.esr_root.specs.declared.snaps.RootSnap.{RootSnap}
 use Rattle.esr_root.specs.declared.indices.RootIndex.{RootIndex}
-use Rattle.esr_root.proofs.Ids.{same_id-flip, same_id-is, same_id-refl}
-use Rattle.esr_root.proofs.Lists.{or_false, all_filter, all_map, all_weaken, all_both}
+use Rattle.esr_root.specs.IdLaws.{same_id-flip, same_id-is, same_id-refl}
+use Rattle.esr_root.specs.Lists.{all_filter, all_map, all_weaken, all_both}
 use Rattle.esr_root.proofs.Added.{with_each_all, fresh_of, takes_added, not_in_any}
 use Rattle.esr_root.proofs.Removed.{stays}
 
@@ -59,7 +59,7 @@ order_same ss s i h fresh =
 -- none that was listed is the new one
 differ : (ss : List RootSnap) (u : Id) → lists ss u ≡ false → AllByRecursion (λ v. same_id v u ≡ false) (uuids_of ss)
 differ [] u h = tt
-differ (s ∷ ss) u h = let parts = or_false (same_id s.uuid u) (lists ss u) h in (parts.0, differ ss u parts.1)
+differ (s ∷ ss) u h = let parts = or_parts (same_id s.uuid u) (lists ss u) h in (parts.0, differ ss u parts.1)
 
 has_push : (u v : Id) (us : List Id) → same_id v u ≡ false → has_id v (us ++ u ∷ []) ≡ has_id v us
 has_push u v [] other = let flipped : same_id u v ≡ false = same_id-flip u v ∙ other in rw flipped refl

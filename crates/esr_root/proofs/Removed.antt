@@ -4,7 +4,7 @@ use Rattle.std.specs.Prelude.{filter}
 use Rattle.std.specs.List.{list_any, list_all, AllByRecursion, IsDistinct}
 use Rattle.std.specs.List.Sorted.{IsStrictlySortedBy}
 use Rattle.std.specs.Str.{bytes_eq}
-use Rattle.std.proofs.lemmas.Bool.{cases_Bool, true≢false}
+use Rattle.std.proofs.lemmas.Bool.{cases_Bool, true≢false, not-true, and_parts}
 use Rattle.std.specs.declared.cmp.Ordering.TheVariants.{Less}
 use Rattle.std.proofs.lemmas.Slice.Eq.{bytes_eq-Decides}
 use Rattle.std.proofs.lemmas.Map.Views.{any-filter_same}
@@ -16,9 +16,9 @@ use Rattle.esr_root.specs.Root.{Root, IsRoot}
 use Rattle.esr_root.specs.Changes.{thinned, has_some, without_of, generation_among, generation_at}
 use Rattle.esr_root.specs.declared.snaps.RootSnap.{RootSnap}
 use Rattle.esr_root.specs.declared.indices.RootIndex.{RootIndex}
-use Rattle.esr_root.proofs.Ids.{same_id-is}
-use Rattle.esr_root.proofs.Names.{other_above, flipped}
-use Rattle.esr_root.proofs.Lists.{any_from_none, all_filter, all_map, all_weaken, distinct_filter, sorted_filter, and_true}
+use Rattle.esr_root.specs.IdLaws.{same_id-is}
+use Rattle.esr_root.specs.NameOrder.{other_above, flipped}
+use Rattle.esr_root.specs.Lists.{any_from_none, all_filter, all_map, all_weaken, distinct_filter, sorted_filter}
 
 -- a snapshot that is not taken out
 abbrev pub stays : List Id → Id → Bool
@@ -33,17 +33,13 @@ AreSnaps-filter p ss h = record { each = all_filter IsSnap p ss h.each; distinct
 record IsThin (i : RootIndex) : Type 0 where
   whole : has_some i ≡ true → IsIndex i
 
-not_true : (b : Bool) → not b ≡ true → b ≡ false
-not_true true h = cc
-not_true false h = refl
-
 thin : (uuids : List Id) (i : RootIndex) → IsIndex i → IsThin (thinned uuids i)
 thin uuids i h = record {
   whole = λ some. record {
     name = h.name;
     id = h.id;
     generations = h.generations;
-    snapshots = record { each = all_filter (λ u. u.number < 2 ^ 128) (stays uuids) i.snapshots h.snapshots.each; some = not_true _ some; distinct = distinct_filter same_id (stays uuids) i.snapshots h.snapshots.distinct };
+    snapshots = record { each = all_filter (λ u. u.number < 2 ^ 128) (stays uuids) i.snapshots h.snapshots.each; some = not-true _ some; distinct = distinct_filter same_id (stays uuids) i.snapshots h.snapshots.distinct };
   };
 }
 
@@ -82,7 +78,7 @@ listed_stay : (uuids : List Id) (ss : List RootSnap) (us : List Id) → list_all
     → list_all (lists (filter (λ s. stays uuids s.uuid) ss)) (filter (stays uuids) us) ≡ true
 listed_stay uuids ss [] h = refl
 listed_stay uuids ss (u ∷ us) h =
-    let parts = and_true (lists ss u) (list_all (lists ss) us) h in
+    let parts = and_parts (lists ss u) (list_all (lists ss) us) h in
     elim (cases_Bool (stays uuids u)) [
       | inl stay ↦ rw (stay, lists_stays uuids ss u parts.0 stay) (listed_stay uuids ss us parts.1)
       | inr gone ↦ rw gone (listed_stay uuids ss us parts.1)

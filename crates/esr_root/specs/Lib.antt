@@ -6,3 +6,10 @@ pub mod Root
 pub mod Reading
 pub mod Text
 pub mod Changes
+pub mod Lists
+pub mod IdLaws
+pub mod NameOrder
+pub mod RootLists
+pub mod ReadRoots
+pub mod RoundTrip
+pub mod RootTexts

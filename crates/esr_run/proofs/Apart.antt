@@ -15,12 +15,13 @@ use Rattle.esr_verify.specs.Began.{IsFurther, AllFurther, HasBegun}
 use Rattle.esr_check.specs.Began as checking
 use Rattle.esr_check.specs.Began.{IsOfCheck, AllOfCheck, IsCheckEnd, HasEndedCheck}
 use Rattle.esr_complete.specs.Lines.{steps_of_item}
+use Rattle.esr_complete.specs.ItemSteps.{few_steps}
 use Rattle.esr_run.specs.Made.{MadeFirst, AsksLine, AllAsk, AsksOnly, AddsOnly, WasLookRefused, LinePart, NoneOpen, AsksOrDraws, IsWaiting, AskedWhere}
 use Rattle.esr_run.proofs.Parts.{cancel}
 
 -- ---- where a moment stands in two lists
 
-split_both : (a b front : List Moment) (m : Moment) (back : List Moment) → a ++ b ≡ front ++ m ∷ back → ((rest : List Moment) × (a ≡ front ++ m ∷ rest)) ⊎ ((q : List Moment) × (front ≡ a ++ q) × (b ≡ q ++ m ∷ back))
+pub split_both : (a b front : List Moment) (m : Moment) (back : List Moment) → a ++ b ≡ front ++ m ∷ back → ((rest : List Moment) × (a ≡ front ++ m ∷ rest)) ⊎ ((q : List Moment) × (front ≡ a ++ q) × (b ≡ q ++ m ∷ back))
 split_both [] b front m back e = inr (front, refl, e)
 split_both (x ∷ a) b [] m back e = let same : x ≡ m = cc in inl (a, ap (λ (y : Moment). y ∷ a) same)
 split_both (x ∷ a) b (y ∷ front) m back e =
@@ -31,7 +32,7 @@ split_both (x ∷ a) b (y ∷ front) m back e =
       | inr second ↦ inr (second.0, ap (λ (l : List Moment). y ∷ l) second.1 ∙ ap (λ (z : Moment). z ∷ (a ++ second.0)) (sym same), second.2)
     ]
 
-no_middle : (front : List Moment) (m : Moment) (back : List Moment) → [] ≡ front ++ m ∷ back → ⊥
+pub no_middle : (front : List Moment) (m : Moment) (back : List Moment) → [] ≡ front ++ m ∷ back → ⊥
 no_middle [] m back e = cc
 no_middle (x ∷ front) m back e = cc
 
@@ -257,18 +258,6 @@ as_many (m ∷ more) all =
     ap (λ (b : Bool). length (if b then as_asked m.entry.step ∷ asked_steps more else asked_steps more)) (line_asked m all.0 all.1)
     ∙ ap suc (as_many more all.2)
 
-few_steps : (moment : ℕ) (item : Item) → length (steps_of_item moment item) ≤ 1
-few_steps moment (items.Snapshot name indices) = let is : 1 ≤ 1 = omega arith in is
-few_steps moment (items.Clone source name indices) = let is : 1 ≤ 1 = omega arith in is
-few_steps moment (items.Delete names) = let is : 1 ≤ 1 = omega arith in is
-few_steps moment (items.Restore name place) = let is : 1 ≤ 1 = omega arith in is
-few_steps moment items.Cleanup = let is : 1 ≤ 1 = omega arith in is
-few_steps moment items.Failover = let is : 0 ≤ 1 = omega arith in is
-few_steps moment items.Wait = let is : 0 ≤ 1 = omega arith in is
-few_steps moment items.List = let is : 1 ≤ 1 = omega arith in is
-few_steps moment items.Check = let is : 1 ≤ 1 = omega arith in is
-few_steps moment items.Verify = let is : 1 ≤ 1 = omega arith in is
-
 ask_untaken : (step : Step) → AsksLine step → step ≡ TakeStep → ⊥
 ask_untaken step (inl ask) take = no_ask ask.0 (sym ask.1 ∙ take)
   where
@@ -307,24 +296,13 @@ module _ (P Q : List Moment → Type 0) (s : Start) (moment : ℕ) where
   line_apart items.Check old new alone rests waits g p = ⊎_elim (λ ended. check_apart P Q old new ended) (λ refused. look_apart P Q old new refused) (p.checks refl)
   line_apart items.Verify old new alone rests waits g p = begun_apart P Q old new rests (p.verifies refl)
   line_apart items.Wait old new alone rests waits g p = waits_apart P Q old new waits p.only
-  line_apart (items.Snapshot name indices) old new alone rests waits g p = asks_apart (items.Snapshot name indices) old new alone rests g p.only
-  line_apart (items.Clone source name indices) old new alone rests waits g p = asks_apart (items.Clone source name indices) old new alone rests g p.only
-  line_apart (items.Delete names) old new alone rests waits g p = asks_apart (items.Delete names) old new alone rests g p.only
-  line_apart (items.Restore name place) old new alone rests waits g p = asks_apart (items.Restore name place) old new alone rests g p.only
-  line_apart items.Cleanup old new alone rests waits g p = asks_apart items.Cleanup old new alone rests g p.only
-  line_apart items.Failover old new alone rests waits g p = asks_apart items.Failover old new alone rests g p.only
-  line_apart items.List old new alone rests waits g p = asks_apart items.List old new alone rests g p.only
+  line_apart item old new alone rests waits g p = asks_apart item old new alone rests g p.only
 
   -- a line that was left
-  pub cut_apart : (item : Item) (old new : List Moment) → s.alone ≡ true → P old → TakesAfter Q old → MadeFirst s (steps_of_item moment item) old new → AddsOnly item old new → (item ≡ items.Check → checking.BeganOne old new) → (item ≡ items.Verify → verifying.BeganOne old new)
+  pub cut_apart : (item : Item) (old new : List Moment) → s.alone ≡ true → P old → TakesAfter Q old → MadeFirst s (steps_of_item moment item) old new → AddsOnly item old new → (item ≡ items.Check → checking.BeganOne old new)
+      → (item ≡ items.Verify → verifying.BeganOne old new)
       → AskedWhere P Q old new
   cut_apart items.Check old new alone rests waits made only checks verifies = check_begun P Q old new (checks refl)
   cut_apart items.Verify old new alone rests waits made only checks verifies = verify_begun P Q old new rests (verifies refl)
   cut_apart items.Wait old new alone rests waits made only checks verifies = waits_apart P Q old new waits only
-  cut_apart (items.Snapshot name indices) old new alone rests waits made only checks verifies = asks_first (items.Snapshot name indices) old new alone rests made only
-  cut_apart (items.Clone source name indices) old new alone rests waits made only checks verifies = asks_first (items.Clone source name indices) old new alone rests made only
-  cut_apart (items.Delete names) old new alone rests waits made only checks verifies = asks_first (items.Delete names) old new alone rests made only
-  cut_apart (items.Restore name place) old new alone rests waits made only checks verifies = asks_first (items.Restore name place) old new alone rests made only
-  cut_apart items.Cleanup old new alone rests waits made only checks verifies = asks_first items.Cleanup old new alone rests made only
-  cut_apart items.Failover old new alone rests waits made only checks verifies = asks_first items.Failover old new alone rests made only
-  cut_apart items.List old new alone rests waits made only checks verifies = asks_first items.List old new alone rests made only
+  cut_apart item old new alone rests waits made only checks verifies = asks_first item old new alone rests made only

@@ -1,8 +1,8 @@
 -- The indices of a line, and those of its command.
-use Rattle.std.proofs.Common.{◌≡◌, ℕ, ◌<◌, Bool, true, false, List, [], ◌∷◌, map, nat_lt, ◌&&◌, if◌then◌else◌, inl, inr, refl, sym, ap, ◌∙◌, arith}
+use Rattle.std.proofs.Common.{◌≡◌, ℕ, ◌<◌, Bool, true, false, List, [], ◌∷◌, map, nat_lt, if◌then◌else◌, inl, inr, refl, sym, ap, ◌∙◌, arith}
 use Rattle.std.specs.List.{AllByRecursion}
 use Rattle.std.proofs.lemmas.Slice.Eq.{bytes_eq-Decides}
-use Rattle.std.proofs.lemmas.Bool.{ltb-true}
+use Rattle.std.proofs.lemmas.Bool.{ltb-true, and_parts}
 use Rattle.esr_model.specs.Values.{Bytes, Has}
 use Rattle.esr_core.specs.Entry.{AskedIndex}
 use Rattle.esr_core.specs.Allowed.{AreDistinct}
@@ -11,10 +11,6 @@ use Rattle.esr_ops.specs.Asked.{HasShards, IsAskable}
 use Rattle.esr_script.specs.declared.item.AskedIndex.{AskedIndex as LineIndex}
 use Rattle.esr_run.specs.Script.{has_shards, have_shards, is_named, has_name, have_own_names, is_askable, is_same_name, names_one, have_names_once}
 use Rattle.esr_complete.specs.Lines.{index_of_line, command_of_line}
-
-both : (a b : Bool) → (a && b) ≡ true → (a ≡ true) × (b ≡ true)
-both true b e = (refl, e)
-both false b e = absurd cc
 
 when : (a b : Bool) → (if a then b else false) ≡ true → (a ≡ true) × (b ≡ true)
 when true b e = (refl, e)
@@ -34,7 +30,7 @@ below a b e = ltb-true a b e
 shards_of : (a : LineIndex) → has_shards a ≡ true → HasShards (index_of_line a)
 unfolding has_shards
 shards_of a e =
-    let h = both (nat_lt 0 a.shards) (nat_lt a.shards 1025) e in
+    let h = and_parts (nat_lt 0 a.shards) (nat_lt a.shards 1025) e in
     let low : 0 < a.shards = below 0 a.shards h.0 in
     let high : a.shards < 1025 = below a.shards 1025 h.1 in
     (omega (arith, low), omega (arith, high))
@@ -67,7 +63,7 @@ own_names (a ∷ asked) e =
 pub askable : (name : Bytes) (asked : List LineIndex) (moment : ℕ) → is_askable asked ≡ true → IsAskable (command_of_line name asked moment)
 unfolding is_askable
 askable name asked moment e =
-    let h = both (have_shards asked) (have_own_names asked) e in
+    let h = and_parts (have_shards asked) (have_own_names asked) e in
     (own_names asked h.1, all_shards asked h.0)
 
 -- ---- the indices of a clone

@@ -2,6 +2,7 @@
 use Rattle.std.proofs.Common.{◌≡◌, ◌≢◌, ℕ, ◌+◌, ◌==◌, ◌&&◌, if◌then◌else◌, Bool, true, false, true≢false, List, [], ◌∷◌, ◌++◌, append-nil, append_assoc, Option, nat_cmp, Result, Ok, Err, IfErr, refl, sym, ap, ◌∙◌, subst, inl, inr, ⊎_elim, arith}
 use Rattle.std.specs.FinMap.{FinMap}
 use Rattle.std.specs.FinMap as fin
+use Rattle.esr_model.specs.Lists.{Has-left}
 use Rattle.esr_model.specs.Names.{BlobName}
 use Rattle.esr_model.specs.Values.{Has, Formats}
 use Rattle.esr_model.specs.Image.{Image}
@@ -25,7 +26,7 @@ use Rattle.esr_drive.specs.Takes.{idle_take, idle_takes, takes_more}
 use Rattle.esr_drive.specs.Elections.{election, elections, elections_more}
 use Rattle.esr_verify.specs.Idle.{IsIdle}
 use Rattle.esr_check.specs.Began.{IsOfCheck, AllOfCheck, HasBegun, BeganOne, NotBegun, Begun, AsksOne, NoneChecked, HasEndedCheck}
-use Rattle.esr_check.proofs.Refusing.{fetched_all}
+use Rattle.esr_check.specs.Fetches.{fetched_all}
 use Rattle.esr_check.specs.Checked.{AreFetched, HasChecked}
 use Rattle.esr_check.specs.First.{AreFirst}
 use Rattle.esr_check.specs.Refused.{StopsCheck, IsCheckRefused}
@@ -33,7 +34,7 @@ use Rattle.esr_run.specs.Laws.{StepsStay}
 use Rattle.esr_run.specs.Checked.{AreChecked, HasLooked}
 use Rattle.esr_run.specs.Made.{MadeFirst, AreIn, LineMade, LineRests, LineSpends, WasLookRefused, CheckEnds}
 use Rattle.esr_run.specs.Verified.{AreVerified, AreBegun, AreClosed, AreWhole, MayVerify, VerifiesOn}
-use Rattle.esr_run.proofs.Completing.{in_front, in_middle}
+use Rattle.esr_run.proofs.Completing.{in_middle}
 use Rattle.esr_run.proofs.Making.{world_one, legal_one, legal_front, same_or_not, all_entries}
 use Rattle.esr_run.proofs.Taking.{no_take, no_elect}
 use Rattle.esr_run.proofs.Checks.{split_end, IsNoCheckEnd, checked_more}
@@ -219,7 +220,7 @@ begun_rest : (log rest : List Moment) → HasLooked log → AllOfCheck rest → 
 begun_rest log [] looked all was = subst (AreBegun true) (sym (append-nil log)) was
 begun_rest log (m ∷ rest) looked all was =
     subst (AreBegun true) (append_assoc log (m ∷ []) rest)
-    (begun_rest (log ++ m ∷ []) rest (looked.0, in_front log (m ∷ []) looked.0 looked.1, looked.2, looked.3) all.2 (begun_one true log m (check_stands log m all.1.0 all.1.1 all.1.2 looked) was))
+    (begun_rest (log ++ m ∷ []) rest (looked.0, Has-left log (m ∷ []) looked.0 looked.1, looked.2, looked.3) all.2 (begun_one true log m (check_stands log m all.1.0 all.1.1 all.1.2 looked) was))
 
 begun_all : (old new : List Moment) → HasBegun old new → AreBegun true old → AreBegun true new
 begun_all old new h was =
@@ -291,7 +292,8 @@ ok_checked s old new snapshots blobs h was front back m a b is who step reply =
           front before.0 m a b before.1 who step reply
     ]
 
-pub check_well : (s : Start) (workers : ℕ) (old new : List Moment) (snapshots blobs : ℕ) → HasBegun old new → HasChecked s old new snapshots blobs → (AreFirst s old → AreFirst s new) → (Legal s old → Legal s new) → MayVerify s workers true old
+pub check_well : (s : Start) (workers : ℕ) (old new : List Moment) (snapshots blobs : ℕ) → HasBegun old new → HasChecked s old new snapshots blobs → (AreFirst s old → AreFirst s new) → (Legal s old → Legal s new)
+    → MayVerify s workers true old
     → MayVerify s workers true new
 check_well s workers old new snapshots blobs asks ok first legal may = record {
   whole = record {

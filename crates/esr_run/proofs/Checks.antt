@@ -9,10 +9,10 @@ use Rattle.esr_core.specs.Entry.{Read, ReadBlob, BeginTest, CommitTest, RemoveTe
 use Rattle.esr_core.specs.After.{told_blob, caller_told, caller_wrote, caller_after}
 use Rattle.esr_core.specs.Allowed as allowed
 use Rattle.esr_core.specs.Allowed.{IsChecking, ReadAllows, ReadFound, VerifyAllows, DrawingTest, TestSpent, Allows, Allowed, Blocks, ByFailedSwap, ByDelete}
-use Rattle.esr_core.proofs.Blocked.{blocked_stays}
+use Rattle.esr_core.specs.Laws.Asides.{blocked_stays}
 use Rattle.esr_desk.specs.Start.{Start, Legal, formats_of, world_of, no_ticket, or_no_ticket, ticket_of}
 use Rattle.esr_desk.specs.Own.{caller_of}
-use Rattle.esr_quiet.proofs.Callers.{caller_one}
+use Rattle.esr_quiet.specs.CallerSteps.{caller_one}
 use Rattle.esr_verify.specs.Began.{IsFurther, AllFurther, HasBegun, BeganOne, NotBegun, Begun}
 use Rattle.esr_check.specs.First.{NamesOne, FirstOf}
 use Rattle.esr_run.specs.Checked.{AreChecked}

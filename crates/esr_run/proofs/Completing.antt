@@ -4,6 +4,7 @@ use Rattle.std.specs.Prelude.{◌&&◌, ◌==◌, unwrap_or, if◌then◌else◌
 use Rattle.std.proofs.lemmas.Bool.{ltb-true, ltb-false, le-ltb}
 use Rattle.std.proofs.lemmas.Bool.Decides.{eqb_tells}
 use Rattle.std.proofs.lemmas.List.Sums.{sum_by-cons}
+use Rattle.esr_model.specs.Lists.{Has-left}
 use Rattle.esr_model.specs.Values.{Bytes, Has, Formats}
 use Rattle.esr_model.specs.Image.{Image}
 use Rattle.esr_model.specs.Kept.{first_id}
@@ -34,6 +35,7 @@ use Rattle.esr_quiet.specs.Asked.{is_line_ask, is_asked, as_asked, asked_steps, 
 use Rattle.esr_quiet.specs.Smooth.{IsSmooth, IsSpent, AreCalm, NoneFailed, NoneUndeleted, NoneUnrestored, NoneUnverified, NoneAsked}
 use Rattle.esr_quiet.specs.Refusals.{AreByRule}
 use Rattle.esr_complete.specs.Lines.{index_of_line, steps_of_item, steps_of, failovers_of, entries_of, elections_of}
+use Rattle.esr_complete.specs.ItemSteps.{only_step, snapshot_item, restore_item}
 use Rattle.esr_drive.specs.Elections.{election, elections}
 use Rattle.esr_complete.specs.InTurn.{IsInTurn, AreChecksInTurn}
 use Rattle.esr_complete.specs.Answers.{AreAnswered, EndsWell}
@@ -114,7 +116,8 @@ few_terms term log lines few past =
     let reached : 2 ^ 63 ≤ term + terms_in log = past in
     omega (arith, same, fewer, reached)
 
-spent_by : (world : World) (lines : List ScriptLine) (log : List Moment) (reply : Reply) → elections log ≤ failovers_of lines → ((refusal : Refusal) → reply ≡ Refused refusal → SpentSo world log refusal) → IsSpent reply → SpentBy world lines log reply
+spent_by : (world : World) (lines : List ScriptLine) (log : List Moment) (reply : Reply) → elections log ≤ failovers_of lines → ((refusal : Refusal) → reply ≡ Refused refusal → SpentSo world log refusal) → IsSpent reply
+    → SpentBy world lines log reply
 spent_by world lines log (Refused (IdsSpent next)) few so is = so (IdsSpent next) refl
 spent_by world lines log (Refused (GenerationsSpent pending)) few so is = so (GenerationsSpent pending) refl
 spent_by world lines log (Refused (TermsSpent term)) few so is = few_terms world.term log lines few (so (TermsSpent term) refl)
@@ -158,11 +161,6 @@ record Place (log : List Moment) (m : Moment) : Type 0 where
   back : List Moment
   is : log ≡ front ++ m ∷ back
 
-pub in_front : {X : Type 0} (a b : List X) (x : X) → Has a x → Has (a ++ b) x
-in_front [] b x h = absurd h
-in_front (y ∷ a) b x (inl e) = inl e
-in_front (y ∷ a) b x (inr h) = inr (in_front a b x h)
-
 pub in_middle : {X : Type 0} (a b : List X) (x : X) → Has (a ++ x ∷ b) x
 in_middle [] b x = inl refl
 in_middle (y ∷ a) b x = inr (in_middle a b x)
@@ -178,13 +176,13 @@ module _ (log : List Moment) (es : List Entry) (entries : entries_of log ≡ es)
       let p = place_of log m h in
       let whole : es ≡ entries_of p.front ++ m.entry ∷ entries_of p.back = sym entries ∙ ap entries_of p.is ∙ entries_both p.front (m ∷ p.back) in
       let fell : FailedSwap (entries_of p.front) place = named (entries_of p.front) (entries_of p.back) m.entry place whole is in
-      let there : Has es fell.entry = subst (λ (l : List Entry). Has l fell.entry) (sym whole) (in_front (entries_of p.front) (m.entry ∷ entries_of p.back) fell.entry (subst (λ (l : List Entry). Has l fell.entry) (sym fell.is) (in_middle fell.front fell.back fell.entry))) in
+      let there : Has es fell.entry = subst (λ (l : List Entry). Has l fell.entry) (sym whole) (Has-left (entries_of p.front) (m.entry ∷ entries_of p.back) fell.entry (subst (λ (l : List Entry). Has l fell.entry) (sym fell.is) (in_middle fell.front fell.back fell.entry))) in
       none_counted es fell.entry none there fell.reply
     where
-      in_front : (a b : List Entry) (e : Entry) → Has a e → Has (a ++ b) e
-      in_front [] b e h = absurd h
-      in_front (x ∷ a) b e (inl is) = inl is
-      in_front (x ∷ a) b e (inr h) = inr (in_front a b e h)
+      Has-left : (a b : List Entry) (e : Entry) → Has a e → Has (a ++ b) e
+      Has-left [] b e h = absurd h
+      Has-left (x ∷ a) b e (inl is) = inl is
+      Has-left (x ∷ a) b e (inr h) = inr (Has-left a b e h)
 
   pub calm_is : AreCalm log
   calm_is m h is = none_counted es m.entry none (subst (λ (l : List Entry). Has l m.entry) entries (has_entry log m h)) is
@@ -267,55 +265,18 @@ record OfSnapshot (item : Item) (indices : List AskedIndex) : Type 0 where
   indices_are : indices ≡ map index_of_line line_indices
 
 of_snapshot : (moment : ℕ) (item : Item) (name : Bytes) (indices : List AskedIndex) (when : ℕ) → Has (steps_of_item moment item) (AskStep (Snapshot name indices when)) → OfSnapshot item indices
-of_snapshot moment (items.Snapshot called of) name indices when (inl e) = let same : map index_of_line of ≡ indices = cc in record { name = called; line_indices = of; item_is = refl; indices_are = sym same }
-of_snapshot moment (items.Snapshot called of) name indices when (inr h) = absurd h
-of_snapshot moment (items.Clone source called of) name indices when (inl e) = absurd cc
-of_snapshot moment (items.Clone source called of) name indices when (inr h) = absurd h
-of_snapshot moment (items.Delete names) name indices when (inl e) = absurd cc
-of_snapshot moment (items.Delete names) name indices when (inr h) = absurd h
-of_snapshot moment (items.Restore called place) name indices when (inl e) = absurd cc
-of_snapshot moment (items.Restore called place) name indices when (inr h) = absurd h
-of_snapshot moment items.Cleanup name indices when (inl e) = absurd cc
-of_snapshot moment items.Cleanup name indices when (inr h) = absurd h
-of_snapshot moment items.List name indices when (inl e) = absurd cc
-of_snapshot moment items.List name indices when (inr h) = absurd h
-of_snapshot moment items.Check name indices when (inl e) = absurd cc
-of_snapshot moment items.Check name indices when (inr h) = absurd h
-of_snapshot moment items.Verify name indices when (inl e) = absurd cc
-of_snapshot moment items.Verify name indices when (inr h) = absurd h
-of_snapshot moment item name indices when h = absurd h
+of_snapshot moment item name indices when h =
+    let (of, is, same) = snapshot_item moment item name indices when (only_step moment item (AskStep (Snapshot name indices when)) h) in
+    record { name = name; line_indices = of; item_is = is; indices_are = sym same }
 
 -- a restore that was asked is that of a restore line
 of_restore : (moment : ℕ) (item : Item) (name place : Bytes) → Has (steps_of_item moment item) (AskStep (Restore name place)) → (called : Bytes) × (below : Bytes) × (item ≡ items.Restore called below)
-of_restore moment (items.Restore called below) name place h = (called, below, refl)
-of_restore moment (items.Snapshot called of) name place (inl e) = absurd cc
-of_restore moment (items.Snapshot called of) name place (inr h) = absurd h
-of_restore moment (items.Clone source called of) name place (inl e) = absurd cc
-of_restore moment (items.Clone source called of) name place (inr h) = absurd h
-of_restore moment (items.Delete names) name place (inl e) = absurd cc
-of_restore moment (items.Delete names) name place (inr h) = absurd h
-of_restore moment items.Cleanup name place (inl e) = absurd cc
-of_restore moment items.Cleanup name place (inr h) = absurd h
-of_restore moment items.List name place (inl e) = absurd cc
-of_restore moment items.List name place (inr h) = absurd h
-of_restore moment items.Check name place (inl e) = absurd cc
-of_restore moment items.Check name place (inr h) = absurd h
-of_restore moment items.Verify name place (inl e) = absurd cc
-of_restore moment items.Verify name place (inr h) = absurd h
-of_restore moment item name place h = absurd h
+of_restore moment item name place h = (name, place, restore_item moment item name place (only_step moment item (AskStep (Restore name place)) h))
 
 -- whether some line asks for a restore
 restore_or_not : (item : Item) → ((name : Bytes) × (place : Bytes) × (item ≡ items.Restore name place)) ⊎ ((name place : Bytes) → item ≡ items.Restore name place → ⊥)
 restore_or_not (items.Restore name place) = inl (name, place, refl)
-restore_or_not (items.Snapshot name indices) = inr (λ n p e. cc)
-restore_or_not (items.Clone source name indices) = inr (λ n p e. cc)
-restore_or_not (items.Delete names) = inr (λ n p e. cc)
-restore_or_not items.Cleanup = inr (λ n p e. cc)
-restore_or_not items.Failover = inr (λ n p e. cc)
-restore_or_not items.Wait = inr (λ n p e. cc)
-restore_or_not items.List = inr (λ n p e. cc)
-restore_or_not items.Check = inr (λ n p e. cc)
-restore_or_not items.Verify = inr (λ n p e. cc)
+restore_or_not item = inr (λ n p e. cc)
 
 find_restore : (lines : List ScriptLine) → AsksRestore lines ⊎ ((line : ScriptLine) (name place : Bytes) → Has lines line → line.item ≡ items.Restore name place → ⊥)
 find_restore [] = inr (λ line name place h e. h)
@@ -488,7 +449,8 @@ module _ {S F H T : Type 0} (laws : QuietLaws S F H T) (evidence : Evidence S F 
         }
 
   pub completes : (status : ℕ) → Legal s log → (s.tells ≡ true → AreTold log) → AreShown {S = S} {F = F} {H = H} {T = T} evidence s log faults → AreOnce s log → AreTested s log → IsCalm true after.sure history → AreDeposedSo history
-      → MadeFirst s (steps_of moment lines) [] log → AreClosed s log → AreDone s moment lines [] log ⊎ HasFallen s moment lines [] log → status ≡ status_of (ending lines history) → elections log ≤ failovers_of lines → IsQuietFor telling before lines
+      → MadeFirst s (steps_of moment lines) [] log → AreClosed s log → AreDone s moment lines [] log ⊎ HasFallen s moment lines [] log → status ≡ status_of (ending lines history) → elections log ≤ failovers_of lines
+      → IsQuietFor telling before lines
       → Completes telling size moment lines before world clock after history status
   completes status legal told shown once tested calm named made apart done is elects quiet_for known =
       ⊎_elim

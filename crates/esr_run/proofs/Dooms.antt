@@ -1,5 +1,6 @@
 -- Images stay tidy over a run, and each delete dooms exactly what it leaves.
-use Rattle.std.proofs.Common.{◌≡◌, ℕ, Bool, List, Option, Some, None, inl, inr, ⊎_elim, sym, ap, ◌∙◌, subst}
+use Rattle.std.proofs.Common.{◌≡◌, ℕ, Bool, List, Some, inl, inr, ⊎_elim, sym, ap, ◌∙◌, subst}
+use Rattle.std.proofs.lemmas.Option.{same_Some, none-some}
 use Rattle.esr_model.specs.Names.{BlobName}
 use Rattle.esr_model.specs.Values.{Bytes, ClusterRecord, RootData, Formats, ReadsBack}
 use Rattle.esr_model.specs.Image.{Image, At, RootIs}
@@ -24,26 +25,20 @@ use Rattle.esr_run.specs.Start.{Telling, known_by, told_by, formats_by, LegalRun
 use Rattle.esr_run.specs.Images.{Holds}
 use Rattle.esr_run.specs.Tidy.{IsTidyAt, StaysTidy, EveryImageTidy, EndTidy, EachDoomsExactly}
 use Rattle.esr_run.specs.Laws.{Laws}
-use Rattle.esr_run.proofs.Worlds.{opened_image}
+use Rattle.esr_run.specs.Worlds.{opened_image}
 use Rattle.esr_run.proofs.Keeping.{back_of, leaves_last, Ran, world_at, start_at, ran}
-
-some_same : {A : Type 0} (x y : A) → Some x ≡ Some y → x ≡ y
-some_same x y e = cc
-
-none_some : {A : Type 0} (x : A) → ◌≡◌ {A = Option A} None (Some x) → ⊥
-none_some x e = cc
 
 -- ---- the image of the opened world
 
 -- the record of the world is the one that its image has
 same_record : (f : Formats) (w : World) (cluster : ClusterRecord) → ReadsBack f.cluster (record_of w) → (text : Bytes) → Some (f.cluster.text (record_of w)) ≡ Some text → f.cluster.read text ≡ Some cluster → record_of w ≡ cluster
 same_record f w cluster back text there reads =
-    let same : f.cluster.text (record_of w) ≡ text = some_same (f.cluster.text (record_of w)) text there in
-    some_same (record_of w) cluster (sym back ∙ ap f.cluster.read same ∙ reads)
+    let same : f.cluster.text (record_of w) ≡ text = same_Some (f.cluster.text (record_of w)) text there in
+    same_Some (record_of w) cluster (sym back ∙ ap f.cluster.read same ∙ reads)
 
 -- a root without indices is tidy
 no_root_tidy : (f : Formats) (has : BlobName → Bytes → Type 0) → TidyRoot f has no_root
-no_root_tidy f has = record { used = λ x m. absurd m; lists = λ index shard generation is. absurd (none_some generation is) }
+no_root_tidy f has = record { used = λ x m. absurd m; lists = λ index shard generation is. absurd (none-some generation is) }
 
 -- opening leaves the blobs and the safe root
 opened_tidy : (f : Formats) (image : Image) (w : World) → TidyImage f image → Opened f image w → ReadsBack f.cluster (record_of w) → TidyImage f (core.image_of f w)

@@ -1,17 +1,13 @@
 -- How a run ends.
-use Rattle.std.proofs.Common.{◌≡◌, ◌⊎◌, ℕ, zero, suc, ◌<◌, ◌≤◌, ◌^◌, Bool, true, false, List, [], ◌∷◌, ◌++◌, Option, Some, None, is_some, inl, inr, arith, refl, sym, ap, ◌∙◌, subst}
-use Rattle.std.specs.Prelude.{unwrap_or, ◌&&◌, ◌||◌, if◌then◌else◌}
+use Rattle.std.proofs.Common.{◌≡◌, ◌⊎◌, ℕ, zero, suc, ◌<◌, ◌≤◌, ◌^◌, Bool, true, List, [], ◌∷◌, ◌++◌, Option, Some, None, inl, inr, arith, refl, sym, ap, ◌∙◌, subst}
 use Rattle.esr_model.specs.Values.{Bytes}
 use Rattle.esr_core.specs.Entry.{Step, Entry, Moment}
-use Rattle.esr_core.specs.World.{World}
 use Rattle.esr_depot.specs.Image.{Image as Held}
 use Rattle.esr_depot.specs.Look.{Look, now}
 use Rattle.esr_depot.specs.Calls.{HasCause, Stays}
 use Rattle.esr_formats.specs.Clusters.{cluster_of}
 use Rattle.esr_formats.specs.Roots.{root_of}
-use Rattle.esr_source.specs.Told.{FileList, SourcesTold, TargetsTold}
 use Rattle.esr_desk.specs.Start.{Start}
-use Rattle.esr_desk.specs.Sources.{TellSame, AreSources}
 use Rattle.esr_desk.specs.Once.{AreOnce, NoneTwice, AreRemovedOnce}
 use Rattle.esr_desk.specs.Verify.Tested.{AreTested}
 use Rattle.esr_repo.specs.Calm.{IsCalm}
@@ -36,12 +32,12 @@ use Rattle.esr_repo.specs.Log.{image_at, log_of}
 use Rattle.esr_run.specs.Asked.{wanted_of, part_size_of, workers_of}
 use Rattle.esr_run.specs.Ends.{RunEnd, BadWords, Unreadable, BadScript, BadLine, OpenFault, Damaged, NoTerm, Carried, exit_of, text_of}
 use Rattle.esr_run.specs.Faults.{listed, fetch_of, HasFetch}
-use Rattle.esr_drive.specs.Outside.{IsOutside}
-use Rattle.esr_run.specs.Start.{Telling, telling, is_absent, formats_by, start_of, LegalRun}
+use Rattle.esr_run.specs.Start.{Telling, formats_by, start_of, LegalRun}
 use Rattle.esr_run.specs.Laws.{Laws, KeptLaws}
 use Rattle.esr_run.specs.Stops.{StoppedBy}
 use Rattle.esr_run.specs.Causes.{Given, IsScript, IsOpenedRun, IsUntouched, IsUnopened, IsRunOf, IsCauseOf, IsOpenCause, IsTextOf, IsVerdict, IsTold, exit_unprinted, IsPrinted, IsEndOf, end_of_refusal}
-use Rattle.esr_run.proofs.Worlds.{begun_world, start_is}
+use Rattle.esr_run.specs.Worlds.{begun_world}
+use Rattle.esr_run.proofs.Worlds.{start_is}
 use Rattle.esr_run.proofs.Keeping.{untouched_kept, refused_kept, every_image_kept, every_image_whole, snapshots_of_sources, end_kept, answers_stay}
 use Rattle.esr_run.proofs.Dooms.{untouched_tidy, refused_tidy, every_image_tidy, end_tidy, each_dooms_exactly}
 use Rattle.esr_run.proofs.Cleanups.{cleanups_leave_reach}
@@ -50,30 +46,6 @@ use Rattle.esr_run.proofs.Sourceless.{needs_no_source}
 use Rattle.esr_run.proofs.Undamaged.{stays_undamaged}
 use Rattle.esr_run.proofs.Completing.{entries_are}
 use Rattle.esr_run.proofs.Leaving.{worked_or_left}
-
--- ---- what is told at the start
-
-are_sources : (sources : SourcesTold) (targets : TargetsTold) (size : ℕ) (quiet : Bool) (l : Look) (w : World) → AreSources (start_of (telling sources targets) size quiet l w) sources
-are_sources sources targets size quiet l w = record {
-  told = λ place name number known. by (sources.files place name number) (sources.is_there place name number) known;
-  steady = λ place name number e. both sources.is_quiet (sources.is_there place name number) e;
-}
-  where
-    by : (o : Option FileList) (there : Option Bool) → (is_some o || is_absent there) ≡ true → TellSame o (if is_absent there then None else o) ⊎ ((there ≡ Some false) × ((if is_absent there then None else o) ≡ None))
-    by (Some x) None e = inl (x, refl, refl)
-    by (Some x) (Some true) e = inl (x, refl, refl)
-    by (Some x) (Some false) e = inr (refl, refl)
-    by None None e = absurd cc
-    by None (Some true) e = absurd cc
-    by None (Some false) e = inr (refl, refl)
-
-    both : (a : Bool) (o : Option Bool) → (a && unwrap_or o false) ≡ true → (a ≡ true) × (o ≡ Some true)
-    both true None e = absurd cc
-    both true (Some b) e = (refl, ap (λ (x : Bool). Some x) e)
-    both false o e = absurd cc
-
-pub is_outside : (sources : SourcesTold) (targets : TargetsTold) (size : ℕ) (quiet : Bool) (l : Look) (w : World) → (1 ≤ size) × (size ≤ 2 ^ 30) → IsOutside (start_of (telling sources targets) size quiet l w) sources targets size
-is_outside sources targets size quiet l w sized = record { told = are_sources sources targets size quiet l w; sure = refl; tells = refl; size = refl; sized = sized }
 
 -- ---- what became of the container
 
@@ -103,8 +75,10 @@ Begun files size quiet mid k = start_of files size quiet mid (begun_world (now m
 
 unfoldable pub opened_run : {S F H T : Type 0} (laws : Laws) (kept : KeptLaws S F H T) (evidence : Evidence S F H T) (files : Telling) (size workers moment : ℕ) (lines : List ScriptLine) (quiet : Bool) (before mid after : Look) (k : Kept) (history : List Entry) (faults : List (Fault S F H T)) → IsOpening before mid k → (2 ^ 62 ≤ before.sure → quiet ≡ true)
     → LegalRun (Begun files size quiet mid k) mid.clock after history → IsPast (Begun files size quiet mid k) mid.clock mid.since after history → AreShown evidence (Begun files size quiet mid k) (log_of after mid.clock history) faults
-    → AreOnce (Begun files size quiet mid k) (log_of after mid.clock history) → AreTested (Begun files size quiet mid k) (log_of after mid.clock history) → NoneTwice (log_of after mid.clock history) → AreRemovedOnce (log_of after mid.clock history) → IsCalm quiet after.sure history → MadeFirst (Begun files size quiet mid k) (steps_of moment lines) [] (log_of after mid.clock history)
-    → AreWhole (Begun files size quiet mid k) workers (asks_check lines) (log_of after mid.clock history) → AreFew workers lines (log_of after mid.clock history) → AskedUnlessStopped (Begun files size quiet mid k) [] (log_of after mid.clock history)
+    → AreOnce (Begun files size quiet mid k) (log_of after mid.clock history) → AreTested (Begun files size quiet mid k) (log_of after mid.clock history) → NoneTwice (log_of after mid.clock history)
+    → AreRemovedOnce (log_of after mid.clock history) → IsCalm quiet after.sure history → MadeFirst (Begun files size quiet mid k) (steps_of moment lines) [] (log_of after mid.clock history)
+    → AreWhole (Begun files size quiet mid k) workers (asks_check lines) (log_of after mid.clock history) → AreFew workers lines (log_of after mid.clock history)
+    → AskedUnlessStopped (Begun files size quiet mid k) [] (log_of after mid.clock history)
     → IsOpenedRun evidence files size workers moment lines before after history faults
 opened_run {S} {F} {H} {T} laws kept evidence files size workers moment lines quiet before mid after k history faults o quiet_is legal past shown once tested single removed calm made verified takes apart =
     let is = start_is files size quiet before mid k o in
@@ -163,8 +137,10 @@ not_wanting NumbersSpent is = cc
 pub verdict_opening : {S F H T : Type 0} (laws : Laws) (kept : KeptLaws S F H T) (evidence : Evidence S F H T) (files : Telling) (size workers moment : ℕ) (lines : List ScriptLine) (quiet : Bool) (before mid after : Look) (k : Kept) (history : List Entry) (faults : List (Fault S F H T))
     (old_faults new_faults status : ℕ) (text : Bytes) → IsOpening before mid k → (2 ^ 62 ≤ before.sure → quiet ≡ true)
     → LegalRun (Begun files size quiet mid k) mid.clock after history → IsPast (Begun files size quiet mid k) mid.clock mid.since after history → AreShown evidence (Begun files size quiet mid k) (log_of after mid.clock history) faults
-    → AreOnce (Begun files size quiet mid k) (log_of after mid.clock history) → AreTested (Begun files size quiet mid k) (log_of after mid.clock history) → NoneTwice (log_of after mid.clock history) → AreRemovedOnce (log_of after mid.clock history) → IsCalm quiet after.sure history → MadeFirst (Begun files size quiet mid k) (steps_of moment lines) [] (log_of after mid.clock history)
-    → AreWhole (Begun files size quiet mid k) workers (asks_check lines) (log_of after mid.clock history) → AreFew workers lines (log_of after mid.clock history) → AskedUnlessStopped (Begun files size quiet mid k) [] (log_of after mid.clock history)
+    → AreOnce (Begun files size quiet mid k) (log_of after mid.clock history) → AreTested (Begun files size quiet mid k) (log_of after mid.clock history) → NoneTwice (log_of after mid.clock history)
+    → AreRemovedOnce (log_of after mid.clock history) → IsCalm quiet after.sure history → MadeFirst (Begun files size quiet mid k) (steps_of moment lines) [] (log_of after mid.clock history)
+    → AreWhole (Begun files size quiet mid k) workers (asks_check lines) (log_of after mid.clock history) → AreFew workers lines (log_of after mid.clock history)
+    → AskedUnlessStopped (Begun files size quiet mid k) [] (log_of after mid.clock history)
     → IsTold status text (Some (Carried lines history))
     → (status ≡ 8) ⊎ (AreDone (Begun files size quiet mid k) moment lines [] (log_of after mid.clock history) ⊎ HasFallen (Begun files size quiet mid k) moment lines [] (log_of after mid.clock history))
     → IsVerdict status text (IsOpenCause evidence files size workers moment before after old_faults new_faults lines history faults)
@@ -212,7 +188,8 @@ verdict_refused status text evidence files size workers moment before after old_
 verdict_refused status text evidence files size workers moment before after old_faults new_faults lines history faults (refusals.TermsSpent term) told refused empty are = told_end status text (IsOpenCause evidence files size workers moment before after old_faults new_faults lines history faults) NoTerm told (empty, (term, refused))
 
 pub verdict_stopped : {S F H T : Type 0} (status : ℕ) (text : Bytes) (evidence : Evidence S F H T) (given : Given) (files : Telling) (reader : ℕ) (before after : Look) (old_faults new_faults : ℕ) (history : List Entry) (faults : List (Fault S F H T)) (end : Option RunEnd)
-    → IsTold status text end → StoppedBy (wanted_of (job_of given.words)) given.script given.faults reader end → IsUntouched files before after history faults → IsVerdict status text (IsCauseOf evidence given files reader before after old_faults new_faults history faults)
+    → IsTold status text end → StoppedBy (wanted_of (job_of given.words)) given.script given.faults reader end → IsUntouched files before after history faults
+    → IsVerdict status text (IsCauseOf evidence given files reader before after old_faults new_faults history faults)
 verdict_stopped status text evidence given files reader before after old_faults new_faults history faults None told stop un = told_none status text (IsCauseOf evidence given files reader before after old_faults new_faults history faults) told
 verdict_stopped status text evidence given files reader before after old_faults new_faults history faults (Some BadWords) told stop un = told_end status text (IsCauseOf evidence given files reader before after old_faults new_faults history faults) BadWords told (un, stop)
 verdict_stopped status text evidence given files reader before after old_faults new_faults history faults (Some Unreadable) told stop un = told_end status text (IsCauseOf evidence given files reader before after old_faults new_faults history faults) Unreadable told (un, stop)
@@ -225,7 +202,8 @@ verdict_stopped status text evidence given files reader before after old_faults 
 
 -- from the opening on, with the words and the script
 with_script : {S F H T : Type 0} (evidence : Evidence S F H T) (given : Given) (files : Telling) (reader size workers : ℕ) (before after : Look) (old_faults new_faults : ℕ) (lines : List ScriptLine) (history : List Entry) (faults : List (Fault S F H T)) (end : RunEnd)
-    → part_size_of (wanted_of (job_of given.words)) ≡ Some size → workers_of (job_of given.words) ≡ Some workers → IsScript given lines → IsOpenCause evidence files size workers given.moment before after old_faults new_faults lines history faults end → IsCauseOf evidence given files reader before after old_faults new_faults history faults end
+    → part_size_of (wanted_of (job_of given.words)) ≡ Some size → workers_of (job_of given.words) ≡ Some workers → IsScript given lines
+    → IsOpenCause evidence files size workers given.moment before after old_faults new_faults lines history faults end → IsCauseOf evidence given files reader before after old_faults new_faults history faults end
 with_script evidence given files reader size workers before after old_faults new_faults lines history faults (Carried script entries) size_is workers_are is cause =
     (cause.1, (record { size = size; size_is = size_is; workers = workers; workers_are = workers_are; lines = lines; script = is; run = cause.2.0 }, sym cause.0, cause.2.1))
 with_script evidence given files reader size workers before after old_faults new_faults lines history faults OpenFault size_is workers_are is cause = ((lines, is), cause)
@@ -237,14 +215,17 @@ with_script evidence given files reader size workers before after old_faults new
 with_script evidence given files reader size workers before after old_faults new_faults lines history faults (BadLine number) size_is workers_are is cause = absurd cause
 
 pub verdict_opened : {S F H T : Type 0} (status : ℕ) (text : Bytes) (evidence : Evidence S F H T) (given : Given) (files : Telling) (reader size workers : ℕ) (before after : Look) (old_faults new_faults : ℕ) (lines : List ScriptLine) (history : List Entry) (faults : List (Fault S F H T))
-    → part_size_of (wanted_of (job_of given.words)) ≡ Some size → workers_of (job_of given.words) ≡ Some workers → IsScript given lines → IsVerdict status text (IsOpenCause evidence files size workers given.moment before after old_faults new_faults lines history faults)
+    → part_size_of (wanted_of (job_of given.words)) ≡ Some size → workers_of (job_of given.words) ≡ Some workers → IsScript given lines
+    → IsVerdict status text (IsOpenCause evidence files size workers given.moment before after old_faults new_faults lines history faults)
     → IsVerdict status text (IsCauseOf evidence given files reader before after old_faults new_faults history faults)
 verdict_opened status text evidence given files reader size workers before after old_faults new_faults lines history faults size_is workers_are is (inl wanting) = inl wanting
 verdict_opened status text evidence given files reader size workers before after old_faults new_faults lines history faults size_is workers_are is (inr v) =
     inr (record { end = v.end; status_is = v.status_is; text_is = v.text_is; cause = with_script evidence given files reader size workers before after old_faults new_faults lines history faults v.end size_is workers_are is v.cause })
 
 pub run_opened : {S F H T : Type 0} (evidence : Evidence S F H T) (given : Given) (files : Telling) (size workers : ℕ) (lines : List ScriptLine) (before after : Look) (old_faults new_faults : ℕ) (history : List Entry) (faults : List (Fault S F H T))
-    → IsScript given lines → part_size_of (wanted_of (job_of given.words)) ≡ Some size → workers_of (job_of given.words) ≡ Some workers → IsUnopened evidence files before after old_faults new_faults history faults ⊎ IsOpenedRun evidence files size workers given.moment lines before after history faults → IsRunOf evidence given files before after old_faults new_faults history faults
+    → IsScript given lines → part_size_of (wanted_of (job_of given.words)) ≡ Some size → workers_of (job_of given.words) ≡ Some workers
+    → IsUnopened evidence files before after old_faults new_faults history faults ⊎ IsOpenedRun evidence files size workers given.moment lines before after history faults
+    → IsRunOf evidence given files before after old_faults new_faults history faults
 run_opened evidence given files size workers lines before after old_faults new_faults history faults is size_is workers_are (inl unopened) = inr (inl unopened)
 run_opened evidence given files size workers lines before after old_faults new_faults history faults is size_is workers_are (inr run) = inr (inr (record { size = size; size_is = size_is; workers = workers; workers_are = workers_are; lines = lines; script = is; run = run }))
 

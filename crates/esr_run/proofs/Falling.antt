@@ -1,5 +1,6 @@
 -- Work that was stopped: a record swap had failed, or 2 ^ 33 entries were made.
 use Rattle.std.proofs.Common.{◌≡◌, ◌⊎◌, ℕ, List, [], ◌∷◌, ◌++◌, true, false, Result, Ok, Err, OnOk, refl, sym, ap, subst, inl, inr}
+use Rattle.esr_model.specs.Lists.{Has-left}
 use Rattle.esr_model.specs.Values.{Has}
 use Rattle.esr_core.specs.World.{World}
 use Rattle.esr_core.specs.Entry.{Step, Refusal, DeposedAt, AbortedBy, Refused, Moment}
@@ -8,12 +9,11 @@ use Rattle.esr_core.specs.Allowed.{Allowed, Blocks, ByFailedSwap, ByDelete}
 use Rattle.esr_core.specs.Refusing.{MayRefuse, RefusedSo, SwapFailed}
 use Rattle.esr_script.specs.declared.item.ScriptLine.{ScriptLine}
 use Rattle.esr_desk.specs.Start.{Start, Legal, formats_of, world_of}
-use Rattle.esr_quiet.proofs.Prefixes.{legal_rest}
+use Rattle.esr_quiet.specs.PrefixLaws.{legal_rest}
 use Rattle.esr_complete.specs.Lines.{steps_of}
 use Rattle.esr_drive.specs.Stopped.{StopsWork, SaidDeposed, SettleFell, DropFell, DeleteFell, WasStopped}
 use Rattle.esr_run.specs.Laws.{Refusals}
 use Rattle.esr_run.specs.Made.{MadeFirst, WasLeft, HasFallen, AreDone}
-use Rattle.esr_run.proofs.Completing.{in_front}
 
 -- where a moment stands
 split_at : (l : List Moment) (x : Moment) → Has l x → (a : List Moment) × (b : List Moment) × (l ≡ a ++ x ∷ b)
@@ -43,7 +43,7 @@ module _ (laws : Refusals) (s : Start) (alive : s.world.deposed ≡ false) (log 
   fell_before front back m place is says =
       let here : Allowed (formats_of s) s.part_size (world_of s front) m = (legal_rest (formats_of s) s.part_size front (m ∷ back) s.world (subst (Legal s) is legal)).0 in
       let fell = laws.deposed (formats_of s) s.world front alive (says_deposed (world_of s front) m.entry.who m.entry.step place (laws.of_steps (formats_of s) s.part_size (world_of s front) m (DeposedAt place) here says)) in
-      record { moment = fell.moment; there = subst (λ (l : List Moment). Has l fell.moment) (sym is) (in_front front (m ∷ back) fell.moment fell.there); swap = fell.swap; failed = fell.failed }
+      record { moment = fell.moment; there = subst (λ (l : List Moment). Has l fell.moment) (sym is) (Has-left front (m ∷ back) fell.moment fell.there); swap = fell.swap; failed = fell.failed }
 
   fell_by : (m : Moment) → Has log m → (step : Step) (refusal : Refusal) → m.entry.step ≡ step → m.entry.reply ≡ Refused refusal → StopsWork step refusal → (front back : List Moment) → log ≡ front ++ m ∷ back → SwapFailed log
   fell_by m there step refusal step_is says (SaidDeposed any place) front back is = fell_before front back m place is says
@@ -55,7 +55,8 @@ module _ (laws : Refusals) (s : Start) (alive : s.world.deposed ≡ false) (log 
   fallen_by refusal was = let p = split_at log was.moment was.there in fell_by was.moment was.there was.moment.entry.step refusal refl was.same was.stops p.0 p.1 p.2
 
 -- on the history of a repository, from its beginning on
-pub done_fallen : {X E : Type 0} (laws : Refusals) (s : Start) (moment : ℕ) (lines : List ScriptLine) (old new same : List Moment) (r : Result X E) → OnOk r (AreDone s moment lines [] same ⊎ WasLeft s moment 0 lines [] same) → MadeFirst s (steps_of moment lines) old new → same ≡ new → old ≡ [] → s.world.deposed ≡ false
+pub done_fallen : {X E : Type 0} (laws : Refusals) (s : Start) (moment : ℕ) (lines : List ScriptLine) (old new same : List Moment) (r : Result X E) → OnOk r (AreDone s moment lines [] same ⊎ WasLeft s moment 0 lines [] same)
+    → MadeFirst s (steps_of moment lines) old new → same ≡ new → old ≡ [] → s.world.deposed ≡ false
     → OnOk r (AreDone s moment lines [] same ⊎ HasFallen s moment lines [] same)
 done_fallen {X} {E} laws s moment lines old new same (Err e) done made is begun alive = tt
 done_fallen {X} {E} laws s moment lines old new same (Ok x) done made is begun alive =

@@ -61,8 +61,10 @@ told_may s workers checks new (Err steps.TurnsSpent) told h = absurd told
 told_may s workers checks new (Err (steps.Refused refusal)) told h = h
 
 -- so many lines were carried out, and this one
-pub line_front : (s : Start) (moment owed after : ℕ) (line : ScriptLine) (left lines : List ScriptLine) (old mid new : List Moment) (r : Answer) → 1 ≤ length left → line ≡ slice_index_or left 0 line → after ≡ owed_after line.item owed → IsTold r → Front s moment owed left lines old mid
-    → LineMade s (steps_of_item moment line.item) mid new r → LineElects owed line.item mid new r → (line.item ≡ items.Check → CheckEnds mid new r) → (line.item ≡ items.Verify → VerifyBegins mid new r) → AddsOnly line.item mid new → NoneOpen s mid
+pub line_front : (s : Start) (moment owed after : ℕ) (line : ScriptLine) (left lines : List ScriptLine) (old mid new : List Moment) (r : Answer) → 1 ≤ length left → line ≡ slice_index_or left 0 line → after ≡ owed_after line.item owed
+    → IsTold r → Front s moment owed left lines old mid
+    → LineMade s (steps_of_item moment line.item) mid new r → LineElects owed line.item mid new r → (line.item ≡ items.Check → CheckEnds mid new r) → (line.item ≡ items.Verify → VerifyBegins mid new r) → AddsOnly line.item mid new
+    → NoneOpen s mid
     → (AreIn s mid → LineRests s new r) → (line.item ≡ items.Wait → WaitEnds s new r) → Front s moment after (take (length left - 1) (drop 1 left)) lines old new
 line_front s moment owed after line left lines old mid new r some is owes told f made elects checked begun only closed rests ended =
     front_step s moment owed after line left lines old mid new some is owes f (told_made s (steps_of_item moment line.item) mid new r told made) (line_counts owed line.item mid new r told elects)
@@ -70,7 +72,8 @@ line_front s moment owed after line left lines old mid new r some is owes told f
     (λ alone none. told_ended s line.item new r told (rests none) ended)
 
 -- a line that stopped
-pub made_by : (s : Start) (moment owed : ℕ) (left lines : List ScriptLine) (wanted : List Step) (old mid new : List Moment) (r : Answer) → AsksFirst moment left wanted → Front s moment owed left lines old mid → LineMade s wanted mid new r → (r ≡ Err steps.Memory) ⊎ (r ≡ Err steps.TurnsSpent)
+pub made_by : (s : Start) (moment owed : ℕ) (left lines : List ScriptLine) (wanted : List Step) (old mid new : List Moment) (r : Answer) → AsksFirst moment left wanted → Front s moment owed left lines old mid → LineMade s wanted mid new r
+    → (r ≡ Err steps.Memory) ⊎ (r ≡ Err steps.TurnsSpent)
     → MadeFirst s (steps_of moment lines) old new
 made_by s moment owed left lines wanted old mid new r asks f made which = elim which [
   | inl memory ↦ made_stopped s moment owed left lines wanted old mid new steps.Memory asks f (subst (LineMade s wanted mid new) memory made) (inl refl)
@@ -78,7 +81,8 @@ made_by s moment owed left lines wanted old mid new r asks f made which = elim w
 ]
 
 -- asked only where it might
-pub cut_by : (s : Start) (moment owed : ℕ) (item : Item) (left lines : List ScriptLine) (old mid new : List Moment) (r : Answer) → Front s moment owed left lines old mid → LineMade s (steps_of_item moment item) mid new r → (item ≡ items.Check → CheckEnds mid new r) → (item ≡ items.Verify → VerifyBegins mid new r)
+pub cut_by : (s : Start) (moment owed : ℕ) (item : Item) (left lines : List ScriptLine) (old mid new : List Moment) (r : Answer) → Front s moment owed left lines old mid → LineMade s (steps_of_item moment item) mid new r
+    → (item ≡ items.Check → CheckEnds mid new r) → (item ≡ items.Verify → VerifyBegins mid new r)
     → AddsOnly item mid new → NoneOpen s mid → (r ≡ Err steps.Memory) ⊎ (r ≡ Err steps.TurnsSpent) → s.alone ≡ true → AreIn s old → AskedUnlessStopped s old new
 cut_by s moment owed item left lines old mid new r f made checked begun only closed which alone none = elim which [
   | inl memory ↦ front_cut s moment owed left lines item old mid new f (subst (LineMade s (steps_of_item moment item) mid new) memory made) only (λ check. subst (CheckEnds mid new) memory (checked check)) (λ verify. subst (VerifyBegins mid new) memory (begun verify)) closed alone none
@@ -92,14 +96,7 @@ turns_by new r is spent = subst (LineSpends new) is spent
 owed_fits : (item : Item) (owed left all : ℕ) → owed + left ≤ all → 1 ≤ left → owed_after item owed + (left - 1) ≤ all
 owed_fits items.Failover owed left all fits some = let le : owed + left ≤ all = fits in let one : 1 ≤ left = some in omega (arith, le, one)
 owed_fits items.Wait owed left all fits some = let le : owed + left ≤ all = fits in omega (arith, le)
-owed_fits (items.Snapshot name indices) owed left all fits some = let le : owed + left ≤ all = fits in omega (arith, le)
-owed_fits (items.Clone source name indices) owed left all fits some = let le : owed + left ≤ all = fits in omega (arith, le)
-owed_fits (items.Delete names) owed left all fits some = let le : owed + left ≤ all = fits in omega (arith, le)
-owed_fits (items.Restore name place) owed left all fits some = let le : owed + left ≤ all = fits in omega (arith, le)
-owed_fits items.Cleanup owed left all fits some = let le : owed + left ≤ all = fits in omega (arith, le)
-owed_fits items.List owed left all fits some = let le : owed + left ≤ all = fits in omega (arith, le)
-owed_fits items.Check owed left all fits some = let le : owed + left ≤ all = fits in omega (arith, le)
-owed_fits items.Verify owed left all fits some = let le : owed + left ≤ all = fits in omega (arith, le)
+owed_fits item owed left all fits some = let le : owed + left ≤ all = fits in omega (arith, le)
 
 rest_length : (left : List ScriptLine) → 1 ≤ length left → length (take (length left - 1) (drop 1 left)) ≡ length left - 1
 rest_length [] some = absurd (let none : List ScriptLine = [] in let le : 1 ≤ length none = some in omega (arith, le))

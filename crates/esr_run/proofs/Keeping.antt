@@ -27,10 +27,7 @@ use Rattle.esr_run.specs.Start.{Telling, known_by, told_by, formats_by, start_of
 use Rattle.esr_run.specs.Images.{Holds, StaysKept, EveryImageKept, EveryImageWhole, SnapshotsOfSources, AnsweredStay}
 use Rattle.esr_run.specs.Told.{EndKept}
 use Rattle.esr_run.specs.Laws.{Laws}
-use Rattle.esr_run.proofs.Worlds.{opened_image}
-
-some_same : (x y : Held) → Some x ≡ Some y → x ≡ y
-some_same x y e = cc
+use Rattle.esr_run.specs.Worlds.{opened_image, some_same}
 
 -- ---- no command was carried out
 

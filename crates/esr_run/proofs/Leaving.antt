@@ -2,7 +2,7 @@
 use Rattle.std.proofs.Common.{◌≡◌, ◌⊎◌, ℕ, suc, ◌^◌, ◌≤◌, Bool, true, false, not, nat_lt, List, [], ◌∷◌, length, Option, Some, None, refl, sym, ap, ◌∙◌, subst, inl, inr, arith}
 use Rattle.std.specs.Prelude.{◌||◌, if◌then◌else◌}
 use Rattle.std.specs.List.{list_any}
-use Rattle.std.proofs.lemmas.Bool.{le-ltb}
+use Rattle.std.proofs.lemmas.Bool.{le-ltb, or_right}
 use Rattle.esr_model.specs.Names.{BlobName}
 use Rattle.esr_model.specs.Values.{Has}
 use Rattle.esr_core.specs.Entry.{Reply, Entry, Moment}
@@ -13,15 +13,11 @@ use Rattle.esr_desk.specs.Start.{Start}
 use Rattle.esr_complete.specs.Lines.{entries_of}
 use Rattle.esr_run.specs.Made.{HasFallen, AreDone}
 
-either_true : (a b : Bool) → b ≡ true → (a || b) ≡ true
-either_true true b e = refl
-either_true false b e = e
-
 -- the entries tell a record swap that failed
 fallen_there : (log : List Moment) (m : Moment) → Has log m → fails_swap m.entry.step m.entry.reply ≡ true → has_fallen (entries_of log) ≡ true
 fallen_there [] m h fails = absurd h
 fallen_there (n ∷ log) m (inl e) fails = ap (λ (b : Bool). b || has_fallen (entries_of log)) (ap (λ (x : Moment). fails_swap x.entry.step x.entry.reply) e ∙ fails)
-fallen_there (n ∷ log) m (inr h) fails = either_true (fails_swap n.entry.step n.entry.reply) (has_fallen (entries_of log)) (fallen_there log m h fails)
+fallen_there (n ∷ log) m (inr h) fails = or_right (fails_swap n.entry.step n.entry.reply) (has_fallen (entries_of log)) (fallen_there log m h fails)
 
 as_many : (log : List Moment) → length (entries_of log) ≡ length log
 as_many [] = refl
@@ -52,7 +48,7 @@ unfolding ending
 long_ends lines history long =
     badly (is_deposed (end_reply history) || list_any is_deposed (replies lines history)) (first_damaged (replies lines history))
     ((list_any is_spent (replies lines history) || nat_lt (length (replies lines history)) (length lines)) || not (is_short history)) (are_ok (replies lines history))
-    (either_true (list_any is_spent (replies lines history) || nat_lt (length (replies lines history)) (length lines)) (not (is_short history)) (ap not long))
+    (or_right (list_any is_spent (replies lines history) || nat_lt (length (replies lines history)) (length lines)) (not (is_short history)) (ap not long))
 
 -- the work was done, or it was left and the run ends so
 pub worked_or_left : (s : Start) (moment : ℕ) (lines : List ScriptLine) (log : List Moment) (history : List Entry) → entries_of log ≡ history → AreDone s moment lines [] log ⊎ HasFallen s moment lines [] log

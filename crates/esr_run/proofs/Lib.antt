@@ -14,11 +14,12 @@ pub mod Unlisted
 pub mod Cleanups
 pub mod Told
 pub mod Leaving
+pub mod Completing
+pub mod Sourceless
+pub mod Undamaged
 pub mod Ending
 pub mod Restoring
 pub mod Counting
-pub mod Completing
-pub mod Sourceless
 pub mod Smoothly
 pub mod Taking
 pub mod Checks
@@ -26,6 +27,5 @@ pub mod Verifying
 pub mod Lines
 pub mod Checking
 pub mod Falling
-pub mod Undamaged
 pub mod Waiting
 pub mod Going

@@ -2,6 +2,7 @@
 use Rattle.std.proofs.Common.{◌≡◌, ◌≢◌, ◌⊎◌, ◌||◌, ℕ, zero, suc, ◌+◌, ◌-◌, ◌^◌, ◌≤◌, take, take_all, true, false, List, [], ◌∷◌, ◌++◌, drop, ◌<◌, Bool, Some, slice_index_or, if◌then◌else◌, length, length-append, None, Option, Result, Ok, Err, OnOk, IfErr, IsErr, nat_cmp, append-nil, append_assoc, refl, sym, ap, ◌∙◌, subst, inl, inr, ⊎_elim, arith}
 use Rattle.std.specs.FinMap.{FinMap}
 use Rattle.std.specs.FinMap as fin
+use Rattle.esr_run.proofs.Parts.{in_left}
 use Rattle.esr_model.specs.Values.{Has, IndexRef, RootSnap, Formats}
 use Rattle.esr_core.specs.World.{World, Ticket, Reader}
 use Rattle.esr_core.specs.After.{after}
@@ -29,7 +30,8 @@ use Rattle.esr_run.specs.Script.{is_carried, first_bad}
 use Rattle.esr_run.specs.Laws.{StepsStay}
 use Rattle.esr_drive.specs.Elections.{WaitsOnly, elections, HasElected}
 use Rattle.esr_check.specs.Began.{HasEndedCheck}
-use Rattle.esr_run.specs.Checked.{is_check, asks_check}
+use Rattle.esr_script.specs.Kinds.{is_check}
+use Rattle.esr_run.specs.Checked.{asks_check}
 use Rattle.esr_run.specs.Waits.{owed_after, owed_then, LineElected, LineElects}
 use Rattle.esr_run.specs.Made.{MadeFirst, SomeStopped, HasStopped, HasNoReaders, AreIn, LineMade, LineRests, WaitEnds, NoneReady, AreElected, WaitEnded, WaitsEnded, Owes, AreMade, AreDone, NoneOpen, WasLeft, AreAsked, LineSpends, WasLookRefused, CheckEnded, ChecksEnded, AsksLine, LinePart, AreInParts, AskedApart, AddsOnly, IsWaiting, InOrStopped, WaitsOrStopped, AskedUnlessStopped}
 use Rattle.esr_verify.specs.Began as verifying
@@ -116,7 +118,8 @@ module _ (laws : StepsStay) (s : Start) (numbered : HasNoTickets s) (ops : Track
   stepped_in : (old new : List Moment) (step : Step) (reply : Reply) → AsksLine step → GivesNone reply → Stepped s old new 0 step reply → AreIn s old → AreIn s new
   stepped_in old new step reply asks none h rest = record { tickets = stepped_rests old new step reply none h rest.tickets; readers = stepped_readers old new step reply asks h rest.readers }
 
-  pub rests_by : {X : Type 0} (earlier : s.earlier_turns ≡ 0) (old new : List Moment) (step : Step) (ok : X → Reply) (result : Result X StepRefusal) → AsksLine step → ((x : X) → GivesNone (ok x)) → Outcome s old new 0 step ok result → AreIn s old → LineRests s new result
+  pub rests_by : {X : Type 0} (earlier : s.earlier_turns ≡ 0) (old new : List Moment) (step : Step) (ok : X → Reply) (result : Result X StepRefusal) → AsksLine step → ((x : X) → GivesNone (ok x)) → Outcome s old new 0 step ok result
+      → AreIn s old → LineRests s new result
   rests_by earlier old new step ok (Ok x) asks none h rest = stepped_in old new step (ok x) asks (none x) h rest
   rests_by earlier old new step ok (Err steps.Memory) asks none h rest = tt
   rests_by earlier old new step ok (Err steps.TurnsSpent) asks none h rest = all_entries s new earlier h.1
@@ -157,7 +160,8 @@ made_none s old new (Err (steps.Refused refusal)) h = h
 
 -- ---- a wait
 
-pub rests_waiting : (s : Start) (old new : List Moment) (result : Result Unit StepRefusal) → s.earlier_turns ≡ 0 → OnOk result (NoneOut s old → NoReaderOut s old → NoneOut s new) → OnOk result (NoneOut s old → NoReaderOut s old → NoReaderOut s new) → IfErr result (StoppedIn s new) → AreIn s old → LineRests s new result
+pub rests_waiting : (s : Start) (old new : List Moment) (result : Result Unit StepRefusal) → s.earlier_turns ≡ 0 → OnOk result (NoneOut s old → NoReaderOut s old → NoneOut s new)
+    → OnOk result (NoneOut s old → NoReaderOut s old → NoReaderOut s new) → IfErr result (StoppedIn s new) → AreIn s old → LineRests s new result
 rests_waiting s old new (Ok x) earlier rest readers stopped none = record { tickets = rest none.tickets none.readers; readers = readers none.tickets none.readers }
 rests_waiting s old new (Err steps.Memory) earlier rest readers stopped none = tt
 rests_waiting s old new (Err steps.TurnsSpent) earlier rest readers stopped none = all_entries s new earlier stopped
@@ -183,11 +187,6 @@ wait_ends s new (Err (steps.Refused refusal)) ready stopped = inl (refusal_of re
 
 -- ---- line after line
 
-has_front : (front back : List Moment) (m : Moment) → Has front m → Has (front ++ back) m
-has_front [] back m h = absurd h
-has_front (n ∷ front) back m (inl e) = inl e
-has_front (n ∷ front) back m (inr h) = inr (has_front front back m h)
-
 -- what was stopped stays so
 pub stopped_stays : (s : Start) (asked : List Step) (old new : List Moment) → GrewAsking s asked old new → HasStopped old → HasStopped new
 stopped_stays s asked old new g (inl some) =
@@ -196,7 +195,7 @@ stopped_stays s asked old new g (inl some) =
       some.0,
       record {
         moment = was.moment;
-        there = subst (λ (l : List Moment). Has l was.moment) (sym g.is) (has_front old g.more was.moment was.there);
+        there = subst (λ (l : List Moment). Has l was.moment) (sym g.is) (in_left old g.more was.moment was.there);
         same = was.same;
         step = was.step;
         stops = was.stops;
@@ -211,15 +210,7 @@ stopped_stays s asked old new g (inr all) =
 
 wait_or_not : (item : Item) → (item ≡ items.Wait) ⊎ (item ≢ items.Wait)
 wait_or_not items.Wait = inl refl
-wait_or_not (items.Snapshot name indices) = inr (λ e. cc)
-wait_or_not (items.Clone source name indices) = inr (λ e. cc)
-wait_or_not (items.Delete names) = inr (λ e. cc)
-wait_or_not (items.Restore name place) = inr (λ e. cc)
-wait_or_not items.Cleanup = inr (λ e. cc)
-wait_or_not items.Failover = inr (λ e. cc)
-wait_or_not items.List = inr (λ e. cc)
-wait_or_not items.Check = inr (λ e. cc)
-wait_or_not items.Verify = inr (λ e. cc)
+wait_or_not item = inr (λ e. cc)
 
 -- no ticket is out after a line, and after a wait no unit is ready, unless the work was stopped
 abbrev pub LineEnded : Start → Item → List Moment → Type 0
@@ -242,7 +233,8 @@ wait_on s moment before asked old mid new g w = record {
   idle = w.idle;
 }
 
-wait_here : (s : Start) (moment : ℕ) (done : List ScriptLine) (item : Item) (old mid new : List Moment) → item ≡ items.Wait → GrewAsking s (steps_of moment done) old mid → GrewAsking s (steps_of_item moment item) mid new → AreElected done old new → AreIn s new → NoneReady s new → WaitEnded s moment done old new
+wait_here : (s : Start) (moment : ℕ) (done : List ScriptLine) (item : Item) (old mid new : List Moment) → item ≡ items.Wait → GrewAsking s (steps_of moment done) old mid → GrewAsking s (steps_of_item moment item) mid new
+    → AreElected done old new → AreIn s new → NoneReady s new → WaitEnded s moment done old new
 wait_here s moment done item old mid new wait f g elected none ready = record {
   front = new;
   back = [];
@@ -274,7 +266,8 @@ no_waits : (s : Start) (moment : ℕ) (old new : List Moment) → WaitsEnded s m
 no_waits s moment old new [] after line e wait = absurd cc
 no_waits s moment old new (b ∷ before) after line e wait = absurd cc
 
-waits_next : (s : Start) (moment : ℕ) (done : List ScriptLine) (line : ScriptLine) (old mid new : List Moment) → GrewAsking s (steps_of moment done) old mid → GrewAsking s (steps_of_item moment line.item) mid new → WaitsEnded s moment done old mid
+waits_next : (s : Start) (moment : ℕ) (done : List ScriptLine) (line : ScriptLine) (old mid new : List Moment) → GrewAsking s (steps_of moment done) old mid → GrewAsking s (steps_of_item moment line.item) mid new
+    → WaitsEnded s moment done old mid
     → (line.item ≡ items.Wait → AreElected done old new) → AreIn s new → (line.item ≡ items.Wait → NoneReady s new) → WaitsEnded s moment (done ++ line ∷ []) old new
 waits_next s moment done line old mid new f g waits elected none ready before after l is wait =
     ⊎_elim
@@ -304,7 +297,8 @@ no_checks : (s : Start) (moment : ℕ) (old new : List Moment) → ChecksEnded s
 no_checks s moment old new [] after line e check = absurd cc
 no_checks s moment old new (b ∷ before) after line e check = absurd cc
 
-checks_next : (s : Start) (moment : ℕ) (done : List ScriptLine) (line : ScriptLine) (old mid new : List Moment) → GrewAsking s (steps_of moment done) old mid → GrewAsking s (steps_of_item moment line.item) mid new → ChecksEnded s moment done old mid → EndsCheck line.item mid new
+checks_next : (s : Start) (moment : ℕ) (done : List ScriptLine) (line : ScriptLine) (old mid new : List Moment) → GrewAsking s (steps_of moment done) old mid → GrewAsking s (steps_of_item moment line.item) mid new
+    → ChecksEnded s moment done old mid → EndsCheck line.item mid new
     → ChecksEnded s moment (done ++ line ∷ []) old new
 checks_next s moment done line old mid new f g checks ends before after l is check =
     ⊎_elim
@@ -338,14 +332,7 @@ none_elected owed mid new counts = let same : elections new + owed ≡ (election
 line_elected : (owed : ℕ) (item : Item) (mid new : List Moment) → LineCounts owed item mid new → LineElected owed item mid new
 line_elected owed items.Wait mid new counts = let all : elections new + 0 ≡ (elections mid + owed) + 0 = counts in omega (arith, all)
 line_elected owed items.Failover mid new counts = let same : elections new + suc owed ≡ (elections mid + owed) + 1 = counts in omega (arith, same)
-line_elected owed (items.Snapshot name indices) mid new counts = none_elected owed mid new counts
-line_elected owed (items.Clone source name indices) mid new counts = none_elected owed mid new counts
-line_elected owed (items.Delete names) mid new counts = none_elected owed mid new counts
-line_elected owed (items.Restore name place) mid new counts = none_elected owed mid new counts
-line_elected owed items.Cleanup mid new counts = none_elected owed mid new counts
-line_elected owed items.List mid new counts = none_elected owed mid new counts
-line_elected owed items.Check mid new counts = none_elected owed mid new counts
-line_elected owed items.Verify mid new counts = none_elected owed mid new counts
+line_elected owed item mid new counts = none_elected owed mid new counts
 
 -- the history tells the answer
 abbrev pub IsTold : Result Unit StepRefusal → Type 0
@@ -367,14 +354,7 @@ other_counts owed mid new h = let same : elections new ≡ elections mid = h in 
 pub line_counts : (owed : ℕ) (item : Item) (mid new : List Moment) (r : Result Unit StepRefusal) → IsTold r → LineElects owed item mid new r → LineCounts owed item mid new
 line_counts owed items.Wait mid new r told h = let all : elections new ≡ elections mid + owed = wait_counts owed mid new r told h in omega (arith, all)
 line_counts owed items.Failover mid new r told h = let same : elections new ≡ elections mid = h in omega (arith, same)
-line_counts owed (items.Snapshot name indices) mid new r told h = other_counts owed mid new h
-line_counts owed (items.Clone source name indices) mid new r told h = other_counts owed mid new h
-line_counts owed (items.Delete names) mid new r told h = other_counts owed mid new h
-line_counts owed (items.Restore name place) mid new r told h = other_counts owed mid new h
-line_counts owed items.Cleanup mid new r told h = other_counts owed mid new h
-line_counts owed items.List mid new r told h = other_counts owed mid new h
-line_counts owed items.Check mid new r told h = other_counts owed mid new h
-line_counts owed items.Verify mid new r told h = other_counts owed mid new h
+line_counts owed item mid new r told h = other_counts owed mid new h
 
 -- a line makes no more than are owed
 pub some_counts : (owed : ℕ) (mid new : List Moment) (r : Result Unit StepRefusal) → HasElected owed mid new r → elections new ≤ elections mid + owed
@@ -388,15 +368,7 @@ none_counts owed mid new h = let same : elections new ≡ elections mid = h in o
 
 pub line_few : (owed : ℕ) (item : Item) (mid new : List Moment) (r : Result Unit StepRefusal) → LineElects owed item mid new r → elections new ≤ elections mid + owed
 line_few owed items.Wait mid new r h = some_counts owed mid new r h
-line_few owed items.Failover mid new r h = none_counts owed mid new h
-line_few owed (items.Snapshot name indices) mid new r h = none_counts owed mid new h
-line_few owed (items.Clone source name indices) mid new r h = none_counts owed mid new h
-line_few owed (items.Delete names) mid new r h = none_counts owed mid new h
-line_few owed (items.Restore name place) mid new r h = none_counts owed mid new h
-line_few owed items.Cleanup mid new r h = none_counts owed mid new h
-line_few owed items.List mid new r h = none_counts owed mid new h
-line_few owed items.Check mid new r h = none_counts owed mid new h
-line_few owed items.Verify mid new r h = none_counts owed mid new h
+line_few owed item mid new r h = none_counts owed mid new h
 
 failovers_append : (a b : List ScriptLine) → failovers_of (a ++ b) ≡ failovers_of a + failovers_of b
 failovers_append [] b = omega arith
@@ -451,7 +423,8 @@ in_or_stopped s moment done old new (inr was) = inr was
 waits_closed : (s : Start) (log : List Moment) → NoneOpen s log → TakesAfter (WaitsOrStopped s) log
 waits_closed s log closed front all = inl (is_waiting s log closed front all)
 
-pub front_next : (s : Start) (moment owed : ℕ) (line : ScriptLine) (rest lines : List ScriptLine) (old mid new : List Moment) → Front s moment owed (line ∷ rest) lines old mid → GrewAsking s (steps_of_item moment line.item) mid new → LineCounts owed line.item mid new
+pub front_next : (s : Start) (moment owed : ℕ) (line : ScriptLine) (rest lines : List ScriptLine) (old mid new : List Moment) → Front s moment owed (line ∷ rest) lines old mid → GrewAsking s (steps_of_item moment line.item) mid new
+    → LineCounts owed line.item mid new
     → LinePart line.item mid new → NoneOpen s mid → (s.alone ≡ true → AreIn s mid → LineEnded s line.item new) → Front s moment (owed_after line.item owed) rest lines old new
 front_next s moment owed line rest lines old mid new f g counts part closed ended =
     let same : steps_of moment (f.done ++ line ∷ []) ≡ steps_of moment f.done ++ steps_of_item moment line.item =
@@ -492,7 +465,8 @@ asks_first moment line [] some is = absurd (let none : List ScriptLine = [] in l
 asks_first moment line (x ∷ rest) some is = (steps_of moment rest, ap (λ (l : ScriptLine). steps_of_item moment l.item ++ steps_of moment rest) (sym is))
 
 -- a line that added a front of its own
-front_first : (s : Start) (moment owed : ℕ) (left lines : List ScriptLine) (wanted : List Step) (old mid new : List Moment) → AsksFirst moment left wanted → Front s moment owed left lines old mid → MadeFirst s wanted mid new → MadeFirst s (steps_of moment lines) old new
+front_first : (s : Start) (moment owed : ℕ) (left lines : List ScriptLine) (wanted : List Step) (old mid new : List Moment) → AsksFirst moment left wanted → Front s moment owed left lines old mid → MadeFirst s wanted mid new
+    → MadeFirst s (steps_of moment lines) old new
 front_first s moment owed left lines wanted old mid new asks f h = record {
   first = steps_of moment f.done ++ h.first;
   rest = h.rest ++ asks.0;
@@ -524,7 +498,8 @@ front_few s moment owed left lines old mid new f last =
     omega (arith, all, one)
 
 -- all of them
-pub front_all : (s : Start) (moment owed : ℕ) (left lines : List ScriptLine) (old new : List Moment) → left ≡ [] → Front s moment owed left lines old new → NoneOpen s new → s.alone ≡ true → AreIn s old → AreMade s moment owed lines old new ⊎ WasLeft s moment owed lines old new
+pub front_all : (s : Start) (moment owed : ℕ) (left lines : List ScriptLine) (old new : List Moment) → left ≡ [] → Front s moment owed left lines old new → NoneOpen s new → s.alone ≡ true → AreIn s old
+    → AreMade s moment owed lines old new ⊎ WasLeft s moment owed lines old new
 front_all s moment owed left lines old new none f closed alone out =
     let all : f.done ≡ lines = sym (append-nil f.done) ∙ ap (λ (l : List ScriptLine). f.done ++ l) (sym none) ∙ f.is in
     let grew : GrewAsking s (steps_of moment lines) old new = subst (λ (l : List ScriptLine). GrewAsking s (steps_of moment l) old new) all f.grew in
@@ -537,7 +512,8 @@ front_all s moment owed left lines old new none f closed alone out =
     ]
 
 -- a line that was left
-pub front_cut : (s : Start) (moment owed : ℕ) (left lines : List ScriptLine) (item : Item) (old mid new : List Moment) → Front s moment owed left lines old mid → MadeFirst s (steps_of_item moment item) mid new → AddsOnly item mid new → (item ≡ items.Check → checking.BeganOne mid new) → (item ≡ items.Verify → verifying.BeganOne mid new)
+pub front_cut : (s : Start) (moment owed : ℕ) (left lines : List ScriptLine) (item : Item) (old mid new : List Moment) → Front s moment owed left lines old mid → MadeFirst s (steps_of_item moment item) mid new → AddsOnly item mid new
+    → (item ≡ items.Check → checking.BeganOne mid new) → (item ≡ items.Verify → verifying.BeganOne mid new)
     → NoneOpen s mid → s.alone ≡ true → AreIn s old → AskedUnlessStopped s old new
 front_cut s moment owed left lines item old mid new f made only checks verifies closed alone none =
     apart_on (InOrStopped s) (WaitsOrStopped s) old mid new (f.apart alone none)
@@ -557,7 +533,8 @@ waits_then s moment owed lines old mid (inl a) front all = inl (is_waiting s mid
 waits_then s moment owed lines old mid (inr (inl left)) front all = inl (is_waiting s mid left.0.closed front all)
 waits_then s moment owed lines old mid (inr (inr turns)) front all = inr (inr (long_on mid front turns))
 
-pub apart_then : (s : Start) (moment owed : ℕ) (lines : List ScriptLine) (old mid new : List Moment) → (AreIn s old → AskedUnlessStopped s old mid) → (AreIn s old → AreMade s moment owed lines old mid ⊎ WasLeft s moment owed lines old mid) → WaitsOnly mid new → AreIn s old
+pub apart_then : (s : Start) (moment owed : ℕ) (lines : List ScriptLine) (old mid new : List Moment) → (AreIn s old → AskedUnlessStopped s old mid)
+    → (AreIn s old → AreMade s moment owed lines old mid ⊎ WasLeft s moment owed lines old mid) → WaitsOnly mid new → AreIn s old
     → AskedUnlessStopped s old new
 apart_then s moment owed lines old mid new first made works none =
     apart_on (InOrStopped s) (WaitsOrStopped s) old mid new (first none) (waits_apart (InOrStopped s) (WaitsOrStopped s) mid new (waits_then s moment owed lines old mid (made none)) works)
@@ -577,7 +554,8 @@ then_asked s moment lines old mid new all g = subst (λ (l : List Step). GrewAsk
 abbrev pub ElectedOr : ℕ → List Moment → List Moment → Type 0
 ElectedOr owed mid new = (elections new ≡ elections mid + owed) ⊎ (2 ^ 33 ≤ length new)
 
-pub done_then : (s : Start) (moment owed : ℕ) (lines : List ScriptLine) (old mid new : List Moment) → (AreIn s old → AreMade s moment owed lines old mid ⊎ WasLeft s moment owed lines old mid) → GrewAsking s [] mid new → WaitsOnly mid new → ElectedOr owed mid new
+pub done_then : (s : Start) (moment owed : ℕ) (lines : List ScriptLine) (old mid new : List Moment) → (AreIn s old → AreMade s moment owed lines old mid ⊎ WasLeft s moment owed lines old mid) → GrewAsking s [] mid new → WaitsOnly mid new
+    → ElectedOr owed mid new
     → (AreIn s mid → IsIdle s new ⊎ HasStopped new) → (NoneOpen s mid → NoneOpen s new) → AreIn s old → AreDone s moment lines old new ⊎ WasLeft s moment 0 lines old new
 done_then s moment owed lines old mid new made g works counts done closes none = elim counts [
   | inl all ↦ told all (made none)
@@ -655,7 +633,8 @@ apart_first s old new same h is begun numbered unread =
     subst (λ (l : List Moment). AskedUnlessStopped s [] l) (sym is) (subst (λ (l : List Moment). AskedUnlessStopped s l new) begun (h (subst (AreIn s) (sym begun) (none_in s numbered unread))))
 
 -- on the history of a repository, from its beginning on
-pub done_on : {X E : Type 0} (s : Start) (moment : ℕ) (lines : List ScriptLine) (old new same : List Moment) (r : Result X E) → OnOk r (AreIn s old → AreDone s moment lines old new ⊎ WasLeft s moment 0 lines old new) → same ≡ new → old ≡ [] → HasNoTickets s → HasNoReaders s
+pub done_on : {X E : Type 0} (s : Start) (moment : ℕ) (lines : List ScriptLine) (old new same : List Moment) (r : Result X E) → OnOk r (AreIn s old → AreDone s moment lines old new ⊎ WasLeft s moment 0 lines old new) → same ≡ new
+    → old ≡ [] → HasNoTickets s → HasNoReaders s
     → OnOk r (AreDone s moment lines [] same ⊎ WasLeft s moment 0 lines [] same)
 done_on {X} {E} s moment lines old new same (Err e) done is begun numbered unread = tt
 done_on {X} {E} s moment lines old new same (Ok x) done is begun numbered unread =
@@ -677,7 +656,8 @@ take_rest [] = take_all (length (drop 1 none) - 1) (drop 1 none) (let few : 0 �
     none = []
 take_rest (x ∷ rest) = take_all (length (x ∷ rest) - 1) rest (let le : length rest ≤ suc (length rest) - 1 = omega arith in le)
 
-step_front : (s : Start) (moment owed : ℕ) (line : ScriptLine) (left lines : List ScriptLine) (old mid new : List Moment) → 1 ≤ length left → line ≡ slice_index_or left 0 line → Front s moment owed left lines old mid → GrewAsking s (steps_of_item moment line.item) mid new
+step_front : (s : Start) (moment owed : ℕ) (line : ScriptLine) (left lines : List ScriptLine) (old mid new : List Moment) → 1 ≤ length left → line ≡ slice_index_or left 0 line → Front s moment owed left lines old mid
+    → GrewAsking s (steps_of_item moment line.item) mid new
     → LineCounts owed line.item mid new → LinePart line.item mid new → NoneOpen s mid → (s.alone ≡ true → AreIn s mid → LineEnded s line.item new) → Front s moment (owed_after line.item owed) (drop 1 left) lines old new
 step_front s moment owed line [] lines old mid new some is f g counts part closed ended = absurd (let none : List ScriptLine = [] in let le : 1 ≤ length none = some in omega (arith, le))
 step_front s moment owed line (x ∷ rest) lines old mid new some is f g counts part closed ended =
@@ -702,13 +682,16 @@ first_line : (line : ScriptLine) (left : List ScriptLine) → 1 ≤ length left 
 first_line line [] some is = absurd (let none : List ScriptLine = [] in let le : 1 ≤ length none = some in omega (arith, le))
 first_line line (x ∷ rest) some is = (rest, ap (λ (l : ScriptLine). l ∷ rest) (sym is))
 
-pub asks_here : (s : Start) (moment owed : ℕ) (line : ScriptLine) (left lines : List ScriptLine) (old mid : List Moment) → 1 ≤ length left → line ≡ slice_index_or left 0 line → Front s moment owed left lines old mid → is_check line.item ≡ true → asks_check lines ≡ true
+pub asks_here : (s : Start) (moment owed : ℕ) (line : ScriptLine) (left lines : List ScriptLine) (old mid : List Moment) → 1 ≤ length left → line ≡ slice_index_or left 0 line → Front s moment owed left lines old mid
+    → is_check line.item ≡ true → asks_check lines ≡ true
 asks_here s moment owed line left lines old mid some is f check =
     let first = first_line line left some is in
     subst (λ (l : List ScriptLine). asks_check l ≡ true) (ap (λ (l : List ScriptLine). f.done ++ l) (sym first.1) ∙ f.is) (asks_has f.done line first.0 check)
 
-pub front_step : (s : Start) (moment owed after : ℕ) (line : ScriptLine) (left lines : List ScriptLine) (old mid new : List Moment) → 1 ≤ length left → line ≡ slice_index_or left 0 line → after ≡ owed_after line.item owed → Front s moment owed left lines old mid
-    → GrewAsking s (steps_of_item moment line.item) mid new → LineCounts owed line.item mid new → LinePart line.item mid new → NoneOpen s mid → (s.alone ≡ true → AreIn s mid → LineEnded s line.item new) → Front s moment after (take (length left - 1) (drop 1 left)) lines old new
+pub front_step : (s : Start) (moment owed after : ℕ) (line : ScriptLine) (left lines : List ScriptLine) (old mid new : List Moment) → 1 ≤ length left → line ≡ slice_index_or left 0 line → after ≡ owed_after line.item owed
+    → Front s moment owed left lines old mid
+    → GrewAsking s (steps_of_item moment line.item) mid new → LineCounts owed line.item mid new → LinePart line.item mid new → NoneOpen s mid → (s.alone ≡ true → AreIn s mid → LineEnded s line.item new)
+    → Front s moment after (take (length left - 1) (drop 1 left)) lines old new
 front_step s moment owed after line left lines old mid new some is owes f g counts part closed ended =
     subst (λ (n : ℕ). Front s moment n (take (length left - 1) (drop 1 left)) lines old new) (sym owes)
     (subst (λ (l : List ScriptLine). Front s moment (owed_after line.item owed) l lines old new) (sym (take_rest left)) (step_front s moment owed line left lines old mid new some is f g counts part closed ended))

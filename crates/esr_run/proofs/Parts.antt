@@ -24,7 +24,7 @@ pub cancel : {A : Type 0} (old a b : List A) → old ++ a ≡ old ++ b → a ≡
 cancel [] a b e = e
 cancel (x ∷ old) a b e = cancel old a b (tail_same x (old ++ a) (old ++ b) e)
 
-in_left : (a b : List Moment) (m : Moment) → Has a m → Has (a ++ b) m
+pub in_left : (a b : List Moment) (m : Moment) → Has a m → Has (a ++ b) m
 in_left [] b m h = absurd h
 in_left (x ∷ a) b m (inl e) = inl e
 in_left (x ∷ a) b m (inr h) = inr (in_left a b m h)
@@ -82,7 +82,8 @@ record Whole (moment : ℕ) (lines : List ScriptLine) (old new : List Moment) : 
   is : new ≡ old ++ all
   parts : AreParts moment lines all
 
-whole : (s : Start) (moment owed : ℕ) (lines : List ScriptLine) (old mid new tail : List Moment) → s.alone ≡ true → AreInParts s moment owed lines old mid → new ≡ mid ++ tail → asked_steps tail ≡ [] → NoneChecked tail → NeverDeposed new → Whole moment lines old new
+whole : (s : Start) (moment owed : ℕ) (lines : List ScriptLine) (old mid new tail : List Moment) → s.alone ≡ true → AreInParts s moment owed lines old mid → new ≡ mid ++ tail → asked_steps tail ≡ [] → NoneChecked tail
+    → NeverDeposed new → Whole moment lines old new
 whole s moment owed [] old mid new tail alone same is asked none never = record { all = tail; is = is ∙ ap (λ (l : List Moment). l ++ tail) same; parts = (asked, none) }
 whole s moment owed (line ∷ lines) old mid new tail alone (first, g, p, elects, rest) is asked none never =
     let w = whole s moment (owed_after line.item owed) lines first mid new tail alone rest is asked none never in

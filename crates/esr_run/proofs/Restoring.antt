@@ -65,8 +65,10 @@ module _ {S F H T : Type 0} (law : ByLines S F H T) (evidence : Evidence S F H T
 pub opens_restored : {S F H T : Type 0} (laws : Laws) (kept : KeptLaws S F H T) (evidence : Evidence S F H T) (files : Telling) (size workers moment : ℕ) (lines : List ScriptLine) (quiet : Bool) (before mid after : Look) (k : Kept) (history : List Entry) (faults : List (Fault S F H T)) (targets : List (Restored T)) (status : ℕ)
     (o : IsOpening before mid k) → (2 ^ 62 ≤ before.sure → quiet ≡ true)
     → LegalRun (Begun files size quiet mid k) mid.clock after history → IsPast (Begun files size quiet mid k) mid.clock mid.since after history → AreShown evidence (Begun files size quiet mid k) (log_of after mid.clock history) faults
-    → AreOnce (Begun files size quiet mid k) (log_of after mid.clock history) → AreTested (Begun files size quiet mid k) (log_of after mid.clock history) → NoneTwice (log_of after mid.clock history) → AreRemovedOnce (log_of after mid.clock history) → IsCalm quiet after.sure history → MadeFirst (Begun files size quiet mid k) (steps_of moment lines) [] (log_of after mid.clock history)
-    → AreWhole (Begun files size quiet mid k) workers (asks_check lines) (log_of after mid.clock history) → AreFew workers lines (log_of after mid.clock history) → AskedUnlessStopped (Begun files size quiet mid k) [] (log_of after mid.clock history)
+    → AreOnce (Begun files size quiet mid k) (log_of after mid.clock history) → AreTested (Begun files size quiet mid k) (log_of after mid.clock history) → NoneTwice (log_of after mid.clock history)
+    → AreRemovedOnce (log_of after mid.clock history) → IsCalm quiet after.sure history → MadeFirst (Begun files size quiet mid k) (steps_of moment lines) [] (log_of after mid.clock history)
+    → AreWhole (Begun files size quiet mid k) workers (asks_check lines) (log_of after mid.clock history) → AreFew workers lines (log_of after mid.clock history)
+    → AskedUnlessStopped (Begun files size quiet mid k) [] (log_of after mid.clock history)
     → (status ≡ 8) ⊎ AreTargetsOfLines evidence (Begun files size quiet mid k) moment lines (log_of after mid.clock history) targets
     → OpensRestored evidence files size workers moment lines before after history faults targets status
 unfolding opened_run
@@ -88,7 +90,8 @@ opens_none evidence files size workers moment lines before after history faults 
 
 -- with the words and the script
 pub restored_opened : {S F H T : Type 0} (evidence : Evidence S F H T) (given : Given) (files : Telling) (size workers : ℕ) (lines : List ScriptLine) (before after : Look) (history : List Entry) (faults : List (Fault S F H T)) (targets : List (Restored T)) (status : ℕ)
-    → part_size_of (wanted_of (job_of given.words)) ≡ Some size → workers_of (job_of given.words) ≡ Some workers → IsScript given lines → OpensRestored evidence files size workers given.moment lines before after history faults targets status → HasRestored evidence given files before after history faults targets status
+    → part_size_of (wanted_of (job_of given.words)) ≡ Some size → workers_of (job_of given.words) ≡ Some workers → IsScript given lines
+    → OpensRestored evidence files size workers given.moment lines before after history faults targets status → HasRestored evidence given files before after history faults targets status
 restored_opened evidence given files size workers lines before after history faults targets status size_is workers_are is (inl wanting) = inl wanting
 restored_opened evidence given files size workers lines before after history faults targets status size_is workers_are is (inr (inl none)) = inr (inl none)
 restored_opened evidence given files size workers lines before after history faults targets status size_is workers_are is (inr (inr run)) = inr (inr (record { size = size; size_is = size_is; workers = workers; workers_are = workers_are; lines = lines; script = is; run = run.0 }, run.1))

@@ -1,6 +1,6 @@
 -- Completeness, from the end of a run to its words.
 use Rattle.std.proofs.Common.{◌≡◌, ◌⊎◌, ℕ, ◌+◌, ◌^◌, ◌<◌, ◌≤◌, Bool, true, false, not, nat_lt, List, [], Option, Some, None, Result, Ok, Err, refl, sym, ap, ◌∙◌, subst, inl, inr, ⊎_elim, arith}
-use Rattle.std.proofs.lemmas.Bool.{ltb-true, ltb-false}
+use Rattle.std.proofs.lemmas.Bool.{ltb-true}
 use Rattle.esr_model.specs.Values.{Bytes}
 use Rattle.esr_core.specs.World.{World}
 use Rattle.esr_core.specs.Entry.{Entry}
@@ -41,13 +41,6 @@ use Rattle.esr_run.proofs.Completing.{completes}
 
 -- ---- whether a container is taken for quiet
 
-flag_of : (b : Bool) → not b ≡ true → b ≡ false
-flag_of true e = absurd cc
-flag_of false e = refl
-
-pub calm_enough : (sure : ℕ) → is_calm_by sure ≡ true → 2 ^ 41 ≤ sure
-calm_enough sure e = ltb-false sure (2 ^ 41) (flag_of (nat_lt sure (2 ^ 41)) e)
-
 pub taken_calm : (before mid : ℕ) → before ≤ mid + 2 ^ 61 → 2 ^ 62 ≤ before → is_calm_by mid ≡ true
 taken_calm before mid spent enough = go (nat_lt mid (2 ^ 41)) refl
   where
@@ -68,8 +61,10 @@ carried_status status text lines history (inr told) = inr told.0
 pub opens_well : {S F H T : Type 0} (laws : Laws) (kept : KeptLaws S F H T) (quiet_laws : QuietLaws S F H T) (evidence : Evidence S F H T) (files : Telling) (size workers moment : ℕ) (lines : List ScriptLine) (quiet : Bool) (before mid after : Look) (k : Kept) (history : List Entry) (faults : List (Fault S F H T))
     (status : ℕ) (text : Bytes) (o : IsOpening before mid k) → (2 ^ 62 ≤ before.sure → quiet ≡ true)
     → LegalRun (Begun files size quiet mid k) mid.clock after history → IsPast (Begun files size quiet mid k) mid.clock mid.since after history → AreShown evidence (Begun files size quiet mid k) (log_of after mid.clock history) faults
-    → AreOnce (Begun files size quiet mid k) (log_of after mid.clock history) → AreTested (Begun files size quiet mid k) (log_of after mid.clock history) → NoneTwice (log_of after mid.clock history) → AreRemovedOnce (log_of after mid.clock history) → IsCalm quiet after.sure history → MadeFirst (Begun files size quiet mid k) (steps_of moment lines) [] (log_of after mid.clock history)
-    → AreWhole (Begun files size quiet mid k) workers (asks_check lines) (log_of after mid.clock history) → AreFew workers lines (log_of after mid.clock history) → AskedUnlessStopped (Begun files size quiet mid k) [] (log_of after mid.clock history)
+    → AreOnce (Begun files size quiet mid k) (log_of after mid.clock history) → AreTested (Begun files size quiet mid k) (log_of after mid.clock history) → NoneTwice (log_of after mid.clock history)
+    → AreRemovedOnce (log_of after mid.clock history) → IsCalm quiet after.sure history → MadeFirst (Begun files size quiet mid k) (steps_of moment lines) [] (log_of after mid.clock history)
+    → AreWhole (Begun files size quiet mid k) workers (asks_check lines) (log_of after mid.clock history) → AreFew workers lines (log_of after mid.clock history)
+    → AskedUnlessStopped (Begun files size quiet mid k) [] (log_of after mid.clock history)
     → AreDeposedSo history → IsTold status text (Some (Carried lines history))
     → (status ≡ 8) ⊎ (AreDone (Begun files size quiet mid k) moment lines [] (log_of after mid.clock history) ⊎ HasFallen (Begun files size quiet mid k) moment lines [] (log_of after mid.clock history))
     → OpensWell evidence files size workers moment lines before after history faults status
@@ -143,7 +138,8 @@ same_wanted NoCommand script old new a b reads first second = absurd first
 same_wanted NoRun script old new a b reads first second = absurd first
 
 pub complete_opened : {S F H T : Type 0} (evidence : Evidence S F H T) (given : Given) (files : Telling) (reader size workers : ℕ) (lines : List ScriptLine) (before after : Look) (old_out new_out : ℕ) (history : List Entry) (faults : List (Fault S F H T)) (status : ℕ)
-    → part_size_of (wanted_of (job_of given.words)) ≡ Some size → workers_of (job_of given.words) ≡ Some workers → IsScript given lines → OpensWell evidence files size workers given.moment lines before after history faults status → IsComplete evidence given files reader before after old_out new_out history faults status
+    → part_size_of (wanted_of (job_of given.words)) ≡ Some size → workers_of (job_of given.words) ≡ Some workers → IsScript given lines → OpensWell evidence files size workers given.moment lines before after history faults status
+    → IsComplete evidence given files reader before after old_out new_out history faults status
 complete_opened {S} {F} {H} {T} evidence given files reader size workers lines before after old_out new_out history faults status size_is workers_are script well asked smooth =
     let same : asked ≡ lines = same_wanted (wanted_of (job_of given.words)) given.script given.faults reader asked lines smooth.reads smooth.script.are script.are in
     ⊎_elim
@@ -158,7 +154,8 @@ complete_opened {S} {F} {H} {T} evidence given files reader size workers lines b
 no_bad : (lines : List ScriptLine) (number : ℕ) → first_bad lines ≡ None → first_bad lines ≡ Some number → ⊥
 no_bad lines number none some = let same : ◌≡◌ {A = Option ℕ} None (Some number) = sym none ∙ some in cc
 
-not_stopped : (wanted : Wanted) (script : Option Bytes) (old new : ℕ) (lines : List ScriptLine) (end : RunEnd) → (AsksScript wanted → IsReadWell script old new) → IsScriptFor wanted script lines → IsStoppedFor wanted script old new end → ⊥
+not_stopped : (wanted : Wanted) (script : Option Bytes) (old new : ℕ) (lines : List ScriptLine) (end : RunEnd) → (AsksScript wanted → IsReadWell script old new) → IsScriptFor wanted script lines → IsStoppedFor wanted script old new end
+    → ⊥
 not_stopped (ReadScript size) script old new lines BadWords reads is stop = absurd cc
 not_stopped (ReadScript size) script old new lines Unreadable reads is stop = (reads tt).read stop.1
 not_stopped (ReadScript size) script old new lines BadScript reads is stop =

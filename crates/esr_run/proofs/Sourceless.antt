@@ -1,5 +1,5 @@
 -- Where no line asks for a snapshot nothing is asked of the sources.
-use Rattle.std.proofs.Common.{◌≡◌, ℕ, List, ◌++◌, Option, Some, None, refl, sym, ap, ◌∙◌, subst, inl, inr, nat_cmp}
+use Rattle.std.proofs.Common.{◌≡◌, ℕ, List, ◌++◌, Option, Some, None, sym, ap, ◌∙◌, subst, nat_cmp}
 use Rattle.std.specs.FinMap as fin
 use Rattle.esr_model.specs.Values.{Bytes, Has, Formats, RootData, ClusterRecord}
 use Rattle.esr_model.specs.Image.{Blobs}
@@ -10,6 +10,7 @@ use Rattle.esr_core.specs.Tracked.{Tracked}
 use Rattle.esr_law.specs.Digests.{AskNoSnapshot, AreClones}
 use Rattle.esr_quiet.specs.Asked.{is_line_ask, as_asked, asked_steps}
 use Rattle.esr_complete.specs.Lines.{steps_of_item, steps_of}
+use Rattle.esr_complete.specs.ItemSteps.{only_step, snapshot_item}
 use Rattle.esr_script.specs.declared.item.AskedIndex.{AskedIndex as LineIndex}
 use Rattle.esr_script.specs.declared.item.Item.{Item}
 use Rattle.esr_script.specs.declared.item.Item.TheVariants as items
@@ -20,22 +21,9 @@ use Rattle.esr_run.proofs.Completing.{asked_true, in_asked, in_wanted, of_line}
 
 -- what another item asks for is no snapshot
 none_asked : (moment : ℕ) (item : Item) (name : Bytes) (indices : List AskedIndex) (when : ℕ) → ((called : Bytes) (of : List LineIndex) → item ≡ items.Snapshot called of → ⊥) → Has (steps_of_item moment item) (AskStep (Snapshot name indices when)) → ⊥
-none_asked moment (items.Snapshot called of) name indices when none h = none called of refl
-none_asked moment (items.Clone source called of) name indices when none (inl e) = cc
-none_asked moment (items.Clone source called of) name indices when none (inr h) = h
-none_asked moment (items.Delete names) name indices when none (inl e) = cc
-none_asked moment (items.Delete names) name indices when none (inr h) = h
-none_asked moment (items.Restore called place) name indices when none (inl e) = cc
-none_asked moment (items.Restore called place) name indices when none (inr h) = h
-none_asked moment items.Cleanup name indices when none (inl e) = cc
-none_asked moment items.Cleanup name indices when none (inr h) = h
-none_asked moment items.List name indices when none (inl e) = cc
-none_asked moment items.List name indices when none (inr h) = h
-none_asked moment items.Check name indices when none (inl e) = cc
-none_asked moment items.Check name indices when none (inr h) = h
-none_asked moment items.Verify name indices when none (inl e) = cc
-none_asked moment items.Verify name indices when none (inr h) = h
-none_asked moment item name indices when none h = h
+none_asked moment item name indices when none h =
+    let (of, is, same) = snapshot_item moment item name indices when (only_step moment item (AskStep (Snapshot name indices when)) h) in
+    none name of is
 
 asks_none : (moment : ℕ) (lines : List ScriptLine) (rest : List Step) (log : List Moment) → asked_steps log ++ rest ≡ steps_of moment lines → AreWithoutSnapshot lines → AskNoSnapshot log
 asks_none moment lines rest log asked without m has who name indices when is =
@@ -50,7 +38,8 @@ opened_clones blobs cluster root o op there none = none_some (sym (fin.get-empty
     none_some : ◌≡◌ {A = Option Op} None (Some op) → ⊥
     none_some e = cc
 
-pub needs_no_source : (laws : Laws) (f : Formats) (size moment : ℕ) (lines : List ScriptLine) (rest : List Step) (blobs : Blobs) (cluster : ClusterRecord) (root : RootData) (log : List Moment) → Tracked (opened blobs cluster root) → IsLegal f size (opened blobs cluster root) log
+pub needs_no_source : (laws : Laws) (f : Formats) (size moment : ℕ) (lines : List ScriptLine) (rest : List Step) (blobs : Blobs) (cluster : ClusterRecord) (root : RootData) (log : List Moment) → Tracked (opened blobs cluster root)
+    → IsLegal f size (opened blobs cluster root) log
     → asked_steps log ++ rest ≡ steps_of moment lines → NeedsNoSource f (opened blobs cluster root) lines log
 needs_no_source laws f size moment lines rest blobs cluster root log tracked legal asked without =
     let w : World = opened blobs cluster root in

@@ -53,21 +53,24 @@ waits_next workers line (x ∷ rest) some is =
     ap (λ (l : ScriptLine). waits_in workers l.item + waits_of workers rest) (sym is) ∙ ap (λ (l : List ScriptLine). waits_in workers line.item + waits_of workers l) (sym (take_rest (x ∷ rest)))
 
 -- after one line more
-pub waits_on : (workers : ℕ) (line : ScriptLine) (left : List ScriptLine) (old mid new all : ℕ) → 1 ≤ length left → line ≡ slice_index_or left 0 line → mid + waits_of workers left ≤ old + all → new ≤ mid + waits_in workers line.item
+pub waits_on : (workers : ℕ) (line : ScriptLine) (left : List ScriptLine) (old mid new all : ℕ) → 1 ≤ length left → line ≡ slice_index_or left 0 line → mid + waits_of workers left ≤ old + all
+    → new ≤ mid + waits_in workers line.item
     → new + waits_of workers (take (length left - 1) (drop 1 left)) ≤ old + all
 waits_on workers line left old mid new all some is was one =
     let next : waits_of workers left ≡ waits_in workers line.item + waits_of workers (take (length left - 1) (drop 1 left)) = waits_next workers line left some is in
     omega (arith, next, was, one)
 
 -- where it is the last that is carried out
-pub waits_end : (workers : ℕ) (line : ScriptLine) (left : List ScriptLine) (old mid new all : ℕ) → 1 ≤ length left → line ≡ slice_index_or left 0 line → mid + waits_of workers left ≤ old + all → new ≤ mid + waits_in workers line.item → new ≤ old + all
+pub waits_end : (workers : ℕ) (line : ScriptLine) (left : List ScriptLine) (old mid new all : ℕ) → 1 ≤ length left → line ≡ slice_index_or left 0 line → mid + waits_of workers left ≤ old + all
+    → new ≤ mid + waits_in workers line.item → new ≤ old + all
 waits_end workers line left old mid new all some is was one =
     let next : waits_of workers left ≡ waits_in workers line.item + waits_of workers (take (length left - 1) (drop 1 left)) = waits_next workers line left some is in
     omega (arith, next, was, one)
 
 -- ---- from the beginning on
 
-pub are_few : (workers : ℕ) (old new repo : List Moment) (lines script : List ScriptLine) → idle_takes new ≤ idle_takes old + (waits_of workers lines + workers) → elections new ≤ elections old + failovers_of lines → repo ≡ new → old ≡ [] → lines ≡ script → AreFew workers script repo
+pub are_few : (workers : ℕ) (old new repo : List Moment) (lines script : List ScriptLine) → idle_takes new ≤ idle_takes old + (waits_of workers lines + workers) → elections new ≤ elections old + failovers_of lines → repo ≡ new
+    → old ≡ [] → lines ≡ script → AreFew workers script repo
 are_few workers old new repo lines script few elects repo_is none same =
     let here : idle_takes repo ≡ idle_takes new = ap idle_takes repo_is in
     let before : idle_takes old ≡ 0 = ap idle_takes none in

@@ -1,9 +1,10 @@
 -- What reads as a root has in its indices listed snapshots alone: others are refused.
-use Rattle.std.specs.Prelude.{◌≡◌, ℕ, Bool, true, false, ◌==◌, ◌&&◌, ◌||◌, List, [], ◌∷◌, ◌++◌, map, length, Some, option_map, Result, Ok, Err}
+use Rattle.std.specs.Prelude.{◌≡◌, ℕ, Bool, true, false, ◌==◌, ◌||◌, List, [], ◌∷◌, ◌++◌, length, Some, option_map, Result, Ok, Err}
 use Rattle.std.specs.Result.{result_ok}
 use Rattle.std.specs.List.{list_all}
-use Rattle.std.proofs.Common.{◌⊎◌, inl, inr, refl, sym, ap, ◌∙◌, subst, cond, eqb-true, ⊎_elim}
-use Rattle.std.proofs.lemmas.Bool.{cases_Bool}
+use Rattle.std.proofs.Common.{◌⊎◌, inl, inr, refl, sym, ◌∙◌, subst, cond, eqb-true, ⊎_elim}
+use Rattle.std.proofs.lemmas.Bool.{cases_Bool, and_parts, or_cases}
+use Rattle.esr_model.specs.Lists.{Has-append, Has-map, Has-mapped}
 use Rattle.serde_json.specs.Data.{Data}
 use Rattle.esr_names.specs.declared.ids.Id.{Id}
 use Rattle.esr_json.specs.declared.key.Key.TheVariants as keys
@@ -40,34 +41,10 @@ when_ok false e x y h = absurd cc
 
 -- ---- lists
 
-both_true : (x y : Bool) → (x && y) ≡ true → (x ≡ true) × (y ≡ true)
-both_true true y h = (refl, h)
-both_true false y h = absurd cc
-
-either_true : (x y : Bool) → (x || y) ≡ true → (x ≡ true) ⊎ (y ≡ true)
-either_true true y h = inl refl
-either_true false y h = inr h
-
 all_pass : (test : Id → Bool) (us : List Id) → list_all test us ≡ true → (u : Id) → Has us u → test u ≡ true
 all_pass test [] h u none = absurd none
-all_pass test (v ∷ us) h u (inl here) = subst (λ (w : Id). test w ≡ true) here (both_true (test v) (list_all test us) h).0
-all_pass test (v ∷ us) h u (inr later) = all_pass test us (both_true (test v) (list_all test us) h).1 u later
-
-has_push : {A : Type 0} (xs : List A) (y z : A) → Has (xs ++ y ∷ []) z → Has xs z ⊎ (y ≡ z)
-has_push [] y z (inl last) = inr last
-has_push [] y z (inr none) = absurd none
-has_push (x ∷ xs) y z (inl here) = inl (inl here)
-has_push (x ∷ xs) y z (inr later) = ⊎_elim (λ h. inl (inr h)) (λ last. inr last) (has_push xs y z later)
-
-has_map : {A B : Type 0} (f : A → B) (xs : List A) (x : A) → Has xs x → Has (map f xs) (f x)
-has_map f [] x none = absurd none
-has_map f (y ∷ xs) x (inl here) = inl (ap f here)
-has_map f (y ∷ xs) x (inr later) = inr (has_map f xs x later)
-
-mapped : {A B : Type 0} (f : A → B) (xs : List A) (y : B) → Has (map f xs) y → (x : A) × Has xs x × (f x ≡ y)
-mapped f [] y none = absurd none
-mapped f (x ∷ xs) y (inl here) = (x, inl refl, here)
-mapped f (x ∷ xs) y (inr later) = let found = mapped f xs y later in (found.0, inr found.1, found.2)
+all_pass test (v ∷ us) h u (inl here) = subst (λ (w : Id). test w ≡ true) here (and_parts (test v) (list_all test us) h).0
+all_pass test (v ∷ us) h u (inr later) = all_pass test us (and_parts (test v) (list_all test us) h).1 u later
 
 -- ---- each snapshot of an index is listed
 
@@ -83,7 +60,7 @@ checked_listed snaps ids i j h =
     (one.1, all_pass (lists snaps) i.snapshots one.0)
 
 push_listed : (snaps : List CodeSnap) (is : List CodeIndex) (x : CodeIndex) → EachListed snaps is → AreListed snaps x → EachListed snaps (is ++ x ∷ [])
-push_listed snaps is x each listed i has_i = ⊎_elim (λ before. each i before) (λ last. subst (AreListed snaps) last listed) (has_push is x i has_i)
+push_listed snaps is x each listed i has_i = ⊎_elim (λ before. each i before) (λ last. subst (AreListed snaps) last listed) (Has-append is x i has_i)
 
 kept_listed : (snaps : List CodeSnap) (is : List CodeIndex) (x : CodeIndex) → EachListed snaps is → AreListed snaps x → EachListed snaps (kept is x)
 kept_listed snaps is x each listed = elim (cases_Bool (length x.snapshots == 0)) [
@@ -116,17 +93,17 @@ read_listed bytes r h =
 
 snap_listed : (snaps : List CodeSnap) (u : Id) → lists snaps u ≡ true → (s : CodeSnap) × Has snaps s × (s.uuid.number ≡ u.number)
 snap_listed [] u h = absurd cc
-snap_listed (s ∷ snaps) u h = elim (either_true (same_id s.uuid u) (lists snaps u) h) [
+snap_listed (s ∷ snaps) u h = elim (or_cases (same_id s.uuid u) (lists snaps u) h) [
   | inl here ↦ (s, inl refl, eqb-true s.uuid.number u.number here)
   | inr later ↦ let found = snap_listed snaps u later in (found.0, inr found.1, found.2)
 ]
 
 indexes_listed : (root : Root) → EachListed root.snapshots root.indices → IndexesListed (root_of root)
 indexes_listed root each x n has_x has_n =
-    let i = mapped root_index_of root.indices x has_x in
-    let u = mapped number_of i.0.snapshots n (subst (λ (y : RootIndex). Has y.snapshots n) (sym i.2) has_n) in
+    let i = Has-mapped root_index_of root.indices x has_x in
+    let u = Has-mapped number_of i.0.snapshots n (subst (λ (y : RootIndex). Has y.snapshots n) (sym i.2) has_n) in
     let s = snap_listed root.snapshots u.0 (each i.0 i.1 u.0 u.1) in
-    (root_snap_of s.0, has_map root_snap_of root.snapshots s.0 s.1, s.2 ∙ u.2)
+    (root_snap_of s.0, Has-map root_snap_of root.snapshots s.0 s.1, s.2 ∙ u.2)
 
 read_indexes : (read : Result Root Reason) (r : RootData) → ((root : Root) → read ≡ Ok root → EachListed root.snapshots root.indices) → option_map root_of (result_ok read) ≡ Some r → IndexesListed r
 read_indexes (Err why) r each h = absurd cc

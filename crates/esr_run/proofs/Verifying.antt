@@ -2,6 +2,8 @@
 use Rattle.std.proofs.Common.{◌≡◌, ◌≢◌, ◌⊎◌, ℕ, zero, suc, ◌+◌, ◌^◌, ◌≤◌, ◌==◌, ◌&&◌, if◌then◌else◌, length, Bool, true, false, List, [], ◌∷◌, ◌++◌, true≢false, append-nil, append_assoc, Option, Result, Ok, Err, IfErr, nat_cmp, refl, sym, ap, ◌∙◌, subst, inl, inr, ⊎_elim, arith}
 use Rattle.std.specs.FinMap.{FinMap}
 use Rattle.std.specs.FinMap as fin
+use Rattle.esr_model.specs.Lists.{Has-left}
+use Rattle.esr_run.proofs.Apart.{no_middle, split_both}
 use Rattle.esr_model.specs.Values.{Has, Formats}
 use Rattle.esr_model.specs.Names.{BlobName}
 use Rattle.esr_model.specs.Image.{Image}
@@ -35,7 +37,7 @@ use Rattle.esr_run.specs.Laws.{StepsStay, WorkLeaves}
 use Rattle.esr_check.specs.Began.{IsOfCheck}
 use Rattle.esr_run.specs.Checked.{HasLooked}
 use Rattle.esr_run.specs.Verified.{AreVerified, AreBegun, AreClosed, AreWhole, MayVerify, VerifiesOn}
-use Rattle.esr_run.proofs.Completing.{in_front, in_middle}
+use Rattle.esr_run.proofs.Completing.{in_middle}
 use Rattle.esr_run.proofs.Making.{world_one, legal_front, same_or_not, all_entries}
 use Rattle.esr_run.proofs.Callers.{caller_end, caller_worked}
 use Rattle.esr_run.proofs.Checks.{NoneZero, no_cons, split_end, Never, NamesFirst, fails_other, begun_fails, maybe_fails, begun_checked, maybe_checked}
@@ -124,7 +126,8 @@ asks_idle f w step reply image (inr look) idle = subst (λ (x : Step). IsIdle (c
 
 -- ---- a line that asks for one step
 
-stepped_may : (s : Start) (workers : ℕ) (checks : Bool) (old new : List Moment) (step : Step) (reply : Reply) → AsksLine step → s.alone ≡ true → Stepped s old new 0 step reply → MayVerify s workers checks old → MayVerify s workers checks new
+stepped_may : (s : Start) (workers : ℕ) (checks : Bool) (old new : List Moment) (step : Step) (reply : Reply) → AsksLine step → s.alone ≡ true → Stepped s old new 0 step reply → MayVerify s workers checks old
+    → MayVerify s workers checks new
 stepped_may s workers checks old new step reply asks alone h may =
     let m : Moment = record { entry = record { who = 0; step = step; reply = reply }; image = h.image } in
     let front : h.front ≡ old = h.waited.grew ∙ ap (λ (l : List Moment). old ++ l) (h.waited.nobody alone) ∙ append-nil old in
@@ -138,7 +141,8 @@ stepped_may s workers checks old new step reply asks alone h may =
 waited_whole : (s : Start) (workers : ℕ) (checks : Bool) (old new : List Moment) → s.alone ≡ true → Waited s old new 0 → AreWhole s workers checks old → AreWhole s workers checks new
 waited_whole s workers checks old new alone h w = subst (AreWhole s workers checks) (sym (h.grew ∙ ap (λ (l : List Moment). old ++ l) (h.nobody alone) ∙ append-nil old)) w
 
-pub line_verifies : {X : Type 0} (s : Start) (workers : ℕ) (checks : Bool) (old new : List Moment) (step : Step) (ok : X → Reply) (r : Result X StepRefusal) → AsksLine step → s.alone ≡ true → Outcome s old new 0 step ok r → MayVerify s workers checks old → VerifiesOn s workers checks new r
+pub line_verifies : {X : Type 0} (s : Start) (workers : ℕ) (checks : Bool) (old new : List Moment) (step : Step) (ok : X → Reply) (r : Result X StepRefusal) → AsksLine step → s.alone ≡ true → Outcome s old new 0 step ok r
+    → MayVerify s workers checks old → VerifiesOn s workers checks new r
 line_verifies s workers checks old new step ok (Ok x) asks alone h may = stepped_may s workers checks old new step (ok x) asks alone h may
 line_verifies s workers checks old new step ok (Err steps.Memory) asks alone h may = waited_whole s workers checks old new alone h.0 may.whole
 line_verifies s workers checks old new step ok (Err steps.TurnsSpent) asks alone h may = waited_whole s workers checks old new alone h.0 may.whole
@@ -189,18 +193,15 @@ verified_whole s workers checks new (Err (steps.Refused refusal)) h = h.whole
 
 -- ---- where nothing has happened yet
 
-no_place : (front : List Moment) (m : Moment) (back : List Moment) → [] ≡ front ++ m ∷ back → ⊥
-no_place front m back is = no_cons front m back is
-
 pub begun_may : (s : Start) (workers : ℕ) (checks : Bool) (log : List Moment) → log ≡ [] → s.world.caller ≡ no_caller → MayVerify s workers checks log
 begun_may s workers checks log empty nobody = subst (MayVerify s workers checks) (sym empty) (record {
   whole = record {
-    verified = λ front back m is who step reply. absurd (no_place front m back is);
-    checked = λ front back m snapshots blobs is who step reply. absurd (no_place front m back is);
-    begun = λ front back m read is who step. absurd (no_place front m back is);
-    closed = λ front back m is who asks. absurd (no_place front m back is);
-    unchecked = λ no front back m why is who step reply is_open. no_place front m back is;
-    first = λ front back m why is who step reply is_open. absurd (no_place front m back is);
+    verified = λ front back m is who step reply. absurd (no_middle front m back is);
+    checked = λ front back m snapshots blobs is who step reply. absurd (no_middle front m back is);
+    begun = λ front back m read is who step. absurd (no_middle front m back is);
+    closed = λ front back m is who asks. absurd (no_middle front m back is);
+    unchecked = λ no front back m why is who step reply is_open. no_middle front m back is;
+    first = λ front back m why is who step reply is_open. absurd (no_middle front m back is);
   };
   idle = subst IsIdle (sym nobody) none_idle;
   legal = tt;
@@ -435,7 +436,7 @@ begun_further : (checks : Bool) (log rest : List Moment) → HasDrawn log → Al
 begun_further checks log [] drawn all was = subst (AreBegun checks) (sym (append-nil log)) was
 begun_further checks log (m ∷ rest) drawn all was =
     subst (AreBegun checks) (append_assoc log (m ∷ []) rest)
-    (begun_further checks (log ++ m ∷ []) rest (drawn.0, in_front log (m ∷ []) drawn.0 drawn.1, drawn.2, drawn.3) all.2 (begun_one checks log m (further_stands checks log m all.1.0 all.1.1 all.1.2 drawn) was))
+    (begun_further checks (log ++ m ∷ []) rest (drawn.0, Has-left log (m ∷ []) drawn.0 drawn.1, drawn.2, drawn.3) all.2 (begun_one checks log m (further_stands checks log m all.1.0 all.1.1 all.1.2 drawn) was))
 
 begun_all : (checks : Bool) (old new : List Moment) → HasBegun old new → AreBegun checks old → AreBegun checks new
 begun_all checks old new h was =
@@ -514,7 +515,8 @@ whole_steps id names = ap (λ (l : List Answered). record { step = ReadStep Draw
     (sym (append_assoc (writing names ++ reading names) (record { step = ReadStep (RemoveTests names); reply = WasRemoved } ∷ []) (the_end ∷ [])))
 
 -- so its end is the last of its moments
-last_place : (moments : List Moment) (first : List Answered) (front back : List Moment) (m : Moment) → NoneEnds first → Are moments (first ++ the_end ∷ []) → moments ≡ front ++ m ∷ back → m.entry.step ≡ ReadStep VerifiedAll → back ≡ []
+last_place : (moments : List Moment) (first : List Answered) (front back : List Moment) (m : Moment) → NoneEnds first → Are moments (first ++ the_end ∷ []) → moments ≡ front ++ m ∷ back → m.entry.step ≡ ReadStep VerifiedAll
+    → back ≡ []
 last_place [] first front back m none are is step = absurd (no_cons front m back is)
 last_place (x ∷ []) [] [] back m none are is step = let rest : [] ≡ back = cc in sym rest
 last_place (x ∷ y ∷ moments) [] [] back m none are is step = absurd are.1
@@ -524,18 +526,6 @@ last_place (x ∷ moments) (a ∷ first) [] back m none are is step =
     let same : x ≡ m = cc in
     absurd (none.0 (ap (λ (e : Entry). e.step) (sym are.0) ∙ ap (λ (y : Moment). y.entry.step) same ∙ step))
 last_place (x ∷ moments) (a ∷ first) (z ∷ front) back m none are is step = last_place moments first front back m none.1 are.1 (let rest : moments ≡ front ++ m ∷ back = cc in rest) step
-
--- where something stands in two lists: in the first, or in the second
-split_both : (xs ys front : List Moment) (y : Moment) (back : List Moment) → xs ++ ys ≡ front ++ y ∷ back → ((rest : List Moment) × (xs ≡ front ++ y ∷ rest)) ⊎ ((own : List Moment) × (front ≡ xs ++ own) × (ys ≡ own ++ y ∷ back))
-split_both [] ys front y back is = inr (front, refl, is)
-split_both (x ∷ xs) ys [] y back is = let same : x ≡ y = cc in inl (xs, ap (λ (z : Moment). z ∷ xs) same)
-split_both (x ∷ xs) ys (z ∷ front) y back is =
-    let same : x ≡ z = cc in
-    let rest : xs ++ ys ≡ front ++ y ∷ back = cc in
-    elim (split_both xs ys front y back rest) [
-      | inl a ↦ inl (a.0, ap (λ (l : List Moment). x ∷ l) a.1 ∙ ap (λ (w : Moment). w ∷ (front ++ y ∷ a.0)) same)
-      | inr b ↦ inr (b.0, ap (λ (w : Moment). w ∷ front) (sym same) ∙ ap (λ (l : List Moment). x ∷ l) b.1, b.2)
-    ]
 
 ok_verified : (s : Start) (workers : ℕ) (old new : List Moment) → HasVerified s old new workers → AreVerified s workers old → AreVerified s workers new
 ok_verified s workers old new h was front back m is who step reply = elim (split_both old h.moments front m back (sym h.is ∙ is)) [
@@ -554,7 +544,8 @@ deposed_caller s old new (refusals.Deposed entry) h = h.1
 deposed_caller s old new refusal h = absurd h
 
 -- what a verification that began leaves whole
-begun_whole : (s : Start) → NoneZero s → (workers : ℕ) (checks : Bool) (old new : List Moment) → HasBegun old new → AreVerified s workers new → (Legal s old → Legal s new) → MayVerify s workers checks old → AreWhole s workers checks new
+begun_whole : (s : Start) → NoneZero s → (workers : ℕ) (checks : Bool) (old new : List Moment) → HasBegun old new → AreVerified s workers new → (Legal s old → Legal s new) → MayVerify s workers checks old
+    → AreWhole s workers checks new
 begun_whole s none_zero workers checks old new asks verified legal may = record {
   verified = verified;
   checked = begun_checked s old new asks may.whole.checked;
@@ -565,7 +556,8 @@ begun_whole s none_zero workers checks old new asks verified legal may = record 
 }
 
 -- and one that may have made no step
-maybe_whole : (s : Start) → NoneZero s → (workers : ℕ) (checks : Bool) (old new : List Moment) → BeganOne old new → AreVerified s workers new → (Legal s old → Legal s new) → MayVerify s workers checks old → AreWhole s workers checks new
+maybe_whole : (s : Start) → NoneZero s → (workers : ℕ) (checks : Bool) (old new : List Moment) → BeganOne old new → AreVerified s workers new → (Legal s old → Legal s new) → MayVerify s workers checks old
+    → AreWhole s workers checks new
 maybe_whole s none_zero workers checks old new asks verified legal may = record {
   verified = verified;
   checked = maybe_checked s old new asks may.whole.checked;
@@ -575,7 +567,8 @@ maybe_whole s none_zero workers checks old new asks verified legal may = record 
   first = maybe_fails (NamesFirst s) s none_zero old new asks (legal may.legal) may.whole.first;
 }
 
-pub verify_well : (s : Start) → NoneZero s → (workers : ℕ) (checks : Bool) (old new : List Moment) → HasBegun old new → HasVerified s old new workers → (Legal s old → Legal s new) → MayVerify s workers checks old → MayVerify s workers checks new
+pub verify_well : (s : Start) → NoneZero s → (workers : ℕ) (checks : Bool) (old new : List Moment) → HasBegun old new → HasVerified s old new workers → (Legal s old → Legal s new) → MayVerify s workers checks old
+    → MayVerify s workers checks new
 verify_well s none_zero workers checks old new asks ok legal may = record {
   whole = begun_whole s none_zero workers checks old new asks (ok_verified s workers old new ok may.whole.verified) legal may;
   idle = subst IsIdle (sym ok.closed) none_idle;

@@ -1,12 +1,11 @@
 -- The checks of a run.
-use Rattle.std.specs.Prelude.{◌≡◌, ℕ, Bool, true, false, ◌||◌, List, [], ◌∷◌, ◌++◌}
+use Rattle.std.specs.Prelude.{◌≡◌, ℕ, Bool, false, ◌||◌, List, [], ◌∷◌, ◌++◌}
 use Rattle.esr_model.specs.Values.{Has}
 use Rattle.esr_core.specs.Entry.{LookStep, ReadStep, CheckedAll, ReadFails, Why, HasEnded, Moment}
 use Rattle.esr_core.specs.Allowed.{IsChecking}
 use Rattle.esr_desk.specs.Start.{Start, world_of}
-use Rattle.esr_script.specs.declared.item.Item.{Item}
-use Rattle.esr_script.specs.declared.item.Item.TheVariants as items
 use Rattle.esr_script.specs.declared.item.ScriptLine.{ScriptLine}
+use Rattle.esr_script.specs.Kinds.{is_check}
 use Rattle.esr_check.specs.Checked.{HasChecked}
 
 -- Each check that ended well is whole, with exact counts: the steps up to its end, that among them, are just those of a good check, from
@@ -22,10 +21,6 @@ NoCheckFails s log = (front back : List Moment) (m : Moment) (why : Why) → log
 -- who 0 has looked, with which a check begins
 abbrev pub HasLooked : List Moment → Type 0
 HasLooked log = (m : Moment) × Has log m × (m.entry.who ≡ 0) × (m.entry.step ≡ LookStep)
-
-abbrev pub is_check : Item → Bool
-is_check items.Check = true
-is_check item = false
 
 -- a line asks for a check
 abbrev pub asks_check : List ScriptLine → Bool

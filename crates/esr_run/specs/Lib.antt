@@ -1,5 +1,5 @@
-pub mod Asked
 pub mod Script
+pub mod Asked
 pub mod Ends
 pub mod Faults
 pub mod Start
@@ -8,14 +8,16 @@ pub mod Tidy
 pub mod Cleaned
 pub mod Told
 pub mod Sourceless
+pub mod Waits
 pub mod Made
 pub mod Complete
 pub mod Undamaged
 pub mod Checked
 pub mod Verified
 pub mod Lines
-pub mod Waits
 pub mod Laws
 pub mod Causes
 pub mod Restored
 pub mod Stops
+pub mod RunEnds
+pub mod Worlds

@@ -6,7 +6,9 @@ use Rattle.esr_core.specs.Ready.{AnyReady}
 use Rattle.esr_core.specs.Refusing.{SwapFailed}
 use Rattle.esr_script.specs.declared.item.Item.{Item}
 use Rattle.esr_script.specs.declared.item.Item.TheVariants as items
+use Rattle.esr_script.specs.declared.item.Kind.TheVariants as kinds
 use Rattle.esr_script.specs.declared.item.ScriptLine.{ScriptLine}
+use Rattle.esr_script.specs.Kinds.{kind_of}
 use Rattle.esr_desk.specs.declared.refusal.StepRefusal.{StepRefusal}
 use Rattle.esr_desk.specs.declared.refusal.StepRefusal.TheVariants as steps
 use Rattle.esr_desk.specs.Start.{Start, world_of}
@@ -152,10 +154,7 @@ pub record AsksOnly (old new : List Moment) : Type 0 where
 
 -- what a line adds, but for a check or a verification: a wait elections, takes and steps of tickets alone, another what it asks for alone
 abbrev pub AddsOnly : Item → List Moment → List Moment → Type 0
-AddsOnly items.Wait old new = WaitsOnly old new
-AddsOnly items.Check old new = Unit {0}
-AddsOnly items.Verify old new = Unit {0}
-AddsOnly item old new = AsksOnly old new
+AddsOnly item old new = elim (kind_of item) [ kinds.Wait ↦ WaitsOnly old new | kinds.Check ↦ Unit {0} | kinds.Verify ↦ Unit {0} | kind ↦ AsksOnly old new ]
 
 -- what a line added: one that asks for a check its look, fetches and end, or its look, which was refused; one that asks for a
 -- verification its draw and further steps of it

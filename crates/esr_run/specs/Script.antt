@@ -61,14 +61,7 @@ have_names_once (name ∷ names) = if names_one name names then false else have_
 abbrev pub is_carried : Item → Bool
 is_carried (items.Snapshot name indices) = is_askable indices
 is_carried (items.Clone source name indices) = have_names_once indices
-is_carried (items.Delete names) = true
-is_carried (items.Restore name place) = true
-is_carried items.Cleanup = true
-is_carried items.Failover = true
-is_carried items.Wait = true
-is_carried items.List = true
-is_carried items.Check = true
-is_carried items.Verify = true
+is_carried item = true
 
 -- the number of the first line that can't be carried out
 abbrev pub first_bad : List ScriptLine → Option ℕ

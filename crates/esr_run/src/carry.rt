@@ -1,6 +1,8 @@
 //! The lines of a script are carried out, in order.
 ghost use Rattle.std.specs.Prelude.{◌≡◌, ◌⊎◌, ◌+◌, ◌<◌, ◌≤◌, ℕ, Bool, ◌^◌, ◌∷◌, [], true, false, None, IfOk, OnOk, length};
 ghost use Rattle.esr_script.specs.declared.item.Item.TheVariants.{Wait, Check, Verify};
+ghost use Rattle.esr_script.specs.declared.item.Kind.TheVariants as kinds;
+ghost use Rattle.esr_script.specs.Kinds.{is_check, is_wait, kind_of};
 ghost use Rattle.esr_core.specs.Entry.{Asked, Clone, Restore, DrawTest, AskStep, LookStep, ReadStep};
 ghost use Rattle.esr_core.specs.Restores.{AreOnce};
 ghost use Rattle.esr_core.specs.Tracked.{Tracked};
@@ -12,12 +14,11 @@ ghost use Rattle.esr_quiet.specs.Numbers.{HasNoTickets};
 ghost use Rattle.esr_drive.specs.Takes.{idle_takes};
 ghost use Rattle.esr_drive.specs.Elections.{WaitsOnly, elections, HasElected};
 ghost use Rattle.esr_drive.specs.Worked.{MayWait};
-ghost use Rattle.esr_report.specs.Replies.{is_wait};
 ghost use Rattle.esr_complete.specs.Answers.{IsIdle};
 ghost use Rattle.esr_complete.specs.Lines.{steps_of_item, steps_of, failovers_of};
 ghost use Rattle.esr_run.specs.Made.{MadeFirst, HasStopped, WasLeft, NoneOpen, LineSpends, AreIn, LineMade, LineRests, WaitEnds, CheckEnds, VerifyBegins, AddsOnly, AreMade, AreDone, AskedUnlessStopped};
 ghost use Rattle.esr_run.specs.Lines.{LineAsked};
-ghost use Rattle.esr_run.specs.Checked.{is_check, asks_check};
+ghost use Rattle.esr_run.specs.Checked.{asks_check};
 ghost use Rattle.esr_run.specs.Verified.{AreWhole, MayVerify, VerifiesOn};
 ghost use Rattle.esr_run.specs.Waits.{waits_in, waits_of, owed_after, LineElects};
 ghost use Rattle.esr_run.specs.Script.{is_carried, first_bad};
@@ -30,7 +31,7 @@ use esr_drive::{Crew, Outside, sit};
 use esr_names::{IndexNames, SnapName};
 use esr_ops::Command;
 use esr_repo::Told;
-use esr_script::{Item, ScriptLine};
+use esr_script::{Item, Kind, ScriptLine};
 use esr_seq::Text;
 use esr_solo::Solo;
 use esr_source::{Gate, Sources, Targets};
@@ -125,6 +126,41 @@ fn list<Q: Client>(alloc: Global, desk: &mut Q) -> Result<(), StepRefusal>
     Ok(())
 }
 
+/// Asks for the one step that answers a line: that of a command, or a look.
+fn ask_item<Q: Client>(
+    alloc: Global,
+    desk: &mut Q,
+    item: &Item,
+    moment: u64,
+) -> Result<(), StepRefusal>
+    requires carried { is_carried item.now ≡ true }
+    requires asks { kind_of item.now ≡ kinds.Ask }
+    requires numbered { HasNoTickets Q.start }
+    requires ops { Tracked Q.start.world }
+    requires earlier { Q.start.earlier_turns ≡ 0 }
+    ensures made { LineMade Q.start (steps_of_item moment item.now) (Q.seen desk.old) (Q.seen desk.new) result }
+    ensures asked { Q.start.alone ≡ true → LineAsked Q.start (Q.seen desk.old) (Q.seen desk.new) result }
+{
+    match item {
+        Item::Snapshot { name, indices } => {
+            let command = snapshot_of(alloc, name, indices.as_slice(), moment);
+            ask(alloc, desk, command)
+        }
+        Item::Clone {
+            source,
+            name,
+            indices,
+        } => make_clone(alloc, desk, source, name, indices, moment),
+        Item::Delete { names } => ask(alloc, desk, delete_of(alloc, names)),
+        Item::Restore { name, place } => restore(alloc, desk, name, place),
+        Item::Cleanup => ask(alloc, desk, Ok(Command::Cleanup)),
+        Item::List => list(alloc, desk),
+        Item::Check | Item::Verify | Item::Failover | Item::Wait => {
+            unreachable!("of another kind")
+        }
+    }
+}
+
 /// Verifies the container. A verification that fails is no reason to stop.
 fn verify<Q: Client>(alloc: Global, desk: &mut Q, workers: u32) -> Result<(), StepRefusal>
     requires alone { Q.start.alone ≡ true }
@@ -204,24 +240,12 @@ fn carry_step<Q: Client>(
     ensures only { AddsOnly item.now (Q.seen desk.old) (Q.seen desk.new) }
     ensures verified { (checks : Bool) → (is_check item.now ≡ true → checks ≡ true) → MayVerify Q.start workers checks (Q.seen desk.old) → VerifiesOn Q.start workers checks (Q.seen desk.new) result }
 {
-    match item {
-        Item::Snapshot { name, indices } => {
-            let command = snapshot_of(alloc, name, indices.as_slice(), moment);
-            ask(alloc, desk, command)
-        }
-        Item::Clone {
-            source,
-            name,
-            indices,
-        } => make_clone(alloc, desk, source, name, indices, moment),
-        Item::Delete { names } => ask(alloc, desk, delete_of(alloc, names)),
-        Item::Restore { name, place } => restore(alloc, desk, name, place),
-        Item::Cleanup => ask(alloc, desk, Ok(Command::Cleanup)),
-        Item::List => list(alloc, desk),
-        Item::Check => check(alloc, desk),
-        Item::Verify => verify(alloc, desk, workers),
-        Item::Failover => Ok(()),
-        Item::Wait => unreachable!("a wait has a crew"),
+    match item.kind() {
+        Kind::Ask => ask_item(alloc, desk, item, moment),
+        Kind::Check => check(alloc, desk),
+        Kind::Verify => verify(alloc, desk, workers),
+        Kind::Failover => Ok(()),
+        Kind::Wait => unreachable!("a wait has a crew"),
     }
 }
 
@@ -258,7 +282,7 @@ where
 fn is_wait(item: &Item) -> bool
     ensures { result ≡ is_wait item.now }
 {
-    matches!(item, Item::Wait)
+    matches!(item.kind(), Kind::Wait)
 }
 
 /// Carries out a line: a wait with the crew.
@@ -310,9 +334,9 @@ fn owed_after(item: &Item, owed: u64) -> u64
     requires fits { owed + 1 < 2 ^ 64 }
     ensures { result ≡ owed_after item.now owed }
 {
-    match item {
-        Item::Failover => owed + 1,
-        Item::Wait => 0,
+    match item.kind() {
+        Kind::Failover => owed + 1,
+        Kind::Wait => 0,
         _ => owed,
     }
 }

@@ -107,14 +107,7 @@ pub(crate) fn is_carried(item: &Item) -> bool
             name: _,
             indices,
         } => have_names_once(indices.as_slice()),
-        Item::Delete { .. }
-        | Item::Restore { .. }
-        | Item::Cleanup
-        | Item::Failover
-        | Item::Wait
-        | Item::List
-        | Item::Check
-        | Item::Verify => true,
+        _ => true,
     }
 }
 

@@ -1,7 +1,7 @@
 //! Cases are played. They stand apart by empty lines. The first line of one is `KIND NAME: SENTENCE`, and each other is
 //! `LINE = ANSWER`, or a line without an answer. A line that begins with `#` is a remark. What has the kind `container` is no case:
 //! its lines are for cases that name it.
-use std::alloc::{AllocError, Global};
+use std::alloc::Global;
 use std::io;
 use std::process::ExitCode;
 
@@ -10,8 +10,8 @@ pub trait CasePlayer {
     /// Begins a case of that kind, which is empty where it has none.
     fn begin(&mut self, alloc: Global, kind: &str);
 
-    /// What a line is answered; nothing, where it asks for nothing. `cases` is the text of all cases.
-    fn answer(&mut self, alloc: Global, cases: &str, line: &str) -> Result<String, AllocError>;
+    /// Says what a line is answered; nothing, where it asks for nothing. `cases` is the text of all cases.
+    fn answer(&mut self, alloc: Global, cases: &str, line: &str, said: &mut String);
 }
 
 /// How many cases there were, how many of their lines have an answer, and how many were answered otherwise.
@@ -93,7 +93,8 @@ impl Counts {
                 continue;
             }
             let (asked, wanted) = cut_answer(line);
-            let came = player.answer(alloc, cases, asked)?;
+            let mut came = String::new(alloc);
+            player.answer(alloc, cases, asked, &mut came);
             let is_wrong = came.as_str() != wanted;
             self.count(!wanted.is_empty(), is_wrong);
             if is_wrong {

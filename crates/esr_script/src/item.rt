@@ -1,4 +1,6 @@
 //! What a line of a script asks for.
+ghost use Rattle.std.specs.Prelude.{◌≡◌};
+
 use esr_names::{IndexName, IndexNames, SnapName, SnapNames};
 use esr_seq::{Seq, Text};
 
@@ -44,6 +46,61 @@ pub enum Item {
     List,
     Check,
     Verify,
+}
+
+/// What a line is to a run, by its verb alone.
+#[derive(Clone, Copy)]
+pub enum Kind {
+    /// It asks for one step, a command's or a look, which answers it.
+    Ask,
+    /// It asks for the look with which a check begins, whose end answers it.
+    Check,
+    /// It asks for the draw with which a verification begins, whose end answers it.
+    Verify,
+    /// It asks for nothing: the next wait makes its election.
+    Failover,
+    /// It asks for nothing: it works what is ready.
+    Wait,
+}
+
+impl Item {
+    ghost use Rattle.esr_script.specs.Kinds.{kind_of, verb_text};
+
+    /// What the line is to a run.
+    pub fn kind(&self) -> Kind
+        ensures { result ≡ kind_of self.now }
+    {
+        match self {
+            Item::Snapshot { .. }
+            | Item::Clone { .. }
+            | Item::Delete { .. }
+            | Item::Restore { .. }
+            | Item::Cleanup
+            | Item::List => Kind::Ask,
+            Item::Check => Kind::Check,
+            Item::Verify => Kind::Verify,
+            Item::Failover => Kind::Failover,
+            Item::Wait => Kind::Wait,
+        }
+    }
+
+    /// Its verb.
+    pub fn verb(&self) -> &'static str
+        ensures { result.now ≡ verb_text self.now }
+    {
+        match self {
+            Item::Snapshot { .. } => "snapshot",
+            Item::Clone { .. } => "clone",
+            Item::Delete { .. } => "delete",
+            Item::Restore { .. } => "restore",
+            Item::Cleanup => "cleanup",
+            Item::List => "list",
+            Item::Check => "check",
+            Item::Verify => "verify",
+            Item::Failover => "failover",
+            Item::Wait => "wait",
+        }
+    }
 }
 
 /// An item with the number of its line, counted from 1.

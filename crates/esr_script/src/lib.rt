@@ -12,7 +12,7 @@ mod refusal;
 mod script;
 mod words;
 
-pub use item::{AskedIndex, AskedIndices, Item, Script, ScriptLine};
+pub use item::{AskedIndex, AskedIndices, Item, Kind, Script, ScriptLine};
 pub use job::{Job, JobWork, Options};
 pub use refusal::{ScriptRefusal, Why, WordsRefusal};
 pub use script::script_read;

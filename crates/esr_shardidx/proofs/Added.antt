@@ -1,7 +1,7 @@
 -- An index with one more snapshot.
 use Rattle.std.proofs.Common.{◌≡◌, ◌<◌, ◌^◌, ◌==◌, true, false, List, [], ◌∷◌, ◌++◌, map, refl, sym, ◌∙◌, inl, inr}
 use Rattle.std.specs.List.{list_any, list_all, AllByRecursion}
-use Rattle.std.proofs.lemmas.Bool.{cases_Bool, eq-eqb, eqb-true, eqb-false}
+use Rattle.std.proofs.lemmas.Bool.{cases_Bool, eq-eqb, eqb-true, eqb-false, or_left, or_right, or_parts}
 use Rattle.std.proofs.lemmas.List.Folds.{list_any-append}
 use Rattle.esr_names.specs.declared.ids.Id.{Id}
 use Rattle.esr_shardidx.specs.declared.entry.FileEntry.{FileEntry}
@@ -9,13 +9,11 @@ use Rattle.esr_shardidx.specs.declared.index.SnapList.{SnapList}
 use Rattle.esr_shardidx.specs.Entries.{IsEntry}
 use Rattle.esr_shardidx.specs.Snapshots.{SnapValue, has_name, AreSnapFiles, IsShardSnap}
 use Rattle.esr_shardidx.specs.Indices.{IndexValue, is_id, repeats, has_uuid, names_file, is_named, has_file, IsShardIndex, insert_file, insert_files, name_of, list_of_snap, with_snap_of}
-use Rattle.esr_shardidx.proofs.Files.{all_map, or_left, or_right, or_false, insert_files-all, insert_files-rises, insert_files-keeps, insert_file-own}
+use Rattle.esr_shardidx.specs.FileOrder.{all_map}
+use Rattle.esr_shardidx.specs.RoundTrip.{entries_of}
+use Rattle.esr_shardidx.proofs.Files.{insert_files-all, insert_files-rises, insert_files-keeps, insert_file-own}
 use Rattle.esr_shardidx.proofs.IndexTexts.{AreLists-push}
-use Rattle.esr_shardidx.proofs.Kept.{AreLists-where}
-
-pub entries_of : (before es : List FileEntry) → AreSnapFiles before es → AllByRecursion IsEntry es
-entries_of before [] h = tt
-entries_of before (e ∷ es) h = (h.0, entries_of (before ++ e ∷ []) es h.3)
+use Rattle.esr_shardidx.specs.KeptLists.{AreLists-where}
 
 ids_fit : (es : List FileEntry) → AllByRecursion IsEntry es → AllByRecursion (λ u. u.number < 2 ^ 128) (map name_of es)
 ids_fit [] h = tt
@@ -25,13 +23,13 @@ ids_fit (e ∷ es) h = (h.0.typed.name, ids_fit es h.1)
 pub later_differ : (u : Id) (before es : List FileEntry) → ((w : Id) → list_any (has_name w) before ≡ false → (w.number == u.number) ≡ false) → AreSnapFiles before es → list_any (is_id u) (map name_of es) ≡ false
 later_differ u before [] apart h = refl
 later_differ u before (e ∷ es) apart h =
-    let rest = later_differ u (before ++ e ∷ []) es (λ w none. apart w (or_false (list_any (has_name w) before) _ (sym (list_any-append (has_name w) before (e ∷ [])) ∙ none)).0) h.3 in
+    let rest = later_differ u (before ++ e ∷ []) es (λ w none. apart w (or_parts (list_any (has_name w) before) _ (sym (list_any-append (has_name w) before (e ∷ [])) ∙ none)).0) h.3 in
     rw (apart e.name h.2, rest) refl
 
 pub differs : (w : Id) (before : List FileEntry) (e : FileEntry) → list_any (has_name w) (before ++ e ∷ []) ≡ false → (w.number == e.name.number) ≡ false
 differs w before e none =
-    let split = or_false (list_any (has_name w) before) _ (sym (list_any-append (has_name w) before (e ∷ [])) ∙ none) in
-    let here = or_false (has_name w e) false split.1 in
+    let split = or_parts (list_any (has_name w) before) _ (sym (list_any-append (has_name w) before (e ∷ [])) ∙ none) in
+    let here = or_parts (has_name w e) false split.1 in
     elim (cases_Bool (w.number == e.name.number)) [
       | inl same ↦ absurd (eqb-false e.name.number w.number here.0 (sym (eqb-true w.number e.name.number same)))
       | inr other ↦ other

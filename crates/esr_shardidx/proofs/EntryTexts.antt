@@ -1,28 +1,20 @@
 -- What is written of an entry is read as that entry, and what is read is an entry that has a text.
-use Rattle.std.proofs.Common.{◌≡◌, ℕ, ◌<◌, ◌^◌, ◌-◌, nat_lt, Bool, true, false, cond, List, length, take, drop, codes, Option, Some, None, Ok, pos, unsigned_abs, refl, arith}
+use Rattle.std.proofs.Common.{◌≡◌, ℕ, ◌<◌, ◌^◌, ◌-◌, nat_lt, Bool, true, false, cond, List, length, take, drop, codes, Option, Some, None, Ok, pos, unsigned_abs, arith}
 use Rattle.std.specs.Option.{ok_or}
 use Rattle.std.specs.Str.{bytes_eq}
 use Rattle.esr_json.specs.declared.refusal.Reason.TheVariants.{BadId}
-use Rattle.std.proofs.lemmas.Bool.{le-ltb}
 use Rattle.serde_json.specs.Data.{Data}
 use Rattle.esr_names.specs.declared.ids.Id.{Id}
-use Rattle.esr_names.proofs.IdTexts.{read_id-id_text, read_id_fits}
+use Rattle.esr_names.specs.IdTextLaws.{read_id_fits}
 use Rattle.esr_hash.specs.Digits.{IsPrint, read_print}
 use Rattle.esr_hash.specs.declared.print.Print.{Print}
-use Rattle.esr_hash.proofs.Digests.{read_print-digits_of, read_print-is}
-use Rattle.esr_json.specs.Access.{member_at, text_at, number_at}
-use Rattle.esr_json.specs.Shallow.{IsShallow}
+use Rattle.esr_hash.specs.DigitLaws.{read_print-is}
+use Rattle.esr_json.specs.Access.{text_at, number_at}
 use Rattle.esr_json.specs.declared.key.Key.TheVariants as keys
 use Rattle.esr_shardidx.specs.FileNames.{is_file_name}
-use Rattle.esr_shardidx.specs.Entries.{file_text, read_file, last_of, id_falls, name_stays, file_after, physical_after, print_at, entry_of, entry_data, IsEntry}
+use Rattle.esr_shardidx.specs.Entries.{read_file, last_of, id_falls, name_stays, file_after, physical_after, print_at, entry_of, IsEntry}
 use Rattle.esr_shardidx.specs.declared.entry.FileEntry.{FileEntry}
 use Rattle.esr_shardidx.proofs.Unrefused.{bind_ok, guard_ok, unless_ok, ok_same, some_from, number_within}
-
-pub read_file-file_text : (u : Id) → u.number < 2 ^ 128 → read_file (file_text u) ≡ Some u
-unfolding read_file
-read_file-file_text u fits =
-    let long : nat_lt (length (file_text u)) 2 ≡ false = le-ltb (length (file_text u)) 2 (omega arith) in
-    rw (long, read_id-id_text u fits) refl
 
 none_first : (t : Bool) (o : Option Id) (u : Id) → cond t None o ≡ Some u → o ≡ Some u
 none_first true o u h = cc
@@ -88,17 +80,3 @@ entry_of-is ids names d e h =
       id.1,
       text.1,
     )
-
-pub entry_of-entry_data : (ids names : List FileEntry) (e : FileEntry) → IsEntry e → id_falls (last_of ids) e.name ≡ false → name_stays (last_of names) e.physical ≡ false
-    → entry_of ids names (entry_data e) ≡ Ok e
-unfolding entry_of entry_data file_after physical_after print_at text_at number_at member_at
-entry_of-entry_data ids names e h id name =
-    let low : nat_lt e.print.len 0 ≡ false = le-ltb e.print.len 0 (omega arith) in
-    let high : nat_lt (2 ^ 60 - 1) e.print.len ≡ false = le-ltb (2 ^ 60 - 1) e.print.len (omega (arith, h.short)) in
-    let least : nat_lt e.part_size 1 ≡ false = le-ltb e.part_size 1 h.least in
-    let most : nat_lt (2 ^ 30) e.part_size ≡ false = le-ltb (2 ^ 30) e.part_size h.most in
-    rw (low, high, read_file-file_text e.name h.typed.name, id, least, most, h.typed.physical, name, read_print-digits_of e.print h.typed.print) refl
-
-pub entry_data-shallow : (e : FileEntry) → IsShallow 1 (entry_data e)
-unfolding entry_data
-entry_data-shallow e = (refl, omega arith)

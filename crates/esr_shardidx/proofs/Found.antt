@@ -1,20 +1,13 @@
 -- Which entry is found under an id.
-use Rattle.std.proofs.Common.{◌≡◌, ℕ, ◌<◌, ◌==◌, nat_lt, not, Bool, true, false, cond, List, [], ◌∷◌, ◌++◌, length, ◌-◌, suc, map, filter, find, Option, Some, None, refl, sym, ap, ◌∙◌, arith, inl, inr}
+use Rattle.std.proofs.Common.{◌≡◌, ◌<◌, ◌==◌, nat_lt, Bool, true, false, cond, List, [], ◌∷◌, ◌++◌, ◌-◌, map, filter, find, Option, Some, None, refl, sym, ap, ◌∙◌, arith, inl, inr}
 use Rattle.std.specs.List.{list_any, AllByRecursion}
-use Rattle.std.specs.Ordering.{nat_cmp, is_lt}
-use Rattle.std.specs.declared.cmp.Ordering.{Ordering}
-use Rattle.std.specs.declared.cmp.Ordering.TheVariants.{Less, Equal, Greater}
-use Rattle.std.specs.Cmp.Lexicographic.{slice_cmp}
-use Rattle.std.proofs.lemmas.Cmp.{nat_list_cmp_total}
-use Rattle.std.proofs.lemmas.Bool.{cases_Bool, eq-eqb, eqb-true, eqb-false, ltb-true, ltb-false}
-use Rattle.std.proofs.lemmas.List.{append_assoc, append-nil}
+use Rattle.std.proofs.lemmas.Bool.{cases_Bool, eq-eqb, eqb-true, eqb-false, ltb-true, ltb-false, or_parts}
 use Rattle.std.proofs.lemmas.List.Folds.{list_any-append}
 use Rattle.esr_names.specs.declared.ids.Id.{Id}
 use Rattle.esr_shardidx.specs.declared.entry.FileEntry.{FileEntry}
-use Rattle.esr_shardidx.specs.Entries.{last_of, is_below, name_stays}
-use Rattle.esr_shardidx.specs.Snapshots.{SnapValue, has_name, AreSnapFiles, IsShardSnap, NamesRise}
+use Rattle.esr_shardidx.specs.Snapshots.{SnapValue, has_name, AreSnapFiles, IsShardSnap}
 use Rattle.esr_shardidx.specs.Indices.{IndexValue, is_id, names_file, is_named, has_uuid, Rises, insert_file, insert_files, name_of, listed_of, with_snap_of, survivors_of, IsShardIndex, HasEntry, Agrees}
-use Rattle.esr_shardidx.proofs.Files.{all_map, all_push, or_false, same_id, not_equal, Above, insert_file-rises}
+use Rattle.esr_shardidx.specs.FileOrder.{all_map, same_id, not_equal, Above, insert_file-rises}
 use Rattle.esr_shardidx.proofs.Added.{later_differ, differs}
 
 -- ---- one more entry
@@ -44,10 +37,10 @@ find-insert_other u e (f ∷ fs) apart = elim (cases_Bool (nat_lt f.name.number 
 find-insert_files_other : (u : Id) (fs es : List FileEntry) → list_any (is_id u) (map name_of es) ≡ false → find (has_name u) (insert_files fs es) ≡ find (has_name u) fs
 find-insert_files_other u fs [] apart = refl
 find-insert_files_other u fs (e ∷ es) apart =
-    let parts = or_false (e.name.number == u.number) (list_any (is_id u) (map name_of es)) apart in
+    let parts = or_parts (e.name.number == u.number) (list_any (is_id u) (map name_of es)) apart in
     find-insert_files_other u (insert_file e fs) es parts.1 ∙ find-insert_other u e fs parts.0
 
-none_above : (u : Id) (es : List FileEntry) → AllByRecursion (Above u) es → find (has_name u) es ≡ None
+pub none_above : (u : Id) (es : List FileEntry) → AllByRecursion (Above u) es → find (has_name u) es ≡ None
 none_above u [] all = refl
 none_above u (e ∷ es) all = elim (cases_Bool (e.name.number == u.number)) [
   | inl same ↦ let is = eqb-true e.name.number u.number same in absurd (omega (arith, all.0, is))
@@ -98,7 +91,7 @@ agrees_more e fs before [] apart h agrees = tt
 agrees_more e fs before (f ∷ es) apart h agrees =
     let same = find-insert_other f.name e fs (apart f.name h.2) in (
       λ g found. agrees.0 g (sym same ∙ found),
-      agrees_more e fs (before ++ f ∷ []) es (λ w none. apart w (or_false (list_any (has_name w) before) _ (sym (list_any-append (has_name w) before (f ∷ [])) ∙ none)).0) h.3 agrees.1,
+      agrees_more e fs (before ++ f ∷ []) es (λ w none. apart w (or_parts (list_any (has_name w) before) _ (sym (list_any-append (has_name w) before (f ∷ [])) ∙ none)).0) h.3 agrees.1,
     )
 
 entries_there : (fs before es : List FileEntry) → AreSnapFiles before es → AllByRecursion (Agrees fs) es → AllByRecursion (HasEntry (insert_files fs es)) es
@@ -106,7 +99,7 @@ entries_there fs before [] h agrees = tt
 entries_there fs before (e ∷ es) h agrees =
     let later = later_differ e.name (before ++ e ∷ []) es (λ w none. differs w before e none) h.3 in
     let after = agrees_more e fs (before ++ e ∷ []) es
-    (λ w none. (or_false (e.name.number == w.number) false (or_false (list_any (has_name w) before) _ (sym (list_any-append (has_name w) before (e ∷ [])) ∙ none)).1).0) h.3 agrees.1 in
+    (λ w none. (or_parts (e.name.number == w.number) false (or_parts (list_any (has_name w) before) _ (sym (list_any-append (has_name w) before (e ∷ [])) ∙ none)).1).0) h.3 agrees.1 in
     (find-insert_files_other e.name (insert_file e fs) es later ∙ find-insert_own e fs agrees.0, entries_there (insert_file e fs) (before ++ e ∷ []) es h.3 after)
 
 pub with_snap_of-files : (v : IndexValue) (s : SnapValue) → IsShardSnap s → list_any (has_uuid s.uuid) v.snapshots ≡ false → AllByRecursion (Agrees v.files) s.files
@@ -131,40 +124,3 @@ pub survivors_of-files : (v : IndexValue) (listed : List Id) (u : Id) → list_a
 survivors_of-files v listed u named =
     find-filter (is_named (listed_of listed v.snapshots)) u v.files
     (λ e here. let same : e.name ≡ u = same_id e.name u (eqb-true e.name.number u.number here) in ap (λ (w : Id). list_any (names_file w) (listed_of listed v.snapshots)) same ∙ named)
-
--- ---- physical names
-
-less_from : (o : Ordering) → is_lt o ≡ true → o ≡ Less
-less_from Less h = refl
-less_from Equal h = cc
-less_from Greater h = cc
-
-below_trans : (a b c : List ℕ) → is_below a b ≡ true → is_below b c ≡ true → is_below a c ≡ true
-below_trans a b c first second =
-    ap is_lt (nat_list_cmp_total.trans a b c (less_from (slice_cmp nat_cmp a b) first) (less_from (slice_cmp nat_cmp b c) second))
-
-not_false : (t : Bool) → not t ≡ false → t ≡ true
-not_false true h = refl
-not_false false h = cc
-
--- a name that is above the last is above each
-all_under : (s : List ℕ) (es : List FileEntry) → NamesRise es → name_stays (last_of es) s ≡ false → AllByRecursion (λ e. is_below e.physical s ≡ true) es
-all_under s [] rises above = tt
-all_under s (e ∷ []) rises above = (not_false (is_below e.physical s) above, tt)
-all_under s (e ∷ f ∷ es) rises above =
-    let place : length (e ∷ f ∷ es) - 1 ≡ suc (length (f ∷ es) - 1) = omega arith in
-    let later = all_under s (f ∷ es) rises.1 (rw place at above) in
-    (below_trans e.physical f.physical s rises.0.0 later.0, later)
-
-NamesRise-push : (es : List FileEntry) (e : FileEntry) → NamesRise es → AllByRecursion (λ f. is_below f.physical e.physical ≡ true) es → NamesRise (es ++ e ∷ [])
-NamesRise-push [] e rises under = (tt, tt)
-NamesRise-push (f ∷ es) e rises under = (all_push (λ (x : FileEntry). is_below f.physical x.physical ≡ true) es e rises.0 under.0, NamesRise-push es e rises.1 under.1)
-
-names_rise : (before es : List FileEntry) → NamesRise before → AreSnapFiles before es → NamesRise (before ++ es)
-names_rise before [] rises h = rw append-nil rises
-names_rise before (e ∷ es) rises h =
-    let one = NamesRise-push before e rises (all_under e.physical before rises h.1) in
-    rw (← append_assoc before (e ∷ []) es) (names_rise (before ++ e ∷ []) es one h.3)
-
-pub snap_names_rise : (s : SnapValue) → IsShardSnap s → NamesRise s.files
-snap_names_rise s h = names_rise [] s.files tt h.files

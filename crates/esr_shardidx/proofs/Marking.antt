@@ -1,15 +1,14 @@
 -- Marks of the files that lists have.
-use Rattle.std.proofs.Common.{◌≡◌, ◌≢◌, ℕ, zero, suc, ◌+◌, ◌<◌, ◌≤◌, ◌==◌, ◌||◌, not, Bool, true, false, cond, List, [], ◌∷◌, ◌++◌, length, filter, drop, get_or, get_or-set_same, get_or-set_other, slice_get, set, replicate, Option, Some, None, Result, Ok, Err, refl, sym, ap, ◌∙◌, subst, arith, inl, inr}
+use Rattle.std.proofs.Common.{◌≡◌, ◌≢◌, ℕ, zero, suc, ◌+◌, ◌<◌, ◌==◌, ◌||◌, not, Bool, true, false, cond, List, [], ◌∷◌, ◌++◌, length, filter, drop, get_or, get_or-set_same, get_or-set_other, slice_get, set, replicate, Option, Some, None, Result, Ok, Err, refl, sym, ap, ◌∙◌, subst, arith, inl, inr}
 use Rattle.std.specs.List.{list_any, list_all}
 use Rattle.std.proofs.lemmas.List.{append_assoc, drop_more, length-set}
-use Rattle.std.proofs.lemmas.Bool.{cases_Bool, cases_eq, eqb-true, eq-eqb, ne_eqb, and_parts, not-true}
+use Rattle.std.proofs.lemmas.Bool.{cases_Bool, cases_eq, eqb-true, eq-eqb, ne_eqb, and_parts, not-true, or_right}
 use Rattle.std.proofs.lemmas.List.Folds.{list_any-append}
 use Rattle.esr_names.specs.declared.ids.Id.{Id}
 use Rattle.esr_json.specs.declared.refusal.Reason.{Reason}
 use Rattle.esr_json.specs.declared.refusal.Reason.TheVariants.{Duplicate, Unlisted}
 use Rattle.esr_shardidx.specs.declared.entry.FileEntry.{FileEntry}
 use Rattle.esr_shardidx.specs.declared.index.SnapList.{SnapList}
-use Rattle.esr_shardidx.specs.Snapshots.{has_name}
 use Rattle.esr_shardidx.specs.Indices.{is_id, repeats, has_uuid, names_file, is_named, named_by, has_file, checked, Rises, is_at}
 use Rattle.esr_shardidx.specs.Marks.{AreMarked, marked_of, is_among, AreMarks, files_checked}
 use Rattle.esr_shardidx.proofs.Rising.{same_place, there_at}
@@ -23,10 +22,6 @@ or_false_of : (a b : Bool) → b ≡ false → (a || b) ≡ a
 or_false_of true b h = refl
 or_false_of false b h = h
 
-or_true_of : (a b : Bool) → b ≡ true → (a || b) ≡ true
-or_true_of true b h = refl
-or_true_of false b h = h
-
 among_push : (us : List Id) (u : Id) (e : FileEntry) → is_among (us ++ u ∷ []) e ≡ (is_among us e || is_id e.name u)
 among_push us u e = list_any-append (is_id e.name) us (u ∷ []) ∙ ap (λ (b : Bool). is_among us e || b) (or_false_of (is_id e.name u) false refl)
 
@@ -34,7 +29,7 @@ among_other : (us : List Id) (u : Id) (e : FileEntry) → is_id e.name u ≡ fal
 among_other us u e apart = among_push us u e ∙ or_false_of (is_among us e) (is_id e.name u) apart
 
 among_own : (us : List Id) (u : Id) (e : FileEntry) → is_id e.name u ≡ true → is_among (us ++ u ∷ []) e ≡ true
-among_own us u e own = among_push us u e ∙ or_true_of (is_among us e) (is_id e.name u) own
+among_own us u e own = among_push us u e ∙ or_right (is_among us e) (is_id e.name u) own
 
 -- ---- the entry at a place
 
@@ -80,7 +75,7 @@ AreMarked-mark p files us u i m marks rises some within at h = record {
         let bound : i < length marks = omega (arith, h.len) in
         let mark : get_or (set marks i m) j 0 ≡ m = ap (λ (k : ℕ). get_or (set marks i m) k 0) same ∙ get_or-set_same marks i m 0 bound in
         let ne : m ≡ 0 → ⊥ = λ (z : m ≡ 0). omega (arith, z) in
-        rw (mark, ne_eqb m 0 ne, or_true_of (p e) _ (among_own us u e (own_place files u i e at here))) refl
+        rw (mark, ne_eqb m 0 ne, or_right (p e) _ (among_own us u e (own_place files u i e at here))) refl
     | inr apart ↦
         rw (get_or-set_other marks i j m 0 apart, among_other us u e (other_place files u i j e rises at is apart)) (h.at j e is)
   ];

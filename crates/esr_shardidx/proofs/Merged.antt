@@ -1,25 +1,23 @@
 -- Entries of a snapshot that are put in by a sort.
-use Rattle.std.proofs.Common.{◌≡◌, ℕ, zero, suc, ◌+◌, ◌<◌, ◌≤◌, ◌==◌, ◌||◌, ◌&&◌, nat_lt, not, Bool, true, false, cond, List, [], ◌∷◌, ◌++◌, length, map, filter, find, get_or, slice_get, Option, Some, None, refl, sym, ap, ◌∙◌, arith, inl, inr, append_assoc, append-nil}
+use Rattle.std.proofs.Common.{◌≡◌, ℕ, suc, ◌+◌, ◌<◌, ◌==◌, ◌||◌, nat_lt, not, Bool, true, false, List, [], ◌∷◌, ◌++◌, length, map, filter, find, get_or, slice_get, Option, Some, None, refl, sym, ap, ◌∙◌, arith, inl, inr, append_assoc, append-nil}
 use Rattle.std.specs.List.{list_any, AllByRecursion, IsDistinct}
 use Rattle.std.specs.List.Sorted.{IsPermutation, IsNonDecreasingBy, IsStableByKey, ties}
 use Rattle.std.specs.Option.{option_or}
 use Rattle.std.specs.Ordering.{nat_cmp, is_lt}
-use Rattle.std.proofs.lemmas.Bool.{cases_Bool, eqb-true, eqb-false, eq-eqb, ne_eqb, ltb-true, ltb-false}
+use Rattle.std.proofs.lemmas.Bool.{cases_Bool, eqb-true, eqb-false, eq-eqb, ne_eqb, ltb-true, ltb-false, or_left, or_right, or_parts}
 use Rattle.std.proofs.lemmas.List.Folds.{find-append, list_any-append}
 use Rattle.std.proofs.lemmas.Map.Keys.{IsDistinct-IsPermutation, IsDistinct-tail, apart_from_distinct}
 use Rattle.esr_names.specs.declared.ids.Id.{Id}
 use Rattle.esr_shardidx.specs.declared.entry.FileEntry.{FileEntry}
 use Rattle.esr_shardidx.specs.Snapshots.{has_name}
-use Rattle.esr_shardidx.specs.Indices.{is_id, repeats, name_of, has_file, Rises, insert_file, insert_files, Agrees}
-use Rattle.esr_shardidx.proofs.Files.{all_map, or_left, or_right, or_false, not_equal, Above, insert_file-rises, insert_files-rises}
-use Rattle.esr_shardidx.proofs.Rising.{none_over, none_found}
+use Rattle.esr_shardidx.specs.Indices.{is_id, repeats, name_of, has_file, Rises, insert_file, insert_files}
+use Rattle.esr_shardidx.specs.FileOrder.{all_map, not_equal, Above, insert_file-rises}
+use Rattle.esr_shardidx.proofs.Files.{insert_files-rises}
+use Rattle.esr_shardidx.proofs.Rising.{none_over}
 use Rattle.esr_shardidx.proofs.Repeats.{repeats-push}
-use Rattle.esr_shardidx.proofs.Found.{find-insert_own, find-insert_other, find-insert_kept, find-filter}
+use Rattle.esr_shardidx.proofs.Found.{find-insert_own, find-insert_other, find-insert_kept, find-filter, none_above}
 
 -- ---- entries that rise are told by what is found under each id
-
-none_below : (u : Id) (es : List FileEntry) → AllByRecursion (Above u) es → find (has_name u) es ≡ None
-none_below u es all = none_found u es (none_over u es all)
 
 over_all : (u v : Id) (es : List FileEntry) → u.number < v.number → AllByRecursion (Above v) es → AllByRecursion (Above u) es
 over_all u v es less all = all_map (λ (e : FileEntry) (h : Above v e). let more : Above u e = omega (arith, h, less) in more) es all
@@ -40,11 +38,11 @@ same_found (x ∷ xs) [] rx ry same = absurd (some_none x (sym (find_first x xs)
 same_found (x ∷ xs) (y ∷ ys) rx ry same = elim (cases_Bool (nat_lt x.name.number y.name.number)) [
   | inl less ↦
       let under = ltb-true x.name.number y.name.number less in
-      absurd (some_none x (sym (find_first x xs) ∙ same x.name ∙ none_below x.name (y ∷ ys) (under, over_all x.name y.name ys under ry.0)))
+      absurd (some_none x (sym (find_first x xs) ∙ same x.name ∙ none_above x.name (y ∷ ys) (under, over_all x.name y.name ys under ry.0)))
   | inr least ↦ elim (cases_Bool (nat_lt y.name.number x.name.number)) [
     | inl more ↦
         let under = ltb-true y.name.number x.name.number more in
-        absurd (some_none y (sym (find_first y ys) ∙ sym (same y.name) ∙ none_below y.name (x ∷ xs) (under, over_all y.name x.name xs under rx.0)))
+        absurd (some_none y (sym (find_first y ys) ∙ sym (same y.name) ∙ none_above y.name (x ∷ xs) (under, over_all y.name x.name xs under rx.0)))
     | inr most ↦
         let a = ltb-false x.name.number y.name.number least in
         let b = ltb-false y.name.number x.name.number most in
@@ -64,8 +62,8 @@ same_found (x ∷ xs) (y ∷ ys) rx ry same = elim (cases_Bool (nat_lt x.name.nu
   later u number = elim (cases_Bool (x.name.number == u.number)) [
     | inl own ↦
         let is = eqb-true x.name.number u.number own in
-        none_below u xs (all_map (λ (e : FileEntry) (h : Above x.name e). let more : Above u e = omega (arith, h, is) in more) xs rx.0)
-        ∙ sym (none_below u ys (all_map (λ (e : FileEntry) (h : Above y.name e). let more : Above u e = omega (arith, h, is, number) in more) ys ry.0))
+        none_above u xs (all_map (λ (e : FileEntry) (h : Above x.name e). let more : Above u e = omega (arith, h, is) in more) xs rx.0)
+        ∙ sym (none_above u ys (all_map (λ (e : FileEntry) (h : Above y.name e). let more : Above u e = omega (arith, h, is, number) in more) ys ry.0))
     | inr other ↦
         let apart : (y.name.number == u.number) ≡ false = ap (λ (n : ℕ). n == u.number) number ∙ other in
         sym (skip x xs u other) ∙ same u ∙ skip y ys u apart
@@ -111,7 +109,7 @@ rises_differ (e ∷ es) rises = rw (any_name e.name es, none_over e.name es rise
 filter_any : (p : FileEntry → Bool) (u : Id) (es : List FileEntry) → list_any (is_id u) (map name_of es) ≡ false → list_any (is_id u) (map name_of (filter p es)) ≡ false
 filter_any p u [] h = refl
 filter_any p u (e ∷ es) h =
-    let parts = or_false (is_id u e.name) (list_any (is_id u) (map name_of es)) h in
+    let parts = or_parts (is_id u e.name) (list_any (is_id u) (map name_of es)) h in
     elim (cases_Bool (p e)) [
       | inl kept ↦ rw (kept, parts.0) (filter_any p u es parts.1)
       | inr left ↦ rw left (filter_any p u es parts.1)
@@ -120,18 +118,19 @@ filter_any p u (e ∷ es) h =
 filter_differ : (p : FileEntry → Bool) (es : List FileEntry) → repeats (map name_of es) ≡ false → repeats (map name_of (filter p es)) ≡ false
 filter_differ p [] h = refl
 filter_differ p (e ∷ es) h =
-    let parts = or_false (list_any (is_id e.name) (map name_of es)) (repeats (map name_of es)) h in
+    let parts = or_parts (list_any (is_id e.name) (map name_of es)) (repeats (map name_of es)) h in
     elim (cases_Bool (p e)) [
       | inl kept ↦ rw (kept, filter_any p e.name es parts.0) (filter_differ p es parts.1)
       | inr left ↦ rw left (filter_differ p es parts.1)
     ]
 
 -- the new ones among the others, put after entries that they differ from
-differ_after : (xs : List Id) (files es : List FileEntry) → repeats xs ≡ false → repeats (map name_of es) ≡ false → ((u : Id) → list_any (is_id u) (map name_of es) ≡ true → has_file files u ≡ false → list_any (is_id u) xs ≡ false)
+differ_after : (xs : List Id) (files es : List FileEntry) → repeats xs ≡ false → repeats (map name_of es) ≡ false
+    → ((u : Id) → list_any (is_id u) (map name_of es) ≡ true → has_file files u ≡ false → list_any (is_id u) xs ≡ false)
     → repeats (xs ++ map name_of (filter (λ e. not (has_file files e.name)) es)) ≡ false
 differ_after xs files [] h own new = rw append-nil h
 differ_after xs files (e ∷ es) h own new =
-    let parts = or_false (list_any (is_id e.name) (map name_of es)) (repeats (map name_of es)) own in
+    let parts = or_parts (list_any (is_id e.name) (map name_of es)) (repeats (map name_of es)) own in
     elim (cases_Bool (has_file files e.name)) [
       | inl there ↦ rw there (differ_after xs files es h parts.1 (λ u among absent. new u (or_right (is_id u e.name) _ among) absent))
       | inr absent ↦
@@ -142,7 +141,7 @@ differ_after xs files (e ∷ es) h own new =
       unlike : (u : Id) (fs : List FileEntry) → list_any (is_id u) (map name_of fs) ≡ true → list_any (is_id e.name) (map name_of fs) ≡ false → is_id u e.name ≡ false
       unlike u [] among gone = cc
       unlike u (f ∷ fs) among gone =
-          let split = or_false (is_id e.name f.name) (list_any (is_id e.name) (map name_of fs)) gone in
+          let split = or_parts (is_id e.name f.name) (list_any (is_id e.name) (map name_of fs)) gone in
           elim (cases_Bool (is_id u f.name)) [
             | inl here ↦ ne_eqb e.name.number u.number (λ same. eqb-false f.name.number e.name.number split.0 (eqb-true f.name.number u.number here ∙ sym same))
             | inr other ↦ unlike u fs (rw other at among) split.1
@@ -164,11 +163,11 @@ distinct_of : (es : List FileEntry) → repeats (map name_of es) ≡ false → I
 unfolding IsDistinct
 distinct_of [] h = tt
 distinct_of (e ∷ es) h =
-    let parts = or_false (list_any (is_id e.name) (map name_of es)) (repeats (map name_of es)) h in
+    let parts = or_parts (list_any (is_id e.name) (map name_of es)) (repeats (map name_of es)) h in
     (each es parts.0, distinct_of es parts.1) where
       each : (fs : List FileEntry) → list_any (is_id e.name) (map name_of fs) ≡ false → AllByRecursion (λ f. is_same_id e f ≡ false) fs
       each [] none = tt
-      each (f ∷ fs) none = let split = or_false (is_id e.name f.name) (list_any (is_id e.name) (map name_of fs)) none in (split.0, each fs split.1)
+      each (f ∷ fs) none = let split = or_parts (is_id e.name f.name) (list_any (is_id e.name) (map name_of fs)) none in (split.0, each fs split.1)
 
 flip_same : (x y : FileEntry) → is_same_id x y ≡ is_same_id y x
 flip_same x y = elim (cases_Bool (y.name.number == x.name.number)) [

@@ -44,7 +44,8 @@ pub snap_file_again : (before : List FileEntry) (d : Data) (ds : List Data) (e :
 unfolding snap_files_from
 snap_file_again before d ds e read has = rw (read, has) refl
 
-pub snap_file_new : (before : List FileEntry) (d : Data) (ds : List Data) (e : FileEntry) → entry_of [] before d ≡ Ok e → list_any (has_name e.name) before ≡ false → snap_files_from before (d ∷ ds) ≡ snap_files_from (before ++ e ∷ []) ds
+pub snap_file_new : (before : List FileEntry) (d : Data) (ds : List Data) (e : FileEntry) → entry_of [] before d ≡ Ok e → list_any (has_name e.name) before ≡ false
+    → snap_files_from before (d ∷ ds) ≡ snap_files_from (before ++ e ∷ []) ds
 unfolding snap_files_from
 snap_file_new before d ds e read new = rw (read, new) refl
 
@@ -57,7 +58,8 @@ pub same_value : (files more : List FileEntry) (lists others : List SnapList) �
 unfolding value_of
 same_value files more lists others files_same lists_same = ap (λ (fs : List FileEntry). value_of fs lists) files_same ∙ ap (value_of more) lists_same
 
-pub index_read : (d : Data) (fs ls : List Data) (entries files : List FileEntry) (lists : List SnapList) → items_at keys.Files d ≡ Ok fs → index_files_from [] fs ≡ Ok entries → items_at keys.Snapshots d ≡ Ok ls → lists_from entries [] ls ≡ Ok lists
+pub index_read : (d : Data) (fs ls : List Data) (entries files : List FileEntry) (lists : List SnapList) → items_at keys.Files d ≡ Ok fs → index_files_from [] fs ≡ Ok entries → items_at keys.Snapshots d ≡ Ok ls
+    → lists_from entries [] ls ≡ Ok lists
     → files ≡ named_by lists entries → shard_index_of d ≡ Ok (record { files = files; snapshots = lists })
 unfolding shard_index_of
 index_read d fs ls entries files lists first read second listed kept =

@@ -3,12 +3,12 @@ use Rattle.std.proofs.Common.{◌≡◌, ℕ, ◌==◌, ◌||◌, nat_lt, Bool, 
 use Rattle.std.specs.List.{list_any}
 use Rattle.std.specs.Ordering.{nat_cmp, is_eq}
 use Rattle.std.specs.BTreeSet.{BTreeSet, contains, Updates}
-use Rattle.std.proofs.lemmas.Bool.{cases_Bool, ltb-true, eqb-true, eq-eqb}
+use Rattle.std.proofs.lemmas.Bool.{cases_Bool, ltb-true, eqb-true, eq-eqb, or_left, or_right, or_parts}
 use Rattle.std.proofs.lemmas.List.{take_more, drop_more, take-append-drop}
 use Rattle.std.proofs.lemmas.List.Folds.{list_any-append}
 use Rattle.esr_names.specs.declared.ids.Id.{Id}
 use Rattle.esr_shardidx.specs.Indices.{is_id, repeats}
-use Rattle.esr_shardidx.proofs.Files.{or_left, or_right, or_false, or_cases, not_equal}
+use Rattle.esr_shardidx.specs.FileOrder.{or_cases, not_equal}
 
 flip_id : (u v : Id) → is_id u v ≡ is_id v u
 flip_id u v = elim (cases_Bool (v.number == u.number)) [
@@ -30,8 +30,8 @@ repeats-again (x ∷ xs) u ys h = or_cases (is_id u x) (list_any (is_id u) xs) h
 pub repeats-push : (xs : List Id) (u : Id) → repeats xs ≡ false → list_any (is_id u) xs ≡ false → repeats (xs ++ u ∷ []) ≡ false
 repeats-push [] u apart new = refl
 repeats-push (x ∷ xs) u apart new =
-    let parts = or_false (list_any (is_id x) xs) (repeats xs) apart in
-    let split = or_false (is_id u x) (list_any (is_id u) xs) new in
+    let parts = or_parts (list_any (is_id x) xs) (repeats xs) apart in
+    let split = or_parts (is_id u x) (list_any (is_id u) xs) new in
     let here : list_any (is_id x) (xs ++ u ∷ []) ≡ false = list_any-append (is_id x) xs (u ∷ []) ∙ none (list_any (is_id x) xs) (is_id x u) parts.0 (flip_id x u ∙ split.0) in
     rw here (repeats-push xs u parts.1 split.1) where
       none : (a b : Bool) → a ≡ false → b ≡ false → (a || (b || false)) ≡ false

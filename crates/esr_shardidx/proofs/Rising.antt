@@ -1,14 +1,14 @@
 -- Where an id stands among entries that rise by id.
-use Rattle.std.proofs.Common.{◌≡◌, ℕ, zero, suc, ◌+◌, ◌-◌, ◌<◌, ◌≤◌, ◌==◌, ◌||◌, nat_lt, Bool, true, false, cond, List, [], ◌∷◌, length, get_or, slice_get, find, Option, Some, None, add-one, refl, sym, ap, ◌∙◌, arith, inl, inr}
+use Rattle.std.proofs.Common.{◌≡◌, ℕ, zero, suc, ◌-◌, ◌<◌, ◌≤◌, ◌==◌, ◌||◌, nat_lt, Bool, true, false, List, [], ◌∷◌, length, get_or, slice_get, find, Some, add-one, refl, sym, ap, ◌∙◌, arith, inl, inr}
 use Rattle.std.specs.List.{list_any, AllByRecursion}
 use Rattle.std.specs.List.Sorted.{IsNonDecreasingBy, IsPartitionPoint}
-use Rattle.std.proofs.lemmas.Bool.{cases_Bool, le-ltb, ltb-true, ltb-false, eqb-true, eqb-false, eq-eqb}
+use Rattle.std.proofs.lemmas.Bool.{cases_Bool, ltb-true, ltb-false, eqb-true, eqb-false}
 use Rattle.esr_names.specs.declared.ids.Id.{Id}
 use Rattle.esr_shardidx.specs.declared.entry.FileEntry.{FileEntry}
 use Rattle.esr_shardidx.specs.Entries.{last_of, id_falls}
 use Rattle.esr_shardidx.specs.Snapshots.{has_name}
 use Rattle.esr_shardidx.specs.Indices.{Rises, place_of, is_at}
-use Rattle.esr_shardidx.proofs.Files.{all_map, not_equal, Above}
+use Rattle.esr_shardidx.specs.FileOrder.{all_map, not_equal, Above}
 
 -- ---- the last entry
 
@@ -103,13 +103,6 @@ found_at u (e ∷ es) (suc i) rises at = elim (cases_Bool (has_name u e)) [
   over (f ∷ fs) zero here all at' = omega (arith, all.0, eqb-true e.name.number u.number here, eqb-true f.name.number u.number at')
   over (f ∷ fs) (suc j) here all at' = over fs j here all.1 at'
 
-pub none_found : (u : Id) (es : List FileEntry) → list_any (has_name u) es ≡ false → find (has_name u) es ≡ None
-none_found u [] none = refl
-none_found u (e ∷ es) none = elim (cases_Bool (has_name u e)) [
-  | inl here ↦ let contra : true ≡ false = (rw here at none) in cc
-  | inr other ↦ rw other (none_found u es (rw other at none))
-]
-
 -- ---- a search by halves
 
 all_from : (P : FileEntry → Type 0) (es : List FileEntry) (j : ℕ) (d : FileEntry) → AllByRecursion P es → j < length es → P (get_or es j d)
@@ -125,7 +118,8 @@ numbers_rise (e ∷ es) rises (suc i) zero d order within = absurd (omega arith)
 numbers_rise (e ∷ es) rises (suc i) (suc j) d order within = numbers_rise es rises.1 i j d (omega arith) (omega arith)
 
 -- the place that a search by halves gives
-pub place_of-is : (u : Id) (es : List FileEntry) (i : ℕ) → i ≤ length es → IsPartitionPoint (λ (e : FileEntry). nat_lt e.name.number u.number ≡ true) (λ (e : FileEntry). nat_lt e.name.number u.number ≡ false) es i → i ≡ place_of u es
+pub place_of-is : (u : Id) (es : List FileEntry) (i : ℕ) → i ≤ length es → IsPartitionPoint (λ (e : FileEntry). nat_lt e.name.number u.number ≡ true) (λ (e : FileEntry). nat_lt e.name.number u.number ≡ false) es i
+    → i ≡ place_of u es
 place_of-is u [] i within point = omega arith
 place_of-is u (e ∷ es) zero within point = let least = point.1 0 e (omega arith) (omega arith) in rw least refl
 place_of-is u (e ∷ es) (suc i) within point =

@@ -1,27 +1,22 @@
 -- Entries that were tested one after another.
-use Rattle.std.proofs.Common.{◌≡◌, ℕ, ◌+◌, ◌<◌, ◌^◌, nat_lt, nat_le, not, Bool, true, false, List, [], ◌∷◌, ◌++◌, length, take, drop, get_or, refl, sym, ap, ◌∙◌, subst}
+use Rattle.std.proofs.Common.{◌≡◌, ℕ, ◌+◌, ◌<◌, ◌^◌, nat_lt, nat_le, not, true, false, List, [], ◌∷◌, ◌++◌, length, take, drop, get_or, refl, sym, ap, ◌∙◌, subst}
 use Rattle.std.specs.List.{list_any}
-use Rattle.std.proofs.lemmas.Bool.{ltb-true, leb-true}
+use Rattle.std.proofs.lemmas.Bool.{ltb-true, leb-true, not-true, and_parts}
 use Rattle.std.proofs.lemmas.List.{take_more, drop_more}
 use Rattle.esr_shardidx.specs.declared.entry.FileEntry.{FileEntry}
 use Rattle.esr_shardidx.specs.Entries.{last_of, name_stays, IsTyped, is_sized}
 use Rattle.esr_shardidx.specs.Snapshots.{has_name, follows, are_snap_files, AreSnapFiles}
-use Rattle.esr_shardidx.proofs.Files.{and_true}
 use Rattle.esr_shardidx.proofs.SnapTexts.{AreSnapFiles-push}
-
-not_true : (t : Bool) → not t ≡ true → t ≡ false
-not_true true h = cc
-not_true false h = refl
 
 follows-is : (before : List FileEntry) (e : FileEntry) → follows before e ≡ true → IsTyped e → AreSnapFiles before (e ∷ [])
 follows-is before e h typed =
-    let parts = and_true (is_sized e) _ h in
-    let order = and_true (not (name_stays (last_of before) e.physical)) _ parts.1 in
-    let short = and_true (nat_lt e.print.len (2 ^ 60)) _ parts.0 in
-    let sized = and_true (nat_le 1 e.part_size) _ short.1 in (
+    let parts = and_parts (is_sized e) _ h in
+    let order = and_parts (not (name_stays (last_of before) e.physical)) _ parts.1 in
+    let short = and_parts (nat_lt e.print.len (2 ^ 60)) _ parts.0 in
+    let sized = and_parts (nat_le 1 e.part_size) _ short.1 in (
       record { typed = typed; short = ltb-true e.print.len (2 ^ 60) short.0; least = leb-true 1 e.part_size sized.0; most = leb-true e.part_size (2 ^ 30) sized.1 },
-      not_true (name_stays (last_of before) e.physical) order.0,
-      not_true (list_any (has_name e.name) before) order.1,
+      not-true (name_stays (last_of before) e.physical) order.0,
+      not-true (list_any (has_name e.name) before) order.1,
       tt,
     )
 

@@ -1,7 +1,11 @@
-pub mod Entries
 pub mod FileNames
+pub mod Entries
+pub mod Snapshots
 pub mod Indices
 pub mod Marks
 pub mod Parts
-pub mod Snapshots
 pub mod Written
+pub mod FileOrder
+pub mod KeptLists
+pub mod NamesRise
+pub mod RoundTrip

@@ -128,7 +128,7 @@ fn mark_list(
     let turn = before.len() + 1;
     let mut last = None;
     for name in names {
-        let near = trail.place_after(last, *name);
+        let near = trail.next(last);
         let Some(place) = find_place(entries, near, *name) else {
             return Err(absent(alloc, names));
         };

@@ -265,8 +265,12 @@ fn lists_of(
     ensures named { IfOk result (λ ls. IsNamed entries.now ls named.new) }
 {
     let mut lists = Seq::new(alloc);
-    let mut trail = Trail::straight(alloc, entries)?;
+    let mut trail = Trail::straight(alloc, entries.len())?;
     for value in values {
+        // One list alone costs no names.
+        if lists.len() == 1 {
+            trail.learn(alloc, entries)?;
+        }
         let list = list_of(alloc, &trail, value)?;
         let list = named.checked(alloc, entries, &mut trail, lists.as_slice(), list)?;
         lists.push(list)?;

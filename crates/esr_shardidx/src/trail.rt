@@ -7,18 +7,20 @@ use crate::writing::file_name;
 use esr_names::Id;
 use std::alloc::{AllocError, Global};
 
-/// A file of an index: its id, its name, and the place of the one that came next in the last list that had it.
+/// A file of an index: its id and its name.
 #[derive(Drop)]
 struct Known {
     id: Id,
     name: [u8; 24],
     ghost named: { name ≡ file_text id },
-    next: usize,
 }
 
-/// The files of an index, by id. A list mostly has them in the order of the one before it.
+/// For each file of an index, the place of the one that came next in the last list that had it. A list
+/// mostly has files in the order of the one before it.
 #[derive(Drop)]
 pub struct Trail {
+    after: Vec<usize>,
+    /// The files by id, or none while their names aren't known.
     files: Vec<Known>,
 }
 
@@ -44,28 +46,40 @@ impl Known {
 }
 
 impl Trail {
-    /// The trail from each entry to the next one.
-    pub fn straight(alloc: Global, entries: &[FileEntry]) -> Result<Trail, AllocError> {
+    /// The trail from each of so many files to the next one, whose names aren't known.
+    pub fn straight(alloc: Global, len: usize) -> Result<Trail, AllocError> {
+        let mut after = Vec::with_capacity(alloc, len)?;
+        for place in 0..len {
+            after.push(place + 1)?;
+        }
+        Ok(Trail {
+            after,
+            files: Vec::new(alloc),
+        })
+    }
+
+    /// Makes the names of the files known.
+    pub fn learn(&mut self, alloc: Global, entries: &[FileEntry]) -> Result<(), AllocError> {
         let mut files = Vec::with_capacity(alloc, entries.len())?;
-        for (place, entry) in entries.iter().enumerate() {
+        for entry in entries {
             files.push(Known {
                 id: entry.name,
                 name: file_name(entry.name),
-                next: place + 1,
             })?;
         }
-        Ok(Trail { files })
+        self.files = files;
+        Ok(())
     }
 
     /// The place that comes after this one, or the first.
-    fn next(&self, last: Option<usize>) -> usize {
+    pub fn next(&self, last: Option<usize>) -> usize {
         match last {
-            Some(last) if last < self.files.len() => self.files[last].next,
+            Some(last) if last < self.after.len() => self.after[last],
             _ => 0,
         }
     }
 
-    /// The id of the file of this name, if it comes after the one at this place.
+    /// The id of the file of this name, if it is known and comes after the one at this place.
     pub fn id_after(&self, last: Option<usize>, name: &[u8]) -> Option<Id>
         ensures { IfSome result (λ id. read_file name.now ≡ Some id) }
     {
@@ -77,7 +91,7 @@ impl Trail {
         }
     }
 
-    /// The place after this one, if the file with this id is there, or else the one where such a file stands.
+    /// The place after this one, if the known file with this id is there, or else the one where such a file stands.
     pub fn place_after(&self, last: Option<usize>, id: Id) -> usize {
         let next = self.next(last);
         if next < self.files.len() && self.files[next].id.number == id.number {
@@ -91,9 +105,9 @@ impl Trail {
     /// A list has the file at this place after the one at the last.
     pub fn step(&mut self, last: Option<usize>, place: usize) {
         if let Some(last) = last
-            && last < self.files.len()
+            && last < self.after.len()
         {
-            self.files[last].next = place;
+            self.after[last] = place;
         }
     }
 }

@@ -34,7 +34,8 @@ abbrev pub IsNoRestoration : Step → Reply → Type 0
 IsNoRestoration step reply = (before : List Moment) (who : ℕ) → restorations_by before who reply step ≡ []
 
 module _ {S F H T : Type 0} (e : Evidence S F H T) (s : Start) where
-  goes_on : (log : List Moment) (m : Moment) (targets more : List (RestoredTarget T)) → AllPairs (IsTargetOf e s) (restorations_by log m.entry.who m.entry.reply m.entry.step) more → AreTargetsOf e s log targets → AreTargetsOf e s (log ++ m ∷ []) (targets ++ more)
+  goes_on : (log : List Moment) (m : Moment) (targets more : List (RestoredTarget T)) → AllPairs (IsTargetOf e s) (restorations_by log m.entry.who m.entry.reply m.entry.step) more → AreTargetsOf e s log targets
+      → AreTargetsOf e s (log ++ m ∷ []) (targets ++ more)
   goes_on log m targets more now h =
       subst (λ (l : List Restoration). AllPairs (IsTargetOf e s) l (targets ++ more)) (sym (in_more [] log m))
       (pairs_more (IsTargetOf e s) (restorations_in [] log) (restorations_by log m.entry.who m.entry.reply m.entry.step) targets more h now)
@@ -54,7 +55,8 @@ module _ {S F H T : Type 0} (e : Evidence S F H T) (s : Start) where
   added_or old new who step (steps.Refused refusal) targets a h = added old new who step (Refused (refusal_of refusal)) targets (λ before k. refl) a h
 
   -- a step of the repository that restores no shard
-  pub targets_did : {X : Type 0} (old new : List Moment) (who : ℕ) (step : Step) (ok : X → Reply) (result : Result X StepRefusal) (targets : List (RestoredTarget T)) → ((x : X) → IsNoRestoration step (ok x)) → Did s old new who step ok result
+  pub targets_did : {X : Type 0} (old new : List Moment) (who : ℕ) (step : Step) (ok : X → Reply) (result : Result X StepRefusal) (targets : List (RestoredTarget T)) → ((x : X) → IsNoRestoration step (ok x))
+      → Did s old new who step ok result
       → AreTargetsOf e s old targets → AreTargetsOf e s new targets
   targets_did old new who step ok (Ok x) targets none d h = added old new who step (ok x) targets (none x) d h
   targets_did old new who step ok (Err x) targets none d h = added_or old new who step x targets d h

@@ -42,7 +42,8 @@ added_or s old new who step steps.TurnsSpent removes never h = absurd never
 added_or s old new who step (steps.Refused refusal) removes a h = added s old new who step (Refused (refusal_of refusal)) removes a h
 
 -- a step of a repository
-pub removed_did : {X : Type 0} (s : Start) (old new : List Moment) (who : ℕ) (step : Step) (ok : X → Reply) (result : Result X StepRefusal) → RemovesBy old who step → Did s old new who step ok result → AreRemovedOnce old → AreRemovedOnce new
+pub removed_did : {X : Type 0} (s : Start) (old new : List Moment) (who : ℕ) (step : Step) (ok : X → Reply) (result : Result X StepRefusal) → RemovesBy old who step → Did s old new who step ok result → AreRemovedOnce old
+    → AreRemovedOnce new
 removed_did s old new who step ok (Ok x) removes d h = added s old new who step (ok x) removes d h
 removed_did s old new who step ok (Err e) removes d h = added_or s old new who step e removes d h
 

@@ -1,5 +1,6 @@
 -- Failures stay shown as the history goes on.
 use Rattle.std.proofs.Common.{◌≡◌, ◌⊎◌, ℕ, suc, ◌+◌, ◌≤◌, ◌<◌, List, [], ◌∷◌, ◌++◌, length, Option, Some, None, Result, Ok, Err, refl, sym, ap, ◌∙◌, subst, inl, inr, ⊎_elim, append_assoc, append-nil, length-append, arith}
+use Rattle.esr_model.specs.Lists.{Has-left, Has-right, Has-either}
 use Rattle.esr_model.specs.Values.{Has}
 use Rattle.esr_core.specs.Entry.{Step, Reply, Refused, Refusal, FailedStep, ReadStep, ReadFails, PruneStep, DeleteFails, HasEnded, Why, Moment}
 use Rattle.esr_desk.specs.declared.hand.Hand.{Hand}
@@ -42,20 +43,6 @@ last_or (l ∷ log) m (f ∷ front) x back e =
     (λ d. inr (d.0, both l f log (front ++ x ∷ d.0) h d.1))
     (last_or log m front x back (tail_is l f (log ++ m ∷ []) (front ++ x ∷ back) e))
 
-has_left : {A : Type 0} (xs ys : List A) (y : A) → Has xs y → Has (xs ++ ys) y
-has_left [] ys y h = absurd h
-has_left (x ∷ xs) ys y (inl e) = inl e
-has_left (x ∷ xs) ys y (inr h) = inr (has_left xs ys y h)
-
-pub has_right : {A : Type 0} (xs ys : List A) (y : A) → Has ys y → Has (xs ++ ys) y
-has_right [] ys y h = h
-has_right (x ∷ xs) ys y h = inr (has_right xs ys y h)
-
-has_either : {A : Type 0} (xs ys : List A) (y : A) → Has (xs ++ ys) y → Has xs y ⊎ Has ys y
-has_either [] ys y h = inr h
-has_either (x ∷ xs) ys y (inl e) = inl (inl e)
-has_either (x ∷ xs) ys y (inr h) = ⊎_elim (λ a. inl (inr a)) (λ b. inr b) (has_either xs ys y h)
-
 -- a report stays one as the history goes on
 longer : (hand : Hand) (log : List Moment) (m : Moment) (place who : ℕ) (why : Why) → IsReport hand log place who why → IsReport hand (log ++ m ∷ []) place who why
 longer hand log m place who why r =
@@ -73,12 +60,12 @@ longer hand log m place who why r =
 
 -- a longer list of objects shows as much
 more_listed : {S F H T : Type 0} (faults more : List (Fault S F H T)) (place : ℕ) (b : By S F H T) → IsListed faults place b → IsListed (faults ++ more) place b
-more_listed faults more place (by.Object object) h = has_left faults more (record { entry = Some place; object = object }) h
+more_listed faults more place (by.Object object) h = Has-left faults more (record { entry = Some place; object = object }) h
 more_listed faults more place by.Entry h = tt
 more_listed faults more place by.Nothing h = tt
 
 own_listed : {S F H T : Type 0} (faults : List (Fault S F H T)) (place : ℕ) (b : By S F H T) → IsListed (faults ++ listed_at place b) place b
-own_listed faults place (by.Object object) = has_right faults (record { entry = Some place; object = object } ∷ []) (record { entry = Some place; object = object }) (inl refl)
+own_listed faults place (by.Object object) = Has-right faults (record { entry = Some place; object = object } ∷ []) (record { entry = Some place; object = object }) (inl refl)
 own_listed faults place by.Entry = tt
 own_listed faults place by.Nothing = tt
 
@@ -127,11 +114,12 @@ rising_none front back one next is = absurd (no_end front one (next ∷ back) is
 last_of : {A : Type 0} (xs : List A) (x : A) (front back : List A) (one next : A) → xs ++ x ∷ [] ≡ front ++ one ∷ next ∷ back → (Has xs one × (x ≡ next)) ⊎ ((rest : List A) × (xs ≡ front ++ one ∷ next ∷ rest))
 last_of xs x front back one next is =
     ⊎_elim
-    (λ (last : (front ++ one ∷ [] ≡ xs) × (x ≡ next)). inl (subst (λ (l : List _). Has l one) last.0 (has_right front (one ∷ []) one (inl refl)), last.1))
+    (λ (last : (front ++ one ∷ [] ≡ xs) × (x ≡ next)). inl (subst (λ (l : List _). Has l one) last.0 (Has-right front (one ∷ []) one (inl refl)), last.1))
     (λ (more : (rest : List _) × (xs ≡ (front ++ one ∷ []) ++ next ∷ rest)). inr (more.0, more.1 ∙ append_assoc front (one ∷ []) (next ∷ more.0)))
     (last_or xs x (front ++ one ∷ []) next back (is ∙ sym (append_assoc front (one ∷ []) (next ∷ back))))
 
-rising_more : {S F H T : Type 0} (faults : List (Fault S F H T)) (fault : Fault S F H T) (place : ℕ) → fault.entry ≡ Some place → ((one : Fault S F H T) (p : ℕ) → Has faults one → one.entry ≡ Some p → p < place) → AreRising faults → AreRising (faults ++ fault ∷ [])
+rising_more : {S F H T : Type 0} (faults : List (Fault S F H T)) (fault : Fault S F H T) (place : ℕ) → fault.entry ≡ Some place → ((one : Fault S F H T) (p : ℕ) → Has faults one → one.entry ≡ Some p → p < place)
+    → AreRising faults → AreRising (faults ++ fault ∷ [])
 rising_more faults fault place at below h front back one next is p q one_is next_is =
     ⊎_elim
     (λ (last : Has faults one × (fault ≡ next)). subst (λ (n : ℕ). p < n) (some_same place q (sym at ∙ ap (λ (x : Fault _ _ _ _). x.entry) last.1 ∙ next_is)) (below one p last.0 one_is))
@@ -270,7 +258,7 @@ module _ {S F H T : Type 0} (e : Evidence S F H T) (s : Start) (hand : Hand) (lo
         listed = λ fault there. ⊎_elim
             (λ (old : Has faults fault). shows_longer e s log m fault (h.listed fault old))
             (λ (new : Has (listed_at (length log) b) fault). now_listed b refl fault new)
-            (has_either faults (listed_at (length log) b) fault there);
+            (Has-either faults (listed_at (length log) b) fault there);
         rising = now_rising b;
       }
 
@@ -283,26 +271,30 @@ begins {S} {F} {H} {T} e s log faults none empty = subst (λ (l : List Moment). 
 
 -- ---- a step of the repository
 
-added : {S F H T : Type 0} (e : Evidence S F H T) (s : Start) (old new : List Moment) (who : ℕ) (step : Step) (reply : Reply) (faults : List (Fault S F H T)) → IsNoReportOf step reply → Added s old new who step reply → AreShown e s old faults → AreShown e s new faults
+added : {S F H T : Type 0} (e : Evidence S F H T) (s : Start) (old new : List Moment) (who : ℕ) (step : Step) (reply : Reply) (faults : List (Fault S F H T)) → IsNoReportOf step reply → Added s old new who step reply
+    → AreShown e s old faults → AreShown e s new faults
 added e s old new who step reply faults none a h =
     subst (λ (l : List Moment). AreShown e s l faults) (sym a.is) (goes_on e s old (record { entry = record { who = who; step = step; reply = reply }; image = a.image }) faults none h)
 
 refused_no : (step : Step) (refusal : Refusal) → IsNoReportOf step (Refused refusal)
 refused_no step refusal why told d = cc
 
-added_or : {S F H T : Type 0} (e : Evidence S F H T) (s : Start) (old new : List Moment) (who : ℕ) (step : Step) (x : StepRefusal) (faults : List (Fault S F H T)) → AddedOr s old new who step x → AreShown e s old faults → AreShown e s new faults
+added_or : {S F H T : Type 0} (e : Evidence S F H T) (s : Start) (old new : List Moment) (who : ℕ) (step : Step) (x : StepRefusal) (faults : List (Fault S F H T)) → AddedOr s old new who step x → AreShown e s old faults
+    → AreShown e s new faults
 added_or e s old new who step steps.Memory faults same h = subst (λ (l : List Moment). AreShown e s l faults) (sym same) h
 added_or e s old new who step steps.TurnsSpent faults never h = absurd never
 added_or e s old new who step (steps.Refused refusal) faults a h = added e s old new who step (Refused (refusal_of refusal)) faults (refused_no step (refusal_of refusal)) a h
 
 -- that isn't the report of a failure
-pub did : {X S F H T : Type 0} (e : Evidence S F H T) (s : Start) (old new : List Moment) (who : ℕ) (step : Step) (ok : X → Reply) (result : Result X StepRefusal) (faults : List (Fault S F H T)) → ((x : X) → IsNoReportOf step (ok x)) → Did s old new who step ok result
+pub did : {X S F H T : Type 0} (e : Evidence S F H T) (s : Start) (old new : List Moment) (who : ℕ) (step : Step) (ok : X → Reply) (result : Result X StepRefusal) (faults : List (Fault S F H T)) → ((x : X) → IsNoReportOf step (ok x))
+    → Did s old new who step ok result
     → AreShown e s old faults → AreShown e s new faults
 did e s old new who step ok (Ok x) faults none d h = added e s old new who step (ok x) faults (none x) d h
 did e s old new who step ok (Err x) faults none d h = added_or e s old new who step x faults d h
 
 -- or is one, by its answer
-pub reported : {S F H T : Type 0} (e : Evidence S F H T) (s : Start) (hand : Hand) (old new : List Moment) (who : ℕ) (why : Why) (result : Result Unit StepRefusal) (faults : List (Fault S F H T)) (b : By S F H T) → IsTeller hand who → IsShown hand e s old who why b
+pub reported : {S F H T : Type 0} (e : Evidence S F H T) (s : Start) (hand : Hand) (old new : List Moment) (who : ℕ) (why : Why) (result : Result Unit StepRefusal) (faults : List (Fault S F H T)) (b : By S F H T) → IsTeller hand who
+    → IsShown hand e s old who why b
     → Did s old new who (fail_step hand why) (λ _. HasEnded) result → AreShown e s old faults → AreShown e s new (faults ++ kept_by (length old) b result)
 reported e s hand old new who why (Ok x) faults b teller shown d h =
     subst (λ (l : List Moment). AreShown e s l (faults ++ listed_at (length old) b)) (sym d.is)

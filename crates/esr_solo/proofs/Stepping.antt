@@ -107,14 +107,16 @@ counted n k left took all some few e d = omega (arith, some, few, e, d)
 abbrev pub HasGrounds : Start → List Moment → Type 0
 HasGrounds s log = (who : ℕ) (step : Step) (refusal : EntryRefusal) → length log ≤ 2 ^ 41 → IsLast log who step (Refused (refusal_of refusal)) → Grounds s log who (steps.Refused refusal)
 
-few_now : {X : Type 0} (s : Start) (own new : List Moment) (who : ℕ) (step : Step) (ok : X → Reply) (result : Result X StepRefusal) (left : ℕ) → length own + left ≡ 2 ^ 40 → left ≢ 0 → Did s own new who step ok result → length new ≤ 2 ^ 41
+few_now : {X : Type 0} (s : Start) (own new : List Moment) (who : ℕ) (step : Step) (ok : X → Reply) (result : Result X StepRefusal) (left : ℕ) → length own + left ≡ 2 ^ 40 → left ≢ 0 → Did s own new who step ok result
+    → length new ≤ 2 ^ 41
 few_now s own new who step ok result left turns some d = within (length own) (length new) left (turns_of result) turns some (at_most_one result) (grown s own new who step ok result d)
   where
     within : (n m left took : ℕ) → n + left ≡ 2 ^ 40 → left ≢ 0 → took ≤ 1 → m ≡ n + took → m ≤ 2 ^ 41
     within n m left took turns some few more = omega (arith, turns, some, few, more)
 
 -- what the desk learns by a step of the repository, which counts no turns
-pub outcome : {X : Type 0} (s : Start) (own log new : List Moment) (who : ℕ) (step : Step) (ok : X → Reply) (result : Result X StepRefusal) (left : ℕ) → own ≡ log → Legal s own → length own + left ≡ 2 ^ 40 → left ≢ 0 → HasGrounds s new → Did s own new who step ok result
+pub outcome : {X : Type 0} (s : Start) (own log new : List Moment) (who : ℕ) (step : Step) (ok : X → Reply) (result : Result X StepRefusal) (left : ℕ) → own ≡ log → Legal s own → length own + left ≡ 2 ^ 40 → left ≢ 0
+    → HasGrounds s new → Did s own new who step ok result
     → Outcome s log new who step ok result
 outcome s own log new who step ok (Ok x) left e l turns some grounds d = stepped s own log new who step (ok x) e l d
 outcome s own log new who step ok (Err steps.Memory) left e l turns some grounds d = (subst (λ (x : List Moment). Waited s log x who) (sym d) (waited_as s own log who e l), tt)
@@ -125,7 +127,8 @@ outcome s own log new who step ok (Err (steps.Refused refusal)) left e l turns s
 )
 
 -- no history passes the turns
-pub is_few : {X : Type 0} (s : Start) (own new : List Moment) (who : ℕ) (step : Step) (ok : X → Reply) (result : Result X StepRefusal) (left : ℕ) → length own + left ≡ 2 ^ 40 → left ≢ 0 → Did s own new who step ok result → OnOk result (s.alone ≡ true → length new ≤ 2 ^ 40)
+pub is_few : {X : Type 0} (s : Start) (own new : List Moment) (who : ℕ) (step : Step) (ok : X → Reply) (result : Result X StepRefusal) (left : ℕ) → length own + left ≡ 2 ^ 40 → left ≢ 0 → Did s own new who step ok result
+    → OnOk result (s.alone ≡ true → length new ≤ 2 ^ 40)
 is_few s own new who step ok (Ok x) left turns some d = λ alone. within (length own) (length new) left turns some (grown s own new who step ok (Ok x) d)
   where
     within : (n m left : ℕ) → n + left ≡ 2 ^ 40 → left ≢ 0 → m ≡ n + 1 → m ≤ 2 ^ 40
@@ -215,8 +218,10 @@ teller_is hands.Verify calls who mine = mine
 module _ {S F H T : Type 0} (e : Evidence S F H T) (s : Start) (own new : List Moment) (who : ℕ) (faults : List (Fault S F H T)) (targets : List (RestoredTarget T)) (left took all : ℕ)
     (h : (length own + left ≡ all) × AreShown e s own faults × AreTargetsOf e s own targets × AreOnce s own × Numbered 1 s.world × (s.world.entries ≡ []) × AreTested s own × AreRemovedOnce own) (some : left ≢ 0) where
   -- after a step that neither reports a failure nor restores a shard
-  pub keeps : {X : Type 0} (step : Step) (ok : X → Reply) (result : Result X StepRefusal) → took ≡ turns_of result → ((x : X) → IsNoReportOf step (ok x)) → ((x : X) → IsNoRestoration step (ok x)) → IsNew s own who step → Did s own new who step ok result
-      → TestsBy s own new step result → RemovesBy own who step → (length new + (left - took) ≡ all) × AreShown e s new faults × AreTargetsOf e s new targets × AreOnce s new × Numbered 1 s.world × (s.world.entries ≡ []) × AreTested s new × AreRemovedOnce new
+  pub keeps : {X : Type 0} (step : Step) (ok : X → Reply) (result : Result X StepRefusal) → took ≡ turns_of result → ((x : X) → IsNoReportOf step (ok x)) → ((x : X) → IsNoRestoration step (ok x)) → IsNew s own who step
+      → Did s own new who step ok result
+      → TestsBy s own new step result → RemovesBy own who step
+      → (length new + (left - took) ≡ all) × AreShown e s new faults × AreTargetsOf e s new targets × AreOnce s new × Numbered 1 s.world × (s.world.entries ≡ []) × AreTested s new × AreRemovedOnce new
   keeps step ok result turns none unrestored unnoted d tests removals = (
     counted (length own) (length new) left took all some (subst (λ (n : ℕ). n ≤ 1) (sym turns) (at_most_one result)) h.0 (grown s own new who step ok result d ∙ ap (λ (n : ℕ). length own + n) (sym turns)),
     did e s own new who step ok result faults none d h.1,
@@ -229,8 +234,10 @@ module _ {S F H T : Type 0} (e : Evidence S F H T) (s : Start) (own new : List M
   )
 
   -- after the report of a failure whose cause is shown
-  pub keeps_report : (hand : Hand) (log : List Moment) (why : Why) (result : Result Unit StepRefusal) (roomy after : List (Fault S F H T)) (b : By S F H T) → took ≡ turns_of result → own ≡ log → IsTeller hand who → IsShown hand e s log who why b → roomy ≡ faults
-      → after ≡ roomy ++ kept_by (all - left) b result → Did s own new who (fail_step hand why) (λ _. HasEnded) result → (length new + (left - took) ≡ all) × AreShown e s new after × AreTargetsOf e s new targets × AreOnce s new × Numbered 1 s.world × (s.world.entries ≡ []) × AreTested s new × AreRemovedOnce new
+  pub keeps_report : (hand : Hand) (log : List Moment) (why : Why) (result : Result Unit StepRefusal) (roomy after : List (Fault S F H T)) (b : By S F H T) → took ≡ turns_of result → own ≡ log → IsTeller hand who
+      → IsShown hand e s log who why b → roomy ≡ faults
+      → after ≡ roomy ++ kept_by (all - left) b result → Did s own new who (fail_step hand why) (λ _. HasEnded) result
+      → (length new + (left - took) ≡ all) × AreShown e s new after × AreTargetsOf e s new targets × AreOnce s new × Numbered 1 s.world × (s.world.entries ≡ []) × AreTested s new × AreRemovedOnce new
   keeps_report hand log why result roomy after b turns view teller shown same is d =
       let n : all - left ≡ length own = place_is (length own) left all (all - left) h.0 refl in
       let at : after ≡ faults ++ kept_by (length own) b result = is ∙ ap (λ (l : List (Fault S F H T)). l ++ kept_by (all - left) b result) same ∙ ap (λ (k : ℕ). faults ++ kept_by k b result) n in (
@@ -249,8 +256,10 @@ module _ {S F H T : Type 0} (e : Evidence S F H T) (s : Start) (own new : List M
       place_is n left all place e d = omega (arith, e, d)
 
   -- after the end of a restore, which hands its target over
-  pub keeps_target : (log : List Moment) (files bytes : ℕ) (result : Result Unit StepRefusal) (roomy after : List (RestoredTarget T)) (target : RestoredTarget T) → took ≡ turns_of result → own ≡ log → IsFilled e s (reader_of s log who) files bytes target → roomy ≡ targets
-      → after ≡ roomy ++ targets_by target result → Did s own new who (ReadStep (RestoredShard files bytes)) (λ _. HasEnded) result → (length new + (left - took) ≡ all) × AreShown e s new faults × AreTargetsOf e s new after × AreOnce s new × Numbered 1 s.world × (s.world.entries ≡ []) × AreTested s new × AreRemovedOnce new
+  pub keeps_target : (log : List Moment) (files bytes : ℕ) (result : Result Unit StepRefusal) (roomy after : List (RestoredTarget T)) (target : RestoredTarget T) → took ≡ turns_of result → own ≡ log
+      → IsFilled e s (reader_of s log who) files bytes target → roomy ≡ targets
+      → after ≡ roomy ++ targets_by target result → Did s own new who (ReadStep (RestoredShard files bytes)) (λ _. HasEnded) result
+      → (length new + (left - took) ≡ all) × AreShown e s new faults × AreTargetsOf e s new after × AreOnce s new × Numbered 1 s.world × (s.world.entries ≡ []) × AreTested s new × AreRemovedOnce new
   keeps_target log files bytes result roomy after target turns view filled same is d = (
     counted (length own) (length new) left took all some (subst (λ (n : ℕ). n ≤ 1) (sym turns) (at_most_one result)) h.0 (grown s own new who (ReadStep (RestoredShard files bytes)) (λ _. HasEnded) result d ∙ ap (λ (n : ℕ). length own + n) (sym turns)),
     did e s own new who (ReadStep (RestoredShard files bytes)) (λ _. HasEnded) result faults (λ x why told ended. cc) d h.1,

@@ -1,5 +1,6 @@
 -- The ticket of a unit that was taken.
 use Rattle.std.proofs.Common.{◌≡◌, ℕ, zero, suc, ◌-◌, ◌≤◌, List, [], ◌∷◌, ◌++◌, length, Option, Some, None, IfSome, Result, Ok, Err, IfOk, refl, sym, ap, ◌∙◌, subst, inl, arith}
+use Rattle.esr_model.specs.Lists.{Has-right}
 use Rattle.esr_model.specs.Values.{Has}
 use Rattle.esr_core.specs.Entry.{Entry, TakeStep, Given, Gave, Moment}
 use Rattle.esr_core.specs.Past.{entries_by}
@@ -14,7 +15,6 @@ use Rattle.esr_desk.specs.Once.{HasMadeNone}
 use Rattle.esr_desk.specs.Numbered.{Numbered}
 use Rattle.esr_desk.specs.Calls.{Call, calls_at, HasTaken, calls_own}
 use Rattle.esr_repo.specs.Next.{Added, Did}
-use Rattle.esr_solo.proofs.Showing.{has_right}
 use Rattle.esr_solo.proofs.Listing.{IsNoRestoration}
 
 -- a take restores no shard
@@ -38,7 +38,7 @@ module _ (s : Start) (own new : List Moment) (law : IsNewNumber) (numbered : Num
   from_one = go u.ready.ticket refl
     where
       last : Has new taken
-      last = subst (λ (l : List Moment). Has l taken) (sym d.is) (has_right own (taken ∷ []) taken (inl refl))
+      last = subst (λ (l : List Moment). Has l taken) (sym d.is) (Has-right own (taken ∷ []) taken (inl refl))
 
       positive : (k : ℕ) → 1 ≤ suc k
       positive k = omega arith
@@ -51,7 +51,7 @@ module _ (s : Start) (own new : List Moment) (law : IsNewNumber) (numbered : Num
   is_taken =
       let calls = calls_own own new TakeStep (take_reply (Some u)) taken d.is refl in
       let call : Call = record { place = length new - 1; entry = record { who = 0; step = TakeStep; reply = take_reply (Some u) } } in
-      record { place = length new - 1; op = u.ready.op; unit = given_of u.ready; some = from_one; taken = subst (λ (l : List Call). Has l call) (sym calls) (has_right (calls_at 0 own) (call ∷ []) call (inl refl)) }
+      record { place = length new - 1; op = u.ready.op; unit = given_of u.ready; some = from_one; taken = subst (λ (l : List Call). Has l call) (sym calls) (Has-right (calls_at 0 own) (call ∷ []) call (inl refl)) }
 
 pub taken_new : (s : Start) (own new : List Moment) (result : Result (Option Taken) StepRefusal) → IsNewNumber → Numbered 1 s.world → s.world.entries ≡ [] → Did s own new 0 TakeStep take_reply result
     → IfOk result (λ o. IfSome o (λ u. made_of s new u.ready.ticket ≡ []))

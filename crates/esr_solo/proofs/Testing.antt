@@ -61,7 +61,8 @@ refused X s old new who step e refusal t d name is =
     record { once = one.once; id = one.id; drawn = one.drawn; wrote = λ reply. absurd (no_done refusal reply) }
 
 -- a step of a repository
-pub tested_did : {X : Type 0} (s : Start) (old new : List Moment) (who : ℕ) (step : Step) (ok : X → Reply) (result : Result X StepRefusal) → TestsBy s old new step result → Did s old new who step ok result → AreTested s old → AreTested s new
+pub tested_did : {X : Type 0} (s : Start) (old new : List Moment) (who : ℕ) (step : Step) (ok : X → Reply) (result : Result X StepRefusal) → TestsBy s old new step result → Did s old new who step ok result → AreTested s old
+    → AreTested s new
 tested_did s old new who step ok (Ok x) t d h =
     subst (λ (l : List Moment). AreTested s l) (sym d.is) (goes_on s old (record { entry = record { who = who; step = step; reply = ok x }; image = d.image }) (done s old new who step ok x t d) h)
 tested_did s old new who step ok (Err steps.Memory) t same h = subst (λ (l : List Moment). AreTested s l) (sym same) h

@@ -2,7 +2,9 @@
 use crate::Solo;
 use crate::solo::turns;
 use esr_depot::Depot;
-use esr_desk::{AcceptedRestore, Attempt, Client, CloneAsk, Look, Named, NewBlob, StepRefusal};
+use esr_desk::{
+    AcceptedRestore, Attempt, Client, CloneAsk, Done, Look, Named, NewBlob, StepRefusal,
+};
 use esr_names::{BlobName, Id, SnapName};
 use esr_ops::Command;
 use esr_repo::Told;
@@ -60,7 +62,7 @@ impl<D: Depot, K: Told, H: Shard, T: Target> Client for Solo<D, K, H, T> {
         answer
     }
 
-    fn end_check(&mut self, alloc: Global, snapshots: u64, blobs: u64) -> Attempt<()> {
+    fn end_check(&mut self, alloc: Global, snapshots: u64, blobs: u64) -> Done {
         self.repo.is_legal();
         if self.left == 0 {
             return Err(StepRefusal::TurnsSpent);
@@ -93,7 +95,7 @@ impl<D: Depot, K: Told, H: Shard, T: Target> Client for Solo<D, K, H, T> {
         answer
     }
 
-    fn commit_test(&mut self, alloc: Global, name: BlobName, stage: D::Stage) -> Attempt<()> {
+    fn commit_test(&mut self, alloc: Global, name: BlobName, stage: D::Stage) -> Done {
         self.repo.is_legal();
         if self.left == 0 {
             return Err(StepRefusal::TurnsSpent);
@@ -104,7 +106,7 @@ impl<D: Depot, K: Told, H: Shard, T: Target> Client for Solo<D, K, H, T> {
         answer
     }
 
-    fn remove_tests(&mut self, alloc: Global, names: &Seq<BlobName>) -> Attempt<()> {
+    fn remove_tests(&mut self, alloc: Global, names: &Seq<BlobName>) -> Done {
         self.repo.is_legal();
         if self.left == 0 {
             return Err(StepRefusal::TurnsSpent);
@@ -115,7 +117,7 @@ impl<D: Depot, K: Told, H: Shard, T: Target> Client for Solo<D, K, H, T> {
         answer
     }
 
-    fn end_verification(&mut self, alloc: Global) -> Attempt<()> {
+    fn end_verification(&mut self, alloc: Global) -> Done {
         self.repo.is_legal();
         if self.left == 0 {
             return Err(StepRefusal::TurnsSpent);

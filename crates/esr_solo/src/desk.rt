@@ -16,8 +16,8 @@ use crate::kept::{keep, list};
 use crate::solo::{TURNS, turns};
 use esr_depot::{Commit, Depot, Listing};
 use esr_desk::{
-    Attempt, Basis, Desk, Failure, Named, NewBlob, Planned, RestoreEnd, StepRefusal, Unended, Unit,
-    Who, each_ticket_is_new,
+    Attempt, Basis, Desk, Done, Failure, Named, NewBlob, Planned, Put, RestoreEnd, StepRefusal,
+    Unended, Unit, Who, each_ticket_is_new,
 };
 use esr_names::{BlobName, Id};
 use esr_repo::Told;
@@ -80,7 +80,7 @@ impl<D: Depot, K: Told, H: Shard, T: Target> Desk for Solo<D, K, H, T> {
         answer
     }
 
-    fn fail(&mut self, alloc: Global, failure: Failure<D::Stage, D::Fetch, H, T>) -> Attempt<()>
+    fn fail(&mut self, alloc: Global, failure: Failure<D::Stage, D::Fetch, H, T>) -> Done
         requires mine { IsMine failure.who.hand (calls_at 0 self.old) failure.who.number }
         requires may { MayFail failure.who.hand K.start self.old failure.who.number }
         requires shown { IsShown failure.who.hand (evidence D.Stage.faults D.Fetch.faults H.faults T.faults H.told T.told)
@@ -130,13 +130,7 @@ impl<D: Depot, K: Told, H: Shard, T: Target> Desk for Solo<D, K, H, T> {
         answer
     }
 
-    fn commit(
-        &mut self,
-        alloc: Global,
-        ticket: u64,
-        name: BlobName,
-        stage: Self::Stage,
-    ) -> Attempt<Commit> {
+    fn commit(&mut self, alloc: Global, ticket: u64, name: BlobName, stage: Self::Stage) -> Put {
         self.repo.is_legal();
         if self.left == 0 {
             return Err(StepRefusal::TurnsSpent);
@@ -147,13 +141,7 @@ impl<D: Depot, K: Told, H: Shard, T: Target> Desk for Solo<D, K, H, T> {
         answer
     }
 
-    fn latest(
-        &mut self,
-        alloc: Global,
-        ticket: u64,
-        name: BlobName,
-        stage: Self::Stage,
-    ) -> Attempt<()> {
+    fn latest(&mut self, alloc: Global, ticket: u64, name: BlobName, stage: Self::Stage) -> Done {
         self.repo.is_legal();
         if self.left == 0 {
             return Err(StepRefusal::TurnsSpent);
@@ -175,7 +163,7 @@ impl<D: Depot, K: Told, H: Shard, T: Target> Desk for Solo<D, K, H, T> {
         answer
     }
 
-    fn settle(&mut self, alloc: Global, ticket: u64, root: &RootData) -> Attempt<()> {
+    fn settle(&mut self, alloc: Global, ticket: u64, root: &RootData) -> Done {
         self.repo.is_legal();
         if self.left == 0 {
             return Err(StepRefusal::TurnsSpent);
@@ -215,7 +203,7 @@ impl<D: Depot, K: Told, H: Shard, T: Target> Desk for Solo<D, K, H, T> {
         answer
     }
 
-    fn settle_delete(&mut self, alloc: Global, ticket: u64, root: &RootData) -> Attempt<()> {
+    fn settle_delete(&mut self, alloc: Global, ticket: u64, root: &RootData) -> Done {
         self.repo.is_legal();
         if self.left == 0 {
             return Err(StepRefusal::TurnsSpent);
@@ -226,7 +214,7 @@ impl<D: Depot, K: Told, H: Shard, T: Target> Desk for Solo<D, K, H, T> {
         answer
     }
 
-    fn remove(&mut self, alloc: Global, ticket: u64, names: &Seq<BlobName>) -> Attempt<()> {
+    fn remove(&mut self, alloc: Global, ticket: u64, names: &Seq<BlobName>) -> Done {
         self.repo.is_legal();
         if self.left == 0 {
             return Err(StepRefusal::TurnsSpent);
@@ -237,7 +225,7 @@ impl<D: Depot, K: Told, H: Shard, T: Target> Desk for Solo<D, K, H, T> {
         answer
     }
 
-    fn end_shard(&mut self, alloc: Global, ticket: u64, outcome: &ShardResult) -> Attempt<()> {
+    fn end_shard(&mut self, alloc: Global, ticket: u64, outcome: &ShardResult) -> Done {
         self.repo.is_legal();
         if self.left == 0 {
             return Err(StepRefusal::TurnsSpent);
@@ -281,7 +269,7 @@ impl<D: Depot, K: Told, H: Shard, T: Target> Desk for Solo<D, K, H, T> {
         list(&mut self.targets, target, answer)
     }
 
-    fn end_delete(&mut self, alloc: Global, ticket: u64) -> Attempt<()> {
+    fn end_delete(&mut self, alloc: Global, ticket: u64) -> Done {
         self.repo.is_legal();
         if self.left == 0 {
             return Err(StepRefusal::TurnsSpent);
@@ -292,7 +280,7 @@ impl<D: Depot, K: Told, H: Shard, T: Target> Desk for Solo<D, K, H, T> {
         answer
     }
 
-    fn end_drop(&mut self, alloc: Global, ticket: u64) -> Attempt<()> {
+    fn end_drop(&mut self, alloc: Global, ticket: u64) -> Done {
         self.repo.is_legal();
         if self.left == 0 {
             return Err(StepRefusal::TurnsSpent);
@@ -303,7 +291,7 @@ impl<D: Depot, K: Told, H: Shard, T: Target> Desk for Solo<D, K, H, T> {
         answer
     }
 
-    fn end_cleanup(&mut self, alloc: Global, ticket: u64) -> Attempt<()> {
+    fn end_cleanup(&mut self, alloc: Global, ticket: u64) -> Done {
         self.repo.is_legal();
         if self.left == 0 {
             return Err(StepRefusal::TurnsSpent);
@@ -314,7 +302,7 @@ impl<D: Depot, K: Told, H: Shard, T: Target> Desk for Solo<D, K, H, T> {
         answer
     }
 
-    fn finish(&mut self, alloc: Global, ticket: u64) -> Attempt<()> {
+    fn finish(&mut self, alloc: Global, ticket: u64) -> Done {
         self.repo.is_legal();
         if self.left == 0 {
             return Err(StepRefusal::TurnsSpent);

@@ -40,18 +40,21 @@ used_refused : (s : Start) (log : List Moment) (command : Asked) (uuid : ℕ) �
 used_refused s log (Snapshot name indices moment) uuid askable h = record { plain = refl; allows = λ image tells same. Used name indices moment uuid image h.0 h.1 same }
 used_refused s log command uuid askable h = absurd askable
 
-full_refused : (s : Start) (log : List Moment) (command : Asked) (limit : ℕ) → IsAskable command → (limit ≡ 1000) × NoCleanup (world_of s log) × IsUnused (world_of s log) (name_asked command) × (1000 ≤ open_count (world_of s log)) → MayRefuse s log 0 (AskStep command) (TooMany limit)
+full_refused : (s : Start) (log : List Moment) (command : Asked) (limit : ℕ) → IsAskable command → (limit ≡ 1000) × NoCleanup (world_of s log) × IsUnused (world_of s log) (name_asked command) × (1000 ≤ open_count (world_of s log))
+    → MayRefuse s log 0 (AskStep command) (TooMany limit)
 full_refused s log (Snapshot name indices moment) limit askable h =
     subst (λ (n : ℕ). MayRefuse s log 0 (AskStep (Snapshot name indices moment)) (TooMany n)) (sym h.0) (record { plain = refl; allows = λ image tells same. Full name indices moment image h.1 h.2 h.3 same })
 full_refused s log command limit askable h = absurd askable
 
-spent_refused : (s : Start) (log : List Moment) (command : Asked) (next : ℕ) → IsAskable command → (next ≡ (world_of s log).next_id) × MayAccept (world_of s log) (name_asked command) × (first_id (suc (world_of s log).term) ≤ (world_of s log).next_id + drawn_by (world_of s log) command)
+spent_refused : (s : Start) (log : List Moment) (command : Asked) (next : ℕ) → IsAskable command
+    → (next ≡ (world_of s log).next_id) × MayAccept (world_of s log) (name_asked command) × (first_id (suc (world_of s log).term) ≤ (world_of s log).next_id + drawn_by (world_of s log) command)
     → MayRefuse s log 0 (AskStep command) (IdsSpent next)
 spent_refused s log (Snapshot name indices moment) next askable h =
     subst (λ (n : ℕ). MayRefuse s log 0 (AskStep (Snapshot name indices moment)) (IdsSpent n)) (sym h.0) (record { plain = refl; allows = λ image tells same. AskSpent name indices moment image h.1.no_cleanup h.1.unused h.1.room h.2 same })
 spent_refused s log command next askable h = absurd askable
 
-refuses_snapshot : (s : Start) (log : List Moment) (command : Asked) (refusal : ListRefusal) → IsAskable command → IsRefused (world_of s log) (name_asked command) command refusal → IfSome (entry_of refusal) (λ e. MayRefuse s log 0 (AskStep command) (refusal_of e))
+refuses_snapshot : (s : Start) (log : List Moment) (command : Asked) (refusal : ListRefusal) → IsAskable command → IsRefused (world_of s log) (name_asked command) command refusal
+    → IfSome (entry_of refusal) (λ e. MayRefuse s log 0 (AskStep command) (refusal_of e))
 refuses_snapshot s log command refusals.Memory askable h = tt
 refuses_snapshot s log command (refusals.CleanupRunning op) askable h = cleanup_refused s log command op askable h
 refuses_snapshot s log command (refusals.NameInUse uuid) askable h = used_refused s log command uuid.number askable h
@@ -71,7 +74,8 @@ refuses s log command refusal may h = absurd may
 pub asked_in : (w : World) (plan : Plan) (root : Root) (term next : ℕ) → IsPlanOf w plan → root_of root ≡ w.root → term ≡ w.term → next ≡ w.next_id → IsAskedIn plan (root_of root) term next w
 asked_in w plan root term next plan_is root_is term_is next_is = record { plan = plan_is; root_is = sym root_is; term_is = sym term_is; next_is = sym next_is }
 
-may_ask_snapshot : (s : Start) (log : List Moment) (command : Asked) (cluster : Record) (p : Plan) (accepted : CodeAccepted) (next : ℕ) → InfosAfter s log → IsAskable command → MayAccept (world_of s log) (name_asked command) → IsAccepted (world_of s log) command p accepted
+may_ask_snapshot : (s : Start) (log : List Moment) (command : Asked) (cluster : Record) (p : Plan) (accepted : CodeAccepted) (next : ℕ) → InfosAfter s log → IsAskable command → MayAccept (world_of s log) (name_asked command)
+    → IsAccepted (world_of s log) command p accepted
     → (cluster_of cluster).ledger ≡ ledger_of (world_of s log) → map op_of cluster.ops ≡ record_ops p.ops p.deletes → next ≡ (world_of s log).next_id + accepted.drawn
     → MaySwap s log 0 (AskStep command) (Accepted accepted.op) cluster None None None (Some p) next
 may_ask_snapshot s log (Snapshot name indices moment) cluster p accepted next served askable may is ledger ops next_is =
@@ -103,7 +107,8 @@ may_ask s log command cluster p accepted next served may h ledger ops next_is = 
 
 -- ---- the list after it
 
-pub listed_delete : (w : World) (names : List Bytes) (found : Result (Plan × ℕ) ListRefusal) (result : Result (Plan × CodeAccepted) ListRefusal) → result ≡ as_op found → AcceptingDelete w names found → IsListed w (DeleteSnapshots names) result
+pub listed_delete : (w : World) (names : List Bytes) (found : Result (Plan × ℕ) ListRefusal) (result : Result (Plan × CodeAccepted) ListRefusal) → result ≡ as_op found → AcceptingDelete w names found
+    → IsListed w (DeleteSnapshots names) result
 listed_delete w names (Ok (new, op)) result is h = subst (IsListed w (DeleteSnapshots names)) (sym is) (h, refl)
 listed_delete w names (Err refusal) result is h = subst (IsListed w (DeleteSnapshots names)) (sym is) h
 
@@ -123,6 +128,7 @@ accepting_fits w command (Err refusal) most h = tt
 none_drawn : (term next : ℕ) → term < 2 ^ 63 → next < first_id (suc term) → next + 0 < 2 ^ 128
 none_drawn term next most below = omega (arith, most, below)
 
-pub op_fits : (w : World) (found : Result (Plan × ℕ) ListRefusal) (result : Result (Plan × CodeAccepted) ListRefusal) → w.term < 2 ^ 63 → w.next_id < first_id (suc w.term) → result ≡ as_op found → IfOk result (λ r. w.next_id + r.1.drawn < 2 ^ 128)
+pub op_fits : (w : World) (found : Result (Plan × ℕ) ListRefusal) (result : Result (Plan × CodeAccepted) ListRefusal) → w.term < 2 ^ 63 → w.next_id < first_id (suc w.term) → result ≡ as_op found
+    → IfOk result (λ r. w.next_id + r.1.drawn < 2 ^ 128)
 op_fits w (Ok (new, op)) result most below is = subst (λ (z : Result (Plan × CodeAccepted) ListRefusal). IfOk z (λ r. w.next_id + r.1.drawn < 2 ^ 128)) (sym is) (none_drawn w.term w.next_id most below)
 op_fits w (Err refusal) result most below is = subst (λ (z : Result (Plan × CodeAccepted) ListRefusal). IfOk z (λ r. w.next_id + r.1.drawn < 2 ^ 128)) (sym is) tt

@@ -35,7 +35,8 @@ refused_caller law s old new who read steps.TurnsSpent other never = absurd neve
 refused_caller law s old new who read (steps.Refused x) other a =
     law s old new who (ReadStep read) (Refused (refusal_of x)) a ∙ unread (formats_of s) (caller_of s old) who read (refusal_of x) a.image other
 
-pub kept_caller : {X : Type 0} (law : CallersTold) (s : Start) (old mid new : List Moment) (who : ℕ) (read : Read) (ok : X → Reply) (r : Result X StepRefusal) → (read ≡ DrawTest → ⊥) → mid ≡ old → Did s mid new who (ReadStep read) ok r → OnErr r (caller_of s new ≡ caller_of s old)
+pub kept_caller : {X : Type 0} (law : CallersTold) (s : Start) (old mid new : List Moment) (who : ℕ) (read : Read) (ok : X → Reply) (r : Result X StepRefusal) → (read ≡ DrawTest → ⊥) → mid ≡ old
+    → Did s mid new who (ReadStep read) ok r → OnErr r (caller_of s new ≡ caller_of s old)
 kept_caller law s old mid new who read ok (Ok x) other e did = tt
 kept_caller law s old mid new who read ok (Err x) other e did = refused_caller law s mid new who read x other did ∙ ap (caller_of s) e
 

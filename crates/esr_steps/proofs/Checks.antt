@@ -33,7 +33,8 @@ may_fetch_reached s old log name e before =
 checks : (s : Start) (log : List Moment) (snapshots blobs : ℕ) (image : Option Image) → CanEndCheck s log snapshots blobs → CanTell s image → Checks (formats_of s) (world_of s log) snapshots blobs image
 checks s log snapshots blobs image can tells = record { is_open = can.is_open; snapshots_is = can.snapshots_is; blobs_is = can.blobs_is; present = can.present; told = told_if s image _ tells can.done }
 
-pub may_note_checked : (s : Start) (old log : List Moment) (snapshots blobs next : ℕ) → log ≡ old → CanEndCheck s old snapshots blobs → next ≡ (world_of s log).next_id → MayNote s log 0 (ReadStep (CheckedAll snapshots blobs)) HasEnded None next
+pub may_note_checked : (s : Start) (old log : List Moment) (snapshots blobs next : ℕ) → log ≡ old → CanEndCheck s old snapshots blobs → next ≡ (world_of s log).next_id
+    → MayNote s log 0 (ReadStep (CheckedAll snapshots blobs)) HasEnded None next
 may_note_checked s old log snapshots blobs next e before next_is =
     let can : CanEndCheck s log snapshots blobs = subst (λ (l : List Moment). CanEndCheck s l snapshots blobs) (sym e) before in
     record {

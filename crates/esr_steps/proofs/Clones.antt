@@ -130,7 +130,8 @@ wanting s log who step ok (Ok x) is = absurd is
 wanting s log who step ok (Err e) is = subst (AddedOr s log log who step) (sym is) refl
 
 -- a refusal that is passed on
-pub passed_on : {X : Type 0} (s : Start) (old new : List Moment) (who : ℕ) (was step : Step) (ok : X → Reply) (r : Result X StepRefusal) (x : StepRefusal) → was ≡ step → IsErrAnd r (λ e. e ≡ x) → AddedOr s old new who was x → Did s old new who step ok r
+pub passed_on : {X : Type 0} (s : Start) (old new : List Moment) (who : ℕ) (was step : Step) (ok : X → Reply) (r : Result X StepRefusal) (x : StepRefusal) → was ≡ step → IsErrAnd r (λ e. e ≡ x) → AddedOr s old new who was x
+    → Did s old new who step ok r
 passed_on s old new who was step ok (Ok y) x same is added = absurd is
 passed_on s old new who was step ok (Err e) x same is added = subst (AddedOr s old new who step) (sym is) (subst (λ (z : Step). AddedOr s old new who z x) same added)
 

@@ -1,9 +1,9 @@
 -- The steps of the ticket of a delete or cleanup are allowed where the ticket can make them.
-use Rattle.std.proofs.Common.{◌≡◌, ◌≢◌, ℕ, suc, ◌+◌, ◌<◌, ◌≤◌, Bool, true, false, List, [], map, Option, Some, None, option_map, refl, sym, ap, ◌∙◌, subst, inl, inr}
+use Rattle.std.proofs.Common.{◌≡◌, ◌≢◌, ℕ, suc, ◌+◌, ◌<◌, ◌≤◌, Bool, true, false, List, [], map, Option, Some, None, refl, sym, ap, ◌∙◌, subst, inl, inr}
 use Rattle.std.specs.Prelude.{filter, if◌then◌else◌}
 use Rattle.std.specs.FinMap as fin
 use Rattle.esr_model.specs.Names.{BlobName, Latest, ShardIndex}
-use Rattle.esr_model.specs.Values.{Bytes, RootData, ReadsBack, Formats}
+use Rattle.esr_model.specs.Values.{RootData, ReadsBack, Formats}
 use Rattle.esr_model.specs.Kept.{first_id}
 use Rattle.esr_model.specs.Image.{Image}
 use Rattle.esr_model.specs.Delete.{PrunedShard, kept_count, deleted_root}
@@ -13,7 +13,7 @@ use Rattle.esr_core.specs.Steps.{with_ticket}
 use Rattle.esr_core.specs.Tracked.{Tracked}
 use Rattle.esr_core.specs.Entry.{Why, PruneStep, FetchShard, PlanShards, SettlePruned, RemoveDoomed, EndDelete, DeleteFails, DrawnFrom, WasFetched, WasAbsent, WasSettled, WasRemoved, HasEnded, Refused, DepotFault, IdsSpent, StaleTerm, Moment}
 use Rattle.esr_core.specs.After.{with_given, change, is_stale, delete_settled, delete_failed_by, delete_failed}
-use Rattle.esr_core.specs.Allowed.{Told, Allows, IsDeleting, FetchesShard, MayPlan, SettlesDeletion, RemovesDoomed, EndsDelete, FailsDeletion, FetchingShard, ShardMissing, FetchShardFails, Planning, PlanSpent, SettlingDelete, SettleDeleteStale, RemovingDoomed, RemoveDoomedFails, EndingDelete, FailingDelete, Pruning}
+use Rattle.esr_core.specs.Allowed.{Allows, IsDeleting, FetchesShard, MayPlan, SettlesDeletion, RemovesDoomed, EndsDelete, FailsDeletion, FetchingShard, ShardMissing, FetchShardFails, Planning, PlanSpent, SettlingDelete, SettleDeleteStale, RemovingDoomed, RemoveDoomedFails, EndingDelete, FailingDelete, Pruning}
 use Rattle.esr_record.specs.Record.{Record}
 use Rattle.esr_root.specs.Root.{Root}
 use Rattle.esr_root.specs.Snaps.{lists}
@@ -21,7 +21,7 @@ use Rattle.esr_meta.specs.Info.{Info}
 use Rattle.esr_formats.specs.Formats.{formats}
 use Rattle.esr_formats.specs.Roots.{root_of, root_kind}
 use Rattle.esr_formats.specs.Clusters.{cluster_of, op_of}
-use Rattle.esr_ops.specs.Plan.{Plan, Seat, UnitKind, kind_of, seat_of, IsPlanOf}
+use Rattle.esr_ops.specs.Plan.{Plan, Seat, UnitKind, kind_of, seat_of, seat_out, IsPlanOf}
 use Rattle.esr_desk.specs.Start.{Start, formats_of, world_of, ticket_of}
 use Rattle.esr_desk.specs.Delete.Conditions.{CanFetchShard, CanPlan, CanSettleDelete, CanRemove, CanEndDelete, CanFailDelete}
 use Rattle.esr_repo.specs.Repo.{HasInfos}
@@ -32,6 +32,7 @@ use Rattle.esr_repo.specs.DeleteWorld.{delete_is}
 use Rattle.esr_repo.specs.InfosAfter.{InfosAfter}
 use Rattle.esr_steps.proofs.Stepping.{told_if, next_given, same_seats}
 use Rattle.esr_steps.proofs.Swapping.{cluster_from}
+use Rattle.esr_steps.proofs.Written.{told_found}
 
 uuids_same : (us uuids : List ℕ) (p plan : Option Swap) → Deleting us p ≡ Deleting uuids plan → us ≡ uuids
 uuids_same us uuids p plan e = cc
@@ -67,25 +68,16 @@ fetches_it s log k name tracked of_ops can named =
     differ : ShardIndex can.index can.number can.base ≡ Latest → ⊥
     differ q = cc
 
-pub may_fetch_shard : (s : Start) (old log : List Moment) (k : ℕ) (name : BlobName) → log ≡ old → Tracked (world_of s log) → AreOfOps (world_of s log) → CanFetchShard (ticket_of s old k) name → MayFetch s log k (PruneStep (FetchShard name)) name
+pub may_fetch_shard : (s : Start) (old log : List Moment) (k : ℕ) (name : BlobName) → log ≡ old → Tracked (world_of s log) → AreOfOps (world_of s log) → CanFetchShard (ticket_of s old k) name
+    → MayFetch s log k (PruneStep (FetchShard name)) name
 may_fetch_shard s old log k name e tracked of_ops before =
     let can : CanFetchShard (ticket_of s log k) name = subst (λ (l : List Moment). CanFetchShard (ticket_of s l k) name) (sym e) before in
     record {
       is = refl;
-      fetches = λ named image tells found. Pruning k (FetchShard name) WasFetched image (FetchingShard k name image (fetches_it s log k name tracked of_ops can named) (told_found image found));
-      misses = λ named image tells found. Pruning k (FetchShard name) WasAbsent image (ShardMissing k name image (fetches_it s log k name tracked of_ops can named) (told_missing image found));
+      fetches = λ named image tells found. Pruning k (FetchShard name) WasFetched image (FetchingShard k name image (fetches_it s log k name tracked of_ops can named) (told_found s log name image found));
+      misses = λ named image tells found. Pruning k (FetchShard name) WasAbsent image (ShardMissing k name image (fetches_it s log k name tracked of_ops can named) found);
       fails = λ named image tells same. Pruning k (FetchShard name) (Refused DepotFault) image (FetchShardFails k name image (fetches_it s log k name tracked of_ops can named) same);
     }
-  where
-    told_found : (image : Option Image) → Told image (λ blobs. (bytes : Bytes) × ((fin.get (world_of s log).blobs ((formats_of s).names.text name) ≡ Some bytes) × (blobs ≡ (world_of s log).blobs)))
-        → Told image (λ blobs. (bytes : Bytes) × (fin.get (world_of s log).blobs ((formats_of s).names.text name) ≡ Some bytes) × (blobs ≡ (world_of s log).blobs))
-    told_found None h = tt
-    told_found (Some image) h = (h.0, h.1.0, h.1.1)
-
-    told_missing : (image : Option Image) → Told image (λ blobs. (fin.get (world_of s log).blobs ((formats_of s).names.text name) ≡ None) × (blobs ≡ (world_of s log).blobs))
-        → Told image (λ blobs. (fin.get (world_of s log).blobs ((formats_of s).names.text name) ≡ None) × (blobs ≡ (world_of s log).blobs))
-    told_missing None h = tt
-    told_missing (Some image) h = h
 
 -- ---- plan
 
@@ -93,7 +85,8 @@ root_kind_is : (s : Start) → (formats_of s).root ≡ root_kind
 unfolding formats
 root_kind_is s = refl
 
-may_plan : (s : Start) (log : List Moment) (k : ℕ) (uuids : List ℕ) (shards : List PrunedShard) (image : Option Image) → Tracked (world_of s log) → AreOfOps (world_of s log) → CanPlan s (ticket_of s log k) uuids shards → CanTell s image → MayPlan (formats_of s) (world_of s log) k shards image
+may_plan : (s : Start) (log : List Moment) (k : ℕ) (uuids : List ℕ) (shards : List PrunedShard) (image : Option Image) → Tracked (world_of s log) → AreOfOps (world_of s log) → CanPlan s (ticket_of s log k) uuids shards → CanTell s image
+    → MayPlan (formats_of s) (world_of s log) k shards image
 may_plan s log k uuids shards image tracked of_ops can tells =
     record {
       t = ticket_of s log k;
@@ -111,7 +104,7 @@ may_plan s log k uuids shards image tracked of_ops can tells =
 
 -- the list of ops doesn't read a plan
 same_seat : (f : Formats) (shards : List PrunedShard) (first : ℕ) (t : Ticket) → seat_of (planned f shards first t) ≡ seat_of t
-same_seat f shards first t = ap (λ (kind : UnitKind). record { kind = kind; clean = t.clean; op = t.op; term = t.term; raised = t.raised; settled = t.settled; out = t.out }) (same_kind t.work)
+same_seat f shards first t = ap (λ (kind : UnitKind). record { kind = kind; clean = t.clean; op = t.op; term = t.term; raised = t.raised; settled = t.settled }) (same_kind t.work)
   where
     same_kind : (work : Work) → kind_of (planned_work f t shards first work) ≡ kind_of work
     same_kind (Deleting uuids plan) = refl
@@ -122,8 +115,8 @@ same_seat f shards first t = ap (λ (kind : UnitKind). record { kind = kind; cle
 planned_plan : (f : Formats) (w : World) (k : ℕ) (shards : List PrunedShard) (next : ℕ) (p : Plan) → IsPlanOf w p → IsPlanOf (record (change w k (planned f shards w.next_id)) { next_id = next }) p
 planned_plan f w k shards next p h = go (fin.get w.tickets k) refl
   where
-    put : (t : Ticket) → fin.get w.tickets k ≡ Some t → (q : ℕ) → fin.get p.seats q ≡ option_map seat_of (fin.get (fin.insert w.tickets k (planned f shards w.next_id t)) q)
-    put t there q = h.seats q ∙ same_seats w.tickets k t (planned f shards w.next_id t) there (same_seat f shards w.next_id t) q
+    put : (t : Ticket) → fin.get w.tickets k ≡ Some t → (q : ℕ) → fin.get p.seats q ≡ seat_out (fin.get (fin.insert w.tickets k (planned f shards w.next_id t)) q)
+    put t there q = h.seats q ∙ same_seats w.tickets k t (planned f shards w.next_id t) there (ap (λ (x : Seat). if t.out then Some x else None) (same_seat f shards w.next_id t)) q
 
     go : (o : Option Ticket) → fin.get w.tickets k ≡ o → IsPlanOf (record (with_given w k (planned f shards w.next_id) o) { next_id = next }) p
     go None there = record { ops = h.ops; deletes = h.deletes; completed = h.completed; seats = h.seats; next_op = h.next_op; next_ticket = h.next_ticket; restores = h.restores; restore_count = h.restore_count; readers = h.readers }
@@ -145,7 +138,8 @@ may_plan_delete s log k uuids shards first next tracked of_ops can back first_is
       next_is = λ image. next_is;
     }
 
-pub may_spend_plan : (s : Start) (log : List Moment) (k : ℕ) (uuids : List ℕ) (shards : List PrunedShard) (first : ℕ) → Tracked (world_of s log) → AreOfOps (world_of s log) → CanPlan s (ticket_of s log k) uuids shards → first ≡ (world_of s log).next_id
+pub may_spend_plan : (s : Start) (log : List Moment) (k : ℕ) (uuids : List ℕ) (shards : List PrunedShard) (first : ℕ) → Tracked (world_of s log) → AreOfOps (world_of s log) → CanPlan s (ticket_of s log k) uuids shards
+    → first ≡ (world_of s log).next_id
     → first_id (suc (world_of s log).term) ≤ (world_of s log).next_id + kept_count shards → MayRefuse s log k (PruneStep (PlanShards shards)) (IdsSpent first)
 may_spend_plan s log k uuids shards first tracked of_ops can first_is spent = record {
   plain = refl;
@@ -169,7 +163,8 @@ settles_it s log k root tracked of_ops can =
       listed = can.listed;
     }
 
-pub may_refuse_delete : (s : Start) (old log : List Moment) (k : ℕ) (root : RootData) (seat : Seat) (now : ℕ) → log ≡ old → Tracked (world_of s log) → AreOfOps (world_of s log) → CanSettleDelete s (ticket_of s old k) root → seat ≡ seat_of (ticket_of s log k)
+pub may_refuse_delete : (s : Start) (old log : List Moment) (k : ℕ) (root : RootData) (seat : Seat) (now : ℕ) → log ≡ old → Tracked (world_of s log) → AreOfOps (world_of s log) → CanSettleDelete s (ticket_of s old k) root
+    → seat ≡ seat_of (ticket_of s log k)
     → now ≡ (world_of s log).term → seat.term ≢ now → MayRefuse s log k (PruneStep SettlePruned) (StaleTerm seat.term now)
 unfolding settles_it
 may_refuse_delete s old log k root seat now e tracked of_ops before seat_is now_is stale =
@@ -183,7 +178,8 @@ may_refuse_delete s old log k root seat now e tracked of_ops before seat_is now_
 
 pub may_swap_delete : (s : Start) (log : List Moment) (k : ℕ) (root : Root) (infos left : List Info) (cluster : Record) (plan p : Plan) (next : ℕ) → AreOfOps (world_of s log) → InfosAfter s log → Tracked (world_of s log)
     → CanSettleDelete s (ticket_of s log k) (root_of root) → (ticket_of s log k).term ≡ (world_of s log).term → HasInfos s (world_of s log) infos → left ≡ filter (λ (i : Info). lists root.snapshots i.uuid) infos
-    → IsPlanOf (world_of s log) plan → ((f : Formats) (w : World) (t : Ticket) (c : Swap) (n : ℕ) → IsPlanOf w plan → fin.get w.tickets k ≡ Some t → swap f t ≡ Some c → t.raised ≡ Some n → IsPlanOf (delete_settled f w k (Some t)) p)
+    → IsPlanOf (world_of s log) plan
+    → ((f : Formats) (w : World) (t : Ticket) (c : Swap) (n : ℕ) → IsPlanOf w plan → fin.get w.tickets k ≡ Some t → swap f t ≡ Some c → t.raised ≡ Some n → IsPlanOf (delete_settled f w k (Some t)) p)
     → ((n : ℕ) → (ticket_of s log k).raised ≡ Some n → (cluster_of cluster).ledger ≡ record { safe = suc n; pending = (world_of s log).pending; term = (world_of s log).term }) → map op_of cluster.ops ≡ record_ops p.ops p.deletes → next ≡ (world_of s log).next_id
     → MaySwap s log k (PruneStep SettlePruned) WasSettled cluster (Some root) (Some left) None (Some p) next
 unfolding settles_it
@@ -206,7 +202,8 @@ may_swap_delete s log k root infos left cluster plan p next of_ops served tracke
 
 -- ---- remove
 
-removes_it : (s : Start) (log : List Moment) (k : ℕ) (names : List BlobName) (image : Option Image) → Tracked (world_of s log) → AreOfOps (world_of s log) → CanRemove s (ticket_of s log k) names → CanTell s image → RemovesDoomed (formats_of s) (world_of s log) k names image
+removes_it : (s : Start) (log : List Moment) (k : ℕ) (names : List BlobName) (image : Option Image) → Tracked (world_of s log) → AreOfOps (world_of s log) → CanRemove s (ticket_of s log k) names → CanTell s image
+    → RemovesDoomed (formats_of s) (world_of s log) k names image
 removes_it s log k names image tracked of_ops can tells =
     record {
       t = ticket_of s log k;
@@ -218,7 +215,8 @@ removes_it s log k names image tracked of_ops can tells =
       doomed = told_if s image _ tells can.doomed;
     }
 
-pub may_remove_doomed : (s : Start) (old log : List Moment) (k : ℕ) (names : List BlobName) → log ≡ old → Tracked (world_of s log) → AreOfOps (world_of s log) → CanRemove s (ticket_of s old k) names → MayRemove s log k (PruneStep (RemoveDoomed names)) names
+pub may_remove_doomed : (s : Start) (old log : List Moment) (k : ℕ) (names : List BlobName) → log ≡ old → Tracked (world_of s log) → AreOfOps (world_of s log) → CanRemove s (ticket_of s old k) names
+    → MayRemove s log k (PruneStep (RemoveDoomed names)) names
 may_remove_doomed s old log k names e tracked of_ops before =
     let can : CanRemove s (ticket_of s log k) names = subst (λ (l : List Moment). CanRemove s (ticket_of s l k) names) (sym e) before in
     record {

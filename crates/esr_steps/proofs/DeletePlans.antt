@@ -4,14 +4,16 @@ use Rattle.std.specs.Prelude.{count_by, if◌then◌else◌}
 use Rattle.std.specs.List.{AllByRecursion}
 use Rattle.std.proofs.lemmas.List.{length-map}
 use Rattle.std.proofs.lemmas.List.Recursion.{is_count_by}
+use Rattle.std.proofs.lemmas.Option.{none-some}
 use Rattle.esr_model.specs.Values.{Has, RootIndex, RootData, ReadsBack, IsOneEach}
 use Rattle.esr_model.specs.Image.{Generation, at_shard, at_shard_of}
 use Rattle.esr_model.specs.Kept.{first_id}
 use Rattle.esr_model.specs.Delete.{PrunedShard, kept_count, deleted_root}
 use Rattle.esr_core.specs.Pruning.{AreOfRoot}
 use Rattle.esr_core.specs.Entry.{Moment}
-use Rattle.esr_core.proofs.Reading.{none_some, Has-mapped, generation_index}
-use Rattle.esr_core.proofs.DeletedRoots.{one_found}
+use Rattle.esr_model.specs.Lists.{Has-mapped}
+use Rattle.esr_core.specs.Laws.OneValue.{generation_index}
+use Rattle.esr_core.specs.Laws.DeleteRoots.{one_found}
 use Rattle.esr_root.specs.Indices.{IsIndex, AreIndices}
 use Rattle.esr_root.specs.Root.{Root}
 use Rattle.esr_formats.specs.Ids.{number_of}
@@ -39,7 +41,7 @@ ids_fit first term count below low few =
 -- ---- their places
 
 at_low : (gs : List (Option ℕ)) (k g : ℕ) → at_shard gs k ≡ Some g → k < length gs
-at_low [] k g at = absurd (none_some g at)
+at_low [] k g at = absurd (none-some g at)
 at_low (x ∷ gs) zero g at = omega arith
 at_low (x ∷ gs) (suc k) g at = let low : k < length gs = at_low gs k g at in omega (arith, low)
 

@@ -1,18 +1,17 @@
 -- What the steps of the ticket of a delete or cleanup make of it.
-use Rattle.std.proofs.Common.{◌≡◌, ◌⊎◌, ℕ, Bool, true, false, List, map, Option, Some, None, Result, Ok, Err, IfOk, refl, sym, ap, ◌∙◌, subst, inl, inr}
+use Rattle.std.proofs.Common.{◌≡◌, ℕ, Bool, true, false, List, map, Option, Some, None, Result, Ok, Err, IfOk, refl, sym, ap, ◌∙◌, subst, inl, inr}
 use Rattle.std.specs.Prelude.{◌==◌, if◌then◌else◌}
 use Rattle.std.proofs.lemmas.Bool.{eqb-true}
 use Rattle.std.specs.FinMap as fin
 use Rattle.esr_model.specs.Names.{BlobName}
-use Rattle.esr_model.specs.Values.{Bytes, RootData, Formats}
+use Rattle.esr_model.specs.Values.{Bytes, RootData}
 use Rattle.esr_model.specs.Delete.{PrunedShard}
-use Rattle.esr_model.specs.Image.{Image}
-use Rattle.esr_core.specs.World.{World, Ticket, Deletion, Swap, Deleting, record_of}
+use Rattle.esr_core.specs.World.{World, Ticket, Deletion, Swap, Deleting}
 use Rattle.esr_core.specs.Pruning.{planned}
 use Rattle.esr_core.specs.Steps.{with_ticket, settled}
 use Rattle.esr_core.specs.Tracked.{Tracked}
 use Rattle.esr_core.specs.Entry.{Why, Step, PruneStep, FetchShard, PlanShards, SettlePruned, RemoveDoomed, EndDelete, DeleteFails, DrawnFrom, WasFetched, WasAbsent, WasSettled, WasRemoved, HasEnded, Refused, DepotFault, Moment}
-use Rattle.esr_core.specs.After.{fetching, told_blob, fallen, has_text, is_stale, delete_settled, delete_failed_by, delete_failed}
+use Rattle.esr_core.specs.After.{fetching, told_blob, is_stale, delete_settled, delete_failed_by, delete_failed}
 use Rattle.esr_names.specs.declared.blob.BlobName.{BlobName as CodeName}
 use Rattle.esr_formats.specs.Names.{name_of}
 use Rattle.esr_desk.specs.Conditions.{CanSettle}
@@ -29,6 +28,7 @@ use Rattle.esr_repo.specs.DeleteWorld.{settle, delete_is}
 use Rattle.esr_repo.specs.Grown.{out_is, put_there, added_ticket, changed_ticket}
 use Rattle.esr_steps.proofs.Stepping.{did_from, added_from}
 use Rattle.esr_steps.proofs.Written.{fetch_from}
+use Rattle.esr_steps.proofs.Swapping.{fell}
 
 -- ---- fetch
 
@@ -66,14 +66,6 @@ pub settled_ticket : (s : Start) (old mid new : List Moment) (k : ℕ) (root : R
 settled_ticket s old mid new k root e can a =
     added_ticket s old new k (PruneStep SettlePruned) WasSettled (added_from s old mid new k (PruneStep SettlePruned) WasSettled e a) k ∙ settled_puts s old k root can.settle
 
--- after a record swap that failed the ticket is as before, or as where it was made
-fell : (f : Formats) (w up : World) (image : Option Image) (k : ℕ) (old new t : Ticket) → old ≡ or_no_ticket (fin.get w.tickets k) → or_no_ticket (fin.get up.tickets k) ≡ new → t ≡ or_no_ticket (fin.get (fallen f w up image).tickets k) → (t ≡ old) ⊎ (t ≡ new)
-fell f w up image k old new t old_is new_is is = go (has_text image (f.cluster.text (record_of up))) is
-  where
-    go : (b : Bool) → t ≡ or_no_ticket (fin.get (if b then up else w).tickets k) → (t ≡ old) ⊎ (t ≡ new)
-    go true q = inr (q ∙ new_is)
-    go false q = inl (q ∙ sym old_is)
-
 pub settle_left : {X : Type 0} (s : Start) (old new : List Moment) (k : ℕ) (root : RootData) (r : Result X StepRefusal) → CanSettleDelete s (ticket_of s old k) root → Did s old new k (PruneStep SettlePruned) (λ x. WasSettled) r
     → LeftBy (IsSettled (ticket_of s old k)) r (ticket_of s old k) (ticket_of s new k)
 settle_left s old new k root (Ok n) can did = tt
@@ -95,7 +87,8 @@ remove_kept s old new k names (Err (steps.Refused code.DepotFault)) did = added_
 remove_kept s old new k names (Err (steps.Refused x)) did = added_ticket s old new k (PruneStep (RemoveDoomed names)) (Refused (refusal_of x)) did k
 
 -- a removal of these names, after a check that added nothing
-pub removes_from : {X : Type 0} (s : Start) (old mid new : List Moment) (k : ℕ) (step : Step) (names : List CodeName) (r : Result X StepRefusal) → mid ≡ old → step ≡ PruneStep (RemoveDoomed (map name_of names)) → Did s mid new k step (λ x. WasRemoved) r
+pub removes_from : {X : Type 0} (s : Start) (old mid new : List Moment) (k : ℕ) (step : Step) (names : List CodeName) (r : Result X StepRefusal) → mid ≡ old → step ≡ PruneStep (RemoveDoomed (map name_of names))
+    → Did s mid new k step (λ x. WasRemoved) r
     → Did s old new k (PruneStep (RemoveDoomed (map name_of names))) (λ x. WasRemoved) r
 removes_from s old mid new k step names r e is did = subst (λ (st : Step). Did s old new k st (λ x. WasRemoved) r) is (did_from s old mid new k step (λ x. WasRemoved) r e did)
 

@@ -67,7 +67,8 @@ may_note_done s old log k r plan p next e tracked before plan_is goes next_is =
 abbrev end : Ticket → Ticket
 end t = record t { out = false }
 
-done_puts : (s : Start) (old : List Moment) (k : ℕ) (r : ShardResult) → Tracked (world_of s old) → CanEnd s (ticket_of s old k) r → or_no_ticket (fin.get (done_of (world_of s old) k r (fin.get (world_of s old).tickets k)).tickets k) ≡ end (ticket_of s old k)
+done_puts : (s : Start) (old : List Moment) (k : ℕ) (r : ShardResult) → Tracked (world_of s old) → CanEnd s (ticket_of s old k) r
+    → or_no_ticket (fin.get (done_of (world_of s old) k r (fin.get (world_of s old).tickets k)).tickets k) ≡ end (ticket_of s old k)
 done_puts s old k r tracked can =
     let there = (out_is s old k can.out).there in
     let shard = tracked.shards k (ticket_of s old k) r.index r.shard there can.out can.is in

@@ -1,5 +1,5 @@
 -- A look, and ids that are drawn.
-use Rattle.std.proofs.Common.{◌≡◌, ℕ, suc, ◌+◌, ◌<◌, ◌≤◌, true, List, Option, Some, None, option_map, refl, sym, ap, ◌∙◌, subst}
+use Rattle.std.proofs.Common.{◌≡◌, ℕ, suc, ◌+◌, ◌<◌, ◌≤◌, true, List, Option, Some, None, refl, sym, ap, ◌∙◌, subst}
 use Rattle.esr_model.specs.Kept.{first_id}
 use Rattle.esr_model.specs.Values.{RootSnap}
 use Rattle.esr_core.specs.World.{World, Ticket}
@@ -7,7 +7,7 @@ use Rattle.esr_core.specs.Entry.{DrawStep, LookStep, DrawnFrom, Looked, Refused,
 use Rattle.esr_core.specs.After.{change, with_given}
 use Rattle.esr_core.specs.Allowed.{MayDraw, Allows, Looking, Drawing, DrawSpent}
 use Rattle.std.specs.FinMap as fin
-use Rattle.esr_ops.specs.Plan.{Plan, seat_of, IsPlanOf}
+use Rattle.esr_ops.specs.Plan.{Plan, seat_out, IsPlanOf}
 use Rattle.esr_steps.proofs.Stepping.{same_seats}
 use Rattle.esr_desk.specs.Conditions.{CanDraw}
 use Rattle.esr_desk.specs.Start.{Start, formats_of, world_of, ticket_of}
@@ -17,7 +17,8 @@ use Rattle.esr_repo.specs.Grown.{out_is, added_ticket, changed_ticket}
 
 -- ---- a look
 
-pub may_look : (s : Start) (log : List Moment) (snapshots : List RootSnap) (safe next : ℕ) → snapshots ≡ (world_of s log).root.snapshots → safe ≡ (world_of s log).safe → next ≡ (world_of s log).next_id → MayNote s log 0 LookStep (Looked snapshots safe) None next
+pub may_look : (s : Start) (log : List Moment) (snapshots : List RootSnap) (safe next : ℕ) → snapshots ≡ (world_of s log).root.snapshots → safe ≡ (world_of s log).safe → next ≡ (world_of s log).next_id
+    → MayNote s log 0 LookStep (Looked snapshots safe) None next
 may_look s log snapshots safe next listed safe_is next_is = record {
   plain = refl;
   allows = λ image tells same. subst (λ (x : List RootSnap). Allows (formats_of s) s.part_size (world_of s log) 0 LookStep (Looked x safe) image) (sym listed)
@@ -38,14 +39,15 @@ drawing first n t = record t { first = first; drawn = n }
 drawn_plan : (w : World) (k n next : ℕ) (p : Plan) → IsPlanOf w p → IsPlanOf (record (change w k (drawing w.next_id n)) { next_id = next }) p
 drawn_plan w k n next p h = go (fin.get w.tickets k) refl
   where
-    put : (t : Ticket) → fin.get w.tickets k ≡ Some t → (q : ℕ) → fin.get p.seats q ≡ option_map seat_of (fin.get (fin.insert w.tickets k (drawing w.next_id n t)) q)
+    put : (t : Ticket) → fin.get w.tickets k ≡ Some t → (q : ℕ) → fin.get p.seats q ≡ seat_out (fin.get (fin.insert w.tickets k (drawing w.next_id n t)) q)
     put t there q = h.seats q ∙ same_seats w.tickets k t (drawing w.next_id n t) there refl q
 
     go : (o : Option Ticket) → fin.get w.tickets k ≡ o → IsPlanOf (record (with_given w k (drawing w.next_id n) o) { next_id = next }) p
     go None there = record { ops = h.ops; deletes = h.deletes; completed = h.completed; seats = h.seats; next_op = h.next_op; next_ticket = h.next_ticket; restores = h.restores; restore_count = h.restore_count; readers = h.readers }
     go (Some t) there = record { ops = h.ops; deletes = h.deletes; completed = h.completed; seats = put t there; next_op = h.next_op; next_ticket = h.next_ticket; restores = h.restores; restore_count = h.restore_count; readers = h.readers }
 
-pub may_note_draw : (s : Start) (log : List Moment) (k n first next : ℕ) → CanDraw s (ticket_of s log k) n → first ≡ (world_of s log).next_id → next ≡ (world_of s log).next_id + n → next < first_id (suc (world_of s log).term) → MayNote s log k (DrawStep n) (DrawnFrom first) None next
+pub may_note_draw : (s : Start) (log : List Moment) (k n first next : ℕ) → CanDraw s (ticket_of s log k) n → first ≡ (world_of s log).next_id → next ≡ (world_of s log).next_id + n → next < first_id (suc (world_of s log).term)
+    → MayNote s log k (DrawStep n) (DrawnFrom first) None next
 may_note_draw s log k n first next can first_is next_is below = record {
   plain = refl;
   allows = λ image tells same. Drawing k n first image (record { may = may_draw s log k n can; first_is = first_is; fits = subst (λ (x : ℕ). x < first_id (suc (world_of s log).term)) next_is below }) same;
@@ -53,7 +55,8 @@ may_note_draw s log k n first next can first_is next_is below = record {
   next_is = λ image. next_is;
 }
 
-pub may_refuse_draw : (s : Start) (log : List Moment) (k n next : ℕ) → CanDraw s (ticket_of s log k) n → next ≡ (world_of s log).next_id → first_id (suc (world_of s log).term) ≤ (world_of s log).next_id + n → MayRefuse s log k (DrawStep n) (IdsSpent next)
+pub may_refuse_draw : (s : Start) (log : List Moment) (k n next : ℕ) → CanDraw s (ticket_of s log k) n → next ≡ (world_of s log).next_id → first_id (suc (world_of s log).term) ≤ (world_of s log).next_id + n
+    → MayRefuse s log k (DrawStep n) (IdsSpent next)
 may_refuse_draw s log k n next can next_is spent = record {
   plain = refl;
   allows = λ image tells same. subst (λ (x : ℕ). Allows (formats_of s) s.part_size (world_of s log) k (DrawStep n) (Refused (IdsSpent x)) image) (sym next_is) (DrawSpent k n image (may_draw s log k n can) spent same);

@@ -16,7 +16,8 @@ use Rattle.esr_desk.specs.Start.{Start, formats_of, world_of}
 use Rattle.esr_repo.specs.May.{MaySwap, MayRefuse, swapped_world}
 use Rattle.esr_repo.specs.InfosAfter.{InfosAfter}
 
-pub may_elect : (s : Start) (log : List Moment) (term : ℕ) (cluster : Record) (next : ℕ) → InfosAfter s log → term ≡ suc (world_of s log).term → term < 2 ^ 63 → cluster_of cluster ≡ record_of (swapped_world s log 0 ElectStep) → next ≡ first_id term
+pub may_elect : (s : Start) (log : List Moment) (term : ℕ) (cluster : Record) (next : ℕ) → InfosAfter s log → term ≡ suc (world_of s log).term → term < 2 ^ 63 → cluster_of cluster ≡ record_of (swapped_world s log 0 ElectStep)
+    → next ≡ first_id term
     → MaySwap s log 0 ElectStep (ElectedTerm term) cluster None None None None next
 may_elect s log term cluster next served is room cluster_is next_is = record {
   swaps = refl;
@@ -65,7 +66,8 @@ elect_record r new w t is t_is new_is =
     up : (a b : ℕ) → a ≡ b → a + 1 ≡ suc b
     up a b e = omega (arith, e)
 
-pub may_refuse_elect : (s : Start) (log : List Moment) (r : Record) (e : RecordRefusal) (refusal : Refusal) → cluster_of r ≡ record_of (world_of s log) → Err e ≡ elected r → ((number : ℕ) → e ≡ records.TermsSpent number → refusal ≡ TermsSpent number)
+pub may_refuse_elect : (s : Start) (log : List Moment) (r : Record) (e : RecordRefusal) (refusal : Refusal) → cluster_of r ≡ record_of (world_of s log) → Err e ≡ elected r
+    → ((number : ℕ) → e ≡ records.TermsSpent number → refusal ≡ TermsSpent number)
     → MayRefuse s log 0 ElectStep refusal
 may_refuse_elect s log r e refusal is answer spent = by (r.term == 2 ^ 63 - 1) refl answer
   where

@@ -26,7 +26,8 @@ ended t = record t { out = false }
 
 -- ---- a settled unit ends
 
-pub may_finish : (s : Start) (old log : List Moment) (k : ℕ) (plan p : Plan) (next : ℕ) → log ≡ old → CanFinish s old k → AreStale (world_of s log) → IsPlanOf (world_of s log) plan → ((w : World) → IsPlanOf w plan → IsPlanOf (change w k ended) p) → next ≡ (world_of s log).next_id
+pub may_finish : (s : Start) (old log : List Moment) (k : ℕ) (plan p : Plan) (next : ℕ) → log ≡ old → CanFinish s old k → AreStale (world_of s log) → IsPlanOf (world_of s log) plan
+    → ((w : World) → IsPlanOf w plan → IsPlanOf (change w k ended) p) → next ≡ (world_of s log).next_id
     → MayNote s log k FinishStep HasEnded (Some p) next
 may_finish s old log k plan p next e before stale plan_is goes next_is =
     let can : CanFinish s log k = subst (λ (l : List Moment). CanFinish s l k) (sym e) before in

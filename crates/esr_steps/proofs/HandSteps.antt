@@ -64,7 +64,8 @@ refused_kept law s old new who (PruneStep prune) (steps.Refused x) h did = law s
 refused_kept law s old new who step (steps.Refused x) h did = absurd h
 
 -- a refusal leaves it, where a failed call of the container leaves the world
-err_own : (law : CallersTold) (s : Start) (old new : List Moment) (who : ℕ) (step : Step) (x : StepRefusal) → ((image : Option Image) → faulted (formats_of s) (world_of s old) who step image ≡ world_of s old) → LeavesCaller who step → AddedOr s old new who step x
+err_own : (law : CallersTold) (s : Start) (old new : List Moment) (who : ℕ) (step : Step) (x : StepRefusal) → ((image : Option Image) → faulted (formats_of s) (world_of s old) who step image ≡ world_of s old) → LeavesCaller who step
+    → AddedOr s old new who step x
     → own_of s new who ≡ own_of s old who
 err_own law s old new who step x still leaves did = own_same s old new who (kept_by s old new who step x still did) (reader_kept_by s old new who step x still did who) (refused_kept law s old new who step x leaves did)
 
@@ -110,7 +111,8 @@ fetch_reads hands.Restore s log (suc k) name tracked may = λ is. absurd (never 
 fetch_reads hands.Check s log who name tracked may = λ is id test. absurd (may.1.untested id test)
 fetch_reads hands.Verify s log who name tracked may = λ is id test. may.1.drawn
 
-pub may_fetch_by : (hand : Hand) (s : Start) (old log : List Moment) (who : ℕ) (name : BlobName) → log ≡ old → Tracked (world_of s log) → AreOfOps (world_of s log) → AreTests (world_of s log).caller → MayFetchSo hand s old who name → MayFetch s log who (fetch_step hand name) name
+pub may_fetch_by : (hand : Hand) (s : Start) (old log : List Moment) (who : ℕ) (name : BlobName) → log ≡ old → Tracked (world_of s log) → AreOfOps (world_of s log) → AreTests (world_of s log).caller → MayFetchSo hand s old who name
+    → MayFetch s log who (fetch_step hand name) name
 may_fetch_by hands.Unit s old log who name e tracked of_ops tests may = may_fetch s old log who name e may
 may_fetch_by hands.Delete s old log who name e tracked of_ops tests may = may_fetch_shard s old log who name e tracked of_ops may
 may_fetch_by hands.Restore s old log who name e tracked of_ops tests may = may_read s old log who name e may
@@ -170,12 +172,14 @@ module _ {F : Type 0} (left : F → Option Bytes) (s : Start) (old new : List Mo
   client_reader None did = added_reader s old new 0 (ReadStep (ReadBlob name)) WasAbsent did 0
   client_reader (Some f) did = added_reader s old new 0 (ReadStep (ReadBlob name)) WasFetched did.0 0
 
-  client_fetched : (law : CallersTold) (hand : Hand) (o : Option F) → own_fetched hand left name o (own_of s old 0) ≡ own_fetched hands.Check left name o (own_of s old 0) → FetchDid left s old new 0 (ReadStep (ReadBlob name)) name (Ok o) → own_of s new 0 ≡ own_fetched hand left name o (own_of s old 0)
+  client_fetched : (law : CallersTold) (hand : Hand) (o : Option F) → own_fetched hand left name o (own_of s old 0) ≡ own_fetched hands.Check left name o (own_of s old 0) → FetchDid left s old new 0 (ReadStep (ReadBlob name)) name (Ok o)
+      → own_of s new 0 ≡ own_fetched hand left name o (own_of s old 0)
   client_fetched law hand o same did =
       (λ j. record { ticket = client_ticket o did j; reader = client_reader o did j; caller = fetched_caller law left s old old new name (Ok o) refl did j }) ∙ sym same
 
 -- what the fetch makes of it
-fetched_own : {F : Type 0} (law : CallersTold) (hand : Hand) (left : F → Option Bytes) (s : Start) (old new : List Moment) (who : ℕ) (name : BlobName) (o : Option F) → ReadTracked (world_of s old) → MayFetchSo hand s old who name → FetchDid left s old new who (fetch_step hand name) name (Ok o)
+fetched_own : {F : Type 0} (law : CallersTold) (hand : Hand) (left : F → Option Bytes) (s : Start) (old new : List Moment) (who : ℕ) (name : BlobName) (o : Option F) → ReadTracked (world_of s old) → MayFetchSo hand s old who name
+    → FetchDid left s old new who (fetch_step hand name) name (Ok o)
     → own_of s new who ≡ own_fetched hand left name o (own_of s old who)
 fetched_own law hands.Unit left s old new who name o tracked may did = λ j. record {
   ticket = fetched_ticket left s old old new who name (Ok o) refl may did j;
@@ -204,7 +208,8 @@ fetched_own law hands.Verify left s old new (suc k) name o tracked may did = abs
     never e = cc
 fetched_own law hands.Verify left s old new zero name o tracked may did = client_fetched left s old new name law hands.Verify o refl did
 
-pub fetch_own : {F : Type 0} (law : CallersTold) (hand : Hand) (left : F → Option Bytes) (s : Start) (old mid new : List Moment) (who : ℕ) (name : BlobName) (r : Result (Option F) StepRefusal) → mid ≡ old → ReadTracked (world_of s mid) → MayFetchSo hand s old who name
+pub fetch_own : {F : Type 0} (law : CallersTold) (hand : Hand) (left : F → Option Bytes) (s : Start) (old mid new : List Moment) (who : ℕ) (name : BlobName) (r : Result (Option F) StepRefusal) → mid ≡ old → ReadTracked (world_of s mid)
+    → MayFetchSo hand s old who name
     → FetchDid left s mid new who (fetch_step hand name) name r → IfOk r (λ o. own_of s new who ≡ own_fetched hand left name o (own_of s old who))
 fetch_own law hand left s old mid new who name (Ok o) e tracked may did =
     fetched_own law hand left s old new who name o (subst (λ (l : List Moment). ReadTracked (world_of s l)) e tracked) may (fetch_from left s old mid new who (fetch_step hand name) name (Ok o) e did)
@@ -232,7 +237,8 @@ fail_free hands.Restore s log who why = free_fresh s log who (ReadStep (ReadFail
 fail_free hands.Check s log who why = free_fresh s log who (ReadStep (ReadFails why)) tt
 fail_free hands.Verify s log who why = free_fresh s log who (ReadStep (ReadFails why)) tt
 
-pub may_fail_by : (hand : Hand) (s : Start) (old log : List Moment) (who : ℕ) (why : Why) (p : Option Plan) (next : ℕ) → log ≡ old → Tracked (world_of s log) → ReadTracked (world_of s log) → AreOfOps (world_of s log) → MayFail hand s old who
+pub may_fail_by : (hand : Hand) (s : Start) (old log : List Moment) (who : ℕ) (why : Why) (p : Option Plan) (next : ℕ) → log ≡ old → Tracked (world_of s log) → ReadTracked (world_of s log) → AreOfOps (world_of s log)
+    → MayFail hand s old who
     → IsPlanAfter hand (world_of s log) who p → next ≡ (world_of s log).next_id → MayNote s log who (fail_step hand why) HasEnded p next
 may_fail_by hands.Unit s old log who why (Some p) next e tracked reads of_ops may goes is = may_fail s old log who why p next e may tracked goes is
 may_fail_by hands.Unit s old log who why None next e tracked reads of_ops may goes is = absurd goes
@@ -273,7 +279,8 @@ over_tickets w k state (Some q) = go (fin.get w.restores q.op)
     go None = refl
     go (Some r) = refl
 
-failed_own : (law : CallersTold) (hand : Hand) (s : Start) (old new : List Moment) (who : ℕ) (why : Why) → Tracked (world_of s old) → ReadTracked (world_of s old) → MayFail hand s old who → Added s old new who (fail_step hand why) HasEnded → own_of s new who ≡ own_failed hand (own_of s old who)
+failed_own : (law : CallersTold) (hand : Hand) (s : Start) (old new : List Moment) (who : ℕ) (why : Why) → Tracked (world_of s old) → ReadTracked (world_of s old) → MayFail hand s old who → Added s old new who (fail_step hand why) HasEnded
+    → own_of s new who ≡ own_failed hand (own_of s old who)
 failed_own law hands.Unit s old new who why tracked reads may a = λ j. record {
   ticket = failed_ticket s old old new who why refl may tracked a j;
   reader = (added_reader s old new who (FailedStep why) HasEnded a who ∙ ap (λ (m : FinMap nat_cmp Reader). or_no_reader (fin.get m who)) (failed_readers (world_of s old) who (fin.get (world_of s old).tickets who))) j;
@@ -316,7 +323,8 @@ fail_own law hand s old mid new who why (Ok x) e tracked reads may did =
     (subst (λ (l : List Moment). Added s l new who (fail_step hand why) HasEnded) e did)
 fail_own law hand s old mid new who why (Err x) e tracked reads may did = tt
 
-pub fail_own_kept : (law : CallersTold) (hand : Hand) (s : Start) (old mid new : List Moment) (who : ℕ) (why : Why) (r : Result Unit StepRefusal) → mid ≡ old → Did s mid new who (fail_step hand why) (λ _. HasEnded) r → OnErr r (own_of s new who ≡ own_of s old who)
+pub fail_own_kept : (law : CallersTold) (hand : Hand) (s : Start) (old mid new : List Moment) (who : ℕ) (why : Why) (r : Result Unit StepRefusal) → mid ≡ old → Did s mid new who (fail_step hand why) (λ _. HasEnded) r
+    → OnErr r (own_of s new who ≡ own_of s old who)
 fail_own_kept law hand s old mid new who why (Ok x) e did = tt
 fail_own_kept law hand s old mid new who why (Err x) e did =
     err_own law s old new who (fail_step hand why) x (fail_still hand s old who why) (fail_leaves hand who why) (subst (λ (l : List Moment). AddedOr s l new who (fail_step hand why) x) e did)

@@ -24,6 +24,7 @@ pub listed_ticket : (s : Start) (old new : List Moment) (k : ℕ) (from : Option
 listed_ticket s old new k from (Ok page) out did = added_ticket s old new k (ListStep from) (WasListed (page_of page)) did k ∙ changed_ticket s old k (λ t. listing t (page_of page)) out
 listed_ticket s old new k from (Err e) out did = tt
 
-pub unlisted_ticket : (s : Start) (old new : List Moment) (k : ℕ) (from : Option Bytes) (r : Result (List Listed) StepRefusal) → Did s old new k (ListStep from) (λ page. WasListed (page_of page)) r → OnErr r (ticket_of s new k ≡ ticket_of s old k)
+pub unlisted_ticket : (s : Start) (old new : List Moment) (k : ℕ) (from : Option Bytes) (r : Result (List Listed) StepRefusal) → Did s old new k (ListStep from) (λ page. WasListed (page_of page)) r
+    → OnErr r (ticket_of s new k ≡ ticket_of s old k)
 unlisted_ticket s old new k from (Ok page) did = tt
 unlisted_ticket s old new k from (Err e) did = kept_by s old new k (ListStep from) e (λ image. refl) did

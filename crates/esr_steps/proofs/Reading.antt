@@ -29,7 +29,8 @@ use Rattle.esr_steps.proofs.Written.{fetch_from}
 -- ---- what leaves it
 
 -- a refusal, where a failed call of the container leaves the world
-pub reader_kept_by : (s : Start) (old new : List Moment) (who : ℕ) (step : Step) (e : StepRefusal) → ((image : Option Image) → faulted (formats_of s) (world_of s old) who step image ≡ world_of s old) → AddedOr s old new who step e → (k : ℕ) → reader_of s new k ≡ reader_of s old k
+pub reader_kept_by : (s : Start) (old new : List Moment) (who : ℕ) (step : Step) (e : StepRefusal) → ((image : Option Image) → faulted (formats_of s) (world_of s old) who step image ≡ world_of s old) → AddedOr s old new who step e
+    → (k : ℕ) → reader_of s new k ≡ reader_of s old k
 reader_kept_by s old new who step steps.Memory still same k = ap (λ (log : List Moment). reader_of s log k) same
 reader_kept_by s old new who step steps.TurnsSpent still never k = absurd never
 reader_kept_by s old new who step (steps.Refused code.DepotFault) still a k =
@@ -90,7 +91,8 @@ absent_is : (f : Formats) (w : World) (k : ℕ) (name : BlobName) (image : Optio
 absent_is f w zero name image = refl
 absent_is f w (suc k) name image = refl
 
-fetched_is : (f : Formats) (w : World) (k : ℕ) (name : BlobName) (image : Option Image) (q : Reader) → ReadTracked w → IsReading w k q → answered f w k (ReadStep (ReadBlob name)) WasFetched image ≡ read_told w k name (told_blob f image name) (Some q)
+fetched_is : (f : Formats) (w : World) (k : ℕ) (name : BlobName) (image : Option Image) (q : Reader) → ReadTracked w → IsReading w k q
+    → answered f w k (ReadStep (ReadBlob name)) WasFetched image ≡ read_told w k name (told_blob f image name) (Some q)
 fetched_is f w zero name image q tracked is = absurd (no_zero w q tracked is)
 fetched_is f w (suc k) name image q tracked is = ap (read_told w (suc k) name (told_blob f image name)) is.there
 
@@ -124,11 +126,13 @@ next_over w k state (Some q) = go (fin.get w.restores q.op)
     go None = refl
     go (Some r) = refl
 
-restored_is : (f : Formats) (w : World) (k files bytes : ℕ) (image : Option Image) (q : Reader) → ReadTracked w → IsReading w k q → answered f w k (ReadStep (RestoredShard files bytes)) HasEnded image ≡ read_over w k (Restored files bytes) (fin.get w.readers k)
+restored_is : (f : Formats) (w : World) (k files bytes : ℕ) (image : Option Image) (q : Reader) → ReadTracked w → IsReading w k q
+    → answered f w k (ReadStep (RestoredShard files bytes)) HasEnded image ≡ read_over w k (Restored files bytes) (fin.get w.readers k)
 restored_is f w zero files bytes image q tracked is = absurd (no_zero w q tracked is)
 restored_is f w (suc k) files bytes image q tracked is = refl
 
-unrestored_is : (f : Formats) (w : World) (k : ℕ) (why : Why) (image : Option Image) (q : Reader) → ReadTracked w → IsReading w k q → answered f w k (ReadStep (ReadFails why)) HasEnded image ≡ read_over w k (NotRestored why) (fin.get w.readers k)
+unrestored_is : (f : Formats) (w : World) (k : ℕ) (why : Why) (image : Option Image) (q : Reader) → ReadTracked w → IsReading w k q
+    → answered f w k (ReadStep (ReadFails why)) HasEnded image ≡ read_over w k (NotRestored why) (fin.get w.readers k)
 unrestored_is f w zero why image q tracked is = absurd (no_zero w q tracked is)
 unrestored_is f w (suc k) why image q tracked is = refl
 
@@ -150,7 +154,8 @@ may_note_restored s old log k files bytes plan p next e tracked before plan_is g
     }
 
 pub may_note_unrestored : (s : Start) (old log : List Moment) (k : ℕ) (why : Why) (p : Plan) (next : ℕ) → log ≡ old → ReadTracked (world_of s log) → (reader_of s old k).out ≡ true
-    → ((state : ReadState) → waits state ≡ false → IsPlanOf (read_over (world_of s log) k state (fin.get (world_of s log).readers k)) p) → next ≡ (world_of s log).next_id → MayNote s log k (ReadStep (ReadFails why)) HasEnded (Some p) next
+    → ((state : ReadState) → waits state ≡ false → IsPlanOf (read_over (world_of s log) k state (fin.get (world_of s log).readers k)) p) → next ≡ (world_of s log).next_id
+    → MayNote s log k (ReadStep (ReadFails why)) HasEnded (Some p) next
 may_note_unrestored s old log k why p next e tracked before goes next_is =
     let out : (reader_of s log k).out ≡ true = subst (λ (l : List Moment). (reader_of s l k).out ≡ true) (sym e) before in
     let reading = reading_is s log k out in

@@ -11,12 +11,12 @@ use Rattle.esr_core.specs.World.{World}
 use Rattle.esr_core.specs.Restores.{restore_opened}
 use Rattle.esr_core.specs.Entry.{Restore, AskStep, AcceptedRestore, NoSnapshot, BeingDeleted, TooMany, Moment}
 use Rattle.esr_core.specs.Allowed.{Told, WasMade, IsInInfo, IsListed, IsSpared, IsBeingDeleted, OpeningRestore, NotListed, NamedByDelete, FullOfRestores, AskingRestore}
-use Rattle.esr_core.proofs.Reading.{Has-mapped}
+use Rattle.esr_model.specs.Lists.{Has-mapped}
 use Rattle.esr_names.specs.Indices.{AreRefs}
 use Rattle.esr_meta.specs.Info.{Info}
 use Rattle.esr_formats.specs.Refs.{ref_of_code, AreApart}
-use Rattle.esr_newroot.proofs.Choices.{differ}
-use Rattle.esr_newroot.proofs.Refs.{one_name, one_id, names_distinct, ids_distinct, other_later}
+use Rattle.esr_newroot.specs.ByteTests.{differ}
+use Rattle.esr_newroot.specs.RefLists.{one_name, one_id, names_distinct, ids_distinct, other_later}
 use Rattle.esr_progress.specs.Infos.{HasIndices}
 use Rattle.esr_ops.specs.Plan.{Plan, IsPlanOf}
 use Rattle.esr_accept.specs.Accepting.{IsRestoreRefused}
@@ -61,7 +61,8 @@ not_found (x ∷ infos) uuid i e has same = go (x.uuid.number == uuid) refl e ha
 pub listed_found : (s : Start) (w : World) (infos : List Info) (uuid : ℕ) (name : Bytes) → HasInfos s w infos → IsListed w name uuid → find (λ (info : Info). info.uuid.number == uuid) infos ≡ None → ⊥
 listed_found s w infos uuid name has listed none = let there = has.are.there listed.0 listed.1 in not_found infos uuid there.0 none there.1 (there.2 ∙ listed.3)
 
-pub found_indices : (s : Start) (w : World) (infos : List Info) (uuid : ℕ) (i : Info) → HasInfos s w infos → find (λ (info : Info). info.uuid.number == uuid) infos ≡ Some i → HasIndices (formats_of s) w s.tells uuid (map ref_of_code i.indices)
+pub found_indices : (s : Start) (w : World) (infos : List Info) (uuid : ℕ) (i : Info) → HasInfos s w infos → find (λ (info : Info). info.uuid.number == uuid) infos ≡ Some i
+    → HasIndices (formats_of s) w s.tells uuid (map ref_of_code i.indices)
 found_indices s w infos uuid i has found =
     let h = found_info infos uuid i found in
     subst (λ (u : ℕ). HasIndices (formats_of s) w s.tells u (map ref_of_code i.indices)) h.1 (has.are.each i h.0)
@@ -98,7 +99,8 @@ pub told_so : (s : Start) (w : World) (uuid : ℕ) (indices : List IndexRef) (im
 told_so s w uuid indices image tells (inl made) = inl made
 told_so s w uuid indices image tells (inr there) = inr (told_if s image _ tells there)
 
-pub may_restore : (s : Start) (log : List Moment) (name place : Bytes) (uuid : ℕ) (indices : List IndexRef) (p : Plan) (o next : ℕ) → IsListed (world_of s log) name uuid × IsSpared (world_of s log) uuid × (fin.len (world_of s log).restores < 1000)
+pub may_restore : (s : Start) (log : List Moment) (name place : Bytes) (uuid : ℕ) (indices : List IndexRef) (p : Plan) (o next : ℕ)
+    → IsListed (world_of s log) name uuid × IsSpared (world_of s log) uuid × (fin.len (world_of s log).restores < 1000)
     → HasIndices (formats_of s) (world_of s log) s.tells uuid indices → o ≡ (world_of s log).next_op → IsPlanOf (restore_opened (world_of s log) uuid place indices) p → next ≡ (world_of s log).next_id
     → MayNote s log 0 (AskStep (Restore name place)) (AcceptedRestore o uuid indices) (Some p) next
 may_restore s log name place uuid indices p o next may has o_is plan_is next_is = record {
@@ -120,12 +122,14 @@ unlisted_refused s log name place at h =
 deleted_refused : (s : Start) (log : List Moment) (name place : Bytes) (d : ℕ) → (uuid : ℕ) × IsListed (world_of s log) name uuid × IsBeingDeleted (world_of s log) uuid d → MayRefuse s log 0 (AskStep (Restore name place)) (BeingDeleted d)
 deleted_refused s log name place d h = record { plain = refl; allows = λ image tells same. AskingRestore name place _ image (NamedByDelete h.0 d image h.1 h.2) same }
 
-full_refused : (s : Start) (log : List Moment) (name place : Bytes) (limit : ℕ) → (limit ≡ 1000) × ((uuid : ℕ) × IsListed (world_of s log) name uuid × IsSpared (world_of s log) uuid × (1000 ≤ fin.len (world_of s log).restores)) → MayRefuse s log 0 (AskStep (Restore name place)) (TooMany limit)
+full_refused : (s : Start) (log : List Moment) (name place : Bytes) (limit : ℕ) → (limit ≡ 1000) × ((uuid : ℕ) × IsListed (world_of s log) name uuid × IsSpared (world_of s log) uuid × (1000 ≤ fin.len (world_of s log).restores))
+    → MayRefuse s log 0 (AskStep (Restore name place)) (TooMany limit)
 full_refused s log name place limit h =
     subst (λ (n : ℕ). MayRefuse s log 0 (AskStep (Restore name place)) (TooMany n)) (sym h.0)
     (record { plain = refl; allows = λ image tells same. AskingRestore name place _ image (FullOfRestores h.1.0 image h.1.1 h.1.2 h.1.3) same })
 
-pub refuses_restore : (s : Start) (log : List Moment) (name place : Bytes) (refusal : ListRefusal) → IsRestoreRefused (world_of s log) name refusal → IfSome (entry_of refusal) (λ e. MayRefuse s log 0 (AskStep (Restore name place)) (refusal_of e))
+pub refuses_restore : (s : Start) (log : List Moment) (name place : Bytes) (refusal : ListRefusal) → IsRestoreRefused (world_of s log) name refusal
+    → IfSome (entry_of refusal) (λ e. MayRefuse s log 0 (AskStep (Restore name place)) (refusal_of e))
 refuses_restore s log name place (refusals.NoSnapshot at) h = unlisted_refused s log name place at h
 refuses_restore s log name place (refusals.BeingDeleted op) h = deleted_refused s log name place op h
 refuses_restore s log name place (refusals.TooMany limit) h = full_refused s log name place limit h

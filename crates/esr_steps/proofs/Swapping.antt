@@ -57,7 +57,8 @@ final_work f t change unpruned is = go t.work refl is
     go Drop same e = absurd (none_some change e)
 
 -- its op is there, with its shards done
-pub info_there : (s : Start) (log : List Moment) (k : ℕ) (root : RootData) (seat : Seat) (plan : Plan) → Tracked (world_of s log) → IsUnpruned (ticket_of s log k) → CanSettle s (ticket_of s log k) root → (ticket_of s log k).term ≡ (world_of s log).term
+pub info_there : (s : Start) (log : List Moment) (k : ℕ) (root : RootData) (seat : Seat) (plan : Plan) → Tracked (world_of s log) → IsUnpruned (ticket_of s log k) → CanSettle s (ticket_of s log k) root
+    → (ticket_of s log k).term ≡ (world_of s log).term
     → seat ≡ seat_of (ticket_of s log k) → IsPlanOf (world_of s log) plan → ((x : Op) (results : List ShardResult) → fin.get plan.ops seat.op ≡ Some x → AllDone x.shards results → ⊥) → ⊥
 info_there s log k root seat plan tracked unpruned can present seat_is plan_is none =
     let there = (out_is s log k can.put.out).there in
@@ -80,7 +81,8 @@ raised_root w k = go (fin.get w.tickets k)
 abbrev raising : (s : Start) (log : List Moment) (k : ℕ) → CanRaise s (ticket_of s log k) → MayRaise (formats_of s) (world_of s log) k
 raising s log k can = record { t = ticket_of s log k; out = out_is s log k can.out; s = can.change; is = can.is; unsettled = can.unsettled; once = can.once }
 
-pub may_raise : (s : Start) (log : List Moment) (k n : ℕ) (cluster : Record) (plan p : Plan) (next : ℕ) → InfosAfter s log → CanRaise s (ticket_of s log k) → (ticket_of s log k).term ≡ (world_of s log).term → n ≡ (world_of s log).pending → n < 2 ^ 63
+pub may_raise : (s : Start) (log : List Moment) (k n : ℕ) (cluster : Record) (plan p : Plan) (next : ℕ) → InfosAfter s log → CanRaise s (ticket_of s log k) → (ticket_of s log k).term ≡ (world_of s log).term
+    → n ≡ (world_of s log).pending → n < 2 ^ 63
     → cluster_of cluster ≡ record_of (raised (world_of s log) k) → IsPlanOf (world_of s log) plan → ((w : World) → IsPlanOf w plan → w.pending ≡ n → IsPlanOf (raised w k) p) → next ≡ (world_of s log).next_id
     → MaySwap s log k RaiseStep (RaisedTo n) cluster None None None (Some p) next
 may_raise s log k n cluster plan p next served can present n_is room cluster_is plan_is goes next_is = record {
@@ -120,7 +122,8 @@ raise_refused own r e is = by_term (own == r.term) refl is
     by_term true q is = inr (by_pending (eqb-true own r.term q) (int_eq r.pending (pos (2 ^ 63 - 1))) refl is)
     by_term false q is = inl (λ same. swapped (sym (eq-eqb own r.term same) ∙ q), err_same e (records.StaleTerm own r.term) is)
 
-pub may_refuse_raise : (s : Start) (log : List Moment) (k : ℕ) (seat : Seat) (r : Record) (e : RecordRefusal) (refusal : Refusal) → CanRaise s (ticket_of s log k) → seat ≡ seat_of (ticket_of s log k) → cluster_of r ≡ record_of (world_of s log)
+pub may_refuse_raise : (s : Start) (log : List Moment) (k : ℕ) (seat : Seat) (r : Record) (e : RecordRefusal) (refusal : Refusal) → CanRaise s (ticket_of s log k) → seat ≡ seat_of (ticket_of s log k)
+    → cluster_of r ≡ record_of (world_of s log)
     → Err e ≡ record_raised seat.term r → ((own now : ℕ) → e ≡ records.StaleTerm own now → refusal ≡ StaleTerm own now) → ((number : ℤ) → e ≡ records.GenerationsSpent number → refusal ≡ GenerationsSpent (count_of number))
     → MayRefuse s log k RaiseStep refusal
 may_refuse_raise s log k seat r e refusal can seat_is r_is answer stale spent = go (raise_refused seat.term r e answer)
@@ -161,7 +164,8 @@ raise_fell s old k image t out is = go (has_text image ((formats_of s).cluster.t
     go true q = inr ((world_of s old).pending, q ∙ changed_ticket s old k (raise_by (world_of s old).pending) out)
     go false q = inl q
 
-pub raise_left : (s : Start) (old new : List Moment) (k : ℕ) (r : Result ℕ StepRefusal) → CanRaise s (ticket_of s old k) → Did s old new k RaiseStep (λ n. RaisedTo n) r → LeftBy (HasRaised (ticket_of s old k)) r (ticket_of s old k) (ticket_of s new k)
+pub raise_left : (s : Start) (old new : List Moment) (k : ℕ) (r : Result ℕ StepRefusal) → CanRaise s (ticket_of s old k) → Did s old new k RaiseStep (λ n. RaisedTo n) r
+    → LeftBy (HasRaised (ticket_of s old k)) r (ticket_of s old k) (ticket_of s new k)
 raise_left s old new k (Ok n) can did = tt
 raise_left s old new k (Err steps.Memory) can did = ap (λ (l : List Moment). ticket_of s l k) did
 raise_left s old new k (Err steps.TurnsSpent) can never = absurd never
@@ -236,7 +240,8 @@ settle t = record t { settled = true }
 abbrev settled_world : World → ℕ → Ticket → ℕ → RootData → World
 settled_world w k t n root = record w { safe = suc n; root = root; ops = fin.remove w.ops t.op; tickets = fin.insert w.tickets k (settle t); deletes = fin.remove w.deletes t.op }
 
-settled_is : (f : Formats) (w : World) (k : ℕ) (t : Ticket) (change : Swap) (n : ℕ) → fin.get w.tickets k ≡ Some t → swap f t ≡ Some change → t.raised ≡ Some n → settled_of f w k (fin.get w.tickets k) ≡ settled_world w k t n change.root
+settled_is : (f : Formats) (w : World) (k : ℕ) (t : Ticket) (change : Swap) (n : ℕ) → fin.get w.tickets k ≡ Some t → swap f t ≡ Some change → t.raised ≡ Some n
+    → settled_of f w k (fin.get w.tickets k) ≡ settled_world w k t n change.root
 settled_is f w k t change n there is raised = ap (settled_of f w k) there ∙ ap (λ (x : Option Swap). settled_by f w k t x t.raised) is ∙ ap (settled_by f w k t (Some change)) raised
 
 abbrev may_settle : (s : Start) (log : List Moment) (k : ℕ) (root : RootData) (can : CanSettle s (ticket_of s log k) root) → MaySettle (formats_of s) (world_of s log) k can.n (ticket_of s log k) can.change
@@ -250,7 +255,8 @@ settled_plan s log k root plan p can plan_is goes =
     let there = (out_is s log k can.put.out).there in
     subst (λ (o : Option Ticket). IsPlanOf (settled_of (formats_of s) (world_of s log) k o) p) (sym there) (goes (formats_of s) (world_of s log) (ticket_of s log k) can.change can.n plan_is there can.is can.put.raised)
 
-pub may_swap_settle : (s : Start) (log : List Moment) (k : ℕ) (root : Root) (info : Info) (cluster : Record) (plan p : Plan) (next : ℕ) → IsMadeInfo s log k info → InfosAfter s log → IsUnpruned (ticket_of s log k) → CanSettle s (ticket_of s log k) (root_of root) → (ticket_of s log k).term ≡ (world_of s log).term
+pub may_swap_settle : (s : Start) (log : List Moment) (k : ℕ) (root : Root) (info : Info) (cluster : Record) (plan p : Plan) (next : ℕ) → IsMadeInfo s log k info → InfosAfter s log → IsUnpruned (ticket_of s log k)
+    → CanSettle s (ticket_of s log k) (root_of root) → (ticket_of s log k).term ≡ (world_of s log).term
     → IsPlanOf (world_of s log) plan → ((f : Formats) (w : World) (t : Ticket) (c : Swap) (n : ℕ) → IsPlanOf w plan → fin.get w.tickets k ≡ Some t → swap f t ≡ Some c → t.raised ≡ Some n → IsPlanOf (settled_of f w k (Some t)) p)
     → ((n : ℕ) → (ticket_of s log k).raised ≡ Some n → (cluster_of cluster).ledger ≡ record { safe = suc n; pending = (world_of s log).pending; term = (world_of s log).term }) → map op_of cluster.ops ≡ record_ops p.ops p.deletes → next ≡ (world_of s log).next_id
     → MaySwap s log k SettleStep WasSettled cluster (Some root) None (Some info) (Some p) next
@@ -270,7 +276,8 @@ may_swap_settle s log k root info cluster plan p next made served unpruned can p
       next_is = next_is ∙ ap (λ (w : World). w.next_id) (sym is);
     }
 
-pub may_refuse_settle : (s : Start) (old log : List Moment) (k : ℕ) (root : RootData) (seat : Seat) (now : ℕ) → log ≡ old → CanSettle s (ticket_of s old k) root → seat ≡ seat_of (ticket_of s log k) → now ≡ (world_of s log).term → seat.term ≢ now
+pub may_refuse_settle : (s : Start) (old log : List Moment) (k : ℕ) (root : RootData) (seat : Seat) (now : ℕ) → log ≡ old → CanSettle s (ticket_of s old k) root → seat ≡ seat_of (ticket_of s log k) → now ≡ (world_of s log).term
+    → seat.term ≢ now
     → MayRefuse s log k SettleStep (StaleTerm seat.term now)
 may_refuse_settle s old log k root seat now e before seat_is now_is stale =
     let can : CanSettle s (ticket_of s log k) root = subst (λ (l : List Moment). CanSettle s (ticket_of s l k) root) (sym e) before in
@@ -278,7 +285,8 @@ may_refuse_settle s old log k root seat now e before seat_is now_is stale =
     subst (MayRefuse s log k SettleStep) (ap (λ (n : ℕ). StaleTerm n (world_of s log).term) (sym own_is) ∙ ap (StaleTerm seat.term) (sym now_is))
     (record { plain = refl; allows = λ image tells same. SettleStale k can.n (ticket_of s log k) can.change image (may_settle s log k root can) (λ q. stale (own_is ∙ q ∙ sym now_is)) same })
 
-settled_puts : (s : Start) (old : List Moment) (k : ℕ) (root : RootData) → CanSettle s (ticket_of s old k) root → or_no_ticket (fin.get (settled_of (formats_of s) (world_of s old) k (fin.get (world_of s old).tickets k)).tickets k) ≡ settle (ticket_of s old k)
+settled_puts : (s : Start) (old : List Moment) (k : ℕ) (root : RootData) → CanSettle s (ticket_of s old k) root
+    → or_no_ticket (fin.get (settled_of (formats_of s) (world_of s old) k (fin.get (world_of s old).tickets k)).tickets k) ≡ settle (ticket_of s old k)
 settled_puts s old k root can =
     ap (λ (w : World). or_no_ticket (fin.get w.tickets k)) (settled_is (formats_of s) (world_of s old) k (ticket_of s old k) can.change can.n (out_is s old k can.put.out).there can.is can.put.raised)
     ∙ ap or_no_ticket (put_there (world_of s old).tickets k (settle (ticket_of s old k)))
@@ -287,14 +295,16 @@ pub settled_ticket : (s : Start) (old mid new : List Moment) (k : ℕ) (root : R
 settled_ticket s old mid new k root e can a = added_ticket s old new k SettleStep WasSettled (added_from s old mid new k SettleStep WasSettled e a) k ∙ settled_puts s old k root can
 
 -- after a record swap that failed the ticket is as before, or as where it was made
-fell : (f : Formats) (w up : World) (image : Option Image) (k : ℕ) (old new t : Ticket) → old ≡ or_no_ticket (fin.get w.tickets k) → or_no_ticket (fin.get up.tickets k) ≡ new → t ≡ or_no_ticket (fin.get (fallen f w up image).tickets k) → (t ≡ old) ⊎ (t ≡ new)
+pub fell : (f : Formats) (w up : World) (image : Option Image) (k : ℕ) (old new t : Ticket) → old ≡ or_no_ticket (fin.get w.tickets k) → or_no_ticket (fin.get up.tickets k) ≡ new
+    → t ≡ or_no_ticket (fin.get (fallen f w up image).tickets k) → (t ≡ old) ⊎ (t ≡ new)
 fell f w up image k old new t old_is new_is is = go (has_text image (f.cluster.text (record_of up))) is
   where
     go : (b : Bool) → t ≡ or_no_ticket (fin.get (if b then up else w).tickets k) → (t ≡ old) ⊎ (t ≡ new)
     go true q = inr (q ∙ new_is)
     go false q = inl (q ∙ sym old_is)
 
-pub settle_left : {X : Type 0} (s : Start) (old new : List Moment) (k : ℕ) (root : RootData) (r : Result X StepRefusal) → CanSettle s (ticket_of s old k) root → Did s old new k SettleStep (λ x. WasSettled) r → LeftBy (IsSettled (ticket_of s old k)) r (ticket_of s old k) (ticket_of s new k)
+pub settle_left : {X : Type 0} (s : Start) (old new : List Moment) (k : ℕ) (root : RootData) (r : Result X StepRefusal) → CanSettle s (ticket_of s old k) root → Did s old new k SettleStep (λ x. WasSettled) r
+    → LeftBy (IsSettled (ticket_of s old k)) r (ticket_of s old k) (ticket_of s new k)
 settle_left s old new k root (Ok n) can did = tt
 settle_left s old new k root (Err steps.Memory) can did = ap (λ (l : List Moment). ticket_of s l k) did
 settle_left s old new k root (Err steps.TurnsSpent) can never = absurd never
@@ -313,12 +323,13 @@ dropped_world w k t = record w { ops = fin.remove w.ops t.op; deletes = fin.remo
 dropped_is : (w : World) (k : ℕ) (t : Ticket) → fin.get w.tickets k ≡ Some t → dropped_of w k (fin.get w.tickets k) ≡ dropped_world w k t
 dropped_is w k t there = ap (dropped_of w k) there
 
-leaves_out : (s : Start) (log : List Moment) (k : ℕ) → CanLeave s log k → (ticket_of s log k).out ≡ true
+pub leaves_out : (s : Start) (log : List Moment) (k : ℕ) → CanLeave s log k → (ticket_of s log k).out ≡ true
 leaves_out s log k (inl can) = can.out
 leaves_out s log k (inr can) = can.out
 
 -- a cleanup of the present term has its op
-leaves_by : (s : Start) (log : List Moment) (k : ℕ) (image : Option Image) → Tracked (world_of s log) → CanLeave s log k → CanTell s image → ((ticket_of s log k).work ≡ Drop) ⊎ HasCleaned (formats_of s) (world_of s log) k (ticket_of s log k) image
+leaves_by : (s : Start) (log : List Moment) (k : ℕ) (image : Option Image) → Tracked (world_of s log) → CanLeave s log k → CanTell s image
+    → ((ticket_of s log k).work ≡ Drop) ⊎ HasCleaned (formats_of s) (world_of s log) k (ticket_of s log k) image
 leaves_by s log k image tracked (inl can) tells = inl can.work
 leaves_by s log k image tracked (inr can) tells = inr (record {
   uuids = can.uuids;
@@ -353,7 +364,8 @@ may_swap_drop s log k cluster plan p next served tracked can present plan_is goe
       next_is = next_is ∙ ap (λ (w : World). w.next_id) (sym is);
     }
 
-pub may_refuse_drop : (s : Start) (old log : List Moment) (k : ℕ) (seat : Seat) (now : ℕ) → log ≡ old → Tracked (world_of s log) → CanLeave s old k → seat ≡ seat_of (ticket_of s log k) → now ≡ (world_of s log).term → seat.term ≢ now → MayRefuse s log k DroppedStep (StaleTerm seat.term now)
+pub may_refuse_drop : (s : Start) (old log : List Moment) (k : ℕ) (seat : Seat) (now : ℕ) → log ≡ old → Tracked (world_of s log) → CanLeave s old k → seat ≡ seat_of (ticket_of s log k) → now ≡ (world_of s log).term
+    → seat.term ≢ now → MayRefuse s log k DroppedStep (StaleTerm seat.term now)
 may_refuse_drop s old log k seat now e tracked before seat_is now_is stale =
     let can : CanLeave s log k = subst (λ (l : List Moment). CanLeave s l k) (sym e) before in
     let own_is : seat.term ≡ (ticket_of s log k).term = ap (λ (x : Seat). x.term) seat_is in
@@ -367,7 +379,8 @@ dropped_puts s old k can =
 pub dropped_ticket : (s : Start) (old mid new : List Moment) (k : ℕ) → mid ≡ old → CanLeave s old k → Added s mid new k DroppedStep HasEnded → ticket_of s new k ≡ record (ticket_of s old k) { out = false }
 dropped_ticket s old mid new k e can a = added_ticket s old new k DroppedStep HasEnded (added_from s old mid new k DroppedStep HasEnded e a) k ∙ dropped_puts s old k can
 
-pub drop_left : {X : Type 0} (s : Start) (old new : List Moment) (k : ℕ) (r : Result X StepRefusal) → CanLeave s old k → Did s old new k DroppedStep (λ x. HasEnded) r → LeftBy (HasEndedAs (ticket_of s old k)) r (ticket_of s old k) (ticket_of s new k)
+pub drop_left : {X : Type 0} (s : Start) (old new : List Moment) (k : ℕ) (r : Result X StepRefusal) → CanLeave s old k → Did s old new k DroppedStep (λ x. HasEnded) r
+    → LeftBy (HasEndedAs (ticket_of s old k)) r (ticket_of s old k) (ticket_of s new k)
 drop_left s old new k (Ok n) can did = tt
 drop_left s old new k (Err steps.Memory) can did = ap (λ (l : List Moment). ticket_of s l k) did
 drop_left s old new k (Err steps.TurnsSpent) can never = absurd never

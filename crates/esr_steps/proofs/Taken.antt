@@ -202,99 +202,26 @@ module _ (s : Start) (old new : List Moment) (u : ReadyUnit) (made : Option Root
   put : (t : Ticket) → or_no_ticket (fin.get (fin.insert w.tickets w.next_ticket t) u.ticket) ≡ t
   put t = ap (λ (k : ℕ). or_no_ticket (fin.get (fin.insert w.tickets w.next_ticket t) k)) gives.ticket ∙ ap or_no_ticket (put_there w.tickets w.next_ticket t)
 
-  shard_is : (op : Op) (z : ShardWork) (index number uuid : ℕ) (source base : Option ℕ) (name place : Bytes) → z.ref.id ≡ index → z.number ≡ number → uuid ≡ op.uuid → name ≡ z.ref.name → place ≡ z.place → op.source ≡ source → base ≡ option_map number_of u.copy.base
+  shard_is : (op : Op) (z : ShardWork) (index number uuid : ℕ) (source base : Option ℕ) (name place : Bytes) → z.ref.id ≡ index → z.number ≡ number → uuid ≡ op.uuid → name ≡ z.ref.name → place ≡ z.place
+      → op.source ≡ source → base ≡ option_map number_of u.copy.base
       → shard_ticket w u.op op z base ≡ record (fresh (Shard index number) u.op uuid place name w.term u.copy) { source = source }
-  shard_is op z index number uuid source base name place index_is number_is uuid_is name_is place_is source_is base_is = λ i. record {
-    work = Shard (index_is i) (number_is i);
-    op = u.op;
-    uuid = sym uuid_is i;
-    place = sym place_is i;
-    name = sym name_is i;
-    source = source_is i;
-    term = w.term;
-    safe = sym gives.copy.safe i;
-    root = sym gives.copy.root i;
-    base = base_is i;
-    first = 0;
-    drawn = 0;
-    noted = [];
-    wrote = [];
-    read = [];
-    raised = None;
-    tried_latest = false;
-    settled = false;
-    out = true;
-    clean = false;
-    listed = [];
-    whole = false;
-  }
+  shard_is op z index number uuid source base name place index_is number_is uuid_is name_is place_is source_is base_is = λ i.
+      record (fresh (Shard (index_is i) (number_is i)) u.op (sym uuid_is i) (sym place_is i) (sym name_is i) w.term u.copy) { source = source_is i; safe = sym gives.copy.safe i; root = sym gives.copy.root i; base = base_is i }
 
-  final_is : (op : Op) (info : SnapInfo) (results : List ShardResult) → info ≡ info_of op results → None ≡ option_map number_of u.copy.base → final_ticket f w u.op op results ≡ fresh (Finalize info results (made_of f w.blobs op)) u.op info.uuid [] [] w.term u.copy
-  final_is op info results info_is base_is = λ i. record {
-    work = Finalize (sym info_is i) results (made_of f w.blobs op);
-    op = u.op;
-    uuid = (sym info_is i).uuid;
-    place = [];
-    name = [];
-    source = None;
-    term = w.term;
-    safe = sym gives.copy.safe i;
-    root = sym gives.copy.root i;
-    base = base_is i;
-    first = 0;
-    drawn = 0;
-    noted = [];
-    wrote = [];
-    read = [];
-    raised = None;
-    tried_latest = false;
-    settled = false;
-    out = true;
-    clean = false;
-    listed = [];
-    whole = false;
-  }
+  final_is : (op : Op) (info : SnapInfo) (results : List ShardResult) → info ≡ info_of op results → None ≡ option_map number_of u.copy.base
+      → final_ticket f w u.op op results ≡ fresh (Finalize info results (made_of f w.blobs op)) u.op info.uuid [] [] w.term u.copy
+  final_is op info results info_is base_is = λ i.
+      record (fresh (Finalize (sym info_is i) results (made_of f w.blobs op)) u.op (sym info_is i).uuid [] [] w.term u.copy) { safe = sym gives.copy.safe i; root = sym gives.copy.root i; base = base_is i }
 
   plain_is : (work : UnitWork) → None ≡ option_map number_of u.copy.base → plain_ticket w u.op work ≡ fresh work u.op 0 [] [] w.term u.copy
-  plain_is work base_is = λ i. record {
-    work = work;
-    op = u.op;
-    uuid = 0;
-    place = [];
-    name = [];
-    source = None;
-    term = w.term;
-    safe = sym gives.copy.safe i;
-    root = sym gives.copy.root i;
-    base = base_is i;
-    first = 0;
-    drawn = 0;
-    noted = [];
-    wrote = [];
-    read = [];
-    raised = None;
-    tried_latest = false;
-    settled = false;
-    out = true;
-    clean = false;
-    listed = [];
-    whole = false;
-  }
+  plain_is work base_is = λ i. record (fresh work u.op 0 [] [] w.term u.copy) { safe = sym gives.copy.safe i; root = sym gives.copy.root i; base = base_is i }
 
   reader_is : (r : Restoring) (z : RestoreShard) (index number uuid : ℕ) (name place : Bytes) → z.ref.id ≡ index → z.number ≡ number → uuid ≡ r.uuid → name ≡ z.ref.name → place ≡ r.place
       → restore_reader u.op r z ≡ fresh_reader u.op uuid index number name place
-  reader_is r z index number uuid name place index_is number_is uuid_is name_is place_is = λ i. record {
-    op = u.op;
-    uuid = sym uuid_is i;
-    index = index_is i;
-    number = number_is i;
-    name = sym name_is i;
-    place = sym place_is i;
-    read = [];
-    out = true;
-  }
+  reader_is r z index number uuid name place index_is number_is uuid_is name_is place_is = λ i. fresh_reader u.op (sym uuid_is i) (index_is i) (number_is i) (sym name_is i) (sym place_is i)
 
-  took_by : (work : Work) (t : Ticket) (q : Reader) → u.work ≡ work → GivesWork w u.op work u.copy → u.copy.base ≡ base_for work u.copy.base → t ≡ ticket_by (given_by work u.copy) (fin.get w.ops u.op) → q ≡ reader_by (given_by work u.copy) (fin.get w.ops u.op)
+  took_by : (work : Work) (t : Ticket) (q : Reader) → u.work ≡ work → GivesWork w u.op work u.copy → u.copy.base ≡ base_for work u.copy.base → t ≡ ticket_by (given_by work u.copy) (fin.get w.ops u.op)
+      → q ≡ reader_by (given_by work u.copy) (fin.get w.ops u.op)
       → ByWork work (TookReading work u.op q) (TookWork work made u.op u.copy t)
   took_by (works.Shard uuid shard index place) t q is h base t_is q_is =
       let found = shard_found h.gives.op.shards shard.index.number shard.number h.gives.s h.gives.found in (

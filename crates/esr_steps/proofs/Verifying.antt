@@ -52,7 +52,8 @@ next_one n next e = omega (arith, e)
 may_draw_test : (s : Start) (old log : List Moment) → log ≡ old → CanDrawTest (caller_of s old) → MayDrawTest (world_of s log)
 may_draw_test s old log e before = let can : CanDrawTest (caller_of s log) = subst (λ (l : List Moment). CanDrawTest (caller_of s l)) (sym e) before in record { undrawn = can.undrawn; unspent = can.unspent }
 
-pub may_note_draw_test : (s : Start) (old log : List Moment) (first next : ℕ) → log ≡ old → CanDrawTest (caller_of s old) → first ≡ (world_of s log).next_id → next ≡ (world_of s log).next_id + 1 → next < first_id (suc (world_of s log).term)
+pub may_note_draw_test : (s : Start) (old log : List Moment) (first next : ℕ) → log ≡ old → CanDrawTest (caller_of s old) → first ≡ (world_of s log).next_id → next ≡ (world_of s log).next_id + 1
+    → next < first_id (suc (world_of s log).term)
     → MayNote s log 0 (ReadStep DrawTest) (DrawnFrom first) None next
 may_note_draw_test s old log first next e before first_is next_is below =
     let idle = may_draw_test s old log e before in
@@ -127,13 +128,15 @@ may_begin_test s old log name e tracked before workers =
       fails = λ named image tells same. Verifying (BeginTest name) (Refused DepotFault) image (BeginTestFails name image (own_test s log name tracked own workers named) same);
     }
 
-pub begun_caller : {X : Type 0} (law : CallersTold) (s : Start) (old mid new : List Moment) (name : BlobName) (r : Result X StepRefusal) → mid ≡ old → Did s mid new 0 (ReadStep (BeginTest name)) (λ x. WasBegun) r → caller_of s new ≡ caller_of s old
+pub begun_caller : {X : Type 0} (law : CallersTold) (s : Start) (old mid new : List Moment) (name : BlobName) (r : Result X StepRefusal) → mid ≡ old → Did s mid new 0 (ReadStep (BeginTest name)) (λ x. WasBegun) r
+    → caller_of s new ≡ caller_of s old
 begun_caller law s old mid new name (Ok x) e did = law s mid new 0 (ReadStep (BeginTest name)) WasBegun did ∙ ap (caller_of s) e
 begun_caller law s old mid new name (Err x) e did = refused_caller law s mid new 0 (BeginTest name) x (λ is. cc) did ∙ ap (caller_of s) e
 
 -- ---- commit
 
-pub may_commit_test : (s : Start) (old log : List Moment) (name : BlobName) (contents : Option Bytes) → log ≡ old → ReadTracked (world_of s log) → CanCommitTest (caller_of s old) name → AreWorkers name → (bytes : Bytes) × Holds s contents bytes
+pub may_commit_test : (s : Start) (old log : List Moment) (name : BlobName) (contents : Option Bytes) → log ≡ old → ReadTracked (world_of s log) → CanCommitTest (caller_of s old) name → AreWorkers name
+    → (bytes : Bytes) × Holds s contents bytes
     → (bytes : Bytes) × Holds s contents bytes × MayCommit s log 0 (ReadStep (CommitTest name)) name bytes
 may_commit_test s old log name contents e tracked before workers holds =
     let can : CanCommitTest (caller_of s log) name = subst (λ (l : List Moment). CanCommitTest (caller_of s l) name) (sym e) before in (
@@ -150,12 +153,14 @@ may_commit_test s old log name contents e tracked before workers holds =
     )
 
 -- one that is there is refused
-pub committed_test : (s : Start) (old mid new : List Moment) (name : BlobName) (contents : Option Bytes) (c : Commit) → mid ≡ old → CanCommitTest (caller_of s old) name → CommitDid s mid new 0 (ReadStep (CommitTest name)) name contents (Ok c) → Added s old new 0 (ReadStep (CommitTest name)) WasDone
+pub committed_test : (s : Start) (old mid new : List Moment) (name : BlobName) (contents : Option Bytes) (c : Commit) → mid ≡ old → CanCommitTest (caller_of s old) name
+    → CommitDid s mid new 0 (ReadStep (CommitTest name)) name contents (Ok c) → Added s old new 0 (ReadStep (CommitTest name)) WasDone
 committed_test s old mid new name contents commits.Done e can did = (commit_from s old mid new 0 (ReadStep (CommitTest name)) name contents (Ok commits.Done) e did).0
 committed_test s old mid new name contents commits.Exists e can did = absurd (no_metadata can.own.id name can.own.test did.1)
 
 -- what it held is noted, where the container tells
-pub committed_caller : (law : CallersTold) (s : Start) (old mid new : List Moment) (name : BlobName) (contents : Option Bytes) (c : Commit) → mid ≡ old → CanCommitTest (caller_of s old) name → CommitDid s mid new 0 (ReadStep (CommitTest name)) name contents (Ok c)
+pub committed_caller : (law : CallersTold) (s : Start) (old mid new : List Moment) (name : BlobName) (contents : Option Bytes) (c : Commit) → mid ≡ old → CanCommitTest (caller_of s old) name
+    → CommitDid s mid new 0 (ReadStep (CommitTest name)) name contents (Ok c)
     → caller_of s new ≡ caller_wrote (caller_of s old) name contents
 committed_caller law s old mid new name contents commits.Done e can did =
     let from = commit_from s old mid new 0 (ReadStep (CommitTest name)) name contents (Ok commits.Done) e did in
@@ -183,7 +188,8 @@ fetched law left s old new name (Ok None) did = law s old new 0 (ReadStep (ReadB
 fetched law left s old new name (Ok (Some f)) did = law s old new 0 (ReadStep (ReadBlob name)) WasFetched did.0 ∙ ap (caller_told (caller_of s old) name) did.1
 fetched law left s old new name (Err e) did = tt
 
-pub fetched_caller : {F : Type 0} (law : CallersTold) (left : F → Option Bytes) (s : Start) (old mid new : List Moment) (name : BlobName) (r : Result (Option F) StepRefusal) → mid ≡ old → FetchDid left s mid new 0 (ReadStep (ReadBlob name)) name r
+pub fetched_caller : {F : Type 0} (law : CallersTold) (left : F → Option Bytes) (s : Start) (old mid new : List Moment) (name : BlobName) (r : Result (Option F) StepRefusal) → mid ≡ old
+    → FetchDid left s mid new 0 (ReadStep (ReadBlob name)) name r
     → IfOk r (λ o. caller_of s new ≡ found_by left name o (caller_of s old))
 fetched_caller law left s old mid new name r e did = fetched law left s old new name r (fetch_from left s old mid new 0 (ReadStep (ReadBlob name)) name r e did)
 
@@ -199,7 +205,8 @@ may_remove_tests s old log names e tracked before =
       fails = λ image tells less. Verifying (RemoveTests names) (Refused DepotFault) image (RemoveTestsFails names image may less);
     }
 
-pub removed_did : (s : Start) (old mid new : List Moment) (step : Step) (slice names : List CodeName) (r : Result Unit StepRefusal) → mid ≡ old → step ≡ ReadStep (RemoveTests (map name_of slice)) → slice ≡ names → Did s mid new 0 step (λ _. WasRemoved) r
+pub removed_did : (s : Start) (old mid new : List Moment) (step : Step) (slice names : List CodeName) (r : Result Unit StepRefusal) → mid ≡ old → step ≡ ReadStep (RemoveTests (map name_of slice)) → slice ≡ names
+    → Did s mid new 0 step (λ _. WasRemoved) r
     → Did s old new 0 (ReadStep (RemoveTests (map name_of names))) (λ _. WasRemoved) r
 removed_did s old mid new step slice names r e is same did =
     did_from s old mid new 0 (ReadStep (RemoveTests (map name_of names))) (λ _. WasRemoved) r e

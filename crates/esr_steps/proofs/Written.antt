@@ -31,7 +31,8 @@ use Rattle.esr_repo.specs.Grown.{out_is, added_ticket, changed_ticket}
 use Rattle.esr_steps.proofs.Stepping.{kept_by}
 
 -- a blob of this name and these bytes may be committed
-abbrev committable : (s : Start) (log : List Moment) (k : ℕ) (name : BlobName) (bytes : Bytes) → AreOfOps (world_of s log) → CanCommit s (ticket_of s log k) name bytes → IsNamed s name → Commits (formats_of s) s.part_size (world_of s log) k name
+abbrev committable : (s : Start) (log : List Moment) (k : ℕ) (name : BlobName) (bytes : Bytes) → AreOfOps (world_of s log) → CanCommit s (ticket_of s log k) name bytes → IsNamed s name
+    → Commits (formats_of s) s.part_size (world_of s log) k name
 committable s log k name bytes of_ops can named = record {
   t = ticket_of s log k;
   out = out_is s log k can.out;
@@ -67,14 +68,16 @@ tried_if : (s : Start) (log : List Moment) (k : ℕ) (b : Bool) → (ticket_of s
 tried_if s log k true out = changed_ticket s log k tried out
 tried_if s log k false out = refl
 
-begun : {X : Type 0} (s : Start) (old new : List Moment) (k : ℕ) (name : BlobName) (r : Result X StepRefusal) → (ticket_of s old k).out ≡ true → Did s old new k (BeginStep name) (λ x. WasBegun) r → ticket_of s new k ≡ begun_by name r (ticket_of s old k)
+begun : {X : Type 0} (s : Start) (old new : List Moment) (k : ℕ) (name : BlobName) (r : Result X StepRefusal) → (ticket_of s old k).out ≡ true → Did s old new k (BeginStep name) (λ x. WasBegun) r
+    → ticket_of s new k ≡ begun_by name r (ticket_of s old k)
 begun s old new k name (Ok x) out did = added_ticket s old new k (BeginStep name) WasBegun did k
 begun s old new k name (Err steps.Memory) out did = ap (λ (l : List Moment). ticket_of s l k) did
 begun s old new k name (Err steps.TurnsSpent) out never = absurd never
 begun s old new k name (Err (steps.Refused code.DepotFault)) out did = added_ticket s old new k (BeginStep name) (Refused DepotFault) did k ∙ tried_if s old k (is_latest name) out
 begun s old new k name (Err (steps.Refused x)) out did = added_ticket s old new k (BeginStep name) (Refused (refusal_of x)) did k
 
-pub begun_ticket : {X : Type 0} (s : Start) (old mid new : List Moment) (k : ℕ) (name : BlobName) (r : Result X StepRefusal) → mid ≡ old → CanBegin s (ticket_of s old k) name → Did s mid new k (BeginStep name) (λ x. WasBegun) r → ticket_of s new k ≡ begun_by name r (ticket_of s old k)
+pub begun_ticket : {X : Type 0} (s : Start) (old mid new : List Moment) (k : ℕ) (name : BlobName) (r : Result X StepRefusal) → mid ≡ old → CanBegin s (ticket_of s old k) name → Did s mid new k (BeginStep name) (λ x. WasBegun) r
+    → ticket_of s new k ≡ begun_by name r (ticket_of s old k)
 begun_ticket s old mid new k name r e can did = begun s old new k name r (out_begin s (ticket_of s old k) name can) (subst (λ (l : List Moment). Did s l new k (BeginStep name) (λ x. WasBegun) r) e did)
 
 -- ---- latest
@@ -98,7 +101,8 @@ replaced s old new k (Err steps.TurnsSpent) out never = absurd never
 replaced s old new k (Err (steps.Refused code.DepotFault)) out did = added_ticket s old new k LatestStep (Refused DepotFault) did k ∙ changed_ticket s old k tried out
 replaced s old new k (Err (steps.Refused x)) out did = added_ticket s old new k LatestStep (Refused (refusal_of x)) did k
 
-pub replaced_ticket : {X : Type 0} (s : Start) (old mid new : List Moment) (k : ℕ) (contents : Option Bytes) (r : Result X StepRefusal) → mid ≡ old → PutsSo s old k contents → Did s mid new k LatestStep (λ x. WasReplaced) r → ticket_of s new k ≡ tried_by r (ticket_of s old k)
+pub replaced_ticket : {X : Type 0} (s : Start) (old mid new : List Moment) (k : ℕ) (contents : Option Bytes) (r : Result X StepRefusal) → mid ≡ old → PutsSo s old k contents → Did s mid new k LatestStep (λ x. WasReplaced) r
+    → ticket_of s new k ≡ tried_by r (ticket_of s old k)
 replaced_ticket s old mid new k contents r e can did = replaced s old new k r can.1.out (subst (λ (l : List Moment). Did s l new k LatestStep (λ x. WasReplaced) r) e did)
 
 -- ---- fetch
@@ -117,23 +121,20 @@ fetched_so : (s : Start) (log : List Moment) (k : ℕ) (name : BlobName) → Can
 fetched_so s log k name can named =
     record { t = ticket_of s log k; out = out_is s log k can.out; stored = (named, fetched_stored (ticket_of s log k) name can.to_fetch); to_fetch = can.to_fetch }
 
+-- a fetch that found its blob
+pub told_found : (s : Start) (log : List Moment) (name : BlobName) (image : Option Image)
+    → Told image (λ blobs. (bytes : Bytes) × ((fin.get (world_of s log).blobs ((formats_of s).names.text name) ≡ Some bytes) × (blobs ≡ (world_of s log).blobs)))
+    → Told image (λ blobs. (bytes : Bytes) × (fin.get (world_of s log).blobs ((formats_of s).names.text name) ≡ Some bytes) × (blobs ≡ (world_of s log).blobs))
+told_found s log name None h = tt
+told_found s log name (Some image) h = (h.0, h.1.0, h.1.1)
+
 fetch_by : (s : Start) (log : List Moment) (k : ℕ) (name : BlobName) → CanFetch (ticket_of s log k) name → MayFetch s log k (FetchStep name) name
 fetch_by s log k name can = record {
   is = refl;
-  fetches = λ named image tells found. Fetching k name image (fetched_so s log k name can named) (told_found image found);
-  misses = λ named image tells found. Missing k name image (fetched_so s log k name can named) (told_missing image found);
+  fetches = λ named image tells found. Fetching k name image (fetched_so s log k name can named) (told_found s log name image found);
+  misses = λ named image tells found. Missing k name image (fetched_so s log k name can named) found;
   fails = λ named image tells same. FetchFails k name image (fetched_so s log k name can named) same;
 }
-  where
-    told_found : (image : Option Image) → Told image (λ blobs. (bytes : Bytes) × ((fin.get (world_of s log).blobs ((formats_of s).names.text name) ≡ Some bytes) × (blobs ≡ (world_of s log).blobs)))
-        → Told image (λ blobs. (bytes : Bytes) × (fin.get (world_of s log).blobs ((formats_of s).names.text name) ≡ Some bytes) × (blobs ≡ (world_of s log).blobs))
-    told_found None h = tt
-    told_found (Some image) h = (h.0, h.1.0, h.1.1)
-
-    told_missing : (image : Option Image) → Told image (λ blobs. (fin.get (world_of s log).blobs ((formats_of s).names.text name) ≡ None) × (blobs ≡ (world_of s log).blobs))
-        → Told image (λ blobs. (fin.get (world_of s log).blobs ((formats_of s).names.text name) ≡ None) × (blobs ≡ (world_of s log).blobs))
-    told_missing None h = tt
-    told_missing (Some image) h = h
 
 pub may_fetch : (s : Start) (old log : List Moment) (k : ℕ) (name : BlobName) → log ≡ old → CanFetch (ticket_of s old k) name → MayFetch s log k (FetchStep name) name
 may_fetch s old log k name e can = fetch_by s log k name (subst (λ (l : List Moment). CanFetch (ticket_of s l k) name) (sym e) can)
@@ -147,10 +148,12 @@ fetched left s old new k name (Ok (Some f)) out did =
     ∙ ap (λ (o : Option Bytes). fetching name o (ticket_of s old k)) did.1
 fetched left s old new k name (Err e) out did = tt
 
-pub fetch_from : {F : Type 0} (left : F → Option Bytes) (s : Start) (old mid new : List Moment) (k : ℕ) (step : Step) (name : BlobName) (r : Result (Option F) StepRefusal) → mid ≡ old → FetchDid left s mid new k step name r → FetchDid left s old new k step name r
+pub fetch_from : {F : Type 0} (left : F → Option Bytes) (s : Start) (old mid new : List Moment) (k : ℕ) (step : Step) (name : BlobName) (r : Result (Option F) StepRefusal) → mid ≡ old → FetchDid left s mid new k step name r
+    → FetchDid left s old new k step name r
 fetch_from left s old mid new k step name r e did = subst (λ (l : List Moment). FetchDid left s l new k step name r) e did
 
-pub fetched_ticket : {F : Type 0} (left : F → Option Bytes) (s : Start) (old mid new : List Moment) (k : ℕ) (name : BlobName) (r : Result (Option F) StepRefusal) → mid ≡ old → CanFetch (ticket_of s old k) name → FetchDid left s mid new k (FetchStep name) name r
+pub fetched_ticket : {F : Type 0} (left : F → Option Bytes) (s : Start) (old mid new : List Moment) (k : ℕ) (name : BlobName) (r : Result (Option F) StepRefusal) → mid ≡ old → CanFetch (ticket_of s old k) name
+    → FetchDid left s mid new k (FetchStep name) name r
     → IfOk r (λ o. ticket_of s new k ≡ fetched_by left name o (ticket_of s old k))
 fetched_ticket left s old mid new k name r e can did = fetched left s old new k name r can.out (fetch_from left s old mid new k (FetchStep name) name r e did)
 
@@ -159,7 +162,8 @@ fetch_step left s old new k step name (Ok None) did = did
 fetch_step left s old new k step name (Ok (Some f)) did = did.0
 fetch_step left s old new k step name (Err e) did = did
 
-pub fetch_did : {F : Type 0} (left : F → Option Bytes) (s : Start) (old mid new : List Moment) (k : ℕ) (step : Step) (name : BlobName) (r : Result (Option F) StepRefusal) → mid ≡ old → FetchDid left s mid new k step name r → Did s old new k step fetch_reply r
+pub fetch_did : {F : Type 0} (left : F → Option Bytes) (s : Start) (old mid new : List Moment) (k : ℕ) (step : Step) (name : BlobName) (r : Result (Option F) StepRefusal) → mid ≡ old → FetchDid left s mid new k step name r
+    → Did s old new k step fetch_reply r
 fetch_did left s old mid new k step name r e did = fetch_step left s old new k step name r (fetch_from left s old mid new k step name r e did)
 
 -- ---- commit
@@ -216,7 +220,8 @@ refinding f w k t name bytes pruning out unsettled may meta = go may
     go (inl h) = by_swap h.0 h.1 h.2
     go (inr h) = absurd (no_shard name meta.1 h.1)
 
-commit_by : (s : Start) (log : List Moment) (k : ℕ) (name : BlobName) (bytes : Bytes) → OwnIndices (world_of s log) → AreOfOps (world_of s log) → CanCommit s (ticket_of s log k) name bytes → StepMayCommit s log k (CommitStep name) name bytes
+commit_by : (s : Start) (log : List Moment) (k : ℕ) (name : BlobName) (bytes : Bytes) → OwnIndices (world_of s log) → AreOfOps (world_of s log) → CanCommit s (ticket_of s log k) name bytes
+    → StepMayCommit s log k (CommitStep name) name bytes
 commit_by s log k name bytes pruning of_ops can = record {
   is = refl;
   stored = can.stored;
@@ -226,7 +231,8 @@ commit_by s log k name bytes pruning of_ops can = record {
   fails = λ named image tells left. CommitFails k name image (committable s log k name bytes of_ops can named) left;
 }
 
-pub may_commit : (s : Start) (old log : List Moment) (k : ℕ) (name : BlobName) (contents : Option Bytes) → log ≡ old → OwnIndices (world_of s log) → AreOfOps (world_of s log) → CommitsSo s old k name contents → (bytes : Bytes) × Holds s contents bytes × StepMayCommit s log k (CommitStep name) name bytes
+pub may_commit : (s : Start) (old log : List Moment) (k : ℕ) (name : BlobName) (contents : Option Bytes) → log ≡ old → OwnIndices (world_of s log) → AreOfOps (world_of s log) → CommitsSo s old k name contents
+    → (bytes : Bytes) × Holds s contents bytes × StepMayCommit s log k (CommitStep name) name bytes
 may_commit s old log k name contents e pruning of_ops can =
     let here : CommitsSo s log k name contents = subst (λ (l : List Moment). CommitsSo s l k name contents) (sym e) can in
     (here.0, here.1, commit_by s log k name here.0 pruning of_ops here.2)
@@ -240,14 +246,17 @@ committed s old new k name contents (Ok commits.Done) out did =
 committed s old new k name contents (Ok commits.Exists) out did = added_ticket s old new k (CommitStep name) WasThere did.0 k ∙ changed_ticket s old k (λ t. noting t name) out
 committed s old new k name contents (Err e) out did = tt
 
-pub commit_from : (s : Start) (old mid new : List Moment) (k : ℕ) (step : Step) (name : BlobName) (contents : Option Bytes) (r : Result Commit StepRefusal) → mid ≡ old → CommitDid s mid new k step name contents r → CommitDid s old new k step name contents r
+pub commit_from : (s : Start) (old mid new : List Moment) (k : ℕ) (step : Step) (name : BlobName) (contents : Option Bytes) (r : Result Commit StepRefusal) → mid ≡ old → CommitDid s mid new k step name contents r
+    → CommitDid s old new k step name contents r
 commit_from s old mid new k step name contents r e did = subst (λ (l : List Moment). CommitDid s l new k step name contents r) e did
 
-pub committed_ticket : (s : Start) (old mid new : List Moment) (k : ℕ) (name : BlobName) (contents : Option Bytes) (r : Result Commit StepRefusal) → mid ≡ old → CommitsSo s old k name contents → CommitDid s mid new k (CommitStep name) name contents r
+pub committed_ticket : (s : Start) (old mid new : List Moment) (k : ℕ) (name : BlobName) (contents : Option Bytes) (r : Result Commit StepRefusal) → mid ≡ old → CommitsSo s old k name contents
+    → CommitDid s mid new k (CommitStep name) name contents r
     → IfOk r (λ c. ticket_of s new k ≡ committed_by name contents c (ticket_of s old k))
 committed_ticket s old mid new k name contents r e can did = committed s old new k name contents r can.2.out (commit_from s old mid new k (CommitStep name) name contents r e did)
 
-pub commit_kept : (s : Start) (old mid new : List Moment) (k : ℕ) (name : BlobName) (contents : Option Bytes) (r : Result Commit StepRefusal) → mid ≡ old → CommitDid s mid new k (CommitStep name) name contents r → OnErr r (ticket_of s new k ≡ ticket_of s old k)
+pub commit_kept : (s : Start) (old mid new : List Moment) (k : ℕ) (name : BlobName) (contents : Option Bytes) (r : Result Commit StepRefusal) → mid ≡ old → CommitDid s mid new k (CommitStep name) name contents r
+    → OnErr r (ticket_of s new k ≡ ticket_of s old k)
 commit_kept s old mid new k name contents r e did = go r (commit_from s old mid new k (CommitStep name) name contents r e did)
   where
     go : (q : Result Commit StepRefusal) → CommitDid s old new k (CommitStep name) name contents q → OnErr q (ticket_of s new k ≡ ticket_of s old k)

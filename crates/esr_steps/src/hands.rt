@@ -105,6 +105,7 @@ fn failed<D: Depot, K: Told>(
     who: u64,
 ) -> Result<Option<Progress>, AllocError>
     requires live { IsLive K.start repo.now }
+    requires may { MayFail hand K.start repo.now who }
     ensures { IfOk result (λ p. IsPlanAfter hand (world_of K.start repo.now) who p) }
 {
     match hand {

@@ -10,7 +10,9 @@ use Rattle.esr_script.specs.declared.item.Item.{Item}
 use Rattle.esr_script.specs.declared.item.ScriptLine.{ScriptLine}
 use Rattle.esr_desk.specs.Start.{Start, formats_of, world_of, Legal}
 use Rattle.esr_quiet.specs.Asked.{as_asked, asked_steps}
-use Rattle.esr_complete.specs.Lines.{steps_of_item, asks_step, restore_item, steps_of, entries_of}
+use Rattle.esr_script.specs.Kinds.{asks_step}
+use Rattle.esr_complete.specs.Lines.{steps_of_item, steps_of, entries_of}
+use Rattle.esr_complete.specs.ItemSteps.{restore_item}
 use Rattle.esr_targets.specs.Lines.{AreNumbered, op_of_reply, ops_at, ops_from, ops_of_lines, AcceptedLine}
 use Rattle.esr_targets.specs.Listed.{line_of}
 use Rattle.esr_targets.proofs.Ops.{LineAt, steps_by, line_has, line_after, line_first, line_at, ops_both, op_at, one_op}

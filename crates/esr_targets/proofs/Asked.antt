@@ -56,7 +56,8 @@ module _ (n : Moment) (log : List Moment) (e : Entry) where
         earlier_is = on r.before r.earlier_is;
       }
 
-  split_by : (b : Bool) → is_asked n.entry ≡ b → (earlier after : List Entry) → (if b then n.entry ∷ asked_of log else asked_of log) ≡ earlier ++ e ∷ after → ((front : List Entry) → asked_of log ≡ front ++ e ∷ after → AskedAt log front e) → AskedAt (n ∷ log) earlier e
+  split_by : (b : Bool) → is_asked n.entry ≡ b → (earlier after : List Entry) → (if b then n.entry ∷ asked_of log else asked_of log) ≡ earlier ++ e ∷ after
+      → ((front : List Entry) → asked_of log ≡ front ++ e ∷ after → AskedAt log front e) → AskedAt (n ∷ log) earlier e
   split_by true is [] after same on = record { before = []; m = n; after = log; log_is = refl; entry_is = (heads n.entry e (asked_of log) after same).0; asked = is; earlier_is = refl }
   split_by true is (x ∷ earlier) after same on =
       let h = heads n.entry x (asked_of log) (earlier ++ e ∷ after) same in

@@ -1,9 +1,9 @@
 -- The end of a restore's shard is a place of the history, and so is the giving of its ticket.
 use Rattle.std.proofs.Common.{◌≡◌, ℕ, ◌==◌, Bool, true, false, true≢false, ◌&&◌, if◌then◌else◌, List, [], ◌∷◌, ◌++◌, Option, Some, None, option_and_then, refl, sym, ap, ◌∙◌, inl, inr}
 use Rattle.std.proofs.lemmas.Bool.Decides.{eqb_tells}
+use Rattle.std.proofs.lemmas.Option.{none-some, same_Some}
 use Rattle.esr_core.specs.After.{or_else}
 use Rattle.esr_core.specs.Entry.{Given, GivenRestore, RestoredShard, ReadFails, Step, ReadStep, Reply, Gave, HasEnded, Entry, Moment}
-use Rattle.esr_core.proofs.Reading.{none_some, some_same}
 use Rattle.esr_readers.specs.Readers.{RestoresIn}
 use Rattle.esr_report.specs.Replies.{ReadShard, ShardRestored, ShardFailed, first_by, same_shard, is_shard, shard_ticket_by, shard_ticket, shard_end_by, shard_end_at, ticket_end, shard_end}
 use Rattle.esr_complete.specs.Lines.{entries_of}
@@ -17,14 +17,15 @@ pub record FoundAt {B : Type 0} (g : Entry → Option B) (log : List Moment) (v 
   pub is : log ≡ front ++ m ∷ back
   pub gives : g m.entry ≡ Some v
 
-found_by : {B : Type 0} (g : Entry → Option B) (m : Moment) (log : List Moment) (v : B) (o : Option B) → g m.entry ≡ o → or_else o (first_by g (entries_of log)) ≡ Some v → (first_by g (entries_of log) ≡ Some v → FoundAt g log v) → FoundAt g (m ∷ log) v
+found_by : {B : Type 0} (g : Entry → Option B) (m : Moment) (log : List Moment) (v : B) (o : Option B) → g m.entry ≡ o → or_else o (first_by g (entries_of log)) ≡ Some v → (first_by g (entries_of log) ≡ Some v → FoundAt g log v)
+    → FoundAt g (m ∷ log) v
 found_by g m log v None is e on =
     let r = on e in
     record { front = m ∷ r.front; m = r.m; back = r.back; is = ap (λ (l : List Moment). m ∷ l) r.is; gives = r.gives }
 found_by g m log v (Some x) is e on = record { front = []; m = m; back = log; is = refl; gives = is ∙ e }
 
 pub found_at : {B : Type 0} (g : Entry → Option B) (log : List Moment) (v : B) → first_by g (entries_of log) ≡ Some v → FoundAt g log v
-found_at g [] v e = absurd (none_some v e)
+found_at g [] v e = absurd (none-some v e)
 found_at g (m ∷ log) v e = found_by g m log v (g m.entry) refl e (λ h. found_at g log v h)
 
 -- ---- tests
@@ -38,7 +39,7 @@ is_equal a b e = elim (eqb_tells a b) [ inl t ↦ t.1 | inr t ↦ absurd (true�
 
 if_some : {B : Type 0} (b : Bool) (o : Option B) (v : B) → (if b then o else None) ≡ Some v → (b ≡ true) × (o ≡ Some v)
 if_some true o v e = (refl, e)
-if_some false o v e = absurd (none_some v e)
+if_some false o v e = absurd (none-some v e)
 
 -- ---- a ticket of the shard
 
@@ -61,22 +62,22 @@ given_to ticket op unit s k e is = absurd (true≢false (sym e))
 gives_by : (reply : Reply) (s : ReadShard) (k : ℕ) → shard_ticket_by reply s ≡ Some k → GivesTo reply s k
 gives_by (Gave ticket op unit) s k e =
     let h = if_some (is_shard op unit s) (Some ticket) k e in
-    given_to ticket op unit s k h.0 (some_same ticket k h.1)
-gives_by reply s k e = absurd (none_some k e)
+    given_to ticket op unit s k h.0 (same_Some ticket k h.1)
+gives_by reply s k e = absurd (none-some k e)
 
 -- ---- its end
 
 ends_by : (step : Step) (reply : Reply) (files bytes : ℕ) → shard_end_by step reply ≡ Some (ShardRestored files bytes) → (step ≡ ReadStep (RestoredShard files bytes)) × (reply ≡ HasEnded)
 ends_by (ReadStep (RestoredShard n total)) HasEnded files bytes e =
-    let same : ShardRestored n total ≡ ShardRestored files bytes = some_same (ShardRestored n total) (ShardRestored files bytes) e in
+    let same : ShardRestored n total ≡ ShardRestored files bytes = same_Some (ShardRestored n total) (ShardRestored files bytes) e in
     let count : n ≡ files = cc in
     let sum : total ≡ bytes = cc in
     (ap (λ (x : ℕ). ReadStep (RestoredShard x total)) count ∙ ap (λ (x : ℕ). ReadStep (RestoredShard files x)) sum, refl)
-ends_by (ReadStep (ReadFails why)) HasEnded files bytes e = absurd (not_restored (some_same (ShardFailed why) (ShardRestored files bytes) e))
+ends_by (ReadStep (ReadFails why)) HasEnded files bytes e = absurd (not_restored (same_Some (ShardFailed why) (ShardRestored files bytes) e))
   where
     not_restored : ShardFailed why ≡ ShardRestored files bytes → ⊥
     not_restored x = cc
-ends_by step reply files bytes e = absurd (none_some (ShardRestored files bytes) e)
+ends_by step reply files bytes e = absurd (none-some (ShardRestored files bytes) e)
 
 ends_at : (e : Entry) (k files bytes : ℕ) → shard_end_at k e ≡ Some (ShardRestored files bytes) → e ≡ record { who = k; step = ReadStep (RestoredShard files bytes); reply = HasEnded }
 ends_at e k files bytes is =
@@ -100,8 +101,9 @@ pub record EndedAt (log : List Moment) (s : ReadShard) (files bytes : ℕ) : Typ
   pub at : log ≡ front ++ m ∷ back
   pub restores : RestoresIn m k files bytes
 
-ended_by : (log : List Moment) (s : ReadShard) (files bytes : ℕ) (ticket : Option ℕ) → shard_ticket (entries_of log) s ≡ ticket → option_and_then (ticket_end (entries_of log)) ticket ≡ Some (ShardRestored files bytes) → EndedAt log s files bytes
-ended_by log s files bytes None is e = absurd (none_some (ShardRestored files bytes) e)
+ended_by : (log : List Moment) (s : ReadShard) (files bytes : ℕ) (ticket : Option ℕ) → shard_ticket (entries_of log) s ≡ ticket → option_and_then (ticket_end (entries_of log)) ticket ≡ Some (ShardRestored files bytes)
+    → EndedAt log s files bytes
+ended_by log s files bytes None is e = absurd (none-some (ShardRestored files bytes) e)
 ended_by log s files bytes (Some k) is e =
     let given = found_at (λ (x : Entry). shard_ticket_by x.reply s) log k is in
     let end = found_at (shard_end_at k) log (ShardRestored files bytes) e in

@@ -1,6 +1,7 @@
 -- The tickets that restored the shards of a history.
 use Rattle.std.proofs.Common.{◌≡◌, ℕ, ◌<◌, ◌≤◌, List, [], ◌∷◌, ◌++◌, Some, append_assoc, refl, sym, ap, ◌∙◌, subst, inl, inr, arith}
 use Rattle.std.specs.FinMap as fin
+use Rattle.std.proofs.lemmas.Option.{same_Some}
 use Rattle.esr_model.specs.Values.{Formats}
 use Rattle.esr_core.specs.World.{World, Reader}
 use Rattle.esr_core.specs.Restores.{IsReading}
@@ -10,8 +11,7 @@ use Rattle.esr_core.specs.Allowed.{Allowed}
 use Rattle.esr_core.specs.History.{world_from, IsLegal}
 use Rattle.esr_core.specs.Tracked.{Tracked}
 use Rattle.esr_core.specs.ReadTracked.{ReadTracked}
-use Rattle.esr_core.proofs.Histories.{legal_parts}
-use Rattle.esr_core.proofs.Reading.{some_same}
+use Rattle.esr_core.specs.Laws.Histories.{legal_parts}
 use Rattle.esr_readers.specs.Readers.{IsThereAs, IsGiven, IsReaderOf}
 use Rattle.esr_desk.specs.Start.{Start, formats_of, world_of, Legal}
 use Rattle.esr_report.specs.Replies.{ReadShard}
@@ -26,7 +26,7 @@ world_both f [] back w = refl
 world_both f (m ∷ front) back w = world_both f front back (after f w m)
 
 one_there : (k : ℕ) (v w : World) (x y : Reader) → v ≡ w → fin.get w.readers k ≡ Some x → fin.get v.readers k ≡ Some y → x ≡ y
-one_there k v w x y same a b = some_same x y (sym a ∙ ap (λ (z : World). fin.get z.readers k) (sym same) ∙ b)
+one_there k v w x y same a b = same_Some x y (sym a ∙ ap (λ (z : World). fin.get z.readers k) (sym same) ∙ b)
 
 -- the ticket is of this shard
 pub record IsReaderFor (q : Reader) (shard : ReadShard) : Type 0 where

@@ -2,8 +2,8 @@
 use Rattle.std.proofs.Common.{◌≡◌, ℕ, Bool, true, false, if◌then◌else◌, List, [], ◌∷◌, ◌++◌, Option, Some, None, refl, sym, ap, ◌∙◌, subst, inl, inr}
 use Rattle.esr_model.specs.Values.{Has}
 use Rattle.esr_model.specs.Places.{put_by, sorted_by}
-use Rattle.esr_core.proofs.Ordered.{Has-put_by, Has-sorted}
-use Rattle.esr_core.proofs.Reading.{Has-left, Has-right, Has-either}
+use Rattle.esr_core.specs.Laws.SortedLists.{Has-put_by, Has-sorted}
+use Rattle.esr_model.specs.Lists.{Has-left, Has-right, Has-either}
 use Rattle.esr_desk.specs.declared.target.RestoredTarget.{RestoredTarget}
 use Rattle.esr_targets.specs.declared.target.Restored.{Restored}
 use Rattle.esr_targets.specs.Listed.{line_of, listed_at, listed}
@@ -49,7 +49,8 @@ to_listed ops (x ∷ restored) r n (inr h) is = Has-right (listed_at x (line_of 
 abbrev pub AreApartBy : {T : Type 0} → List (ℕ × ℕ) → RestoredTarget T → RestoredTarget T → Type 0
 AreApartBy ops a b = (n : ℕ) → line_of ops a.op ≡ Some n → line_of ops b.op ≡ Some n → b.index ≡ a.index → b.shard ≡ a.shard → ⊥
 
-one_single : {T : Type 0} (ops : List (ℕ × ℕ)) (r : RestoredTarget T) (restored : List (RestoredTarget T)) (o : Option ℕ) → line_of ops r.op ≡ o → ((q : RestoredTarget T) → Has restored q → AreApartBy ops r q) → AreSingle (listed ops restored)
+one_single : {T : Type 0} (ops : List (ℕ × ℕ)) (r : RestoredTarget T) (restored : List (RestoredTarget T)) (o : Option ℕ) → line_of ops r.op ≡ o → ((q : RestoredTarget T) → Has restored q → AreApartBy ops r q)
+    → AreSingle (listed ops restored)
     → AreSingle (listed_at r o ++ listed ops restored)
 one_single ops r restored None is apart rest = rest
 one_single ops r restored (Some n) is apart rest = (

@@ -1,12 +1,15 @@
 -- The ops of lines, by the entries that were asked.
 use Rattle.std.proofs.Common.{◌≡◌, ◌⊎◌, ℕ, ◌<◌, Bool, true, false, if◌then◌else◌, List, [], ◌∷◌, ◌++◌, Some, map, append_assoc, refl, sym, ap, ◌∙◌, inl, inr, arith}
 use Rattle.std.proofs.lemmas.Bool.Decides.{eqb_tells}
+use Rattle.std.proofs.lemmas.Option.{none-some, same_Some}
 use Rattle.esr_model.specs.Values.{Has, IndexRef}
 use Rattle.esr_core.specs.Entry.{Step, Reply, AcceptedRestore, Entry}
-use Rattle.esr_core.proofs.Reading.{none_some, some_same, Has-either}
+use Rattle.esr_model.specs.Lists.{Has-either}
 use Rattle.esr_script.specs.declared.item.ScriptLine.{ScriptLine}
 use Rattle.esr_quiet.specs.Asked.{as_asked}
-use Rattle.esr_complete.specs.Lines.{steps_of_item, asks_step, one_step, no_step, steps_of}
+use Rattle.esr_script.specs.Kinds.{asks_step}
+use Rattle.esr_complete.specs.Lines.{steps_of_item, steps_of}
+use Rattle.esr_complete.specs.ItemSteps.{one_step, no_step}
 use Rattle.esr_targets.specs.Lines.{AreNumbered, op_of_reply, ops_by, ops_at, ops_from}
 use Rattle.esr_targets.specs.Listed.{line_of}
 use Rattle.esr_targets.proofs.Splits.{heads, nothing_first}
@@ -17,10 +20,10 @@ steps_by es = map (λ (e : Entry). as_asked e.step) es
 -- ---- the line of an op
 
 pub line_has : (ops : List (ℕ × ℕ)) (op n : ℕ) → line_of ops op ≡ Some n → Has ops (op, n)
-line_has [] op n e = absurd (none_some n e)
+line_has [] op n e = absurd (none-some n e)
 line_has (p ∷ ops) op n e = elim (eqb_tells p.0 op) [
   | inl t ↦
-      let number : p.1 ≡ n = some_same p.1 n (sym (ap (λ (b : Bool). if b then Some p.1 else line_of ops op) t.0) ∙ e) in
+      let number : p.1 ≡ n = same_Some p.1 n (sym (ap (λ (b : Bool). if b then Some p.1 else line_of ops op) t.0) ∙ e) in
       let op_is : p.0 ≡ op = t.1 in
       inl (ap (λ (o : ℕ). (o, p.1)) op_is ∙ ap (λ (m : ℕ). (op, m)) number)
   | inr t ↦ inr (line_has ops op n (sym (ap (λ (b : Bool). if b then Some p.1 else line_of ops op) t.0) ∙ e))
@@ -68,7 +71,7 @@ in_reply (AcceptedRestore o uuid indices) n ops op number e = elim (eqb_tells o 
         uuid = uuid;
         indices = indices;
         reply_is = let op_is : o ≡ op = t.1 in ap (λ (x : ℕ). AcceptedRestore x uuid indices) op_is;
-        number_is = some_same n number (sym (ap (λ (b : Bool). if b then Some n else line_of ops op) t.0) ∙ e);
+        number_is = same_Some n number (sym (ap (λ (b : Bool). if b then Some n else line_of ops op) t.0) ∙ e);
       })
   | inr t ↦ inr (sym (ap (λ (b : Bool). if b then Some n else line_of ops op) t.0) ∙ e)
 ]
@@ -98,7 +101,7 @@ module _ (moment : ℕ) (line : ScriptLine) (lines : List ScriptLine) (op number
   -- one that asks
   ask : (st : Step) (es : List Entry) (rest : List Step) → steps_of_item moment line.item ≡ st ∷ [] → steps_by es ++ rest ≡ st ∷ steps_of moment lines → line_of (ops_by line.number es (ops_from lines)) op ≡ Some number
       → ((fs : List Entry) → steps_by fs ++ rest ≡ steps_of moment lines → line_of (ops_from lines fs) op ≡ Some number → LineAt moment lines fs op number) → LineAt moment (line ∷ lines) es op number
-  ask st [] rest one same found on = absurd (none_some number found)
+  ask st [] rest one same found on = absurd (none-some number found)
   ask st (e ∷ es) rest one same found on =
       let h = heads (as_asked e.step) st (steps_by es ++ rest) (steps_of moment lines) same in
       let step : steps_of_item moment line.item ≡ as_asked e.step ∷ [] = one ∙ ap (λ (x : Step). x ∷ []) (sym h.0) in
@@ -146,7 +149,7 @@ module _ (moment : ℕ) (line : ScriptLine) (lines : List ScriptLine) (op number
   by_item es rest false asks same found on = let none = no_step moment line.item asks in skip es none (on es (same ∙ ap (λ (l : List Step). l ++ steps_of moment lines) none) found)
 
 pub line_at : (moment : ℕ) (lines : List ScriptLine) (es : List Entry) (rest : List Step) (op number : ℕ) → steps_by es ++ rest ≡ steps_of moment lines → line_of (ops_from lines es) op ≡ Some number → LineAt moment lines es op number
-line_at moment [] es rest op number same found = absurd (none_some number found)
+line_at moment [] es rest op number same found = absurd (none-some number found)
 line_at moment (line ∷ lines) es rest op number same found = by_item moment line lines op number es rest (asks_step line.item) refl same found (λ fs s f. line_at moment lines fs rest op number s f)
 
 -- ---- the ops of two stretches
@@ -237,7 +240,8 @@ module _ (line : ScriptLine) (lines : List ScriptLine) (first : (later : ScriptL
       let other : at.line.number ≡ n = at.number_is in
       omega (arith, below, mine, other)
 
-  one_asked : (es : List Entry) → Has (ops_by line.number es (ops_from lines)) (o, n) → Has (ops_by line.number es (ops_from lines)) (p, n) → ((fs : List Entry) → Has (ops_from lines fs) (o, n) → Has (ops_from lines fs) (p, n) → o ≡ p) → o ≡ p
+  one_asked : (es : List Entry) → Has (ops_by line.number es (ops_from lines)) (o, n) → Has (ops_by line.number es (ops_from lines)) (p, n) → ((fs : List Entry) → Has (ops_from lines fs) (o, n) → Has (ops_from lines fs) (p, n) → o ≡ p)
+      → o ≡ p
   one_asked [] a b on = absurd a
   one_asked (e ∷ es) a b on = elim (Has-either (op_of_reply line.number e.reply) (ops_from lines es) (o, n) a) [
     | inl here ↦ elim (Has-either (op_of_reply line.number e.reply) (ops_from lines es) (p, n) b) [
@@ -250,7 +254,8 @@ module _ (line : ScriptLine) (lines : List ScriptLine) (first : (later : ScriptL
     ]
   ]
 
-  one_by_item : (es : List Entry) (asks : Bool) → Has (ops_at line es (ops_from lines) asks) (o, n) → Has (ops_at line es (ops_from lines) asks) (p, n) → ((fs : List Entry) → Has (ops_from lines fs) (o, n) → Has (ops_from lines fs) (p, n) → o ≡ p) → o ≡ p
+  one_by_item : (es : List Entry) (asks : Bool) → Has (ops_at line es (ops_from lines) asks) (o, n) → Has (ops_at line es (ops_from lines) asks) (p, n)
+      → ((fs : List Entry) → Has (ops_from lines fs) (o, n) → Has (ops_from lines fs) (p, n) → o ≡ p) → o ≡ p
   one_by_item es true a b on = one_asked es a b on
   one_by_item es false a b on = on es a b
 

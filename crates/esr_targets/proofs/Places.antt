@@ -2,7 +2,7 @@
 use Rattle.std.proofs.Common.{◌≡◌, ℕ, List, [], ◌∷◌, ◌++◌, append-nil, append_assoc, refl, sym, ap, ◌∙◌, subst, inl, inr}
 use Rattle.esr_model.specs.Values.{Has}
 use Rattle.esr_core.specs.Entry.{RestoredShard, Step, ReadStep, Reply, HasEnded, Entry, Moment}
-use Rattle.esr_core.proofs.Reading.{Has-left, Has-right, Has-either}
+use Rattle.esr_model.specs.Lists.{Has-left, Has-right, Has-either}
 use Rattle.esr_readers.specs.Readers.{RestoresIn}
 use Rattle.esr_desk.specs.Restore.Targets.{Restoration, restorations_by, restorations_in}
 use Rattle.esr_targets.proofs.Splits.{AreInOrder, order_append}
@@ -35,7 +35,8 @@ restored_at before (m ∷ more) e h = elim (Has-either (restorations_by before m
 ]
 
 -- and each such place is a restoration
-pub place_restores : (before front back : List Moment) (m : Moment) (k files bytes : ℕ) → RestoresIn m k files bytes → Has (restorations_in before (front ++ m ∷ back)) (record { before = before ++ front; ticket = k; files = files; bytes = bytes })
+pub place_restores : (before front back : List Moment) (m : Moment) (k files bytes : ℕ) → RestoresIn m k files bytes
+    → Has (restorations_in before (front ++ m ∷ back)) (record { before = before ++ front; ticket = k; files = files; bytes = bytes })
 place_restores before [] back m k files bytes restores =
     let one : restorations_by before m.entry.who m.entry.reply m.entry.step ≡ record { before = before; ticket = k; files = files; bytes = bytes } ∷ [] = ap (λ (x : Entry). restorations_by before x.who x.reply x.step) restores in
     Has-left (restorations_by before m.entry.who m.entry.reply m.entry.step) (restorations_in (before ++ m ∷ []) back) (record { before = before ++ []; ticket = k; files = files; bytes = bytes })

@@ -15,7 +15,7 @@ use Rattle.esr_core.specs.Tracked.{Tracked}
 use Rattle.esr_core.specs.ReadTracked.{ReadTracked}
 use Rattle.esr_core.specs.ReadLaw.{ReadLaw, IsOnShelf}
 use Rattle.esr_core.specs.Restored.{IsShelvedAs}
-use Rattle.esr_core.proofs.Histories.{told_parts}
+use Rattle.esr_core.specs.Laws.Histories.{told_parts}
 use Rattle.esr_script.specs.declared.item.ScriptLine.{ScriptLine}
 use Rattle.esr_desk.specs.Start.{Start, formats_of, world_of, Legal}
 use Rattle.esr_desk.specs.Restore.Targets.{AreRestored}
@@ -53,7 +53,8 @@ sum_from n (y ∷ files) = sum_from (n + length y.1) files
 sum_same : (files : List (Bytes × Bytes)) → sum_by (λ (file : Bytes × Bytes). length file.1) files ≡ sum_by (λ (b : Bytes). length b) (contents files)
 sum_same files = sum_from 0 files
 
-same_files : (P : FileEntry → Bytes → Type 0) (es : List FileEntry) (held files : List (Bytes × Bytes)) → AreNamed P es held → AllPairs (λ (e : FileEntry) (file : Bytes × Bytes). e.physical ≡ file.0) es files → contents held ≡ contents files → held ≡ files
+same_files : (P : FileEntry → Bytes → Type 0) (es : List FileEntry) (held files : List (Bytes × Bytes)) → AreNamed P es held → AllPairs (λ (e : FileEntry) (file : Bytes × Bytes). e.physical ≡ file.0) es files
+    → contents held ≡ contents files → held ≡ files
 same_files P [] [] [] a b c = refl
 same_files P [] [] (y ∷ files) a b c = absurd b
 same_files P [] (x ∷ held) files a b c = absurd a

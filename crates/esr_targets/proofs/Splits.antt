@@ -2,7 +2,7 @@
 use Rattle.std.proofs.Common.{◌≡◌, ◌⊎◌, List, [], ◌∷◌, ◌++◌, refl, sym, ap, ◌∙◌, subst, inl, inr}
 use Rattle.esr_model.specs.Values.{Has}
 use Rattle.esr_model.specs.Image.{AllPairs}
-use Rattle.esr_core.proofs.Reading.{Has-either}
+use Rattle.esr_model.specs.Lists.{Has-either}
 
 pub heads : {A : Type 0} (x y : A) (xs ys : List A) → x ∷ xs ≡ y ∷ ys → (x ≡ y) × (xs ≡ ys)
 heads x y xs ys e = (cc, cc)
@@ -65,7 +65,8 @@ order_append R [] ys a b across = b
 order_append R (x ∷ xs) ys a b across =
     (λ y m. elim (Has-either xs ys y m) [ inl left ↦ a.0 y left | inr right ↦ across x y (inl refl) right ], order_append R xs ys a.1 b (λ v y vm ym. across v y (inr vm) ym))
 
-pub order_pairs : {A B : Type 0} (P : A → B → Type 0) (R : A → A → Type 0) (S : B → B → Type 0) → ((a b : A) (c d : B) → P a c → P b d → R a b → S c d) → (xs : List A) (ys : List B) → AllPairs P xs ys → AreInOrder R xs → AreInOrder S ys
+pub order_pairs : {A B : Type 0} (P : A → B → Type 0) (R : A → A → Type 0) (S : B → B → Type 0) → ((a b : A) (c d : B) → P a c → P b d → R a b → S c d) → (xs : List A) (ys : List B) → AllPairs P xs ys → AreInOrder R xs
+    → AreInOrder S ys
 order_pairs P R S f [] [] h o = tt
 order_pairs P R S f [] (y ∷ ys) h o = absurd h
 order_pairs P R S f (x ∷ xs) [] h o = absurd h

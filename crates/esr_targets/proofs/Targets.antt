@@ -9,7 +9,7 @@ use Rattle.esr_core.specs.Restores.{IsReading}
 use Rattle.esr_core.specs.Entry.{Step, Moment}
 use Rattle.esr_core.specs.Tracked.{Tracked}
 use Rattle.esr_core.specs.ReadTracked.{ReadTracked}
-use Rattle.esr_core.proofs.Ordered.{Has-sorted, sorted-Has, in_places}
+use Rattle.esr_core.specs.Laws.SortedLists.{Has-sorted, sorted-Has, in_places}
 use Rattle.esr_readers.specs.Readers.{RestoresIn, IsReaderOf}
 use Rattle.esr_readers.specs.RestoredShards.{restores_out}
 use Rattle.esr_script.specs.declared.item.ScriptLine.{ScriptLine}

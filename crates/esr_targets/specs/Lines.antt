@@ -4,8 +4,9 @@ use Rattle.esr_model.specs.Values.{Bytes, Has, IndexRef}
 use Rattle.esr_core.specs.Entry.{Restore, AskStep, Reply, AcceptedRestore, Entry, Moment}
 use Rattle.esr_script.specs.declared.item.Item.TheVariants as items
 use Rattle.esr_script.specs.declared.item.ScriptLine.{ScriptLine}
+use Rattle.esr_script.specs.Kinds.{asks_step}
 use Rattle.esr_quiet.specs.Asked.{is_asked, asked_steps}
-use Rattle.esr_complete.specs.Lines.{asks_step, steps_of}
+use Rattle.esr_complete.specs.Lines.{steps_of}
 
 -- the numbers of lines rise
 abbrev pub AreNumbered : List ScriptLine → Type 0

@@ -4,13 +4,13 @@ ghost use Rattle.std.specs.Option.{MatchOption, option_to_list};
 ghost use Rattle.esr_model.specs.Places.{by_order, put_by, sorted_by};
 ghost use Rattle.esr_desk.specs.Entries.{step_of};
 ghost use Rattle.esr_quiet.specs.Asked.{is_line_ask, is_asked};
-ghost use Rattle.esr_complete.specs.Lines.{asks_step};
+ghost use Rattle.esr_script.specs.Kinds.{asks_step};
 ghost use Rattle.esr_targets.specs.Lines.{asked_entries, op_of_reply, ops_of_lines};
 ghost use Rattle.esr_targets.specs.Listed.{target_first, line_of, listed_at, listed};
 
 use crate::target::{Restored, TargetList};
 use esr_desk::{Answer, Entry, Read, RestoredTarget, RestoredTargets, Step};
-use esr_script::{Item, ScriptLine};
+use esr_script::{Item, Kind, ScriptLine};
 use esr_seq::Seq;
 use std::alloc::{AllocError, Global};
 use std::cmp::Ordering;
@@ -68,7 +68,7 @@ fn next_asked(entries: &[Entry]) -> Option<(&Entry, &[Entry])>
 fn asks_step(item: &Item) -> bool
     ensures { result ≡ asks_step item.now }
 {
-    !matches!(item, Item::Failover | Item::Wait)
+    !matches!(item.kind(), Kind::Failover | Kind::Wait)
 }
 
 /// Appends the op of the entry under the line, if it accepted a restore.

@@ -5,8 +5,7 @@ use crate::words::say_print;
 use esr_depot::{CallError, Counted, Failed, Fetch};
 use esr_hash::Hasher;
 use esr_parts::{BackError, Extent, hash_back, read_back};
-use esr_scenes::{Subject, cut, say, say_bytes, say_number};
-use esr_seq::Seq;
+use esr_scenes::{Subject, cut, one, say, say_bytes, say_number};
 use esr_source::{Address, Call, FailingAt, MemTarget, MemTargets, Target, Targets};
 use std::alloc::Global;
 
@@ -69,13 +68,13 @@ fn blob_of(text: &str, is_broken: bool) -> Blob<'_> {
 fn target_of(alloc: Global, call: Call, size: u64) -> Result<MemTarget, CallError>
     ensures { IfOk result (λ t. IsSomeAnd (⟦<MemTarget as Target>⟧.told t).begun (λ b. size ≤ b.room)) }
 {
-    let mut plan = Seq::new(alloc);
     let address = Address::new(alloc, "out", "logs", 0)?;
-    plan.push(FailingAt {
+    let failing = FailingAt {
         address,
         call,
         nth: 2,
-    })?;
+    };
+    let plan = one(alloc, failing)?;
     let mut target = MemTargets::new(plan).target(alloc, "out", "logs", 0)?;
     target.create(alloc, "a", size)?;
     Ok(target)

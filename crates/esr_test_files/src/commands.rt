@@ -1,7 +1,8 @@
 //! The shelf after commands, as a subject, and a shelf as a line.
 use crate::words::{id_of, number_of};
+use esr_names::Id;
 use esr_plain::{Command, Commands, File, Shelf, ShelfShard, Shelved, shelf_after};
-use esr_scenes::{Subject, cut, say, say_bytes, say_number};
+use esr_scenes::{Subject, cut, one, say, say_bytes, say_number};
 use esr_seq::{Bytes, Seq, Text};
 use std::alloc::{AllocError, Global};
 use std::mem;
@@ -45,14 +46,17 @@ pub(crate) fn say_shelf(line: &mut String, shelf: &Shelf) {
     }
 }
 
+/// The file `abc` of that name.
+fn file_of(alloc: Global, name: &str) -> Result<File, AllocError> {
+    let name = Text::from_str(alloc, name)?;
+    let bytes = Bytes::from_slice(alloc, b"abc")?;
+    Ok(File { name, bytes })
+}
+
 /// The shard `INDEX/NUMBER`.
 fn shard_of(alloc: Global, word: &str) -> Result<ShelfShard, AllocError> {
     let (index, number) = word.split_once('/').unwrap_or((word, ""));
-    let mut files = Seq::new(alloc);
-    files.push(File {
-        name: Text::from_str(alloc, index)?,
-        bytes: Bytes::from_slice(alloc, b"abc")?,
-    })?;
+    let files = one(alloc, file_of(alloc, index)?)?;
     Ok(ShelfShard {
         index: Text::from_str(alloc, index)?,
         number: u32::try_from(number_of(number)).unwrap_or(u32::MAX),
@@ -60,28 +64,45 @@ fn shard_of(alloc: Global, word: &str) -> Result<ShelfShard, AllocError> {
     })
 }
 
+fn add_shards(alloc: Global, words: &str, shards: &mut Seq<ShelfShard>) -> Result<(), AllocError> {
+    for word in words.split_whitespace() {
+        shards.push(shard_of(alloc, word)?)?;
+    }
+    Ok(())
+}
+
+fn shelved_of(alloc: Global, name: &str, uuid: Id, words: &str) -> Result<Shelved, AllocError> {
+    let name = Text::from_str(alloc, name)?;
+    let mut shards = Seq::new(alloc);
+    add_shards(alloc, words, &mut shards)?;
+    Ok(Shelved { name, uuid, shards })
+}
+
 fn create(alloc: Global, words: &str) -> Result<Command, AllocError> {
     let (name, rest) = cut(words);
     let (uuid, rest) = cut(rest);
-    let mut shards = Seq::new(alloc);
-    for word in rest.split_whitespace() {
-        shards.push(shard_of(alloc, word)?)?;
+    let shelved = shelved_of(alloc, name, id_of(uuid), rest)?;
+    Ok(Command::Create(shelved))
+}
+
+fn add_texts(alloc: Global, words: &str, texts: &mut Seq<Text>) -> Result<(), AllocError> {
+    for word in words.split_whitespace() {
+        texts.push(Text::from_str(alloc, word)?)?;
     }
-    Ok(Command::Create(Shelved {
-        name: Text::from_str(alloc, name)?,
-        uuid: id_of(uuid),
-        shards,
-    }))
+    Ok(())
+}
+
+fn texts_of(alloc: Global, words: &str) -> Result<Seq<Text>, AllocError> {
+    let mut texts = Seq::new(alloc);
+    add_texts(alloc, words, &mut texts)?;
+    Ok(texts)
 }
 
 fn clone(alloc: Global, words: &str) -> Result<Command, AllocError> {
     let (source, rest) = cut(words);
     let (name, rest) = cut(rest);
     let (uuid, rest) = cut(rest);
-    let mut indices = Seq::new(alloc);
-    for word in rest.split_whitespace() {
-        indices.push(Text::from_str(alloc, word)?)?;
-    }
+    let indices = texts_of(alloc, rest)?;
     Ok(Command::Clone {
         source: id_of(source),
         name: Text::from_str(alloc, name)?,
@@ -90,11 +111,16 @@ fn clone(alloc: Global, words: &str) -> Result<Command, AllocError> {
     })
 }
 
+fn add_ids(words: &str, ids: &mut Seq<Id>) -> Result<(), AllocError> {
+    for word in words.split_whitespace() {
+        ids.push(id_of(word))?;
+    }
+    Ok(())
+}
+
 fn delete(alloc: Global, words: &str) -> Result<Command, AllocError> {
     let mut uuids = Seq::new(alloc);
-    for word in words.split_whitespace() {
-        uuids.push(id_of(word))?;
-    }
+    add_ids(words, &mut uuids)?;
     Ok(Command::Delete(uuids))
 }
 

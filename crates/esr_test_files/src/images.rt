@@ -3,6 +3,7 @@ use crate::commands::say_shelf;
 use crate::words::{number_of, say_has, say_refusal};
 use esr_formats::read_root;
 use esr_plain::{Image, picked, reach, whole};
+use esr_root::RootData;
 use esr_scenes::{Subject, cut, say, say_number, unquoted};
 use esr_seq::Bytes;
 use std::alloc::{AllocError, Global};
@@ -27,21 +28,32 @@ pub(crate) struct Images<'a> {
     image: Image,
 }
 
+fn put_bytes(alloc: Global, image: &mut Image, name: &str, bytes: &[u8]) -> Result<(), AllocError> {
+    let name = Bytes::from_slice(alloc, name.as_bytes())?;
+    let bytes = Bytes::from_slice(alloc, bytes)?;
+    image.put(name, bytes)
+}
+
 fn put(alloc: Global, image: &mut Image, name: &str, text: &str) -> Result<(), AllocError> {
     let text = unquoted(text).replace(alloc, "\\0", "\0")?;
-    let name = Bytes::from_slice(alloc, name.as_bytes())?;
-    image.put(name, Bytes::from_slice(alloc, text.as_bytes())?)
+    put_bytes(alloc, image, name, text.as_bytes())
+}
+
+/// Adds these blobs, but for one name.
+fn add(alloc: Global, image: &mut Image, blobs: &str, left_out: &str) -> Result<(), AllocError> {
+    for blob in blobs.lines() {
+        let (name, text) = cut(blob);
+        if name != left_out {
+            put(alloc, image, name, text)?;
+        }
+    }
+    Ok(())
 }
 
 /// The image of these blobs, but for one name.
 fn image_of(alloc: Global, blobs: &str, left_out: &str) -> Result<Image, AllocError> {
     let mut image = Image::new(alloc);
-    for blob in blobs.lines() {
-        let (name, text) = cut(blob);
-        if name != left_out {
-            put(alloc, &mut image, name, text)?;
-        }
-    }
+    add(alloc, &mut image, blobs, left_out)?;
     Ok(image)
 }
 
@@ -78,6 +90,22 @@ impl<'a> Images<'a> {
         Ok(())
     }
 
+    fn say_names(
+        &self,
+        alloc: Global,
+        root: &RootData,
+        other: &str,
+        line: &mut String,
+    ) -> Result<(), AllocError> {
+        let names = reach(alloc, &self.image, root)?;
+        if other.is_empty() {
+            say_number(line, names.len() as u64);
+        } else {
+            say_has(names.as_slice(), other, line);
+        }
+        Ok(())
+    }
+
     /// Says how many names a root reaches, or whether another name is one of them.
     fn say_reach(
         &self,
@@ -90,37 +118,40 @@ impl<'a> Images<'a> {
             return line.push_str("no such root");
         };
         match read_root(alloc, bytes) {
-            Ok(root) => {
-                let names = reach(alloc, &self.image, &root)?;
-                if other.is_empty() {
-                    say_number(line, names.len() as u64);
-                } else {
-                    say_has(names.as_slice(), other, line);
-                }
+            Ok(root) => self.say_names(alloc, &root, other, line),
+            Err(refusal) => {
+                say_refusal(line, &refusal);
+                Ok(())
             }
-            Err(refusal) => say_refusal(line, &refusal),
         }
-        Ok(())
     }
 
-    fn make(&mut self, alloc: Global, call: &str, line: &mut String) -> io::Result<()> {
-        let (verb, rest) = cut(call);
+    fn make(
+        &mut self,
+        alloc: Global,
+        verb: &str,
+        rest: &str,
+        line: &mut String,
+    ) -> Result<(), AllocError> {
         let (word, text) = cut(rest);
         match verb {
-            "image" => self.load(alloc, rest)?,
-            "put" => put(alloc, &mut self.image, word, text)?,
-            "stands" => self.say_whole(alloc, number_of(word), line)?,
-            "picked" => self.say_picked(alloc, number_of(word), line)?,
-            "reaches" | "reaches-name" => self.say_reach(alloc, word, text, line)?,
-            _ => say(line, "no such call"),
+            "put" => put(alloc, &mut self.image, word, text),
+            "stands" => self.say_whole(alloc, number_of(word), line),
+            "picked" => self.say_picked(alloc, number_of(word), line),
+            "reaches" | "reaches-name" => self.say_reach(alloc, word, text, line),
+            _ => line.push_str("no such call"),
         }
-        Ok(())
     }
 }
 
 impl Subject for Images<'_> {
     fn call(&mut self, alloc: Global, call: &str, line: &mut String) {
-        if self.make(alloc, call, line).is_err() {
+        let (verb, rest) = cut(call);
+        let is_made = match verb {
+            "image" => self.load(alloc, rest).is_ok(),
+            _ => self.make(alloc, verb, rest, line).is_ok(),
+        };
+        if !is_made {
             say(line, "no file, or no memory");
         }
     }

@@ -5,7 +5,7 @@ use crate::words::{number_of, say_print};
 use esr_depot::{CallError, Counted, Failed, Stage};
 use esr_hash::{Hasher, Print};
 use esr_parts::{CopyError, copy_part, hash_file, part_plan};
-use esr_scenes::{Subject, cut, say, say_number};
+use esr_scenes::{Subject, cut, one, say, say_number};
 use esr_seq::Seq;
 use esr_shardidx::part_count;
 use esr_source::{Address, MemFile, MemShard, MemSource, MemSources, NoGate, Shard, Sources};
@@ -63,11 +63,9 @@ fn files_of(alloc: Global) -> Result<Seq<MemFile>, AllocError> {
 
 /// The shard 0 of `logs` in `src`, with those files.
 fn shard_of(alloc: Global) -> Result<MemShard, AllocError> {
-    let mut sources = Seq::new(alloc);
-    sources.push(MemSource {
-        address: Address::new(alloc, "src", "logs", 0)?,
-        files: files_of(alloc)?,
-    })?;
+    let address = Address::new(alloc, "src", "logs", 0)?;
+    let files = files_of(alloc)?;
+    let sources = one(alloc, MemSource { address, files })?;
     MemSources::new(sources, Seq::new(alloc)).shard(alloc, "src", "logs", 0)
 }
 
@@ -138,14 +136,13 @@ fn say_filled(line: &mut String, filled: Filled) {
 }
 
 /// Says what is copied of the second file.
-fn say_copy(alloc: Global, line: &mut String) -> Result<(), CallError> {
-    let mut shard = shard_of(alloc)?;
+fn say_copy_of(alloc: Global, shard: &mut MemShard, line: &mut String) -> Result<(), CallError> {
     if shard.list(alloc)?.len() != 2 {
         say(line, "not two files");
         return Ok(());
     }
     shard.start(alloc, 1)?;
-    match copy_halves(&mut shard) {
+    match copy_halves(shard) {
         Ok((first, last, print)) => {
             say_filled(line, first);
             say_filled(line, last);
@@ -154,6 +151,11 @@ fn say_copy(alloc: Global, line: &mut String) -> Result<(), CallError> {
         Err(_) => say(line, "failed"),
     }
     Ok(())
+}
+
+fn say_copy(alloc: Global, line: &mut String) -> Result<(), CallError> {
+    let mut shard = shard_of(alloc)?;
+    say_copy_of(alloc, &mut shard, line)
 }
 
 impl Subject for Parts {

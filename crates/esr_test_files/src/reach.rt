@@ -7,7 +7,7 @@ use esr_root::{RootData, root_read};
 use esr_scenes::{Subject, cut, say, say_number};
 use esr_seq::{Seq, Text};
 use esr_shardidx::shard_index_read;
-use std::alloc::{AllocError, Global};
+use std::alloc::Global;
 use std::mem;
 
 /// The names that a root reaches:
@@ -43,7 +43,7 @@ fn names_of(
     alloc: Global,
     root: &RootData,
     held: &ShardIndices,
-) -> Result<Option<Names>, AllocError> {
+) -> Result<Option<Names>, ReadRefusal> {
     if !held.has_each(root) {
         return Ok(None);
     }
@@ -65,7 +65,7 @@ impl Reach {
         let number = u32::try_from(number_of(number)).unwrap_or(u32::MAX);
         let root = root_read(alloc, self.root.as_str().as_bytes())?;
         let held = held_of(alloc, number, text)?;
-        Ok(names_of(alloc, &root, &held)?)
+        names_of(alloc, &root, &held)
     }
 
     fn say_reached(&mut self, alloc: Global, words: &str, line: &mut String) {

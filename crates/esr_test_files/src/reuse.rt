@@ -20,22 +20,32 @@ pub(crate) struct Reuse<'a> {
     lines: &'a str,
 }
 
+/// The print of that length, of a byte 32 times.
+fn print_of(len: u64, byte: &str) -> Result<Print, Trouble> {
+    match byte.parse::<u8>() {
+        Ok(byte) => Ok(Print {
+            len,
+            sha256: [byte; 32],
+        }),
+        Err(_) => Err(Trouble::Because("no byte")),
+    }
+}
+
+fn named(alloc: Global, name: &str, print: Print) -> Result<ReadFile, Trouble> {
+    match PhysicalName::new(alloc, name) {
+        Ok(physical) => Ok(ReadFile { physical, print }),
+        Err(_) => Err(Trouble::Because("no name of a file")),
+    }
+}
+
 /// A file, and the number after it.
 fn file_of(alloc: Global, words: &str) -> Result<(ReadFile, u64), Trouble> {
     let (name, rest) = cut(words);
     let (len, rest) = cut(rest);
     let (byte, number) = cut(rest);
-    let Ok(physical) = PhysicalName::new(alloc, name) else {
-        return Err(Trouble::Because("no name of a file"));
-    };
-    let Ok(byte) = byte.parse::<u8>() else {
-        return Err(Trouble::Because("no byte"));
-    };
-    let print = Print {
-        len: number_of(len),
-        sha256: [byte; 32],
-    };
-    Ok((ReadFile { physical, print }, number_of(number)))
+    let print = print_of(number_of(len), byte)?;
+    let file = named(alloc, name, print)?;
+    Ok((file, number_of(number)))
 }
 
 fn entry_of(alloc: Global, words: &str) -> Result<FileEntry, Trouble> {
@@ -50,14 +60,19 @@ fn entry_of(alloc: Global, words: &str) -> Result<FileEntry, Trouble> {
     })
 }
 
-/// The files that the lines `base ..` say.
-fn entries_of(alloc: Global, lines: &str) -> Result<FileEntries, Trouble> {
-    let mut entries = Seq::new(alloc);
+fn add_entries(alloc: Global, lines: &str, entries: &mut FileEntries) -> Result<(), Trouble> {
     for line in lines.lines() {
         if let Some(words) = line.trim().strip_prefix("base ") {
             entries.push(entry_of(alloc, words)?)?;
         }
     }
+    Ok(())
+}
+
+/// The files that the lines `base ..` say.
+fn entries_of(alloc: Global, lines: &str) -> Result<FileEntries, Trouble> {
+    let mut entries = Seq::new(alloc);
+    add_entries(alloc, lines, &mut entries)?;
     Ok(entries)
 }
 
@@ -82,6 +97,17 @@ fn say_first(plans: &[Planned], line: &mut String) {
     }
 }
 
+/// Says the id that a file reuses of a base.
+fn say_plan(
+    alloc: Global,
+    base: &ShardIndex,
+    file: ReadFile,
+    line: &mut String,
+) -> Result<(), Trouble> {
+    say_first(plan(alloc, base, &[file])?.as_slice(), line);
+    Ok(())
+}
+
 impl<'a> Reuse<'a> {
     pub fn new(lines: &'a str) -> Reuse<'a> {
         Reuse { lines }
@@ -90,8 +116,7 @@ impl<'a> Reuse<'a> {
     fn say_reused(&self, alloc: Global, words: &str, line: &mut String) -> Result<(), Trouble> {
         let base = base_of(alloc, entries_of(alloc, self.lines)?)?;
         let (file, _) = file_of(alloc, words)?;
-        say_first(plan(alloc, &base, &[file])?.as_slice(), line);
-        Ok(())
+        say_plan(alloc, &base, file, line)
     }
 }
 

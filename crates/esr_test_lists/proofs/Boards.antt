@@ -1,5 +1,5 @@
 -- What stays known of a list of open ops with each thing that is done with it.
-use Rattle.std.proofs.Common.{◌≡◌, ℕ, suc, ◌+◌, ◌^◌, ◌<◌, ◌≤◌, Bool, true, false, true≢false, not, ltb, cond, eqb, List, [], Option, Some, None, option_map, map, refl, sym, ap, ◌∙◌, subst, inl, inr, arith, nat_cmp}
+use Rattle.std.proofs.Common.{◌≡◌, ℕ, suc, ◌+◌, ◌^◌, ◌<◌, ◌≤◌, Bool, true, false, true≢false, not, ltb, cond, eqb, List, [], Some, None, map, refl, sym, ap, ◌∙◌, subst, inl, inr, arith, nat_cmp}
 use Rattle.std.proofs.lemmas.Bool.{cases_lt, ltb-true}
 use Rattle.std.proofs.lemmas.Bool.Decides.{Decides-ltb, eqb_tells}
 use Rattle.std.specs.Prelude.{Ok}
@@ -12,7 +12,7 @@ use Rattle.esr_core.specs.Entry.{CloneOf, Snapshot}
 use Rattle.esr_core.specs.After.{asked, asked_op, new_names, clone_opened, cleanup_opened, change, raised, settled_of, done_of, failed_of, dropped_of, delete_failed, delete_settled, read_over}
 use Rattle.esr_core.specs.Deletes.{named_uuids, waiting_delete, running_delete, asked_delete}
 use Rattle.esr_core.specs.Restores.{waits, restore_opened}
-use Rattle.esr_core.proofs.Naming.{named_new, named_up, new_asked}
+use Rattle.esr_core.specs.Laws.NameLaws.{named_new, named_up, new_asked}
 use Rattle.esr_depot.specs.Look.{Look, now}
 use Rattle.esr_formats.specs.Formats.{formats}
 use Rattle.esr_formats.specs.Roots.{root_of}
@@ -23,9 +23,9 @@ use Rattle.esr_ops.specs.declared.command.Command.TheVariants as commands
 use Rattle.esr_ops.specs.declared.unit.ReadyUnit.{ReadyUnit}
 use Rattle.esr_ops.specs.Asked.{asked_of, asked_index_of, IsAskable}
 use Rattle.esr_accept.specs.Accepting.{Accepting, AcceptingDelete, AcceptingCleanup}
-use Rattle.esr_ops.specs.Plan.{Plan, Seat, UnitKind, OfShard, OfFinalize, OfDelete, OfDrop, kind_of, seat_of, IsPlanOf, IsAskedIn, IsGivenIn}
+use Rattle.esr_progress.specs.Plans.{ticket_of}
+use Rattle.esr_ops.specs.Plan.{Plan, Seat, UnitKind, OfShard, OfFinalize, OfDelete, OfDrop, kind_of, seat_of, seat_out, IsPlanOf, IsAskedIn, IsGivenIn}
 use Rattle.esr_ops.specs.Units.{given_of, NextUnit}
-use Rattle.esr_ops.specs.Lists.{none_some, some_same}
 use Rattle.esr_ops.specs.Entries.{get_put}
 use Rattle.esr_test_lists.specs.Board.{is_final, is_delete, IsStart, IsBoard}
 use Rattle.esr_test_lists.proofs.Following.{Follows, taken, dones, fails, delete_fails, changes, raises, settles, delete_settles, drops, reads, asks}
@@ -84,12 +84,8 @@ of_delete OfFinalize r is e = absurd (true≢false (sym is ∙ e))
 of_delete OfDelete r is e = refl
 of_delete OfDrop r is e = absurd (true≢false (sym is ∙ e))
 
-ticket_with : (o : Option Ticket) (s : Seat) → option_map seat_of o ≡ Some s → (t : Ticket) × (o ≡ Some t) × (seat_of t ≡ s)
-ticket_with None s e = absurd (none_some s e)
-ticket_with (Some t) s e = (t, refl, some_same (seat_of t) s e)
-
 abbrev with_kind : Ticket → UnitKind → Seat
-with_kind t kind = record { kind = kind; clean = t.clean; op = t.op; term = t.term; raised = t.raised; settled = t.settled; out = t.out }
+with_kind t kind = record { kind = kind; clean = t.clean; op = t.op; term = t.term; raised = t.raised; settled = t.settled }
 
 finalizes : (f : Formats) (work : Work) (root : RootData) → kind_of work ≡ OfFinalize → (s : Swap) × (swap_of f work root ≡ Some s)
 finalizes f (Shard index number) root e = absurd cc
@@ -156,7 +152,8 @@ module _ {p : Plan} {root : RootData} {term next given : ℕ} {begun : Bool} (b 
         }
     accepted answer command askable unbegun h = absurd askable
 
-    pub cloned : (later : ℕ) (name : Bytes) (moment : ℕ) (copy : CloneOf) → later < first_id (suc term) → ((w : World) → IsPlanOf w p → w.next_id ≡ next → IsPlanOf (clone_opened w name moment copy) new) → IsBoard new root term later given true
+    pub cloned : (later : ℕ) (name : Bytes) (moment : ℕ) (copy : CloneOf) → later < first_id (suc term) → ((w : World) → IsPlanOf w p → w.next_id ≡ next → IsPlanOf (clone_opened w name moment copy) new)
+        → IsBoard new root term later given true
     cloned later name moment copy below h =
         moved 0 (world 0 0) (clone_opened (world 0 0) name moment copy) new later given (plan_in 0 0) (omega arith) (h (world 0 0) (plan_in 0 0) refl) below (omega arith)
 
@@ -201,16 +198,16 @@ module _ {p : Plan} {root : RootData} {term next given : ℕ} {begun : Bool} (b 
       -- ---- a swap settles: of a ticket that has a seat, and in it the generation that it raised
 
       module _ (seat : Seat) (n : ℕ) (there : Some seat ≡ fin.get p.seats k) (raised_is : seat.raised ≡ Some n) where
-        abbrev mine : (t : Ticket) × (fin.get b.w.tickets k ≡ Some t) × (seat_of t ≡ seat)
-        mine = ticket_with (fin.get b.w.tickets k) seat (sym (b.plan.seats k) ∙ sym there)
+        abbrev mine : (t : Ticket) × (fin.get b.w.tickets k ≡ Some t) × (t.out ≡ true) × (seat_of t ≡ seat)
+        mine = ticket_of b.w p b.plan k seat (sym there)
 
         pub settling : seat.kind ≡ OfFinalize
             → ((f : Formats) (w : World) (t : Ticket) (s : Swap) (m : ℕ) → IsPlanOf w p → fin.get w.tickets k ≡ Some t → swap f t ≡ Some s → t.raised ≡ Some m → IsPlanOf (settled_of f w k (Some t)) new)
             → IsBoard new root term next given true
         settling kind h =
             let t : Ticket = mine.0 in
-            let s = finalizes any_formats t.work t.root (ap (λ (x : Seat). x.kind) mine.2 ∙ kind) in
-            at 0 b.w _ given b.plan (settles any_formats b.w k t (swap any_formats t) t.raised) (h any_formats b.w t s.0 n b.plan mine.1 s.1 (ap (λ (x : Seat). x.raised) mine.2 ∙ raised_is)) (omega arith)
+            let s = finalizes any_formats t.work t.root (ap (λ (x : Seat). x.kind) mine.3 ∙ kind) in
+            at 0 b.w _ given b.plan (settles any_formats b.w k t (swap any_formats t) t.raised) (h any_formats b.w t s.0 n b.plan mine.1 s.1 (ap (λ (x : Seat). x.raised) mine.3 ∙ raised_is)) (omega arith)
 
         -- the list doesn't tell the plan of a delete, so it is that of a world where there is one
         module _ (kind : seat.kind ≡ OfDelete) where
@@ -227,15 +224,15 @@ module _ {p : Plan} {root : RootData} {term next given : ℕ} {begun : Bool} (b 
           planned = record b.w { tickets = fin.insert b.w.tickets k planned_ticket }
 
           same : seat_of planned_ticket ≡ seat_of t
-          same = ap (with_kind t) (sym (ap (λ (x : Seat). x.kind) mine.2 ∙ kind))
+          same = ap (with_kind t) (sym (ap (λ (x : Seat). x.kind) mine.3 ∙ kind))
 
           put_at : (j : ℕ) (c : Bool) → eqb j k ≡ c → fin.get planned.tickets j ≡ cond c (Some planned_ticket) (fin.get b.w.tickets j)
           put_at j c e = get_put b.w.tickets k planned_ticket j ∙ ap (λ (d : Bool). cond d (Some planned_ticket) (fin.get b.w.tickets j)) e
 
-          planned_seats : (j : ℕ) → fin.get p.seats j ≡ option_map seat_of (fin.get planned.tickets j)
+          planned_seats : (j : ℕ) → fin.get p.seats j ≡ seat_out (fin.get planned.tickets j)
           planned_seats j = elim (eqb_tells j k) [
-            | inl it ↦ b.plan.seats j ∙ ap (λ (q : ℕ). option_map seat_of (fin.get b.w.tickets q)) it.1 ∙ ap (option_map seat_of) mine.1 ∙ ap (λ (x : Seat). Some x) (sym same) ∙ sym (ap (option_map seat_of) (put_at j true it.0))
-            | inr it ↦ b.plan.seats j ∙ sym (ap (option_map seat_of) (put_at j false it.0))
+            | inl it ↦ b.plan.seats j ∙ ap (λ (q : ℕ). seat_out (fin.get b.w.tickets q)) it.1 ∙ ap seat_out mine.1 ∙ ap (λ (x : Seat). cond t.out (Some x) None) (sym same) ∙ sym (ap seat_out (put_at j true it.0))
+            | inr it ↦ b.plan.seats j ∙ sym (ap seat_out (put_at j false it.0))
           ]
 
           planned_there : fin.get planned.tickets k ≡ Some planned_ticket
@@ -248,4 +245,4 @@ module _ {p : Plan} {root : RootData} {term next given : ℕ} {begun : Bool} (b 
               → IsBoard new root term next given true
           settling_delete h =
               at 0 planned _ given plan_of (delete_settles any_formats planned k planned_ticket (swap any_formats planned_ticket) planned_ticket.raised)
-              (h any_formats planned planned_ticket planned_swap n plan_of planned_there refl (ap (λ (x : Seat). x.raised) mine.2 ∙ raised_is)) (omega arith)
+              (h any_formats planned planned_ticket planned_swap n plan_of planned_there refl (ap (λ (x : Seat). x.raised) mine.3 ∙ raised_is)) (omega arith)

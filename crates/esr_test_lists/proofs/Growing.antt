@@ -71,12 +71,12 @@ no_other [] e x h = absurd h
 no_other (y ∷ xs) e x (inl same) = subst (λ (z : RootIndex). IsOneIndex (codes "logs") (2 ^ 64 + 1) z.name z.id) same (one_index y (neither (is_other y) (list_any is_other xs) e).0)
 no_other (y ∷ xs) e x (inr h) = no_other xs (neither (is_other y) (list_any is_other xs) e).1 x h
 
-pub may_finalize : (root : Root) (info : Info) (results : List ShardResult) (name : Bytes) (uuid generation : Id) → list_any (takes_one info.name uuid.number) root.snapshots ≡ false → list_any is_other root.indices ≡ false
+pub may_finalize : (root : Root) (info : Info) (results : List ShardResult) (name : Bytes) (uuid generation : Id) → list_any (takes_one name uuid.number) root.snapshots ≡ false → list_any is_other root.indices ≡ false
     → info ≡ logs_info name uuid → results ≡ logs_results generation → MayFinalize (root_of root) (info_of_code info) (map result_of results)
 may_finalize root info results name uuid generation free alone i r =
     subst (λ (a : Info). MayFinalize (root_of root) (info_of_code a) (map result_of results)) (sym i)
     (subst (λ (rs : List ShardResult). MayFinalize (root_of root) (info_of_code (logs_info name uuid)) (map result_of rs)) (sym r)
-    (record { unlisted = no_clash name uuid.number root.snapshots (subst (λ (a : Info). list_any (takes_one a.name uuid.number) root.snapshots ≡ false) i free); indices = named; each = refl }))
+    (record { unlisted = no_clash name uuid.number root.snapshots free; indices = named; each = refl }))
   where
     named : (q : IndexRef) (x : RootIndex) → Has (info_of_code (logs_info name uuid)).indices q → Has (root_of root).indices x → IsOneIndex q.name q.id x.name x.id
     named q x (inr h) hx = absurd h

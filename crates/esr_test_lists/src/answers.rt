@@ -5,13 +5,15 @@
 //! `term TERM`, `looked SAFE ROOT` and `refused REFUSAL`. A unit is one of `shard NUMBER`, `finalize INFO`,
 //! `drop`, `restore-shard NUMBER ID` and `delete`.
 use crate::causes::refusal_of;
+use crate::roots::indices_of;
 use crate::trouble::Trouble;
-use crate::words::Words;
+use crate::words::id_of;
 use esr_desk::{Answer, Given};
 use esr_meta::info_read;
-use esr_names::{Id, Ids, IndexName, IndexRef, IndexRefs, ShardId};
+use esr_names::{Id, Ids, ShardId};
 use esr_results::ShardResults;
-use esr_root::root_read;
+use esr_root::{RootData, root_read};
+use esr_scenes::Words;
 use std::alloc::Global;
 
 /// The id of the index of each shard of a history.
@@ -19,30 +21,39 @@ const INDEX: Id = Id {
     number: (1 << 64) + 1,
 };
 
-fn shard_of(words: &mut Words) -> Result<ShardId, Trouble> {
+fn shard_number(words: &mut Words) -> u32 {
     match words.word().parse() {
-        Ok(number) => Ok(ShardId {
-            index: INDEX,
-            number,
-        }),
-        Err(_) => Err(Trouble::Unread("not the number of a shard")),
+        Ok(number) => number,
+        Err(_) => words.refuse("not the number of a shard", 0),
     }
+}
+
+fn shard_of(words: &mut Words) -> ShardId {
+    ShardId {
+        index: INDEX,
+        number: shard_number(words),
+    }
+}
+
+fn finalize_of(alloc: Global, words: &mut Words) -> Result<Given, Trouble> {
+    let info = info_read(alloc, words.rest().as_bytes())?;
+    Ok(Given::Finalize {
+        info,
+        shards: ShardResults::new(alloc),
+    })
 }
 
 fn given_of(alloc: Global, words: &mut Words) -> Result<Given, Trouble> {
     match words.word() {
         "shard" => Ok(Given::Shard {
-            shard: shard_of(words)?,
+            shard: shard_of(words),
             base: None,
         }),
         "restore-shard" => Ok(Given::RestoreShard {
-            shard: shard_of(words)?,
-            uuid: words.id()?,
+            shard: shard_of(words),
+            uuid: id_of(words),
         }),
-        "finalize" => Ok(Given::Finalize {
-            info: info_read(alloc, words.rest().as_bytes())?,
-            shards: ShardResults::new(alloc),
-        }),
+        "finalize" => finalize_of(alloc, words),
         "drop" => Ok(Given::Drop),
         "delete" => Ok(Given::Delete {
             uuids: Ids::new(alloc),
@@ -52,27 +63,18 @@ fn given_of(alloc: Global, words: &mut Words) -> Result<Given, Trouble> {
 }
 
 fn gave(alloc: Global, words: &mut Words) -> Result<Answer, Trouble> {
-    let ticket = words.number()?;
+    let ticket = words.number();
     if words.word() != "op" {
-        return Err(Trouble::Unread("a ticket without its op"));
+        words.refuse("a ticket without its op", ());
     }
-    Ok(Answer::Gave {
-        ticket,
-        op: words.number()?,
-        unit: given_of(alloc, words)?,
-    })
+    let op = words.number();
+    let unit = given_of(alloc, words)?;
+    Ok(Answer::Gave { ticket, op, unit })
 }
 
 fn accepted_restore(alloc: Global, words: &mut Words) -> Result<Answer, Trouble> {
-    let op = words.number()?;
-    let uuid = words.id()?;
-    let shards = shard_of(words)?.number;
-    let mut indices = IndexRefs::new(alloc);
-    indices.push(IndexRef {
-        id: INDEX,
-        name: IndexName::new(alloc, "logs")?,
-        shards,
-    })?;
+    let (op, uuid) = (words.number(), id_of(words));
+    let indices = indices_of(alloc, shard_number(words))?;
     Ok(Answer::AcceptedRestore { op, uuid, indices })
 }
 
@@ -80,41 +82,47 @@ fn looked(alloc: Global, words: &mut Words) -> Result<Answer, Trouble> {
     let Ok(safe) = words.word().parse() else {
         return Err(Trouble::Unread("not a generation"));
     };
-    let root = root_read(alloc, words.rest().as_bytes())?;
-    Ok(Answer::Looked {
-        snapshots: root.snapshots.try_clone(alloc)?,
-        safe,
-    })
+    let RootData {
+        snapshots,
+        indices: _indices,
+    } = root_read(alloc, words.rest().as_bytes())?;
+    Ok(Answer::Looked { snapshots, safe })
 }
 
-/// An answer that is one word.
-fn plain(word: &str) -> Result<Answer, Trouble> {
+/// An answer of one word, or of a word with a number, an id or a refusal.
+fn plain(word: &str, words: &mut Words) -> Answer {
     match word {
-        "begun" => Ok(Answer::Begun),
-        "done" => Ok(Answer::Done),
-        "fetched" => Ok(Answer::Fetched),
-        "removed" => Ok(Answer::Removed),
-        "settled" => Ok(Answer::Settled),
-        "ended" => Ok(Answer::Ended),
-        _ => Err(Trouble::Unread("no such answer")),
+        "op" => Answer::Accepted { op: words.number() },
+        "drawn" => Answer::Drawn {
+            first: id_of(words),
+        },
+        "term" => Answer::Elected {
+            term: words.number(),
+        },
+        "refused" => Answer::Refused {
+            refusal: refusal_of(words),
+        },
+        "begun" => Answer::Begun,
+        "done" => Answer::Done,
+        "fetched" => Answer::Fetched,
+        "removed" => Answer::Removed,
+        "settled" => Answer::Settled,
+        "ended" => Answer::Ended,
+        _ => words.refuse("no such answer", Answer::Done),
     }
 }
 
-pub(crate) fn answer_of(alloc: Global, words: &mut Words) -> Result<Answer, Trouble> {
+fn answer_of(alloc: Global, words: &mut Words) -> Result<Answer, Trouble> {
     match words.word() {
-        "op" => Ok(Answer::Accepted {
-            op: words.number()?,
-        }),
         "restore-op" => accepted_restore(alloc, words),
         "ticket" => gave(alloc, words),
-        "drawn" => Ok(Answer::Drawn { first: words.id()? }),
-        "term" => Ok(Answer::Elected {
-            term: words.number()?,
-        }),
         "looked" => looked(alloc, words),
-        "refused" => Ok(Answer::Refused {
-            refusal: refusal_of(words)?,
-        }),
-        word => plain(word),
+        word => Ok(plain(word, words)),
     }
+}
+
+pub(crate) fn answer_read(alloc: Global, text: &str) -> Result<Answer, Trouble> {
+    let mut words = Words::new(text);
+    let answer = answer_of(alloc, &mut words)?;
+    Ok(words.end(answer)?)
 }

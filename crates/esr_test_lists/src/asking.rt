@@ -6,14 +6,17 @@ ghost use Rattle.esr_ops.specs.Asked.{asked_of, asked_index_of, HasShards, IsAsk
 
 use crate::board::Board;
 use crate::entries::item_of;
-use crate::told::id_told;
-use crate::trouble::Trouble;
-use crate::words::Words;
-use esr_names::{IndexName, IndexNames, SnapName};
-use esr_ops::{AskedIndex, AskedIndices, Command};
+use crate::told::{say_id, say_numbered};
+use crate::trouble::{Done, Trouble};
+use esr_names::{Id, IndexName, IndexNames, SnapName};
+use esr_ops::{Accepted, AskedIndex, AskedIndices, Command, Refusal};
+use esr_scenes::{Words, one, say, say_number};
 use esr_script::{AskedIndex as LineIndex, Item};
-use esr_seq::{Seq, Text};
+use esr_seq::Text;
 use std::alloc::Global;
+
+/// The number of an op, or why there is none.
+type Op = Result<u64, Trouble>;
 
 /// An index of a command.
 fn index_of(alloc: Global, index: &LineIndex) -> Result<AskedIndex, Trouble>
@@ -33,21 +36,18 @@ fn index_of(alloc: Global, index: &LineIndex) -> Result<AskedIndex, Trouble>
 fn indices_of(alloc: Global, indices: &[LineIndex]) -> Result<AskedIndices, Trouble>
     ensures { IfOk result (λ a. IsAskable (Snapshot [] (map asked_index_of a) 0)) }
 {
-    let mut asked = AskedIndices::new(alloc);
     match indices {
-        [] => Ok(asked),
-        [index] => {
-            asked.push(index_of(alloc, index)?)?;
-            Ok(asked)
-        }
+        [] => Ok(AskedIndices::new(alloc)),
+        [index] => Ok(one(alloc, index_of(alloc, index)?)?),
         _ => Err(Trouble::Unread("more than one index")),
     }
 }
 
 /// The command of a snapshot.
-fn command_of(alloc: Global, name: SnapName, indices: &[LineIndex]) -> Result<Command, Trouble>
+fn command_of(alloc: Global, name: &SnapName, indices: &[LineIndex]) -> Result<Command, Trouble>
     ensures { IfOk result (λ c. IsAskable (asked_of c)) }
 {
+    let name = name.try_clone(alloc)?;
     let indices = indices_of(alloc, indices)?;
     Ok(Command::Create {
         name,
@@ -60,26 +60,46 @@ fn command_of(alloc: Global, name: SnapName, indices: &[LineIndex]) -> Result<Co
 fn one_name(alloc: Global, names: &[IndexName]) -> Result<IndexNames, Trouble>
     ensures { IfOk result (λ r. AreOnce r) }
 {
-    let mut one = Seq::new(alloc);
     match names {
-        [] => Ok(one),
-        [name] => {
-            one.push(name.try_clone(alloc)?)?;
-            Ok(one)
-        }
+        [] => Ok(IndexNames::new(alloc)),
+        [name] => Ok(one(alloc, name.try_clone(alloc)?)?),
         _ => Err(Trouble::Unread("more than one index")),
     }
+}
+
+fn ask_snapshot(
+    alloc: Global,
+    board: &mut Board,
+    name: &SnapName,
+    indices: &[LineIndex],
+) -> Result<Accepted, Trouble> {
+    let command = command_of(alloc, name, indices)?;
+    board.snapshot(alloc, &command)
 }
 
 fn snapshot(
     alloc: Global,
     board: &mut Board,
-    name: SnapName,
+    name: &SnapName,
     indices: &[LineIndex],
-) -> Result<String, Trouble> {
-    let command = command_of(alloc, name, indices)?;
-    let accepted = board.snapshot(alloc, &command)?;
-    Ok(format!(in alloc; "op {} drew {}", accepted.op, accepted.drawn)?)
+    said: &mut String,
+) -> Done {
+    let accepted = ask_snapshot(alloc, board, name, indices)?;
+    say_numbered(said, "op", accepted.op);
+    say_numbered(said, " drew", accepted.drawn);
+    Ok(())
+}
+
+/// Opens a clone of the snapshot of that uuid, of no names or of one.
+fn begin_clone(
+    alloc: Global,
+    board: &mut Board,
+    uuid: Id,
+    name: &SnapName,
+    indices: &[IndexName],
+) -> Done {
+    let names = one_name(alloc, indices)?;
+    board.open_clone(alloc, uuid, name, &names)
 }
 
 fn open_clone(
@@ -88,65 +108,79 @@ fn open_clone(
     source: &SnapName,
     name: &SnapName,
     indices: &IndexNames,
-) -> Result<String, Trouble> {
+) -> Op {
     let uuid = board.clonable(source, name, indices)?;
     let op = board.next_op();
-    let names = one_name(alloc, indices.as_slice())?;
-    board.open_clone(alloc, uuid, name, &names)?;
-    Ok(format!(in alloc; "op {op}")?)
+    begin_clone(alloc, board, uuid, name, indices.as_slice())?;
+    Ok(op)
 }
 
-fn open_restore(
-    alloc: Global,
-    board: &mut Board,
-    name: &SnapName,
-    place: &Text,
-) -> Result<String, Trouble> {
+fn open_restore(alloc: Global, board: &mut Board, name: &SnapName, place: &Text) -> Op {
     let uuid = board.restorable(name)?;
     let op = board.next_op();
     board.open_restore(alloc, uuid, place)?;
-    Ok(format!(in alloc; "op {op}")?)
+    Ok(op)
 }
 
-/// What a line is answered that asks for an op.
-pub(crate) fn asked(alloc: Global, board: &mut Board, line: &str) -> Result<String, Trouble> {
-    match item_of(alloc, line)? {
-        Item::Snapshot { name, indices } => snapshot(alloc, board, name, indices.as_slice()),
-        Item::Clone {
-            source,
-            name,
-            indices,
-        } => open_clone(alloc, board, &source, &name, &indices),
-        Item::Delete { names } => { Ok(format!(in alloc; "op {}", board.delete(alloc, &names)?)?) }
-        Item::Restore { name, place } => open_restore(alloc, board, &name, &place),
-        Item::Cleanup => { Ok(format!(in alloc; "op {}", board.cleanup(alloc)?)?) }
-        _ => Err(Trouble::Unread("not a line that asks a list of ops")),
-    }
+/// Says the op that was opened, or that a delete goes into, if there is one.
+fn say_op(said: &mut String, op: Op) -> Done {
+    say_numbered(said, "op", op?);
+    Ok(())
 }
 
-/// What a line would be answered that asks for an op: the op that a delete goes into, the uuid of a clone's source or of what is restored.
-pub(crate) fn would(alloc: Global, board: &Board, line: &str) -> Result<String, Trouble> {
-    match item_of(alloc, line)? {
-        Item::Clone {
-            source,
-            name,
-            indices,
-        } => Ok(id_told(alloc, board.clonable(&source, &name, &indices)?)?),
-        Item::Delete { names } => {
-            Ok(format!(in alloc; "op {}", board.deletable(alloc, &names)?)?)
+/// Says what a line is answered that asks for an op.
+pub(crate) fn asked(alloc: Global, board: &mut Board, line: &str, said: &mut String) -> Done {
+    let item = item_of(alloc, line)?;
+    match &item {
+        Item::Snapshot { name, indices } => {
+            snapshot(alloc, board, name, indices.as_slice(), said)
         }
-        Item::Restore { name, place: _ } => Ok(id_told(alloc, board.restorable(&name)?)?),
+        Item::Clone {
+            source,
+            name,
+            indices,
+        } => say_op(said, open_clone(alloc, board, source, name, indices)),
+        Item::Delete { names } => say_op(said, board.delete(alloc, names)),
+        Item::Restore { name, place } => say_op(said, open_restore(alloc, board, name, place)),
+        Item::Cleanup => say_op(said, board.cleanup(alloc)),
         _ => Err(Trouble::Unread("not a line that asks a list of ops")),
     }
 }
 
-/// So many snapshots of no index are asked for, up to the first that is refused: what the last of them is answered.
-pub(crate) fn many(alloc: Global, board: &mut Board, words: &mut Words) -> Result<String, Trouble> {
-    let count = words.number()?;
-    let mut last = String::new(alloc);
-    for number in 0..count {
-        let line = format!(in alloc; "snapshot x{number}")?;
-        last = asked(alloc, board, line.as_str())?;
+fn say_uuid(said: &mut String, uuid: Result<Id, Refusal>) -> Done {
+    say_id(said, uuid?);
+    Ok(())
+}
+
+/// Says the op that a delete would go into, or the uuid of a clone's source or of what would be restored.
+pub(crate) fn would(alloc: Global, board: &Board, line: &str, said: &mut String) -> Done {
+    let item = item_of(alloc, line)?;
+    match &item {
+        Item::Clone {
+            source,
+            name,
+            indices,
+        } => say_uuid(said, board.clonable(source, name, indices)),
+        Item::Delete { names } => say_op(said, board.deletable(alloc, names)),
+        Item::Restore { name, place: _ } => say_uuid(said, board.restorable(name)),
+        _ => Err(Trouble::Unread("not a line that asks a list of ops")),
     }
-    Ok(last)
+}
+
+/// A snapshot of no index is asked for, with a number in its name.
+fn ask_numbered(alloc: Global, board: &mut Board, number: u64, said: &mut String) -> Done {
+    let mut line = String::new(alloc);
+    say(&mut line, "snapshot x");
+    say_number(&mut line, number);
+    asked(alloc, board, line.as_str(), said)
+}
+
+/// So many snapshots of no index are asked for, up to the first that is refused. Says what the last of them is answered.
+pub(crate) fn many(alloc: Global, board: &mut Board, words: &mut Words, said: &mut String) -> Done {
+    let count = words.number();
+    for number in 0..words.end(count)? {
+        said.clear();
+        ask_numbered(alloc, board, number, said)?;
+    }
+    Ok(())
 }

@@ -8,19 +8,21 @@ ghost use Rattle.esr_ops.specs.Asked.{asked_of, IsAskable};
 ghost use Rattle.esr_ops.specs.Plan.{kind_of_code};
 ghost use Rattle.esr_test_lists.specs.Board.{IsStart, is_final, is_delete};
 
-use crate::trouble::Trouble;
+use crate::told::{say_id, say_ops};
+use crate::trouble::{Done, Trouble};
 use esr_accept::{
     accept, accept_cleanup, accept_delete, chosen, clonable, open_clone, open_restore, restorable,
 };
+use esr_formats::write_info;
 use esr_memdepot::MemDepot;
 use esr_names::{Id, IndexNames, IndexRef, IndexRefs, SnapName, SnapNames};
 use esr_opening::{Opening, SnapInfos};
 use esr_ops::{Accepted, Command, ReadyUnit, Refusal, Seat, SeatKind};
 use esr_progress::Progress;
-use esr_record::RecordOps;
 use esr_results::ShardResult;
 use esr_root::RootData;
-use esr_seq::{Seq, Text};
+use esr_scenes::{one, say, say_bytes, say_number};
+use esr_seq::Text;
 use std::alloc::{AllocError, Global};
 use std::marker::Model;
 
@@ -133,35 +135,40 @@ fn one_index(alloc: Global, indices: &[IndexRef]) -> Result<IndexRefs, Trouble>
     if index.shards == 0 || index.shards > 1024 {
         return Err(Trouble::Unread("no shards, or too many"));
     }
-    let mut one = Seq::new(alloc);
-    one.push(index.try_clone(alloc)?)?;
-    Ok(one)
+    Ok(one(alloc, index.try_clone(alloc)?)?)
 }
 
 impl Board {
-    pub(crate) fn root(&self) -> &RootData {
-        &self.root
-    }
-
-    pub(crate) fn infos(&self) -> &SnapInfos {
-        &self.infos
-    }
-
-    pub(crate) fn term(&self) -> u64 {
-        self.term
-    }
-
-    pub(crate) fn next(&self) -> Id {
-        self.next
-    }
-
     pub(crate) fn next_op(&self) -> u64 {
         self.list.next_op()
     }
 
-    /// The ops as the record tells them.
-    pub(crate) fn ops(&self, alloc: Global) -> Result<RecordOps, AllocError> {
-        self.list.record_ops(alloc)
+    /// Says the text of the last info.
+    fn say_last_info(&self, alloc: Global, said: &mut String) -> Result<(), AllocError> {
+        if let [.., info] = self.infos.as_slice() {
+            say_bytes(said, write_info(alloc, info)?.as_slice());
+        }
+        Ok(())
+    }
+
+    /// Says what is asked of an opened container, beside its record.
+    pub(crate) fn say(
+        &self,
+        alloc: Global,
+        what: &str,
+        said: &mut String,
+    ) -> Result<(), AllocError> {
+        match what {
+            "infos" => say_number(said, self.infos.len() as u64),
+            "info" => self.say_last_info(alloc, said)?,
+            "snapshots" => say_number(said, self.root.snapshots.as_slice().len() as u64),
+            "term" => say_number(said, self.term),
+            "next" => say_id(said, self.next),
+            "next-op" => say_number(said, self.list.next_op()),
+            "ops" => say_ops(said, self.list.record_ops(alloc)?.as_slice()),
+            _ => say(said, "no such line of a list"),
+        }
+        Ok(())
     }
 
     /// The one index of a listed snapshot.
@@ -177,7 +184,7 @@ impl Board {
     }
 
     /// The next id is a later one.
-    pub(crate) fn skip_to(&mut self, next: Id) -> Result<(), Trouble> {
+    pub(crate) fn skip_to(&mut self, next: Id) -> Done {
         if is_before(next, self.next) {
             return Err(Trouble::Unread("not a later id"));
         }
@@ -189,7 +196,7 @@ impl Board {
     }
 
     /// The next term begins.
-    pub(crate) fn elect(&mut self) -> Result<(), Trouble> {
+    pub(crate) fn elect(&mut self) -> Done {
         if is_many(self.term) {
             return Err(Trouble::Unread("no term is left"));
         }
@@ -231,6 +238,16 @@ impl Board {
         )
     }
 
+    /// The indices that a clone of a listed snapshot takes, with no names or that one.
+    fn taken(&self, alloc: Global, source: Id, names: &IndexNames) -> Result<IndexRefs, Trouble>
+        requires once { AreOnce names.now }
+        ensures { IfOk result (λ r. AreApart (map ref_of_code r)) }
+    {
+        let all = self.index_of(alloc, source)?;
+        let taken = chosen(alloc, &all, names)?;
+        Ok(taken)
+    }
+
     /// A clone that no rule refuses is opened: of the index of its source, with no names or that one.
     pub(crate) fn open_clone(
         &mut self,
@@ -238,7 +255,7 @@ impl Board {
         source: Id,
         name: &SnapName,
         names: &IndexNames,
-    ) -> Result<(), Trouble>
+    ) -> Done
         requires once { AreOnce names.now }
     {
         let next = self.next;
@@ -251,8 +268,7 @@ impl Board {
         if is_past(self.term, after) {
             return Err(Trouble::Unread("no id is left"));
         }
-        let all = self.index_of(alloc, source)?;
-        let taken = chosen(alloc, &all, names)?;
+        let taken = self.taken(alloc, source, names)?;
         let list = open_clone(&self.list, alloc, next, source, name, &taken, 0)?;
         self.list = list;
         self.begun = true;
@@ -266,12 +282,7 @@ impl Board {
     }
 
     /// A restore that no rule refuses is opened.
-    pub(crate) fn open_restore(
-        &mut self,
-        alloc: Global,
-        uuid: Id,
-        place: &Text,
-    ) -> Result<(), Trouble> {
+    pub(crate) fn open_restore(&mut self, alloc: Global, uuid: Id, place: &Text) -> Done {
         if is_long(&self.list) {
             return Err(Trouble::Unread("too many ops"));
         }
@@ -331,12 +342,7 @@ impl Board {
     }
 
     /// The shard of a ticket is done at a generation: three files of seven bytes.
-    pub(crate) fn shard_done(
-        &mut self,
-        alloc: Global,
-        ticket: u64,
-        generation: Id,
-    ) -> Result<(), Trouble> {
+    pub(crate) fn shard_done(&mut self, alloc: Global, ticket: u64, generation: Id) -> Done {
         let Some(
             Seat {
                 kind: SeatKind::Shard { shard },
@@ -359,7 +365,10 @@ impl Board {
     }
 
     /// A unit of a snapshot fails.
-    pub(crate) fn unit_failed(&mut self, alloc: Global, ticket: u64) -> Result<(), AllocError> {
+    pub(crate) fn unit_failed(&mut self, alloc: Global, ticket: u64) -> Done {
+        let Some(_kept) = self.list.seat(ticket) else {
+            return Err(Trouble::Unread("no ticket that is out"));
+        };
         let list = self.list.unit_failed(alloc, self.term, ticket)?;
         self.list = list;
         self.begun = true;
@@ -367,7 +376,10 @@ impl Board {
     }
 
     /// A delete or cleanup fails.
-    pub(crate) fn delete_failed(&mut self, alloc: Global, ticket: u64) -> Result<(), AllocError> {
+    pub(crate) fn delete_failed(&mut self, alloc: Global, ticket: u64) -> Done {
+        let Some(_kept) = self.list.seat(ticket) else {
+            return Err(Trouble::Unread("no ticket that is out"));
+        };
         let list = self.list.delete_failed(alloc, self.term, ticket)?;
         self.list = list;
         self.begun = true;
@@ -375,12 +387,10 @@ impl Board {
     }
 
     /// A ticket raises a generation.
-    pub(crate) fn raised(
-        &mut self,
-        alloc: Global,
-        ticket: u64,
-        generation: u64,
-    ) -> Result<(), AllocError> {
+    pub(crate) fn raised(&mut self, alloc: Global, ticket: u64, generation: u64) -> Done {
+        let Some(_kept) = self.list.seat(ticket) else {
+            return Err(Trouble::Unread("no ticket that is out"));
+        };
         let list = self.list.raised(alloc, ticket, generation)?;
         self.list = list;
         self.begun = true;
@@ -388,7 +398,7 @@ impl Board {
     }
 
     /// A finalization that raised a generation settles.
-    pub(crate) fn settled(&mut self, alloc: Global, ticket: u64) -> Result<(), Trouble> {
+    pub(crate) fn settled(&mut self, alloc: Global, ticket: u64) -> Done {
         let Some(seat) = self.list.seat(ticket) else {
             return Err(Trouble::Unread("no such ticket"));
         };
@@ -405,7 +415,7 @@ impl Board {
     }
 
     /// A delete or cleanup that raised a generation settles.
-    pub(crate) fn delete_settled(&mut self, alloc: Global, ticket: u64) -> Result<(), Trouble> {
+    pub(crate) fn delete_settled(&mut self, alloc: Global, ticket: u64) -> Done {
         let Some(seat) = self.list.seat(ticket) else {
             return Err(Trouble::Unread("no such ticket"));
         };
@@ -422,7 +432,10 @@ impl Board {
     }
 
     /// A ticket ends.
-    pub(crate) fn ended(&mut self, alloc: Global, ticket: u64) -> Result<(), AllocError> {
+    pub(crate) fn ended(&mut self, alloc: Global, ticket: u64) -> Done {
+        let Some(_kept) = self.list.seat(ticket) else {
+            return Err(Trouble::Unread("no ticket that is out"));
+        };
         let list = self.list.ended(alloc, ticket)?;
         self.list = list;
         self.begun = true;
@@ -430,7 +443,10 @@ impl Board {
     }
 
     /// An op that failed or was aborted leaves, or a cleanup that is over.
-    pub(crate) fn dropped(&mut self, alloc: Global, ticket: u64) -> Result<(), AllocError> {
+    pub(crate) fn dropped(&mut self, alloc: Global, ticket: u64) -> Done {
+        let Some(_kept) = self.list.seat(ticket) else {
+            return Err(Trouble::Unread("no ticket that is out"));
+        };
         let list = self.list.dropped(alloc, ticket)?;
         self.list = list;
         self.begun = true;
@@ -438,7 +454,10 @@ impl Board {
     }
 
     /// A shard of a restore is restored, or fails.
-    pub(crate) fn shard_read(&mut self, alloc: Global, ticket: u64) -> Result<(), AllocError> {
+    pub(crate) fn shard_read(&mut self, alloc: Global, ticket: u64) -> Done {
+        let Some(_kept) = self.list.reader(ticket) else {
+            return Err(Trouble::Unread("no ticket that is out"));
+        };
         let list = self.list.shard_read(alloc, ticket)?;
         self.list = list;
         self.begun = true;

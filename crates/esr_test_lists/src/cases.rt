@@ -3,10 +3,10 @@ use crate::histories::Told;
 use crate::lists::Listing;
 use crate::replies;
 use crate::roots::Growing;
-use crate::told::trouble_told;
-use crate::trouble::Trouble;
+use crate::told::say_trouble;
+use crate::trouble::{Done, Trouble};
 use esr_scenes::{CasePlayer, container_lines};
-use std::alloc::{AllocError, Global};
+use std::alloc::Global;
 
 /// What a case has come to, by its kind.
 #[derive(Drop)]
@@ -18,23 +18,25 @@ pub(crate) enum Player {
     Unknown,
 }
 
-/// What a line of a list is answered. `as NAME` stands for the lines of that container, which ask for nothing.
-fn list_answer(
+/// Says what a line of a list is answered. `as NAME` stands for the lines of that container, which ask for nothing.
+fn say_list_answer(
     alloc: Global,
     listing: &mut Listing,
     cases: &str,
     line: &str,
-) -> Result<String, Trouble> {
+    said: &mut String,
+) -> Done {
     let Some(name) = line.strip_prefix("as ") else {
-        return listing.answer(alloc, line);
+        return listing.say_answer(alloc, line, said);
     };
     let Some(lines) = container_lines(cases, name) else {
         return Err(Trouble::Unread("no such container"));
     };
     for line in lines.lines() {
-        listing.answer(alloc, line)?;
+        listing.say_answer(alloc, line, said)?;
+        said.clear();
     }
-    Ok(String::new(alloc))
+    Ok(())
 }
 
 impl Player {
@@ -54,12 +56,12 @@ impl Player {
         }
     }
 
-    fn answer_of(&mut self, alloc: Global, cases: &str, line: &str) -> Result<String, Trouble> {
+    fn say(&mut self, alloc: Global, cases: &str, line: &str, said: &mut String) -> Done {
         match self {
-            Player::Reply => replies::answer(alloc, line),
-            Player::History { told } => told.answer(alloc, line),
-            Player::List { listing } => list_answer(alloc, listing, cases, line),
-            Player::Root { growing } => growing.answer(alloc, line),
+            Player::Reply => replies::say_answer(alloc, line, said),
+            Player::History { told } => told.say_answer(alloc, line, said),
+            Player::List { listing } => say_list_answer(alloc, listing, cases, line, said),
+            Player::Root { growing } => growing.say_answer(alloc, line, said),
             Player::Unknown => Err(Trouble::Unread(
                 "not a case with a kind, a name and a sentence",
             )),
@@ -72,11 +74,10 @@ impl CasePlayer for Player {
         *self = Player::new(alloc, kind);
     }
 
-    /// What a line is answered, or why it has no answer.
-    fn answer(&mut self, alloc: Global, cases: &str, line: &str) -> Result<String, AllocError> {
-        match self.answer_of(alloc, cases, line) {
-            Ok(text) => Ok(text),
-            Err(trouble) => trouble_told(alloc, trouble),
+    /// Says what a line is answered, or why it has no answer.
+    fn answer(&mut self, alloc: Global, cases: &str, line: &str, said: &mut String) {
+        if let Err(trouble) = self.say(alloc, cases, line, said) {
+            say_trouble(said, trouble);
         }
     }
 }

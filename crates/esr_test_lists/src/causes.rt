@@ -1,9 +1,9 @@
 //! Why a unit failed, and how a step is refused, in words.
-use crate::trouble::Trouble;
-use crate::words::Words;
+use crate::words::{blob_of, id_of};
 use esr_desk::{EntryRefusal, Why};
 use esr_hash::Print;
 use esr_json::Reason;
+use esr_scenes::Words;
 
 /// What was read of a file, where it doesn't matter what.
 const PRINT: Print = Print {
@@ -12,85 +12,86 @@ const PRINT: Print = Print {
 };
 
 /// Why a unit failed: of a blob, or of numbers that are spent, where it isn't one of the outside.
-pub(crate) fn why_of(words: &mut Words) -> Result<Why, Trouble> {
+pub(crate) fn why_of(words: &mut Words) -> Why {
     match words.word() {
-        "depot" => Ok(Why::Depot),
-        "source" => Ok(Why::Source),
-        "target" => Ok(Why::Target),
-        "changed" => Ok(Why::Changed {
+        "depot" => Why::Depot,
+        "source" => Why::Source,
+        "target" => Why::Target,
+        "changed" => Why::Changed {
             first: PRINT,
             second: PRINT,
-        }),
-        "ids-spent" => Ok(Why::IdsSpent { next: words.id()? }),
-        "generations-spent" => Ok(Why::GenerationsSpent { number: i64::MAX }),
+        },
+        "ids-spent" => Why::IdsSpent { next: id_of(words) },
+        "generations-spent" => Why::GenerationsSpent { number: i64::MAX },
         kind => blob_why(kind, words),
     }
 }
 
 /// What was wrong with a blob.
-fn blob_why(kind: &str, words: &mut Words) -> Result<Why, Trouble> {
-    let name = words.blob()?;
+fn blob_why(kind: &str, words: &mut Words) -> Why {
+    let name = blob_of(words);
     match kind {
-        "absent" => Ok(Why::Absent { name }),
-        "no-json" => Ok(Why::Unreadable {
+        "absent" => Why::Absent { name },
+        "no-json" => Why::Unreadable {
             name,
             reason: Reason::Json,
-        }),
-        "unlisted" => Ok(Why::Unreadable {
+        },
+        "unlisted" => Why::Unreadable {
             name,
             reason: Reason::Unlisted,
-        }),
-        "ahead" => Ok(Why::Ahead {
+        },
+        "ahead" => Why::Ahead {
             name,
-            id: words.id()?,
-        }),
-        "name-taken" => Ok(Why::NameTaken { name }),
-        "misprinted" => Ok(Why::Misprinted {
+            id: id_of(words),
+        },
+        "name-taken" => Why::NameTaken { name },
+        "misprinted" => Why::Misprinted {
             name,
             stated: PRINT,
             found: PRINT,
-        }),
-        "disagreeing" => Ok(Why::Disagreeing {
+        },
+        "disagreeing" => Why::Disagreeing {
             name,
-            other: words.blob()?,
-        }),
-        _ => Err(Trouble::Unread("no such cause")),
+            other: blob_of(words),
+        },
+        _ => words.refuse("no such cause", Why::Depot),
     }
 }
 
 /// How a step is refused.
-pub(crate) fn refusal_of(words: &mut Words) -> Result<EntryRefusal, Trouble> {
+pub(crate) fn refusal_of(words: &mut Words) -> EntryRefusal {
     match words.word() {
-        "name-in-use" => Ok(EntryRefusal::NameInUse { uuid: words.id()? }),
-        "ids-spent" => Ok(EntryRefusal::IdsSpent { next: words.id()? }),
-        "name-taken" => Ok(EntryRefusal::NameTaken {
-            name: words.blob()?,
-        }),
-        "generations-spent" => Ok(EntryRefusal::GenerationsSpent { number: i64::MAX }),
-        "depot" => Ok(EntryRefusal::DepotFault),
-        "stale-term" => Ok(EntryRefusal::StaleTerm {
-            own: words.number()?,
-            now: words.number()?,
-        }),
-        kind => numbered_refusal(kind, words.number()?),
+        "name-in-use" => EntryRefusal::NameInUse { uuid: id_of(words) },
+        "ids-spent" => EntryRefusal::IdsSpent { next: id_of(words) },
+        "name-taken" => EntryRefusal::NameTaken {
+            name: blob_of(words),
+        },
+        "generations-spent" => EntryRefusal::GenerationsSpent { number: i64::MAX },
+        "depot" => EntryRefusal::DepotFault,
+        "stale-term" => EntryRefusal::StaleTerm {
+            own: words.number(),
+            now: words.number(),
+        },
+        kind => numbered_refusal(kind, words),
     }
 }
 
 /// A refusal that names an op, a place or another number.
-fn numbered_refusal(kind: &str, number: u64) -> Result<EntryRefusal, Trouble> {
+fn numbered_refusal(kind: &str, words: &mut Words) -> EntryRefusal {
+    let number = words.number();
     match kind {
-        "no-snapshot" => Ok(EntryRefusal::NoSnapshot { place: number }),
-        "no-index" => Ok(EntryRefusal::NoIndex { place: number }),
-        "being-deleted" => Ok(EntryRefusal::BeingDeleted { op: number }),
-        "cleanup-running" => Ok(EntryRefusal::CleanupRunning { op: number }),
-        "clone-running" => Ok(EntryRefusal::CloneRunning { op: number }),
-        "restore-running" => Ok(EntryRefusal::RestoreRunning { op: number }),
-        "too-many" => Ok(EntryRefusal::TooMany { limit: number }),
-        "aborted" => Ok(EntryRefusal::Aborted { by: number }),
-        "deposed" => Ok(EntryRefusal::Deposed { entry: number }),
-        "terms-spent" => Ok(EntryRefusal::TermsSpent { number }),
-        "busy-op" => Ok(EntryRefusal::BusyOp { op: number }),
-        "busy-ticket" => Ok(EntryRefusal::BusyTicket { ticket: number }),
-        _ => Err(Trouble::Unread("no such refusal")),
+        "no-snapshot" => EntryRefusal::NoSnapshot { place: number },
+        "no-index" => EntryRefusal::NoIndex { place: number },
+        "being-deleted" => EntryRefusal::BeingDeleted { op: number },
+        "cleanup-running" => EntryRefusal::CleanupRunning { op: number },
+        "clone-running" => EntryRefusal::CloneRunning { op: number },
+        "restore-running" => EntryRefusal::RestoreRunning { op: number },
+        "too-many" => EntryRefusal::TooMany { limit: number },
+        "aborted" => EntryRefusal::Aborted { by: number },
+        "deposed" => EntryRefusal::Deposed { entry: number },
+        "terms-spent" => EntryRefusal::TermsSpent { number },
+        "busy-op" => EntryRefusal::BusyOp { op: number },
+        "busy-ticket" => EntryRefusal::BusyTicket { ticket: number },
+        _ => words.refuse("no such refusal", EntryRefusal::DepotFault),
     }
 }

@@ -1,85 +1,63 @@
 //! The container of a case, and what opening it answers.
-use crate::board::{Board, board_of};
-use crate::trouble::Trouble;
-use crate::words::Words;
+use crate::trouble::{Done, Trouble};
 use esr_depot::{Depot, Stage};
-use esr_memdepot::{Call, Failing, Leaves, MemDepot};
-use esr_opening::{OpenRefusal, open_container};
-use esr_seq::Seq;
-use std::alloc::{AllocError, Global};
+use esr_memdepot::{Call, Failing, Leaves, MemDepot, Plan};
+use esr_opening::OpenRefusal;
+use esr_scenes::{Words, say, say_bytes};
+use std::alloc::Global;
+use std::fmt::Write;
 
 /// The call of a container that has that name.
-fn call_of(name: &str) -> Result<Call, Trouble> {
-    match name {
-        "read-record" => Ok(Call::ReadRecord),
-        "list" => Ok(Call::List),
-        "fetch" => Ok(Call::Fetch),
-        "read" => Ok(Call::FetchRead { fetch: 1 }),
-        "swap-record" => Ok(Call::SwapRecord),
-        _ => Err(Trouble::Unread("no such call of a container")),
+fn call_of(words: &mut Words) -> Call {
+    match words.word() {
+        "read-record" => Call::ReadRecord,
+        "list" => Call::List,
+        "fetch" => Call::Fetch,
+        "read" => Call::FetchRead { fetch: 1 },
+        "swap-record" => Call::SwapRecord,
+        _ => words.refuse("no such call of a container", Call::List),
     }
 }
 
 /// An empty container of which a call fails, and leaves the old state.
 pub(crate) fn failing(alloc: Global, words: &mut Words) -> Result<MemDepot, Trouble> {
-    let call = call_of(words.word())?;
-    let mut plan = Seq::new(alloc);
-    plan.push(Failing {
-        call,
-        nth: words.number()?,
+    let failing = Failing {
+        call: call_of(words),
+        nth: words.number(),
         leaves: Leaves::Old,
-    })?;
+    };
+    let plan = Plan::from_slice(alloc, &[words.end(failing)?])?;
     Ok(MemDepot::new(alloc, plan))
 }
 
 /// Puts a blob.
-pub(crate) fn put(
-    alloc: Global,
-    depot: &mut MemDepot,
-    name: &str,
-    bytes: &[u8],
-) -> Result<(), Trouble> {
+pub(crate) fn put(alloc: Global, depot: &mut MemDepot, name: &str, bytes: &[u8]) -> Done {
     let mut stage = depot.begin(alloc, name, bytes.len())?;
-    stage.write(bytes)?;
-    depot.replace(alloc, stage)?;
+    if stage.write(bytes).is_err() {
+        return Err(Trouble::Unread("the container failed"));
+    }
+    Ok(depot.replace(alloc, stage)?)
+}
+
+/// Says the text of the record, if there is one.
+pub(crate) fn say_record(alloc: Global, depot: &mut MemDepot, said: &mut String) -> Done {
+    if let Some(record) = depot.read_record(alloc)? {
+        say_bytes(said, record.as_slice());
+    }
     Ok(())
 }
 
-/// The text of the record, empty where there is none.
-pub(crate) fn record_of(alloc: Global, depot: &mut MemDepot) -> Result<String, Trouble> {
-    match depot.read_record(alloc)? {
-        Some(record) => Ok(String::from_utf8_lossy(alloc, record.as_slice())?),
-        None => Ok(String::new(alloc)),
-    }
-}
-
-/// Why a container isn't opened.
-fn refused<F>(alloc: Global, refusal: &OpenRefusal<F>) -> Result<String, AllocError> {
+/// Says why a container isn't opened.
+pub(crate) fn say_refused<F>(said: &mut String, refusal: &OpenRefusal<F>) {
     match refusal {
         OpenRefusal::Damaged { name, why } => {
-            format!(in alloc; "damaged {} {why:?}", name.as_str())
+            let _ = write!(said, "damaged {} {why:?}", name.as_str());
         }
-        OpenRefusal::TermsSpent { term } => format!(in alloc; "terms spent {term}"),
-        OpenRefusal::DepotFault { fetch: Some(_) } => String::from_str(alloc, "failed read"),
-        OpenRefusal::DepotFault { fetch: None } => String::from_str(alloc, "failed call"),
-        OpenRefusal::Memory => String::from_str(alloc, "out of memory"),
-    }
-}
-
-/// The container after it was opened, what is told of that, and the list of its ops.
-pub(crate) fn opened(
-    alloc: Global,
-    depot: MemDepot,
-) -> Result<(MemDepot, String, Option<Board>), Trouble> {
-    match open_container(alloc, depot) {
-        Ok(opening) => {
-            let text = String::from_str(alloc, "opened")?;
-            let (board, depot) = board_of(opening)?;
-            Ok((depot, text, Some(board)))
+        OpenRefusal::TermsSpent { term } => {
+            let _ = write!(said, "terms spent {term}");
         }
-        Err((depot, refusal)) => {
-            let text = refused(alloc, &refusal)?;
-            Ok((depot, text, None))
-        }
+        OpenRefusal::DepotFault { fetch: Some(_) } => say(said, "failed read"),
+        OpenRefusal::DepotFault { fetch: None } => say(said, "failed call"),
+        OpenRefusal::Memory => say(said, "out of memory"),
     }
 }

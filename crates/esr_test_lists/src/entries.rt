@@ -5,10 +5,11 @@
 //! `prune STEP` (of a delete).
 use crate::causes::why_of;
 use crate::trouble::Trouble;
-use crate::words::Words;
-use esr_desk::{BlobNames, CloneOf, Prune, Read, Step};
+use crate::words::{blob_of, id_of};
+use esr_desk::{CloneOf, Prune, Read, Step};
 use esr_names::{IndexNames, IndexRefs, SnapName};
 use esr_ops::{AskedIndices, Command};
+use esr_scenes::{Words, one};
 use esr_script::{Item, script_read};
 use std::alloc::Global;
 
@@ -53,85 +54,99 @@ fn ask(alloc: Global, line: &str) -> Result<Step, Trouble> {
 
 /// A clone that is accepted, of no index.
 fn ask_clone(alloc: Global, words: &mut Words) -> Result<Step, Trouble> {
-    let source = words.id()?;
+    let taken = id_of(words);
+    let source = SnapName::new(alloc, words.word())?;
+    let name = SnapName::new(alloc, words.word())?;
     Ok(Step::AskClone {
-        source: SnapName::new(alloc, words.word())?,
-        name: SnapName::new(alloc, words.word())?,
+        source,
+        name,
         indices: IndexNames::new(alloc),
         moment: 0,
         taken: CloneOf {
-            source,
+            source: taken,
             indices: IndexRefs::new(alloc),
         },
     })
 }
 
-fn remove_tests(alloc: Global, words: &mut Words) -> Result<Read, Trouble> {
-    let mut names = BlobNames::new(alloc);
-    names.push(words.blob()?)?;
-    Ok(Read::RemoveTests { names })
+/// A step of a restore, a check or a verification.
+fn read_of(kind: &str, words: &mut Words) -> Read {
+    match kind {
+        "restored" => Read::Restored {
+            files: words.number(),
+            bytes: words.number(),
+        },
+        "checked" => Read::Checked {
+            snapshots: words.number(),
+            blobs: words.number(),
+        },
+        "draw-test" => Read::DrawTest,
+        "verified" => Read::Verified,
+        "failed" => Read::Failed { why: why_of(words) },
+        "blob" => Read::Blob {
+            name: blob_of(words),
+        },
+        "begin-test" => Read::BeginTest {
+            name: blob_of(words),
+        },
+        "commit-test" => Read::CommitTest {
+            name: blob_of(words),
+        },
+        _ => words.refuse("no such step of reading", Read::Verified),
+    }
 }
 
-/// A step of a restore, a check or a verification.
-fn read_of(alloc: Global, words: &mut Words) -> Result<Read, Trouble> {
+fn read_step(alloc: Global, words: &mut Words) -> Result<Step, Trouble> {
     match words.word() {
-        "blob" => Ok(Read::Blob {
-            name: words.blob()?,
+        "remove-tests" => {
+            let names = one(alloc, blob_of(words))?;
+            Ok(Step::Read {
+                read: Read::RemoveTests { names },
+            })
+        }
+        kind => Ok(Step::Read {
+            read: read_of(kind, words),
         }),
-        "restored" => Ok(Read::Restored {
-            files: words.number()?,
-            bytes: words.number()?,
-        }),
-        "checked" => Ok(Read::Checked {
-            snapshots: words.number()?,
-            blobs: words.number()?,
-        }),
-        "draw-test" => Ok(Read::DrawTest),
-        "begin-test" => Ok(Read::BeginTest {
-            name: words.blob()?,
-        }),
-        "commit-test" => Ok(Read::CommitTest {
-            name: words.blob()?,
-        }),
-        "remove-tests" => remove_tests(alloc, words),
-        "verified" => Ok(Read::Verified),
-        "failed" => Ok(Read::Failed {
-            why: why_of(words)?,
-        }),
-        _ => Err(Trouble::Unread("no such step of reading")),
     }
 }
 
 /// A step of a delete.
-fn prune_of(words: &mut Words) -> Result<Prune, Trouble> {
+fn prune_of(words: &mut Words) -> Prune {
     match words.word() {
-        "settle" => Ok(Prune::Settle),
-        "failed" => Ok(Prune::Failed {
-            why: why_of(words)?,
-        }),
-        _ => Err(Trouble::Unread("no such step of a delete")),
+        "settle" => Prune::Settle,
+        "failed" => Prune::Failed { why: why_of(words) },
+        _ => words.refuse("no such step of a delete", Prune::Settle),
     }
 }
 
-pub(crate) fn step_of(alloc: Global, words: &mut Words) -> Result<Step, Trouble> {
+/// A step that asks for no op, and reads nothing.
+fn plain(word: &str, words: &mut Words) -> Step {
+    match word {
+        "look" => Step::Look,
+        "take" => Step::Take,
+        "elect" => Step::Elect,
+        "raise" => Step::Raise,
+        "settle" => Step::Settle,
+        "finish" => Step::Finish,
+        "failed" => Step::Failed { why: why_of(words) },
+        "prune" => Step::Prune {
+            prune: prune_of(words),
+        },
+        _ => words.refuse("no such step", Step::Look),
+    }
+}
+
+fn step_of(alloc: Global, words: &mut Words) -> Result<Step, Trouble> {
     match words.word() {
-        "look" => Ok(Step::Look),
-        "take" => Ok(Step::Take),
-        "elect" => Ok(Step::Elect),
-        "raise" => Ok(Step::Raise),
-        "settle" => Ok(Step::Settle),
-        "finish" => Ok(Step::Finish),
         "ask" => ask(alloc, words.rest()),
         "clone" => ask_clone(alloc, words),
-        "failed" => Ok(Step::Failed {
-            why: why_of(words)?,
-        }),
-        "read" => Ok(Step::Read {
-            read: read_of(alloc, words)?,
-        }),
-        "prune" => Ok(Step::Prune {
-            prune: prune_of(words)?,
-        }),
-        _ => Err(Trouble::Unread("no such step")),
+        "read" => read_step(alloc, words),
+        word => Ok(plain(word, words)),
     }
+}
+
+/// The step that is left of the words.
+pub(crate) fn step_read(alloc: Global, words: &mut Words) -> Result<Step, Trouble> {
+    let step = step_of(alloc, words)?;
+    Ok(words.end(step)?)
 }

@@ -4,16 +4,16 @@
 //! - `WHO STEP -> ANSWER` is an entry of the history, by the ticket WHO, or by 0;
 //! - `answered` is answered by how many of the script's lines the history answers;
 //! - `report` by the report, each line of it ended by a `;`, and `status` by the exit status.
-use crate::answers::answer_of;
-use crate::entries::step_of;
-use crate::replies::in_one_line;
-use crate::trouble::Trouble;
-use crate::words::Words;
+use crate::answers::answer_read;
+use crate::entries::step_read;
+use crate::replies::say_in_one_line;
+use crate::trouble::{Done, Trouble};
 use esr_desk::{Entry, History};
 use esr_lines::report;
 use esr_report::{end_of_run, replies};
-use esr_script::script_read;
-use std::alloc::Global;
+use esr_scenes::{Words, say_number};
+use esr_script::{Script, script_read};
+use std::alloc::{AllocError, Global};
 
 /// What a case has come to.
 #[derive(Drop)]
@@ -30,45 +30,58 @@ impl Told {
         }
     }
 
-    fn entry(&mut self, alloc: Global, line: &str) -> Result<(), Trouble> {
-        let Some((words, answer)) = line.split_once(" -> ") else {
-            return Err(Trouble::Unread("not an entry, nor a question"));
-        };
-        let mut words = Words::new(words);
-        let who = words.number()?;
-        let answer = answer_of(alloc, &mut Words::new(answer))?;
-        let step = step_of(alloc, &mut words)?;
+    /// Adds an entry of these words.
+    fn push(&mut self, alloc: Global, words: &mut Words, who: u64, answer: &str) -> Done {
+        let answer = answer_read(alloc, answer)?;
+        let step = step_read(alloc, words)?;
         self.history.push(Entry { who, step, answer })?;
         Ok(())
     }
 
-    /// What the script is answered.
-    fn question(&self, alloc: Global, what: &str) -> Result<String, Trouble> {
-        let script = script_read(alloc, self.script.as_bytes())?;
-        let answers = replies(alloc, &script, &self.history)?;
-        let text = match what {
-            "answered" => format!(in alloc; "{}", answers.len()),
-            "status" => {
-                format!(in alloc; "{}", end_of_run(&script, &self.history, &answers).status())
-            }
-            _ => in_one_line(alloc, &report(alloc, &script, &self.history, &answers)?),
+    fn entry(&mut self, alloc: Global, line: &str) -> Done {
+        let Some((words, answer)) = line.split_once(" -> ") else {
+            return Err(Trouble::Unread("not an entry, nor a question"));
         };
-        Ok(text?)
+        let mut words = Words::new(words);
+        let who = words.number();
+        self.push(alloc, &mut words, who, answer)
     }
 
-    /// What a line of a case is answered; nothing, where it is part of the script or of the history.
-    pub(crate) fn answer(&mut self, alloc: Global, line: &str) -> Result<String, Trouble> {
-        match line {
-            "answered" | "report" | "status" => return self.question(alloc, line),
-            _ => {}
-        }
-        match line.strip_prefix("> ") {
-            Some(line) => {
-                self.script.push_str(line)?;
-                self.script.push_str("\n")?;
-            }
-            None => self.entry(alloc, line)?,
-        }
-        Ok(String::new(alloc))
+    /// Says what the script is answered.
+    fn say_question(&self, alloc: Global, what: &str, said: &mut String) -> Done {
+        let script = script_read(alloc, self.script.as_bytes())?;
+        Ok(say_replies(alloc, &script, &self.history, what, said)?)
     }
+
+    /// Says what a line of a case is answered; nothing, where it is part of the script or of the history.
+    pub(crate) fn say_answer(&mut self, alloc: Global, line: &str, said: &mut String) -> Done {
+        if let Some(line) = line.strip_prefix("> ") {
+            self.script.push_str(line)?;
+            return Ok(self.script.push_str("\n")?);
+        }
+        match line {
+            "answered" | "report" | "status" => self.say_question(alloc, line, said),
+            _ => self.entry(alloc, line),
+        }
+    }
+}
+
+/// Says what a script is answered by a history: how many lines, the report or the exit status.
+fn say_replies(
+    alloc: Global,
+    script: &Script,
+    history: &History,
+    what: &str,
+    said: &mut String,
+) -> Result<(), AllocError> {
+    let answers = replies(alloc, script, history)?;
+    match what {
+        "answered" => say_number(said, answers.len() as u64),
+        "status" => say_number(
+            said,
+            u64::from(end_of_run(script, history, &answers).status()),
+        ),
+        _ => say_in_one_line(said, report(alloc, script, history, &answers)?.as_slice()),
+    }
+    Ok(())
 }

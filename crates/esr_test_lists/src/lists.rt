@@ -20,16 +20,17 @@
 //! `delete-failed TICKET`, `raised TICKET GENERATION`, `settled TICKET`, `delete-settled TICKET`, `ended TICKET`, `dropped TICKET` and
 //! `shard-read TICKET` are what units report; `skip-to ID` is a later next id, and `elect` begins the next term.
 use crate::asking::{asked, many, would};
-use crate::board::Board;
-use crate::containers::{failing, opened, put, record_of};
-use crate::told::{id_told, ops_told, unit_told};
-use crate::trouble::Trouble;
-use crate::words::Words;
+use crate::board::{Board, board_of};
+use crate::containers::{failing, put, say_record, say_refused};
+use crate::told::say_unit;
+use crate::trouble::{Done, Trouble};
+use crate::words::id_of;
 use esr_depot::Depot;
-use esr_formats::write_info;
 use esr_memdepot::MemDepot;
+use esr_opening::open_container;
+use esr_scenes::{Words, say};
 use esr_seq::Seq;
-use std::alloc::{AllocError, Global};
+use std::alloc::Global;
 
 /// What a case has come to.
 #[derive(Drop)]
@@ -38,38 +39,33 @@ pub(crate) struct Listing {
     board: Option<Board>,
 }
 
-/// The text of the last info.
-fn last_info(alloc: Global, board: &Board) -> Result<String, AllocError> {
-    match board.infos().as_slice() {
-        [.., info] => String::from_utf8_lossy(alloc, write_info(alloc, info)?.as_slice()),
-        [] => Ok(String::new(alloc)),
-    }
-}
-
-/// What is asked of an opened container, beside its record.
-fn question(alloc: Global, board: &Board, what: &str) -> Result<String, AllocError> {
-    match what {
-        "infos" => format!(in alloc; "{}", board.infos().len()),
-        "info" => last_info(alloc, board),
-        "snapshots" => format!(in alloc; "{}", board.root().snapshots.as_slice().len()),
-        "term" => format!(in alloc; "{}", board.term()),
-        "next" => id_told(alloc, board.next()),
-        "next-op" => format!(in alloc; "{}", board.next_op()),
-        "ops" => ops_told(alloc, board.ops(alloc)?.as_slice()),
-        _ => String::from_str(alloc, "no such line of a list"),
-    }
-}
-
-fn take(alloc: Global, board: &mut Board) -> Result<String, Trouble> {
+fn take(alloc: Global, board: &mut Board, said: &mut String) -> Done {
     match board.take(alloc)? {
-        Some(unit) => Ok(unit_told(alloc, &unit)?),
-        None => Ok(String::from_str(alloc, "nothing")?),
+        Some(unit) => say_unit(said, &unit),
+        None => say(said, "nothing"),
     }
+    Ok(())
 }
 
-/// How a ticket ends.
-fn end(alloc: Global, board: &mut Board, what: &str, ticket: u64) -> Result<(), AllocError> {
+fn done(alloc: Global, board: &mut Board, ticket: u64, words: &mut Words) -> Done {
+    let generation = id_of(words);
+    board.shard_done(alloc, ticket, words.end(generation)?)
+}
+
+fn raised(alloc: Global, board: &mut Board, ticket: u64, words: &mut Words) -> Done {
+    let generation = words.number();
+    board.raised(alloc, ticket, words.end(generation)?)
+}
+
+/// What a ticket reports.
+fn tell_ticket(alloc: Global, board: &mut Board, what: &str, words: &mut Words) -> Done {
+    let ticket = words.number();
+    let ticket = words.end(ticket)?;
     match what {
+        "done" => done(alloc, board, ticket, words),
+        "raised" => raised(alloc, board, ticket, words),
+        "settled" => board.settled(alloc, ticket),
+        "delete-settled" => board.delete_settled(alloc, ticket),
         "failed" => board.unit_failed(alloc, ticket),
         "delete-failed" => board.delete_failed(alloc, ticket),
         "ended" => board.ended(alloc, ticket),
@@ -78,31 +74,21 @@ fn end(alloc: Global, board: &mut Board, what: &str, ticket: u64) -> Result<(), 
     }
 }
 
-/// What is done with the list that has no answer.
-fn tell(alloc: Global, board: &mut Board, what: &str, words: &mut Words) -> Result<(), Trouble> {
-    match what {
-        "skip-to" => board.skip_to(words.id()?),
-        "elect" => board.elect(),
-        "done" => board.shard_done(alloc, words.number()?, words.id()?),
-        "raised" => Ok(board.raised(alloc, words.number()?, words.number()?)?),
-        "settled" => board.settled(alloc, words.number()?),
-        "delete-settled" => board.delete_settled(alloc, words.number()?),
-        _ => Ok(end(alloc, board, what, words.number()?)?),
-    }
-}
-
 /// What a line is answered that the list of ops is asked or told.
-fn list_answer(alloc: Global, board: &mut Board, line: &str) -> Result<String, Trouble> {
+fn say_list_answer(alloc: Global, board: &mut Board, line: &str, said: &mut String) -> Done {
     let mut words = Words::new(line);
     let what = words.word();
     match what {
-        "snapshot" | "clone" | "delete" | "restore" | "cleanup" => asked(alloc, board, line),
-        "would" => would(alloc, board, words.rest()),
-        "many" => many(alloc, board, &mut words),
-        "take" => take(alloc, board),
-        "skip-to"
-        | "elect"
-        | "done"
+        "snapshot" | "clone" | "delete" | "restore" | "cleanup" => asked(alloc, board, line, said),
+        "would" => would(alloc, board, words.rest(), said),
+        "many" => many(alloc, board, &mut words, said),
+        "take" => take(alloc, board, said),
+        "skip-to" => {
+            let next = id_of(&mut words);
+            board.skip_to(words.end(next)?)
+        }
+        "elect" => board.elect(),
+        "done"
         | "raised"
         | "failed"
         | "delete-failed"
@@ -110,28 +96,17 @@ fn list_answer(alloc: Global, board: &mut Board, line: &str) -> Result<String, T
         | "delete-settled"
         | "ended"
         | "dropped"
-        | "shard-read" => {
-            tell(alloc, board, what, &mut words)?;
-            Ok(String::new(alloc))
-        }
-        _ => Ok(question(alloc, board, what)?),
+        | "shard-read" => tell_ticket(alloc, board, what, &mut words),
+        _ => Ok(board.say(alloc, what, said)?),
     }
 }
 
-/// Puts the blob of a line.
-fn put_words(alloc: Global, depot: &mut MemDepot, words: &mut Words) -> Result<String, Trouble> {
-    let name = words.word();
-    put(alloc, depot, name, words.rest().as_bytes())?;
-    Ok(String::new(alloc))
-}
-
-/// Swaps a text into the record, or answers the record where there is none.
-fn record_answer(alloc: Global, depot: &mut MemDepot, text: &str) -> Result<String, Trouble> {
+/// Swaps a text into the record, or says the record where there is none.
+fn record_answer(alloc: Global, depot: &mut MemDepot, text: &str, said: &mut String) -> Done {
     if text.is_empty() {
-        return record_of(alloc, depot);
+        return say_record(alloc, depot, said);
     }
-    depot.swap_record(alloc, text.as_bytes())?;
-    Ok(String::new(alloc))
+    Ok(depot.swap_record(alloc, text.as_bytes())?)
 }
 
 impl Listing {
@@ -142,53 +117,59 @@ impl Listing {
         }
     }
 
-    /// Opens the container.
-    fn open(&mut self, alloc: Global) -> Result<String, Trouble> {
+    /// Opens the container, and says what comes of it.
+    fn open(&mut self, alloc: Global, said: &mut String) -> Done {
         let Some(depot) = self.depot.take() else {
             return Err(Trouble::Unread("no container is there"));
         };
-        let (depot, text, board) = opened(alloc, depot)?;
-        self.depot = Some(depot);
-        self.board = board;
-        Ok(text)
+        match open_container(alloc, depot) {
+            Ok(opening) => {
+                let (board, depot) = board_of(opening)?;
+                say(said, "opened");
+                self.depot = Some(depot);
+                self.board = Some(board);
+            }
+            Err((depot, refusal)) => {
+                say_refused(said, &refusal);
+                self.depot = Some(depot);
+                self.board = None;
+            }
+        }
+        Ok(())
     }
 
     /// A container of which a call fails takes the place of the one that is there.
-    fn fail(&mut self, alloc: Global, words: &mut Words) -> Result<String, Trouble> {
+    fn fail(&mut self, alloc: Global, words: &mut Words) -> Done {
         self.depot = Some(failing(alloc, words)?);
-        Ok(String::new(alloc))
+        Ok(())
     }
 
-    /// What a line is answered that changes the container, or asks for its record.
-    fn change(&mut self, alloc: Global, what: &str, words: &mut Words) -> Result<String, Trouble> {
+    /// Changes the container, or says its record.
+    fn change(&mut self, alloc: Global, what: &str, words: &mut Words, said: &mut String) -> Done {
         let Some(depot) = &mut self.depot else {
             return Err(Trouble::Unread("no container is there"));
         };
         match what {
-            "put" => put_words(alloc, depot, words),
-            _ => record_answer(alloc, depot, words.rest()),
+            "put" => {
+                let name = words.word();
+                put(alloc, depot, name, words.rest().as_bytes())
+            }
+            _ => record_answer(alloc, depot, words.rest(), said),
         }
     }
 
-    /// What a line is answered that is of the container.
-    fn container_answer(&mut self, alloc: Global, line: &str) -> Result<String, Trouble> {
+    /// Says what a line of a case is answered.
+    pub(crate) fn say_answer(&mut self, alloc: Global, line: &str, said: &mut String) -> Done {
         let mut words = Words::new(line);
-        match words.word() {
-            "open" => self.open(alloc),
+        let what = words.word();
+        match what {
+            "open" => self.open(alloc, said),
             "fails" => self.fail(alloc, &mut words),
-            what => self.change(alloc, what, &mut words),
-        }
-    }
-
-    /// What a line of a case is answered.
-    pub(crate) fn answer(&mut self, alloc: Global, line: &str) -> Result<String, Trouble> {
-        match Words::new(line).word() {
-            "open" | "fails" | "put" | "record" => return self.container_answer(alloc, line),
-            _ => {}
-        }
-        match &mut self.board {
-            Some(board) => list_answer(alloc, board, line),
-            None => Err(Trouble::Unread("no container is open")),
+            "put" | "record" => self.change(alloc, what, &mut words, said),
+            _ => match &mut self.board {
+                Some(board) => say_list_answer(alloc, board, line, said),
+                None => Err(Trouble::Unread("no container is open")),
+            },
         }
     }
 }

@@ -4,79 +4,99 @@
 //! `restored FILES BYTES`, `cleaned BLOBS BYTES`, `term TERM`, `waited`, `checked SNAPSHOTS BLOBS`, `verified`,
 //! `refused REFUSAL`, `failed CAUSE`, `failed-op OP CAUSE`, `aborted OP` and `deposed`.
 use crate::causes::{refusal_of, why_of};
-use crate::trouble::Trouble;
-use crate::words::Words;
+use crate::trouble::{Done, Trouble};
+use crate::words::id_of;
 use esr_lines::push_line;
 use esr_report::Reply;
-use esr_script::script_read;
+use esr_scenes::{Words, say};
+use esr_script::{ScriptLine, script_read};
 use esr_seq::Bytes;
 use std::alloc::{AllocError, Global};
 
-/// A text in one line: each line of it is ended by a `;`.
-pub(crate) fn in_one_line(alloc: Global, text: &Bytes) -> Result<String, AllocError> {
-    let text = String::from_utf8_lossy(alloc, text.as_slice())?;
-    text.as_str().replace(alloc, "\n", ";")
-}
-
-/// A reply that has numbers.
-fn numbered(kind: &str, words: &mut Words) -> Result<Reply, Trouble> {
-    let first = words.number()?;
-    match kind {
-        "deleted" => Ok(Reply::Deleted { op: first }),
-        "restored" => Ok(Reply::Restored {
-            files: first,
-            bytes: words.number()?,
-        }),
-        "cleaned" => Ok(Reply::Cleaned {
-            blobs: first,
-            bytes: words.number()?,
-        }),
-        "term" => Ok(Reply::Term { term: first }),
-        "checked" => Ok(Reply::Checked {
-            snapshots: first,
-            blobs: words.number()?,
-        }),
-        "aborted" => Ok(Reply::Aborted { by: first }),
-        "failed-op" => Ok(Reply::Failed {
-            why: why_of(words)?,
-            op: Some(first),
-        }),
-        _ => Err(Trouble::Unread("no such reply")),
+/// Says a text in one line: each line of it is ended by a `;`.
+pub(crate) fn say_in_one_line(said: &mut String, text: &[u8]) {
+    let text = std::str::from_utf8(text).unwrap_or("?");
+    for (place, line) in text.split('\n').enumerate() {
+        if place > 0 {
+            say(said, ";");
+        }
+        say(said, line);
     }
 }
 
-fn reply_of(words: &mut Words) -> Result<Reply, Trouble> {
+/// A reply that has numbers.
+fn numbered(kind: &str, words: &mut Words) -> Reply {
+    let first = words.number();
+    match kind {
+        "deleted" => Reply::Deleted { op: first },
+        "restored" => Reply::Restored {
+            files: first,
+            bytes: words.number(),
+        },
+        "cleaned" => Reply::Cleaned {
+            blobs: first,
+            bytes: words.number(),
+        },
+        "term" => Reply::Term { term: first },
+        "checked" => Reply::Checked {
+            snapshots: first,
+            blobs: words.number(),
+        },
+        "aborted" => Reply::Aborted { by: first },
+        "failed-op" => Reply::Failed {
+            why: why_of(words),
+            op: Some(first),
+        },
+        _ => words.refuse("no such reply", Reply::Waited),
+    }
+}
+
+fn reply_of(words: &mut Words) -> Reply {
     match words.word() {
-        "made" => Ok(Reply::Made { uuid: words.id()? }),
-        "waited" => Ok(Reply::Waited),
-        "verified" => Ok(Reply::Verified),
-        "deposed" => Ok(Reply::Deposed),
-        "refused" => Ok(Reply::Refused {
-            refusal: refusal_of(words)?,
-        }),
-        "failed" => Ok(Reply::Failed {
-            why: why_of(words)?,
+        "made" => Reply::Made { uuid: id_of(words) },
+        "waited" => Reply::Waited,
+        "verified" => Reply::Verified,
+        "deposed" => Reply::Deposed,
+        "refused" => Reply::Refused {
+            refusal: refusal_of(words),
+        },
+        "failed" => Reply::Failed {
+            why: why_of(words),
             op: None,
-        }),
+        },
         kind => numbered(kind, words),
     }
 }
 
-/// What is printed for a script's lines by a reply.
-fn printed(alloc: Global, script: &str, reply: &Reply) -> Result<String, Trouble> {
-    let script = script_read(alloc, script.as_bytes())?;
-    let mut text = Bytes::new(alloc);
-    for line in script.as_slice() {
-        push_line(&mut text, alloc, line, reply)?;
+/// Appends what is printed for a script's lines by a reply.
+fn push_lines(
+    text: &mut Bytes,
+    alloc: Global,
+    script: &[ScriptLine],
+    reply: &Reply,
+) -> Result<(), AllocError> {
+    for line in script {
+        push_line(text, alloc, line, reply)?;
     }
-    Ok(in_one_line(alloc, &text)?)
+    Ok(())
 }
 
-/// What a line of a case is answered.
-pub(crate) fn answer(alloc: Global, line: &str) -> Result<String, Trouble> {
+/// Says what is printed for a script's lines by a reply.
+fn say_printed(alloc: Global, script: &str, reply: &Reply, said: &mut String) -> Done {
+    let script = script_read(alloc, script.as_bytes())?;
+    let mut text = Bytes::new(alloc);
+    push_lines(&mut text, alloc, script.as_slice(), reply)?;
+    say_in_one_line(said, text.as_slice());
+    Ok(())
+}
+
+/// Says what a line of a case is answered.
+pub(crate) fn say_answer(alloc: Global, line: &str, said: &mut String) -> Done {
     let Some((script, reply)) = line.split_once(" -> ") else {
         return Err(Trouble::Unread("not a line with its reply"));
     };
-    let reply = reply_of(&mut Words::new(reply))?;
-    printed(alloc, script, &reply)
+    let mut words = Words::new(reply);
+    let reply = reply_of(&mut words);
+    let reply = words.end(reply)?;
+    say_printed(alloc, script, &reply, said)
 }

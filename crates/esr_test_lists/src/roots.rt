@@ -7,27 +7,26 @@ ghost use Rattle.std.specs.Prelude.{◌≡◌, ◌∷◌, [], ◌+◌, ◌^◌, 
 ghost use Rattle.std.specs.List.{list_any};
 ghost use Rattle.esr_test_lists.specs.Free.{takes_one, is_other};
 
-use crate::trouble::Trouble;
-use crate::words::Words;
+use crate::trouble::{Done, Trouble};
+use crate::words::id_of;
 use esr_meta::SnapInfo;
 use esr_names::{Id, IndexName, IndexRef, IndexRefs, ShardId, SnapName};
 use esr_newroot::finalized;
 use esr_results::{ShardResult, ShardResults};
 use esr_root::{RootData, RootIndex, RootSnap, root_text};
-use esr_seq::Seq;
+use esr_scenes::{Words, one, say_bytes, say_number};
 use std::alloc::{AllocError, Global};
 
-/// The index of each snapshot: `logs`, of one shard.
-fn indices_of(alloc: Global) -> Result<IndexRefs, Trouble>
-    ensures { IfOk result (λ r. r ≡ record { id = record { number = 2 ^ 64 + 1 }; name = codes "logs"; shards = 1 } ∷ []) }
+/// One index `logs` of so many shards.
+pub(crate) fn indices_of(alloc: Global, shards: u32) -> Result<IndexRefs, Trouble>
+    ensures { IfOk result (λ r. r ≡ record { id = record { number = 2 ^ 64 + 1 }; name = codes "logs"; shards = shards } ∷ []) }
 {
-    let mut indices = Seq::new(alloc);
-    indices.push(IndexRef {
+    let index = IndexRef {
         id: Id::new(1, 1),
         name: IndexName::new(alloc, "logs")?,
-        shards: 1,
-    })?;
-    Ok(indices)
+        shards,
+    };
+    Ok(one(alloc, index)?)
 }
 
 /// The info of a snapshot.
@@ -45,7 +44,7 @@ fn info_of(alloc: Global, name: &str, uuid: Id) -> Result<SnapInfo, Trouble>
     Ok(SnapInfo {
         bytes: 0,
         files: 0,
-        indices: indices_of(alloc)?,
+        indices: indices_of(alloc, 1)?,
         moment: 0,
         name: SnapName::new(alloc, name)?,
         state: 1,
@@ -62,27 +61,29 @@ fn results_of(alloc: Global, generation: Id) -> Result<ShardResults, AllocError>
       bytes = 0;
     } ∷ []) }
 {
-    let mut results = Seq::new(alloc);
-    results.push(ShardResult {
-        shard: ShardId {
-            index: Id::new(1, 1),
-            number: 0,
+    let shard = ShardId {
+        index: Id::new(1, 1),
+        number: 0,
+    };
+    one(
+        alloc,
+        ShardResult {
+            shard,
+            generation,
+            files: 0,
+            bytes: 0,
         },
-        generation,
-        files: 0,
-        bytes: 0,
-    })?;
-    Ok(results)
+    )
 }
 
 /// Whether a snapshot has the name or the uuid.
-fn takes_one(snap: &RootSnap, name: &SnapName, uuid: Id) -> bool
+fn takes_one(snap: &RootSnap, name: &str, uuid: Id) -> bool
     ensures { result ≡ takes_one name.now uuid.number snap.now }
 {
-    snap.name == *name || snap.uuid.number == uuid.number
+    snap.name.as_str() == name || snap.uuid.number == uuid.number
 }
 
-fn any_takes(snaps: &[RootSnap], name: &SnapName, uuid: Id) -> bool
+fn any_takes(snaps: &[RootSnap], name: &str, uuid: Id) -> bool
     ensures { result ≡ list_any (takes_one name.now uuid.number) snaps.now }
 {
     snaps.iter().any(|snap| takes_one(snap, name, uuid))
@@ -113,13 +114,13 @@ fn with_snapshot(
     uuid: Id,
     generation: Id,
 ) -> Result<RootData, Trouble> {
-    let info = info_of(alloc, name, uuid)?;
-    if any_takes(root.snapshots.as_slice(), &info.name, uuid) {
+    if any_takes(root.snapshots.as_slice(), name, uuid) {
         return Err(Trouble::Unread("the root has its name or its uuid"));
     }
     if any_other(root.indices.as_slice()) {
         return Err(Trouble::Unread("the root has another index"));
     }
+    let info = info_of(alloc, name, uuid)?;
     let results = results_of(alloc, generation)?;
     Ok(finalized(alloc, root, &info, &results)?)
 }
@@ -137,30 +138,30 @@ impl Growing {
         }
     }
 
-    fn text(&self, alloc: Global) -> Result<String, AllocError> {
-        String::from_utf8_lossy(alloc, root_text(alloc, &self.root)?.as_slice())
+    /// Says its text.
+    fn say_text(&self, alloc: Global, said: &mut String) -> Result<(), AllocError> {
+        say_bytes(said, root_text(alloc, &self.root)?.as_slice());
+        Ok(())
     }
 
-    /// How long its text is.
-    fn length(&self, alloc: Global) -> Result<String, AllocError> {
-        let text = self.text(alloc)?;
-        format!(in alloc; "{}", text.len())
-    }
-
-    /// Adds a snapshot, and answers the text of the root then.
-    fn finalize(&mut self, alloc: Global, words: &mut Words) -> Result<String, Trouble> {
+    /// Adds a snapshot, and says the text of the root then.
+    fn finalize(&mut self, alloc: Global, words: &mut Words, said: &mut String) -> Done {
         let name = words.word();
-        let (uuid, generation) = (words.id()?, words.id()?);
+        let (uuid, generation) = (id_of(words), id_of(words));
+        let generation = words.end(generation)?;
         self.root = with_snapshot(alloc, &self.root, name, uuid, generation)?;
-        Ok(self.text(alloc)?)
+        Ok(self.say_text(alloc, said)?)
     }
 
-    /// What a line of a case is answered.
-    pub(crate) fn answer(&mut self, alloc: Global, line: &str) -> Result<String, Trouble> {
+    /// Says what a line of a case is answered.
+    pub(crate) fn say_answer(&mut self, alloc: Global, line: &str, said: &mut String) -> Done {
         let mut words = Words::new(line);
         match words.word() {
-            "finalize" => self.finalize(alloc, &mut words),
-            "length" => Ok(self.length(alloc)?),
+            "finalize" => self.finalize(alloc, &mut words, said),
+            "length" => {
+                say_number(said, root_text(alloc, &self.root)?.len() as u64);
+                Ok(())
+            }
             _ => Err(Trouble::Unread("no such line of a root")),
         }
     }

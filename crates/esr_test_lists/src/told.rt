@@ -3,171 +3,170 @@ use crate::trouble::Trouble;
 use esr_names::{Id, ShardId};
 use esr_ops::{ReadyUnit, Refusal, Work};
 use esr_record::{Making, OpWork, RecordOp};
-use std::alloc::{AllocError, Global};
+use esr_scenes::{say, say_number};
 
-/// An id as its term and its counter.
-pub(crate) fn id_told(alloc: Global, id: Id) -> Result<String, AllocError> {
-    format!(in alloc; "{}.{}", id.term(), id.counter())
+/// Says an id as its term and its counter.
+pub(crate) fn say_id(said: &mut String, id: Id) {
+    say_number(said, id.term());
+    say(said, ".");
+    say_number(said, id.counter());
 }
 
-/// Ids, each after a space.
-fn ids_told(alloc: Global, ids: &[Id]) -> Result<String, AllocError> {
-    let mut text = String::new(alloc);
+/// Says a word and an id.
+fn say_named(said: &mut String, word: &str, id: Id) {
+    say(said, word);
+    say(said, " ");
+    say_id(said, id);
+}
+
+/// Says a word and a number.
+pub(crate) fn say_numbered(said: &mut String, word: &str, number: u64) {
+    say(said, word);
+    say(said, " ");
+    say_number(said, number);
+}
+
+/// Says a word and ids.
+fn say_ids(said: &mut String, word: &str, ids: &[Id]) {
+    say(said, word);
     for id in ids {
-        text.push_str(" ")?;
-        text.push_str(id_told(alloc, *id)?.as_str())?;
+        say(said, " ");
+        say_id(said, *id);
     }
-    Ok(text)
 }
 
-fn numbered(alloc: Global, what: &str, number: u64) -> Result<String, AllocError> {
-    format!(in alloc; "refused {what} {number}")
-}
-
-fn named(alloc: Global, what: &str, id: Id) -> Result<String, AllocError> {
-    format!(in alloc; "refused {what} {}.{}", id.term(), id.counter())
-}
-
-fn refusal_told(alloc: Global, refusal: Refusal) -> Result<String, AllocError> {
+fn say_refusal(said: &mut String, refusal: Refusal) {
     match refusal {
-        Refusal::Memory => String::from_str(alloc, "out of memory"),
-        Refusal::CleanupRunning { op } => numbered(alloc, "cleanup-running", op),
-        Refusal::NameInUse { uuid } => named(alloc, "name-in-use", uuid),
-        Refusal::TooMany { limit } => numbered(alloc, "too-many", limit),
-        Refusal::IdsSpent { next } => named(alloc, "ids-spent", next),
-        Refusal::NoSnapshot { place } => numbered(alloc, "no-snapshot", place),
-        Refusal::NoIndex { place } => numbered(alloc, "no-index", place),
-        Refusal::BeingDeleted { op } => numbered(alloc, "being-deleted", op),
-        Refusal::CloneRunning { op } => numbered(alloc, "clone-running", op),
-        Refusal::RestoreRunning { op } => numbered(alloc, "restore-running", op),
-        Refusal::BusyOp { op } => numbered(alloc, "busy-op", op),
-        Refusal::BusyTicket { ticket } => numbered(alloc, "busy-ticket", ticket),
+        Refusal::Memory => say(said, "out of memory"),
+        Refusal::CleanupRunning { op } => say_numbered(said, "refused cleanup-running", op),
+        Refusal::NameInUse { uuid } => say_named(said, "refused name-in-use", uuid),
+        Refusal::TooMany { limit } => say_numbered(said, "refused too-many", limit),
+        Refusal::IdsSpent { next } => say_named(said, "refused ids-spent", next),
+        Refusal::NoSnapshot { place } => say_numbered(said, "refused no-snapshot", place),
+        Refusal::NoIndex { place } => say_numbered(said, "refused no-index", place),
+        Refusal::BeingDeleted { op } => say_numbered(said, "refused being-deleted", op),
+        Refusal::CloneRunning { op } => say_numbered(said, "refused clone-running", op),
+        Refusal::RestoreRunning { op } => say_numbered(said, "refused restore-running", op),
+        Refusal::BusyOp { op } => say_numbered(said, "refused busy-op", op),
+        Refusal::BusyTicket { ticket } => say_numbered(said, "refused busy-ticket", ticket),
     }
 }
 
-/// What is shown in place of an answer.
-pub(crate) fn trouble_told(alloc: Global, trouble: Trouble) -> Result<String, AllocError> {
+/// Says what is shown in place of an answer.
+pub(crate) fn say_trouble(said: &mut String, trouble: Trouble) {
     match trouble {
-        Trouble::Memory => String::from_str(alloc, "out of memory"),
-        Trouble::Unread(why) => String::from_str(alloc, why),
-        Trouble::Refused(refusal) => refusal_told(alloc, refusal),
+        Trouble::Memory => say(said, "out of memory"),
+        Trouble::Unread(why) => say(said, why),
+        Trouble::Refused(refusal) => say_refusal(said, refusal),
     }
 }
 
-/// The shard of a snapshot that is being made: `shard logs/0 of 1.8`.
-fn shard_told(
-    alloc: Global,
-    kind: &str,
-    index: &str,
-    shard: ShardId,
-    uuid: Id,
-) -> Result<String, AllocError> {
-    let number = shard.number;
-    let (term, counter) = (uuid.term(), uuid.counter());
-    format!(in alloc; "{kind} {index}/{number} of {term}.{counter}")
+/// Says the shard of a snapshot that is being made: `shard logs/0 of 1.8`.
+fn say_shard(said: &mut String, kind: &str, index: &str, shard: ShardId, uuid: Id) {
+    say(said, kind);
+    say(said, " ");
+    say(said, index);
+    say(said, "/");
+    say_number(said, u64::from(shard.number));
+    say(said, " of ");
+    say_id(said, uuid);
 }
 
-/// The largest live generation of its shard.
-fn base_told(alloc: Global, base: Option<Id>) -> Result<String, AllocError> {
-    match base {
-        Some(id) => id_told(alloc, id),
-        None => String::from_str(alloc, "none"),
-    }
-}
-
-fn work_told(alloc: Global, work: &Work) -> Result<String, AllocError> {
+fn say_work(said: &mut String, work: &Work) {
     match work {
         Work::Shard {
             uuid,
             shard,
             index,
             ..
-        } => shard_told(alloc, "shard", index.as_str(), *shard, *uuid),
+        } => say_shard(said, "shard", index.as_str(), *shard, *uuid),
         Work::CloneShard {
             uuid,
             shard,
             index,
             ..
-        } => shard_told(alloc, "clone-shard", index.as_str(), *shard, *uuid),
+        } => say_shard(said, "clone-shard", index.as_str(), *shard, *uuid),
         Work::RestoreShard {
             uuid,
             shard,
             index,
             ..
-        } => shard_told(alloc, "restore-shard", index.as_str(), *shard, *uuid),
+        } => say_shard(said, "restore-shard", index.as_str(), *shard, *uuid),
         Work::Finalize { info, .. } => {
-            let (files, bytes) = (info.files, info.bytes);
-            format!(in alloc;
-                "finalize {} files {files} bytes {bytes}",
-                info.name.as_str()
-            )
+            say(said, "finalize ");
+            say(said, info.name.as_str());
+            say_numbered(said, " files", info.files);
+            say_numbered(said, " bytes", info.bytes);
         }
-        Work::Drop => String::from_str(alloc, "drop"),
-        Work::Delete { uuids } => {
-            format!(in alloc; "delete{}", ids_told(alloc, uuids.as_slice())?.as_str())
-        }
-        Work::Cleanup => String::from_str(alloc, "cleanup"),
+        Work::Drop => say(said, "drop"),
+        Work::Delete { uuids } => say_ids(said, "delete", uuids.as_slice()),
+        Work::Cleanup => say(said, "cleanup"),
     }
 }
 
-/// What the unit of a shard takes besides: the place of its files, or the snapshot that it copies.
-fn more_told(alloc: Global, unit: &ReadyUnit) -> Result<String, AllocError> {
-    let base = base_told(alloc, unit.copy.base)?;
+/// Says the largest live generation of a unit's shard.
+fn say_base(said: &mut String, base: Option<Id>) {
+    match base {
+        Some(id) => say_named(said, " base", id),
+        None => say(said, " base none"),
+    }
+}
+
+/// Says where a unit reads or writes, and on what it builds.
+fn say_more(said: &mut String, unit: &ReadyUnit) {
     match &unit.work {
         Work::Shard { place, .. } => {
-            format!(in alloc; " at {} base {}", place.as_str(), base.as_str())
+            say(said, " at ");
+            say(said, place.as_str());
+            say_base(said, unit.copy.base);
         }
         Work::CloneShard { source, .. } => {
-            let source = id_told(alloc, *source)?;
-            format!(in alloc; " from {} base {}", source.as_str(), base.as_str())
+            say_named(said, " from", *source);
+            say_base(said, unit.copy.base);
         }
-        Work::RestoreShard { place, .. } => format!(in alloc; " at {}", place.as_str()),
-        _ => Ok(String::new(alloc)),
+        Work::RestoreShard { place, .. } => {
+            say(said, " at ");
+            say(said, place.as_str());
+        }
+        _ => {}
     }
 }
 
-/// A unit that is given.
-pub(crate) fn unit_told(alloc: Global, unit: &ReadyUnit) -> Result<String, AllocError> {
-    let (ticket, op) = (unit.ticket, unit.op);
-    let work = work_told(alloc, &unit.work)?;
-    let more = more_told(alloc, unit)?;
-    format!(in alloc;
-        "ticket {ticket} op {op} {}{}",
-        work.as_str(),
-        more.as_str()
-    )
+/// Says a unit that is given.
+pub(crate) fn say_unit(said: &mut String, unit: &ReadyUnit) {
+    say_numbered(said, "ticket", unit.ticket);
+    say_numbered(said, " op", unit.op);
+    say(said, " ");
+    say_work(said, &unit.work);
+    say_more(said, unit);
 }
 
-fn making_told(alloc: Global, kind: &str, info: &Making) -> Result<String, AllocError> {
-    let uuid = id_told(alloc, info.uuid)?;
-    format!(in alloc; "{kind} {} {}", info.name.as_str(), uuid.as_str())
+fn say_making(said: &mut String, kind: &str, info: &Making) {
+    say(said, kind);
+    say_named(said, info.name.as_str(), info.uuid);
 }
 
-fn op_told(alloc: Global, work: &OpWork) -> Result<String, AllocError> {
+fn say_op(said: &mut String, work: &OpWork) {
     match work {
-        OpWork::Create { info } => making_told(alloc, "snapshot", info),
+        OpWork::Create { info } => say_making(said, "snapshot ", info),
         OpWork::Clone { info, source } => {
-            let made = making_told(alloc, "clone", info)?;
-            let source = id_told(alloc, *source)?;
-            format!(in alloc; "{} from {}", made.as_str(), source.as_str())
+            say_making(said, "clone ", info);
+            say_named(said, " from", *source);
         }
-        OpWork::Delete { uuids } => {
-            format!(in alloc; "delete{}", ids_told(alloc, uuids.as_slice())?.as_str())
-        }
-        OpWork::Cleanup => String::from_str(alloc, "cleanup"),
+        OpWork::Delete { uuids } => say_ids(said, "delete", uuids.as_slice()),
+        OpWork::Cleanup => say(said, "cleanup"),
     }
 }
 
-/// The ops of a record, each ended by a `;`, or `none`.
-pub(crate) fn ops_told(alloc: Global, ops: &[RecordOp]) -> Result<String, AllocError> {
+/// Says the ops of a record, each ended by a `;`, or `none`.
+pub(crate) fn say_ops(said: &mut String, ops: &[RecordOp]) {
     if ops.is_empty() {
-        return String::from_str(alloc, "none");
+        say(said, "none");
     }
-    let mut text = String::new(alloc);
     for op in ops {
-        let number = op.op;
-        let work = op_told(alloc, &op.work)?;
-        text.push_str(format!(in alloc; "{number} {};", work.as_str())?.as_str())?;
+        say_number(said, op.op);
+        say(said, " ");
+        say_op(said, &op.work);
+        say(said, ";");
     }
-    Ok(text)
 }

@@ -1,8 +1,9 @@
 //! Why a line of a case has no answer.
-use esr_depot::{CallError, Failed};
+use esr_depot::CallError;
 use esr_json::ReadRefusal;
 use esr_names::NameRefusal;
 use esr_ops::Refusal;
+use esr_scenes::Unread;
 use esr_script::ScriptRefusal;
 use std::alloc::{AllocError, AllocFailed};
 
@@ -25,6 +26,12 @@ impl From<AllocError> for Trouble {
 impl<T: Drop> From<AllocFailed<T>> for Trouble {
     fn from(_: AllocFailed<T>) -> Self {
         Trouble::Memory
+    }
+}
+
+impl From<Unread> for Trouble {
+    fn from(unread: Unread) -> Self {
+        Trouble::Unread(unread.0)
     }
 }
 
@@ -58,8 +65,5 @@ impl From<CallError> for Trouble {
     }
 }
 
-impl From<Failed> for Trouble {
-    fn from(_: Failed) -> Self {
-        Trouble::Unread("the container failed")
-    }
-}
+/// Nothing, or why a line has no answer.
+pub(crate) type Done = Result<(), Trouble>;

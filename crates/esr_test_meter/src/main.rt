@@ -28,16 +28,20 @@ fn file_of(alloc: Global, name: &str, megabytes: usize) -> Result<MemFile, Alloc
     })
 }
 
-/// Sources with one shard, of a file of two megabytes and one of one.
-fn sources_of(alloc: Global) -> Result<MemSources, AllocError> {
+/// A file of two megabytes and one of one.
+fn files_of(alloc: Global) -> Result<Seq<MemFile>, AllocError> {
     let mut files = Seq::new(alloc);
     files.push(file_of(alloc, "a", 2)?)?;
     files.push(file_of(alloc, "b", 1)?)?;
+    Ok(files)
+}
+
+/// Sources with one shard, of these files.
+fn sources_of(alloc: Global) -> Result<MemSources, AllocError> {
+    let address = Address::new(alloc, "src", "logs", 0)?;
+    let files = files_of(alloc)?;
     let mut sources = Seq::new(alloc);
-    sources.push(MemSource {
-        address: Address::new(alloc, "src", "logs", 0)?,
-        files,
-    })?;
+    sources.push(MemSource { address, files })?;
     Ok(MemSources::new(sources, Seq::new(alloc)))
 }
 
@@ -100,19 +104,25 @@ fn write_shards<T: Targets>(alloc: Global, targets: &T, bytes: &[u8]) -> Result<
     Ok(())
 }
 
+/// Reads under a meter.
+fn read(alloc: Global, meter: &Meter<'_, Screen<'_>>, buf: &mut [u8]) -> Result<(), AllocError> {
+    let sources = sources_of(alloc)?;
+    read_shard(alloc, &MeterSources::new(meter, sources), buf)
+}
+
+/// Reads and writes under a meter.
+fn work(alloc: Global, meter: &Meter<'_, Screen<'_>>) -> Result<(), AllocError> {
+    let mut buf = vec![in alloc; 0u8; MEGABYTE]?;
+    read(alloc, meter, buf.as_mut_slice())?;
+    let targets = MeterTargets::new(meter, MemTargets::new(Seq::new(alloc)));
+    write_shards(alloc, &targets, buf.as_slice())
+}
+
 /// Reads, writes and reports under a meter.
-fn work(rt: &HostRuntime, is_terminal: bool) -> Result<(), AllocError> {
-    let alloc = rt.alloc();
+fn report(rt: &HostRuntime, is_terminal: bool) -> Result<(), AllocError> {
     let screen = Screen::new(rt);
     let meter = Meter::new(&screen, is_terminal);
-    let mut buf = vec![in alloc; 0u8; MEGABYTE]?;
-    read_shard(
-        alloc,
-        &MeterSources::new(&meter, sources_of(alloc)?),
-        buf.as_mut_slice(),
-    )?;
-    let targets = MeterTargets::new(&meter, MemTargets::new(Seq::new(alloc)));
-    write_shards(alloc, &targets, buf.as_slice())?;
+    work(rt.alloc(), &meter)?;
     let mut out = MeterOut::new(&meter, StdOut::new(rt.stdout()));
     let _ = out.write(b"report\n");
     let _ = out.write(b"end\n");
@@ -121,7 +131,7 @@ fn work(rt: &HostRuntime, is_terminal: bool) -> Result<(), AllocError> {
 }
 
 fn main(rt: HostRuntime) -> ExitCode {
-    match (work(&rt, true), work(&rt, false)) {
+    match (report(&rt, true), report(&rt, false)) {
         (Ok(()), Ok(())) => ExitCode::SUCCESS,
         _ => ExitCode::FAILURE,
     }

@@ -54,13 +54,18 @@ impl Player for Subjects<'_> {
     }
 }
 
+/// A text with one word in the place of another.
+fn with_word(rt: &HostRuntime, text: String, word: &str, new: &str) -> io::Result<String> {
+    Ok(text.as_str().replace(rt.alloc(), word, new)?)
+}
+
 /// The scenes of standard input, in which `\0` is a zero byte, `\d` byte 127, and `<255>` a name of so many bytes.
 fn scenes(rt: &HostRuntime) -> io::Result<String> {
     let text = io::read_to_string(rt.alloc(), rt.stdin())?;
-    let text = text.as_str().replace(rt.alloc(), "\\0", "\0")?;
-    let text = text.as_str().replace(rt.alloc(), "\\d", "\x7f")?;
+    let text = with_word(rt, text, "\\0", "\0")?;
+    let text = with_word(rt, text, "\\d", "\x7f")?;
     let long = "x".repeat(rt.alloc(), 255)?;
-    Ok(text.as_str().replace(rt.alloc(), "<255>", long.as_str())?)
+    with_word(rt, text, "<255>", long.as_str())
 }
 
 fn main(rt: HostRuntime) -> ExitCode {

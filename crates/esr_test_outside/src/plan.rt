@@ -36,19 +36,21 @@ pub(crate) fn leaves_of(word: &str) -> Option<Leaves> {
     }
 }
 
+fn failing(call: Call, nth: &str, leaves: Option<Leaves>) -> Option<Failing> {
+    let (nth, leaves) = (number_of(nth)?, leaves?);
+    Some(Failing { call, nth, leaves })
+}
+
 /// The failure that is planned by `VERB NTH leaving LEAVES`, or by `write-of-begin N NTH` and `read-of-fetch N NTH`.
 pub(crate) fn failing_of(words: &str) -> Option<Failing> {
     let (verb, rest) = cut(words);
     let (first, rest) = cut(rest);
     let (second, last) = cut(rest);
-    let first = number_of(first)?;
-    let call = call_of(verb, first)?;
-    if second == "leaving" {
-        let (nth, leaves) = (first, leaves_of(last)?);
-        return Some(Failing { call, nth, leaves });
+    let call = call_of(verb, number_of(first)?)?;
+    match second {
+        "leaving" => failing(call, first, leaves_of(last)),
+        _ => failing(call, second, Some(Leaves::Old)),
     }
-    let (nth, leaves) = (number_of(second)?, Leaves::Old);
-    Some(Failing { call, nth, leaves })
 }
 
 /// The failures that the lines `fails ..` of a scene plan.

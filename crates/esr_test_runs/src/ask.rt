@@ -1,119 +1,122 @@
 //! What a container holds, and changes of it from outside.
-use crate::errors::Trouble;
+use crate::errors::{Done, Trouble};
 use crate::ground::{Ground, REPO};
-use esr_depot::{Depot, Fetch, Names, Stage};
+use esr_depot::{Depot, Fetch, Stage};
 use esr_dirdepot::DirDepot;
+use esr_scenes::{one, say, say_bytes, say_number};
 use esr_seq::{Bytes, Text};
 use std::alloc::{AllocError, Global};
 use std::fs;
 
-/// Bytes as a text, or as numbers.
-fn told(alloc: Global, bytes: &[u8], as_numbers: bool) -> Result<String, AllocError> {
+/// Says bytes as a text, or as numbers.
+fn say_told(said: &mut String, bytes: &[u8], as_numbers: bool) {
     if as_numbers {
-        return format!(in alloc; "{bytes:?}");
+        let _ = write!(said, "{bytes:?}");
+    } else {
+        say_bytes(said, bytes);
     }
-    String::from_str(alloc, str::from_utf8(bytes).unwrap_or("?"))
 }
 
-/// Bytes as a text, or as numbers, or that there are none.
-fn told_or_none(
-    alloc: Global,
-    bytes: &Option<Bytes>,
-    as_numbers: bool,
-) -> Result<String, AllocError> {
-    match bytes {
-        Some(bytes) => told(alloc, bytes.as_slice(), as_numbers),
-        None => String::from_str(alloc, "none"),
-    }
+/// The bytes of a blob, or the first 4096 of more.
+fn front_of<F: Fetch>(alloc: Global, mut fetch: F) -> Result<Bytes, Trouble> {
+    let mut buf = [0; 4096];
+    let count = fetch.read(&mut buf)?;
+    Ok(Bytes::from_slice(alloc, &buf[..count])?)
 }
 
 /// The bytes of the blob of that name, or the first 4096 of more.
 fn blob_of<D: Depot>(alloc: Global, depot: &mut D, name: &str) -> Result<Option<Bytes>, Trouble> {
-    let Some(mut fetch) = depot.fetch(alloc, name)? else {
-        return Ok(None);
-    };
-    let mut buf = [0; 4096];
-    let count = fetch.read(&mut buf)?;
-    Ok(Some(Bytes::from_slice(alloc, &buf[..count])?))
+    match depot.fetch(alloc, name)? {
+        Some(fetch) => Ok(Some(front_of(alloc, fetch)?)),
+        None => Ok(None),
+    }
 }
 
-fn record_told<D: Depot>(alloc: Global, depot: &mut D) -> Result<String, Trouble> {
-    let record = depot.read_record(alloc)?;
-    Ok(told_or_none(alloc, &record, false)?)
+fn say_record<D: Depot>(alloc: Global, depot: &mut D, said: &mut String) -> Done {
+    match depot.read_record(alloc)? {
+        Some(bytes) => say_bytes(said, bytes.as_slice()),
+        None => say(said, "none"),
+    }
+    Ok(())
 }
 
-fn blob_told<D: Depot>(
+fn say_blob<D: Depot>(
     alloc: Global,
     depot: &mut D,
     name: &str,
     as_numbers: bool,
-) -> Result<String, Trouble> {
-    let blob = blob_of(alloc, depot, name)?;
-    Ok(told_or_none(alloc, &blob, as_numbers)?)
+    said: &mut String,
+) -> Done {
+    match blob_of(alloc, depot, name)? {
+        Some(bytes) => say_told(said, bytes.as_slice(), as_numbers),
+        None => say(said, "none"),
+    }
+    Ok(())
 }
 
-fn there_told<D: Depot>(alloc: Global, depot: &mut D, name: &str) -> Result<String, Trouble> {
-    let there = depot.fetch(alloc, name)?.is_some();
-    Ok(format!(in alloc; "{there}")?)
+fn say_there<D: Depot>(alloc: Global, depot: &mut D, name: &str, said: &mut String) -> Done {
+    let is_there = depot.fetch(alloc, name)?.is_some();
+    say(said, if is_there { "true" } else { "false" });
+    Ok(())
 }
 
-fn count_told<D: Depot>(alloc: Global, depot: &mut D) -> Result<String, Trouble> {
+fn say_count<D: Depot>(alloc: Global, depot: &mut D, said: &mut String) -> Done {
     let count = depot.list(alloc, None)?.page.len();
-    Ok(format!(in alloc; "{count}")?)
+    say_number(said, count as u64);
+    Ok(())
 }
 
-/// What a container answers to a question.
-fn answer_of<D: Depot>(
+/// Says what a container answers to a question.
+fn say_of<D: Depot>(
     alloc: Global,
     depot: &mut D,
     what: &str,
     name: &str,
-) -> Result<String, Trouble> {
+    said: &mut String,
+) -> Done {
     match what {
-        "record" => record_told(alloc, depot),
-        "blob" => blob_told(alloc, depot, name, false),
-        "bytes" => blob_told(alloc, depot, name, true),
-        "there" => there_told(alloc, depot, name),
-        "blobs" => count_told(alloc, depot),
+        "record" => say_record(alloc, depot, said),
+        "blob" => say_blob(alloc, depot, name, false, said),
+        "bytes" => say_blob(alloc, depot, name, true, said),
+        "there" => say_there(alloc, depot, name, said),
+        "blobs" => say_count(alloc, depot, said),
         _ => Err(Trouble("there is no such question")),
     }
 }
 
-/// What the container there answers to a question.
-pub fn answer_there(
+/// Says what the container there answers to a question.
+pub fn say_answer(
     alloc: Global,
     ground: &mut Ground,
     what: &str,
     name: &str,
-) -> Result<String, Trouble> {
+    said: &mut String,
+) -> Done {
     match ground {
-        Ground::Memory { depot } => answer_of(alloc, depot, what, name),
-        Ground::Own { store } => answer_of(alloc, store, what, name),
+        Ground::Memory { depot } => say_of(alloc, depot, what, name, said),
+        Ground::Own { store } => say_of(alloc, store, what, name, said),
         Ground::Folders { rt, .. } => {
             let mut depot = DirDepot::new(*rt, alloc, REPO)?;
-            answer_of(alloc, &mut depot, what, name)
+            say_of(alloc, &mut depot, what, name, said)
         }
     }
 }
 
 /// Puts a blob of these bytes.
-fn put<D: Depot>(alloc: Global, depot: &mut D, name: &str, bytes: &[u8]) -> Result<(), Trouble> {
+fn put<D: Depot>(alloc: Global, depot: &mut D, name: &str, bytes: &[u8]) -> Done {
     let mut stage = depot.begin(alloc, name, bytes.len())?;
     stage.write(bytes)?;
-    depot.replace(alloc, stage)?;
-    Ok(())
+    Ok(depot.replace(alloc, stage)?)
 }
 
 /// Takes a blob away.
-fn remove<D: Depot>(alloc: Global, depot: &mut D, name: &str) -> Result<(), Trouble> {
-    let mut names = Names::new(alloc);
-    names.push(Text::from_str(alloc, name)?)?;
-    depot.remove(&names)?;
-    Ok(())
+fn remove<D: Depot>(alloc: Global, depot: &mut D, name: &str) -> Done {
+    let names = one(alloc, Text::from_str(alloc, name)?)?;
+    Ok(depot.remove(&names)?)
 }
 
 /// Takes the last byte of a blob away.
-fn shorten<D: Depot>(alloc: Global, depot: &mut D, name: &str) -> Result<(), Trouble> {
+fn shorten<D: Depot>(alloc: Global, depot: &mut D, name: &str) -> Done {
     let bytes = blob_of(alloc, depot, name)?.unwrap_or(Bytes::new(alloc));
     let [front @ .., _] = bytes.as_slice() else {
         return Err(Trouble("there is no last byte"));
@@ -122,26 +125,18 @@ fn shorten<D: Depot>(alloc: Global, depot: &mut D, name: &str) -> Result<(), Tro
 }
 
 /// Changes a container: what is done, and the blob's name or the record, with the text where a blob is put.
-fn change<D: Depot>(alloc: Global, depot: &mut D, what: &str, value: &str) -> Result<(), Trouble> {
+fn change<D: Depot>(alloc: Global, depot: &mut D, what: &str, value: &str) -> Done {
     let (name, text) = value.split_once('=').unwrap_or((value, ""));
     match what {
         "put" => put(alloc, depot, name, text.as_bytes()),
         "remove" => remove(alloc, depot, name),
         "shorten" => shorten(alloc, depot, name),
-        _ => {
-            depot.swap_record(alloc, value.as_bytes())?;
-            Ok(())
-        }
+        _ => Ok(depot.swap_record(alloc, value.as_bytes())?),
     }
 }
 
 /// Changes the container there.
-pub fn change_there(
-    alloc: Global,
-    ground: &mut Ground,
-    what: &str,
-    value: &str,
-) -> Result<(), Trouble> {
+pub fn change_there(alloc: Global, ground: &mut Ground, what: &str, value: &str) -> Done {
     match ground {
         Ground::Memory { depot } => change(alloc, depot, what, value),
         Ground::Own { store } => change(alloc, store, what, value),
@@ -152,22 +147,31 @@ pub fn change_there(
     }
 }
 
-/// The text of a file of the container's folder.
-pub fn file_there(alloc: Global, ground: &Ground, path: &str) -> Result<String, Trouble> {
-    let Ground::Folders { rt, .. } = ground else {
-        return Err(Trouble("there are no files in memory"));
-    };
-    let path = format!(in alloc; "{REPO}/{path}")?;
-    Ok(fs::read_to_string(*rt, path.as_str())?)
+/// The folders in which a scene is played.
+fn folders_of<'a>(ground: &Ground<'a>) -> Result<&'a HostRuntime, Trouble> {
+    match ground {
+        Ground::Folders { rt, .. } => Ok(*rt),
+        _ => Err(Trouble("there are no files in memory")),
+    }
+}
+
+/// The path of a file of the container's folder.
+fn path_in(alloc: Global, path: &str) -> Result<String, AllocError> {
+    format!(in alloc; "{REPO}/{path}")
+}
+
+/// Says the text of a file of the container's folder.
+pub fn say_file(alloc: Global, ground: &Ground, path: &str, said: &mut String) -> Done {
+    let rt = folders_of(ground)?;
+    let path = path_in(alloc, path)?;
+    say(said, fs::read_to_string(rt, path.as_str())?.as_str());
+    Ok(())
 }
 
 /// Writes a file of the container's folder.
-pub fn write_file_there(alloc: Global, ground: &Ground, file: &str) -> Result<(), Trouble> {
-    let Ground::Folders { rt, .. } = ground else {
-        return Err(Trouble("there are no files in memory"));
-    };
+pub fn write_file(alloc: Global, ground: &Ground, file: &str) -> Done {
+    let rt = folders_of(ground)?;
     let (path, text) = file.split_once('=').unwrap_or((file, ""));
-    let path = format!(in alloc; "{REPO}/{path}")?;
-    fs::write(*rt, path.as_str(), text)?;
-    Ok(())
+    let path = path_in(alloc, path)?;
+    Ok(fs::write(rt, path.as_str(), text)?)
 }

@@ -43,3 +43,6 @@ impl From<io::Error> for Trouble {
         Trouble("the file system failed")
     }
 }
+
+/// Nothing, or why a scene can't be played on.
+pub type Done = Result<(), Trouble>;

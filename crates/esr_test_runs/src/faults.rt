@@ -1,5 +1,5 @@
 //! What goes wrong in the next run, by the lines of a scene and by the rounds of a loop.
-use crate::errors::Trouble;
+use crate::errors::{Done, Trouble};
 use crate::setting::Mishaps;
 use esr_faulty::{Fault, Kind, Turn};
 use esr_source::{Call, Failing};
@@ -100,7 +100,7 @@ fn failing_call(call: Call, nth: u64) -> Failing {
 }
 
 /// Lets a call of the source, of the target, of the script or of the output fail.
-fn set_outside(mishaps: &mut Mishaps, what: &str, nth: u64) -> Result<(), Trouble> {
+fn set_outside(mishaps: &mut Mishaps, what: &str, nth: u64) -> Done {
     match what {
         "source-list" => mishaps.source = failing_call(Call::List, nth),
         "source-start" => mishaps.source = failing_call(Call::Start, nth),
@@ -117,7 +117,7 @@ fn set_outside(mishaps: &mut Mishaps, what: &str, nth: u64) -> Result<(), Troubl
 }
 
 /// Lets something go wrong in the next run.
-pub fn set_mishap(mishaps: &mut Mishaps, what: &str, value: &str) -> Result<(), Trouble> {
+pub fn set_mishap(mishaps: &mut Mishaps, what: &str, value: &str) -> Done {
     match what {
         "fail" => {
             mishaps.fault = fault_of(value, false)?;

@@ -1,17 +1,19 @@
 //! Where a scene is played: in memory, over a container of one's own, or in folders of the folder that the program runs in.
-use crate::errors::Trouble;
+use crate::errors::{Done, Trouble};
 use crate::setting::{Job, Mishaps, failing_at, plan_of, run_on, sources_of};
-use crate::shown::{Shown, Shows, push_restored, shown_by};
-use crate::text::last_word;
+use crate::shown::{Shown, Shows, say_exit, say_restored, shown_by};
+use crate::text::{last_word, push_line};
 use esr_depot::Depot;
 use esr_dirdepot::DirDepot;
 use esr_dirsource::{DirShard, DirSources, DirTarget, DirTargets};
 use esr_faulty::Faulty;
 use esr_memdepot::{Leaves, MemDepot};
 use esr_run::Ended;
-use esr_scenes::source_line;
+use esr_scenes::{say, source_line};
 use esr_seq::Seq;
-use esr_source::{Call, Files, MemOut, MemShard, MemTarget, MemTargets, Shard, Sources};
+use esr_source::{
+    Call, Files, ListedFile, MemOut, MemShard, MemSources, MemTarget, MemTargets, Shard, Sources,
+};
 use esr_targets::Restored;
 use esr_test_container::Store;
 use std::alloc::{AllocError, Global};
@@ -83,16 +85,14 @@ pub fn has_line(text: &str, line: &str) -> bool {
 }
 
 /// Takes the name of a folder for this scene, unless it has it. One that was there before is left alone.
-fn claim(rt: &HostRuntime, made: &mut String, place: &str) -> Result<(), Trouble> {
+fn claim(rt: &HostRuntime, made: &mut String, place: &str) -> Done {
     if has_line(made.as_str(), place) {
         return Ok(());
     }
     if fs::exists(rt, place)? {
         return Err(Trouble("a folder of that name was there before"));
     }
-    made.push_str(place)?;
-    made.push_str("\n")?;
-    Ok(())
+    Ok(push_line(made, place)?)
 }
 
 /// Removes the folders that this scene made.
@@ -104,46 +104,51 @@ pub fn clear(ground: &Ground) {
     }
 }
 
-/// Writes a file of a source.
-fn write_source_file(rt: &HostRuntime, folder: &str, file: &str) -> Result<(), Trouble> {
-    let (name, text) = file.split_once('=').unwrap_or((file, ""));
-    let path = format!(in rt.alloc(); "{folder}/{name}")?;
-    fs::write(rt, path.as_str(), text)?;
-    Ok(())
+/// The path of what has that name in a folder.
+fn path_of(alloc: Global, folder: &str, name: &str) -> Result<String, AllocError> {
+    format!(in alloc; "{folder}/{name}")
 }
 
-/// Makes the folder of a source, with its files.
-fn make_source(rt: &HostRuntime, made: &mut String, line: &str) -> Result<(), Trouble> {
-    let told = source_line(line);
-    claim(rt, made, told.place)?;
-    let folder = format!(in rt.alloc(); "{}/{}", told.place, told.shard)?;
-    fs::create_dir_all(rt, folder.as_str())?;
-    for file in told.files.split_whitespace() {
-        write_source_file(rt, folder.as_str(), file)?;
+/// Writes a file of a source.
+fn write_source_file(rt: &HostRuntime, folder: &str, file: &str) -> Done {
+    let (name, text) = file.split_once('=').unwrap_or((file, ""));
+    let path = path_of(rt.alloc(), folder, name)?;
+    Ok(fs::write(rt, path.as_str(), text)?)
+}
+
+/// Makes a folder with these files.
+fn make_folder(rt: &HostRuntime, folder: &str, files: &str) -> Done {
+    fs::create_dir_all(rt, folder)?;
+    for file in files.split_whitespace() {
+        write_source_file(rt, folder, file)?;
     }
     Ok(())
 }
 
+/// Makes the folder of a source, with its files.
+fn make_source(rt: &HostRuntime, made: &mut String, line: &str) -> Done {
+    let told = source_line(line);
+    claim(rt, made, told.place)?;
+    let folder = path_of(rt.alloc(), told.place, told.shard)?;
+    make_folder(rt, folder.as_str(), told.files)
+}
+
 /// Adds a source where it isn't in memory. Those in memory are made with each run.
-pub fn add_source(ground: &mut Ground, line: &str) -> Result<(), Trouble> {
+pub fn add_source(ground: &mut Ground, line: &str) -> Done {
     match ground {
         Ground::Folders { rt, made } => make_source(*rt, made, line),
         _ => Ok(()),
     }
 }
 
-/// Adds the shards that a run in memory restored, and its exit status.
-fn push_left(
-    text: &mut String,
-    targets: &[Restored<MemTarget>],
-    status: u8,
-) -> Result<(), AllocError> {
+/// Says the shards that a run in memory restored, and its exit status.
+fn say_left(said: &mut String, targets: &[Restored<MemTarget>], status: u8) {
     for restored in targets {
-        push_restored(text, restored)?;
-        restored.target.push_files(text)?;
-        text.push_str("\n")?;
+        say_restored(said, restored);
+        restored.target.say_files(said);
+        say(said, "\n");
     }
-    write!(text, "exit {status}\n")
+    say_exit(said, status);
 }
 
 /// What a run with sources and targets in memory shows.
@@ -151,19 +156,24 @@ fn shown_in_memory<D: Depot>(
     alloc: Global,
     report: &[u8],
     left: &Ended<Faulty<D>, MemShard, MemTarget>,
-) -> Result<Shown, AllocError> {
-    let mut shown = shown_by(alloc, report, left)?;
-    push_left(&mut shown.text, left.targets.as_slice(), left.status)?;
-    Ok(shown)
+) -> Shown {
+    let mut shown = shown_by(alloc, report, left);
+    say_left(&mut shown.text, left.targets.as_slice(), left.status);
+    shown
 }
 
 /// The output of a run.
 fn output_of(alloc: Global, mishaps: &Mishaps) -> Result<MemOut, AllocError> {
-    MemOut::new(
-        alloc,
-        mishaps.room,
-        plan_of(alloc, Call::Write, mishaps.write)?,
-    )
+    let plan = plan_of(alloc, Call::Write, mishaps.write)?;
+    MemOut::new(alloc, mishaps.room, plan)
+}
+
+/// The sources, the targets and the output of a run in memory.
+fn outside_of(alloc: Global, job: &Job) -> Result<(MemSources, MemTargets, MemOut), AllocError> {
+    let sources = sources_of(alloc, job.sources, job.mishaps.source)?;
+    let plan = failing_at(alloc, "out", job.mishaps.target)?;
+    let out = output_of(alloc, &job.mishaps)?;
+    Ok((sources, MemTargets::new(plan), out))
 }
 
 /// A run over a container with sources and targets in memory: what it shows, and the container.
@@ -177,11 +187,9 @@ where
     D::Stage: Send,
     D::Fetch: Send,
 {
-    let sources = sources_of(alloc, job.sources, job.mishaps.source)?;
-    let targets = MemTargets::new(failing_at(alloc, "out", job.mishaps.target)?);
-    let mut out = output_of(alloc, &job.mishaps)?;
+    let (sources, targets, mut out) = outside_of(alloc, job)?;
     let left = run_on(alloc, threads, job, depot, &sources, &targets, &mut out)?;
-    let shown = shown_in_memory(alloc, out.as_slice(), &left)?;
+    let shown = shown_in_memory(alloc, out.as_slice(), &left);
     Ok((shown, left.depot.depot))
 }
 
@@ -225,7 +233,7 @@ fn asked_line<'a>(job: &Job<'a>, number: u32) -> &'a str {
 }
 
 /// Takes the names of the folders for this scene into which a run restores, which are the last words of its lines.
-fn claim_targets(rt: &HostRuntime, made: &mut String, job: &Job) -> Result<(), Trouble> {
+fn claim_targets(rt: &HostRuntime, made: &mut String, job: &Job) -> Done {
     for line in job.script.lines() {
         if line.starts_with("restore ") {
             claim(rt, made, last_word(line))?;
@@ -237,11 +245,13 @@ fn claim_targets(rt: &HostRuntime, made: &mut String, job: &Job) -> Result<(), T
     Ok(())
 }
 
-/// Adds the name and the text of a file in a folder.
-fn push_file(rt: &HostRuntime, text: &mut String, folder: &str, name: &str) -> Result<(), Trouble> {
-    let path = format!(in rt.alloc(); "{folder}/{name}")?;
-    let bytes = fs::read_to_string(rt, path.as_str())?;
-    write!(text, " {name}={}", bytes.as_str())?;
+/// Says the name and the text of a file in a folder.
+fn say_file(rt: &HostRuntime, said: &mut String, folder: &str, name: &str) -> Done {
+    let path = path_of(rt.alloc(), folder, name)?;
+    say(said, " ");
+    say(said, name);
+    say(said, "=");
+    say(said, fs::read_to_string(rt, path.as_str())?.as_str());
     Ok(())
 }
 
@@ -255,48 +265,48 @@ fn files_in(rt: &HostRuntime, place: &str, number: u32) -> Result<Files, Trouble
     }
 }
 
-/// Adds the names and texts of the files in a folder of a place.
-fn push_folder(
-    rt: &HostRuntime,
-    text: &mut String,
-    place: &str,
-    number: u32,
-) -> Result<(), Trouble> {
-    let files = files_in(rt, place, number)?;
-    let folder = format!(in rt.alloc(); "{place}/{number}")?;
-    for file in files.as_slice() {
-        push_file(rt, text, folder.as_str(), file.name.as_str())?;
+/// Says the names and texts of these files of a folder.
+fn say_files(rt: &HostRuntime, said: &mut String, folder: &str, files: &[ListedFile]) -> Done {
+    for file in files {
+        say_file(rt, said, folder, file.name.as_str())?;
     }
     Ok(())
 }
 
-/// Adds a shard that a run in folders restored.
-fn push_shard<'a>(
+/// Says the names and texts of the files in a folder of a place.
+fn say_folder(rt: &HostRuntime, said: &mut String, place: &str, number: u32) -> Done {
+    let folder = format!(in rt.alloc(); "{place}/{number}")?;
+    let files = files_in(rt, place, number)?;
+    say_files(rt, said, folder.as_str(), files.as_slice())
+}
+
+/// Says a shard that a run in folders restored.
+fn say_shard<'a>(
     rt: &HostRuntime,
-    text: &mut String,
+    said: &mut String,
     job: &Job,
     restored: &Restored<DirTarget<'a, HostRuntime>>,
-) -> Result<(), Trouble> {
-    push_restored(text, restored)?;
+) -> Done {
+    say_restored(said, restored);
     let place = last_word(asked_line(job, restored.line));
-    let folder = format!(in rt.alloc(); "{place}/{}", restored.index.as_str())?;
-    push_folder(rt, text, folder.as_str(), restored.shard)?;
-    text.push_str("\n")?;
+    let folder = path_of(rt.alloc(), place, restored.index.as_str())?;
+    say_folder(rt, said, folder.as_str(), restored.shard)?;
+    say(said, "\n");
     Ok(())
 }
 
-/// Adds the shards that a run in folders restored, and its exit status.
-fn push_shards<'a>(
+/// Says the shards that a run in folders restored, and its exit status.
+fn say_shards<'a>(
     rt: &HostRuntime,
-    text: &mut String,
+    said: &mut String,
     job: &Job,
     targets: &[Restored<DirTarget<'a, HostRuntime>>],
     status: u8,
-) -> Result<(), Trouble> {
+) -> Done {
     for restored in targets {
-        push_shard(rt, text, job, restored)?;
+        say_shard(rt, said, job, restored)?;
     }
-    write!(text, "exit {status}\n")?;
+    say_exit(said, status);
     Ok(())
 }
 
@@ -314,9 +324,9 @@ fn shown_in_folders(
     report: &[u8],
     left: &LeftInFolders,
 ) -> Result<Shown, Trouble> {
-    let mut shown = shown_by(rt.alloc(), report, left)?;
+    let mut shown = shown_by(rt.alloc(), report, left);
     let targets = left.targets.as_slice();
-    push_shards(rt, &mut shown.text, job, targets, left.status)?;
+    say_shards(rt, &mut shown.text, job, targets, left.status)?;
     Ok(shown)
 }
 

@@ -28,6 +28,8 @@ fn tell_file<R: Threads + Wait + Sync>(
 ) -> Result<u64, Trouble> {
     let played = play_file(rt, threads, path)?;
     print!(rt; "{}", played.complaints.as_str())?;
+    // the gate shows what a program that failed said here
+    let _ = eprint!(rt; "{}", played.complaints.as_str());
     println!(rt;
         "{path}: {} scenes over memory, {} over folders, {} runs, {} lines held",
         played.in_memory, played.in_folders, played.runs, played.held
@@ -46,5 +48,8 @@ fn tell_all<R: Threads + Wait + Sync>(rt: &HostRuntime, threads: &R) -> Result<u
 }
 
 fn main(rt: HostRuntime) -> ExitCode {
-    exit_of(&rt, tell_all(&rt, &rt).map_err(|trouble| trouble.0))
+    match tell_all(&rt, &rt) {
+        Ok(failed) => exit_of(&rt, Ok(failed)),
+        Err(Trouble(why)) => exit_of(&rt, Err(why)),
+    }
 }

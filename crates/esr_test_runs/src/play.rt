@@ -1,10 +1,10 @@
 //! The scenes of a file, each of them over memory and over folders, with each of its rows and rounds.
-use crate::errors::Trouble;
+use crate::errors::{Done, Trouble};
 use crate::faults::{Way, way_of};
 use crate::ground::{Place, clear, ground_at};
 use crate::scene::{Scene, begun};
 use crate::text::line_behind;
-use std::alloc::AllocError;
+use esr_scenes::say;
 use std::fs;
 use std::sync::Wait;
 use std::thread::Threads;
@@ -60,7 +60,7 @@ fn play_line<R: Threads + Wait + Sync>(
     scene: &mut Scene,
     line: &str,
     row: &str,
-) -> Result<(), Trouble> {
+) -> Done {
     let line = line.replace(scene.alloc, "<row>", row)?;
     match scene.step(threads, line.as_str()) {
         Ok(()) => Ok(()),
@@ -75,7 +75,7 @@ fn play_lines<R: Threads + Wait + Sync>(
     text: &str,
     at: u64,
     row: &str,
-) -> Result<(), Trouble> {
+) -> Done {
     for (place, line) in text.lines().enumerate() {
         if scene.is_over || !scene.complaint.is_empty() {
             return Ok(());
@@ -86,31 +86,30 @@ fn play_lines<R: Threads + Wait + Sync>(
     Ok(())
 }
 
+/// Says in which round a scene failed, and what was found.
+fn say_failed<R>(said: &mut String, lines: &Lines, turn: &Turn<R>, scene: &Scene) {
+    let (place, title, way, row) = (turn.place.name(), lines.title, turn.name, turn.row);
+    let (nth, complaint) = (scene.nth, scene.complaint.as_str());
+    let _ = write!(
+        said,
+        "FAILED over {place}: {title}\n{way} {nth} {row}\n{complaint}"
+    );
+}
+
 /// Adds what a round came to, and tells how it went.
-fn note<R>(
-    played: &mut Played,
-    lines: &Lines,
-    turn: &Turn<R>,
-    scene: &Scene,
-) -> Result<Went, Trouble> {
+fn note<R>(played: &mut Played, lines: &Lines, turn: &Turn<R>, scene: &Scene) -> Went {
     played.runs = played.runs.saturating_add(scene.runs);
     played.held = played.held.saturating_add(scene.held);
     let fails = !scene.complaint.is_empty();
     if fails {
-        let place = turn.place.name();
-        let (title, row, way, nth) = (lines.title, turn.row, turn.name, scene.nth);
-        let complaint = scene.complaint.as_str();
-        write!(
-            played.complaints,
-            "FAILED over {place}: {title}\n{way} {nth} {row}\n{complaint}"
-        )?;
+        say_failed(&mut played.complaints, lines, turn, scene);
     }
-    Ok(Went {
+    Went {
         was_hit: scene.was_hit,
         fails,
         met: scene.met,
         blocks: scene.block.saturating_sub(1),
-    })
+    }
 }
 
 /// Plays the lines that stand before a scene, and its own.
@@ -119,7 +118,7 @@ fn play_whole<R: Threads + Wait + Sync>(
     scene: &mut Scene,
     lines: &Lines,
     row: &str,
-) -> Result<(), Trouble> {
+) -> Done {
     play_lines(threads, scene, lines.front, lines.front_at, row)?;
     play_lines(threads, scene, lines.text, lines.at, row)?;
     if !scene.is_over && scene.complaint.is_empty() {
@@ -140,7 +139,7 @@ fn play_round<R: Threads + Wait + Sync>(
     let ended = play_whole(turn.threads, &mut scene, lines, turn.row);
     clear(&scene.ground);
     match ended {
-        Ok(()) => note(played, lines, turn, &scene),
+        Ok(()) => Ok(note(played, lines, turn, &scene)),
         Err(trouble) => Err(trouble),
     }
 }
@@ -173,13 +172,7 @@ fn play_way<R: Threads + Wait + Sync>(
     play_rounds(played, lines, &Turn { way, name, ..*turn })
 }
 
-/// Notes that a block of a scene is played in no round.
-fn note_unplayed(played: &mut Played, title: &str) -> Result<(), AllocError> {
-    write!(
-        played.complaints,
-        "FAILED: {title}\n  wanted: each block is played in a round\n  came:   one is in none\n"
-    )
-}
+const UNPLAYED: &str = "\n  wanted: each block is played in a round\n  came:   one is in none\n";
 
 /// Plays a scene with a row in the ways of these names, and tells whether it fails.
 fn play_each<R: Threads + Wait + Sync>(
@@ -198,7 +191,9 @@ fn play_each<R: Threads + Wait + Sync>(
         blocks |= went.blocks;
     }
     if met != blocks {
-        note_unplayed(played, lines.title)?;
+        say(&mut played.complaints, "FAILED: ");
+        say(&mut played.complaints, lines.title);
+        say(&mut played.complaints, UNPLAYED);
     }
     Ok(met != blocks)
 }
@@ -249,7 +244,7 @@ fn play_scene<R: Threads + Wait + Sync>(
     threads: &R,
     played: &mut Played,
     lines: &Lines,
-) -> Result<(), Trouble> {
+) -> Done {
     for place in [Place::Memory, Place::Folders, Place::Own] {
         if !holds_over(lines, place) {
             continue;
@@ -278,7 +273,7 @@ fn play_scenes<R: Threads + Wait + Sync>(
     threads: &R,
     played: &mut Played,
     scenes: &str,
-) -> Result<(), Trouble> {
+) -> Done {
     let mut at = 1u64;
     let mut front = String::new(rt.alloc());
     let mut front_at = 1u64;

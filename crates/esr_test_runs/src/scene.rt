@@ -1,12 +1,13 @@
 //! A scene that is being played, line by line.
-use crate::ask::{answer_there, change_there, file_there, write_file_there};
-use crate::errors::Trouble;
+use crate::ask::{change_there, say_answer, say_file, write_file};
+use crate::errors::{Done, Trouble};
 use crate::faults::{Way, set_mishap, set_round};
 use crate::ground::{Ground, add_source, has_line, run_there};
 use crate::meeting::Meeting;
 use crate::setting::{Job, Mishaps, calm};
 use crate::shown::Shown;
-use crate::text::{counted_blobs, front_of, plain};
+use crate::text::{counted_blobs, front_of, line_behind, plain, push_line};
+use esr_scenes::{say, say_number};
 use std::alloc::{AllocError, Global};
 use std::sync::Wait;
 use std::thread::Threads;
@@ -91,6 +92,24 @@ pub fn begun(alloc: Global, ground: Ground<'_>, way: Way, nth: u64) -> Scene<'_>
     }
 }
 
+fn say_whether(said: &mut String, holds: bool) {
+    say(said, if holds { "true" } else { "false" });
+}
+
+/// Adds to a script a text with its number, and an end.
+fn write_numbered(
+    alloc: Global,
+    script: &mut String,
+    (text, end): (&str, &str),
+    number: u64,
+) -> Result<(), AllocError> {
+    let mut digits = String::new(alloc);
+    say_number(&mut digits, number);
+    let text = text.replace(alloc, "<n>", digits.as_str())?;
+    script.push_str(text.as_str())?;
+    script.push_str(end)
+}
+
 impl Scene<'_> {
     /// What was shown and not compared yet.
     fn rest(&self) -> &str {
@@ -146,8 +165,13 @@ impl Scene<'_> {
 
     /// Compares a line with what was shown next.
     fn want(&mut self, line: &str) -> Result<(), AllocError> {
-        let whole = format!(in self.alloc; "{line}\n")?;
-        let wanted = front_of(whole.as_str(), self.length_taken(line));
+        let mut whole = String::new(self.alloc);
+        push_line(&mut whole, line)?;
+        self.want_front(line, front_of(whole.as_str(), self.length_taken(line)))
+    }
+
+    /// Compares what is wanted of a line with what was shown next.
+    fn want_front(&mut self, line: &str, wanted: &str) -> Result<(), AllocError> {
         let came = String::from_str(self.alloc, self.next_line())?;
         let holds = self.rest().starts_with(wanted);
         self.at = self.at.saturating_add(wanted.len());
@@ -166,6 +190,12 @@ impl Scene<'_> {
         self.judge(true, "", "")
     }
 
+    /// Goes past as many lines as a word says.
+    fn pass(&mut self, count: &str) -> Done {
+        let count = count.parse()?;
+        Ok(self.pass_lines(count)?)
+    }
+
     /// Whether the run in which something went wrong showed one of these lines.
     fn want_told(&mut self, lines: &str) -> Result<(), AllocError> {
         let hit = self.hit.as_str();
@@ -179,10 +209,7 @@ impl Scene<'_> {
 
     /// Whether the run in which something went wrong showed no line that begins so.
     fn want_untold(&mut self, front: &str) -> Result<(), AllocError> {
-        let mut holds = true;
-        for line in self.hit.as_str().lines() {
-            holds = holds && !line.starts_with(front);
-        }
+        let holds = line_behind(self.hit.as_str(), front).is_none();
         let came = String::from_str(self.alloc, self.hit.as_str())?;
         self.judge(holds, "no such line", came.as_str())
     }
@@ -200,17 +227,14 @@ impl Scene<'_> {
     /// Adds a text to the script so many times, each with its number from 0 on and with that end.
     fn write_times(&mut self, text: &str, end: &str, count: u64) -> Result<(), AllocError> {
         for number in 0..count {
-            let number = format!(in self.alloc; "{number}")?;
-            let text = text.replace(self.alloc, "<n>", number.as_str())?;
-            self.script.push_str(text.as_str())?;
-            self.script.push_str(end)?;
+            write_numbered(self.alloc, &mut self.script, (text, end), number)?;
         }
         Ok(())
     }
 
     /// Adds to the script: a line, a last text, or one of them so many times.
-    fn write(&mut self, mark: &str, rest: &str) -> Result<(), Trouble> {
-        let (count, repeated) = match mark {
+    fn write(&mut self, mark: &str, rest: &str) -> Done {
+        let (count, text) = match mark {
             "*" | "+" => rest.split_once(' ').unwrap_or((rest, "")),
             _ => ("1", rest),
         };
@@ -219,14 +243,13 @@ impl Scene<'_> {
             _ => "",
         };
         let count = count.parse::<u64>()?;
-        let text = plain(self.alloc, repeated)?;
+        let text = plain(self.alloc, text)?;
         Ok(self.write_times(text.as_str(), end, count)?)
     }
 
     /// Adds a source.
-    fn add_source(&mut self, line: &str) -> Result<(), Trouble> {
-        self.sources.push_str(line)?;
-        self.sources.push_str("\n")?;
+    fn add_source(&mut self, line: &str) -> Done {
+        push_line(&mut self.sources, line)?;
         add_source(&mut self.ground, line)
     }
 
@@ -255,7 +278,7 @@ impl Scene<'_> {
     }
 
     /// Keeps what a run in which the round lets something go wrong showed. One that had room for all ends the scene.
-    fn keep_hit(&mut self, mut text: String, was_hit: bool) -> Result<(), Trouble> {
+    fn keep_hit(&mut self, mut text: String, was_hit: bool) -> Done {
         if matches!(self.way, Way::Room) {
             self.was_hit = text.as_str().ends_with("exit 5\n");
             self.is_over = !self.was_hit;
@@ -264,13 +287,13 @@ impl Scene<'_> {
         }
         self.was_hit = was_hit;
         write!(text, "settles {}\n", self.settles)?;
-        self.record = answer_there(self.alloc, &mut self.ground, "record", "")?;
+        self.record = self.answer("record", "")?;
         self.hit = text;
         Ok(())
     }
 
     /// Keeps what a run tells, and what it showed: to be compared, or unseen of a run that is to be stopped.
-    fn keep(&mut self, mark: &str, shown: Shown) -> Result<(), Trouble> {
+    fn keep(&mut self, mark: &str, shown: Shown) -> Done {
         self.faults = shown.faults;
         self.told = shown.told;
         self.settles = shown.settles;
@@ -291,7 +314,7 @@ impl Scene<'_> {
     }
 
     /// Lets nothing go wrong in the next run. A run that tells more failures of the container than it had is a difference.
-    fn end_run(&mut self) -> Result<(), Trouble> {
+    fn end_run(&mut self) -> Done {
         if self.told > self.faults {
             self.complain("no more failures than the container had", "more")?;
         }
@@ -303,12 +326,7 @@ impl Scene<'_> {
     }
 
     /// Runs.
-    fn run<R: Threads + Wait + Sync>(
-        &mut self,
-        threads: &R,
-        mark: &str,
-        words: &str,
-    ) -> Result<(), Trouble> {
+    fn run<R: Threads + Wait + Sync>(&mut self, threads: &R, mark: &str, words: &str) -> Done {
         self.end_shown()?;
         let words = plain(self.alloc, words)?;
         let shown = self.run_words(threads, words.as_str());
@@ -318,13 +336,13 @@ impl Scene<'_> {
     }
 
     /// Changes the container, or what goes wrong in the next run.
-    fn set(&mut self, line: &str) -> Result<(), Trouble> {
+    fn set(&mut self, line: &str) -> Done {
         let (what, value) = line.split_once(' ').unwrap_or((line, ""));
         match what {
             "put" | "remove" | "shorten" | "record" => {
                 change_there(self.alloc, &mut self.ground, what, value)
             }
-            "file" => write_file_there(self.alloc, &self.ground, value),
+            "file" => write_file(self.alloc, &self.ground, value),
             "stop-at" => {
                 self.last.clear();
                 Ok(self.last.push_str(value)?)
@@ -337,39 +355,42 @@ impl Scene<'_> {
         }
     }
 
-    /// How many blobs are on the first page of a listing of the container there.
-    fn count_blobs(&mut self) -> Result<u64, Trouble> {
-        let blobs = answer_there(self.alloc, &mut self.ground, "blobs", "")?;
-        Ok(blobs.as_str().parse::<u64>()?)
+    /// What the container there answers to a question.
+    fn answer(&mut self, what: &str, name: &str) -> Result<String, Trouble> {
+        let mut said = String::new(self.alloc);
+        say_answer(self.alloc, &mut self.ground, what, name, &mut said)?;
+        Ok(said)
     }
 
     /// Whether the container there holds `index.latest`, the blobs that the last run's check counted, and no more.
     fn is_clean(&mut self) -> Result<bool, Trouble> {
         let counted = counted_blobs(self.shown.as_str())?;
-        let count = self.count_blobs()?;
-        let latest = answer_there(self.alloc, &mut self.ground, "there", "index.latest")?;
+        let count = self.answer("blobs", "")?.as_str().parse::<u64>()?;
+        let latest = self.answer("there", "index.latest")?;
         Ok(latest.as_str() == "true" && count == counted.saturating_add(1))
     }
 
-    /// The answer to a question of the last run, or of the container there.
-    fn answer(&mut self, question: &str) -> Result<String, Trouble> {
+    /// Says the answer to a question of the last run, or of the container there.
+    fn say(&mut self, question: &str, said: &mut String) -> Done {
         let (what, name) = question.split_once(' ').unwrap_or((question, ""));
         match what {
-            "faults" => Ok(format!(in self.alloc; "{}", self.faults)?),
-            "misprints" => Ok(String::from_str(self.alloc, self.misprints.as_str().trim_start())?),
-            "met" => Ok(format!(in self.alloc; "{}", self.gate.has_met())?),
-            "clean" => Ok(format!(in self.alloc; "{}", self.is_clean()?)?),
-            "file" => file_there(self.alloc, &self.ground, name),
-            _ => answer_there(self.alloc, &mut self.ground, what, name),
+            "faults" => say_number(said, self.faults),
+            "misprints" => say(said, self.misprints.as_str().trim_start()),
+            "met" => say_whether(said, self.gate.has_met()),
+            "clean" => say_whether(said, self.is_clean()?),
+            "file" => say_file(self.alloc, &self.ground, name, said)?,
+            _ => say_answer(self.alloc, &mut self.ground, what, name, said)?,
         }
+        Ok(())
     }
 
     /// Asks for what stands before the `=` of a line, and wants what stands behind it.
-    fn ask(&mut self, line: &str) -> Result<(), Trouble> {
+    fn ask(&mut self, line: &str) -> Done {
         let (question, wanted) = line.split_once('=').unwrap_or((line, ""));
-        let answer = self.answer(question)?;
-        let holds = answer.as_str() == wanted;
-        Ok(self.judge(holds, line, answer.as_str())?)
+        let mut came = String::new(self.alloc);
+        self.say(question, &mut came)?;
+        let holds = came.as_str() == wanted;
+        Ok(self.judge(holds, line, came.as_str())?)
     }
 
     /// Compares a line with what was shown.
@@ -388,27 +409,25 @@ impl Scene<'_> {
         mark: &str,
         rest: &str,
         line: &str,
-    ) -> Result<(), Trouble> {
+    ) -> Done {
         match mark {
-            "$" | "~" => return self.run(threads, mark, rest),
-            "!" => return self.set(rest),
-            "?" => return self.ask(rest),
-            "=" => return self.add_source(rest),
-            ">" | "|" | "*" | "+" => return self.write(mark, rest),
-            "each" => self.is_armed = true,
-            "#" | "only" | "row" | "then" => {}
-            ".." => self.pass_lines(rest.parse()?)?,
-            _ => self.compare(mark, rest, line)?,
+            "$" | "~" => self.run(threads, mark, rest),
+            "!" => self.set(rest),
+            "?" => self.ask(rest),
+            "=" => self.add_source(rest),
+            ">" | "|" | "*" | "+" => self.write(mark, rest),
+            ".." => self.pass(rest),
+            "each" => {
+                self.is_armed = true;
+                Ok(())
+            }
+            "#" | "only" | "row" | "then" => Ok(()),
+            _ => Ok(self.compare(mark, rest, line)?),
         }
-        Ok(())
     }
 
     /// Plays a line.
-    pub fn step<R: Threads + Wait + Sync>(
-        &mut self,
-        threads: &R,
-        line: &str,
-    ) -> Result<(), Trouble> {
+    pub fn step<R: Threads + Wait + Sync>(&mut self, threads: &R, line: &str) -> Done {
         let (mark, rest) = line.split_once(' ').unwrap_or((line, ""));
         match mark {
             "when" => {

@@ -3,11 +3,12 @@ use crate::meeting::Meeting;
 use esr_depot::Depot;
 use esr_faulty::{Fault, Faulty, Kind, Turn};
 use esr_run::{Ended, run};
-use esr_scenes::source_of;
+use esr_scenes::{one, source_of};
 use esr_script::Words;
 use esr_seq::{Bytes, Seq, Text};
 use esr_source::{
-    Address, Call, Failing, FailingAt, MemLines, MemOut, MemSources, Plan, Sources, Targets,
+    Address, Call, Failing, FailingAt, MemLines, MemOut, MemSource, MemSources, Plan, Sources,
+    Targets,
 };
 use std::alloc::{AllocError, Global};
 use std::sync::Wait;
@@ -68,9 +69,7 @@ pub fn calm() -> Mishaps {
 
 /// The plan of that call.
 pub fn plan_of(alloc: Global, call: Call, nth: u64) -> Result<Plan, AllocError> {
-    let mut plan = Seq::new(alloc);
-    plan.push(Failing { call, nth })?;
-    Ok(plan)
+    one(alloc, Failing { call, nth })
 }
 
 /// The plan of that call of the first shard of `logs` at a place.
@@ -81,18 +80,21 @@ pub fn failing_at(
 ) -> Result<Seq<FailingAt>, AllocError> {
     let Failing { call, nth } = failing;
     let address = Address::new(alloc, place, "logs", 0)?;
-    let mut plan = Seq::new(alloc);
-    plan.push(FailingAt { address, call, nth })?;
-    Ok(plan)
+    one(alloc, FailingAt { address, call, nth })
+}
+
+fn push_sources(alloc: Global, shards: &mut Seq<MemSource>, lines: &str) -> Result<(), AllocError> {
+    for line in lines.lines() {
+        shards.push(source_of(alloc, line)?)?;
+    }
+    Ok(())
 }
 
 /// The shards in memory of these lines, of which that call of `src` fails.
 pub fn sources_of(alloc: Global, lines: &str, failing: Failing) -> Result<MemSources, AllocError> {
-    let mut shards = Seq::new(alloc);
-    for line in lines.lines() {
-        shards.push(source_of(alloc, line)?)?;
-    }
     let plan = failing_at(alloc, "src", failing)?;
+    let mut shards = Seq::new(alloc);
+    push_sources(alloc, &mut shards, lines)?;
     Ok(MemSources::new(shards, plan))
 }
 
@@ -119,6 +121,13 @@ fn container_of<D: Drop>(alloc: Global, depot: D, job: &Job) -> Result<Faulty<D>
     Ok(Faulty::new(alloc, depot, job.mishaps.fault, last))
 }
 
+/// The lines of the script.
+fn lines_of(alloc: Global, job: &Job) -> Result<MemLines, AllocError> {
+    let plan = plan_of(alloc, Call::Read, job.mishaps.read)?;
+    let bytes = Bytes::from_slice(alloc, job.script.as_bytes())?;
+    Ok(MemLines::new(bytes, plan))
+}
+
 /// Runs over that container.
 pub fn run_on<D: Depot + Send, S: Sources, T: Targets, R: Threads + Wait + Sync>(
     alloc: Global,
@@ -134,8 +143,7 @@ where
     D::Fetch: Send,
 {
     let words = words_of(alloc, job.words)?;
-    let bytes = Bytes::from_slice(alloc, job.script.as_bytes())?;
-    let mut lines = MemLines::new(bytes, plan_of(alloc, Call::Read, job.mishaps.read)?);
+    let mut lines = lines_of(alloc, job)?;
     let depot = container_of(alloc, depot, job)?;
     Ok(run(
         threads, alloc, &words, &mut lines, depot, sources, targets, job.gate, 0, out,

@@ -5,31 +5,31 @@ use esr_dirsource::DirTarget;
 use esr_faulty::Faulty;
 use esr_hash::{Print, print_text};
 use esr_run::Ended;
+use esr_scenes::{say, say_bytes, say_number};
 use esr_source::MemTarget;
 use esr_targets::Restored;
-use std::alloc::{AllocError, Global};
+use std::alloc::Global;
 use std::rt::Files;
 
 /// A target that shows the files that it has, where it is in memory.
 pub trait Shows {
-    /// Adds their names and texts.
-    fn push_files(&self, text: &mut String) -> Result<(), AllocError>;
+    /// Says their names and texts.
+    fn say_files(&self, said: &mut String);
 }
 
 impl Shows for MemTarget {
-    fn push_files(&self, text: &mut String) -> Result<(), AllocError> {
+    fn say_files(&self, said: &mut String) {
         for file in self.files() {
-            let bytes = str::from_utf8(file.bytes.as_slice()).unwrap_or("?");
-            write!(text, " {}={bytes}", file.name.as_str())?;
+            say(said, " ");
+            say(said, file.name.as_str());
+            say(said, "=");
+            say_bytes(said, file.bytes.as_slice());
         }
-        Ok(())
     }
 }
 
 impl<R: Files> Shows for DirTarget<'_, R> {
-    fn push_files(&self, _text: &mut String) -> Result<(), AllocError> {
-        Ok(())
-    }
+    fn say_files(&self, _said: &mut String) {}
 }
 
 /// What a run has shown, and what is asked of it then.
@@ -61,28 +61,34 @@ fn object_of<S: Counted, F: Counted, H: Counted, T: Counted>(
     }
 }
 
-/// Adds a line with what an object is that failed, how often it did, and the files of a target.
-fn push_failed<S: Counted, F: Counted, H: Counted, T: Counted + Shows>(
-    text: &mut String,
+/// Says in a line what an object is that failed, how often it did, and the files of a target.
+fn say_failed<S: Counted, F: Counted, H: Counted, T: Counted + Shows>(
+    said: &mut String,
     fault: &Fault<S, F, H, T>,
-) -> Result<(), AllocError> {
+) {
     let (object, count) = object_of(&fault.object);
-    let place = if fault.entry.is_none() {
-        " of the opening"
-    } else {
-        ""
-    };
-    write!(text, "failed {object}{place} {count}")?;
-    if let FailedObject::Target { target } = &fault.object {
-        target.push_files(text)?;
+    say(said, "failed ");
+    say(said, object);
+    if fault.entry.is_none() {
+        say(said, " of the opening");
     }
-    text.push_str("\n")
+    say(said, " ");
+    say_number(said, count);
+    if let FailedObject::Target { target } = &fault.object {
+        target.say_files(said);
+    }
+    say(said, "\n");
 }
 
-/// Adds what is shown of a restored shard but its files: the number of the script's line, the index and the shard.
-pub fn push_restored<T>(text: &mut String, restored: &Restored<T>) -> Result<(), AllocError> {
+/// Says what is shown of a restored shard but its files: the number of the script's line, the index and the shard.
+pub fn say_restored<T>(said: &mut String, restored: &Restored<T>) {
     let (line, shard) = (restored.line, restored.shard);
-    write!(text, "restored {line} {} {shard}", restored.index.as_str())
+    let _ = write!(said, "restored {line} {} {shard}", restored.index.as_str());
+}
+
+/// Says the exit status of a run.
+pub fn say_exit(said: &mut String, status: u8) {
+    let _ = write!(said, "exit {status}\n");
 }
 
 /// Whether the entry tells that the container failed.
@@ -101,35 +107,32 @@ fn may_settle(entry: &Entry) -> bool {
         && (matches!(entry.answer, Answer::Settled) || is_fault(entry))
 }
 
-/// Adds the length and the digest of a file.
-fn push_print(text: &mut String, print: &Print) -> Result<(), AllocError> {
-    let digits = print_text(print);
-    let digits = str::from_utf8(&digits).unwrap_or("?");
-    write!(text, " {} {digits}", print.len)
+/// Says the length and the digest of a file.
+fn say_print(said: &mut String, print: &Print) {
+    say(said, " ");
+    say_number(said, print.len);
+    say(said, " ");
+    say_bytes(said, &print_text(print));
 }
 
-/// Adds the prints that were stated and found, where the entry fails a shard's restore for them.
-fn push_misprint(text: &mut String, entry: &Entry) -> Result<(), AllocError> {
-    let Step::Read {
-        read: Read::Failed { why },
+/// Says the prints that were stated and found, where the entry fails a shard's restore for them.
+fn say_misprint(said: &mut String, entry: &Entry) {
+    if let Step::Read {
+        read: Read::Failed {
+            why: Why::Misprinted { stated, found, .. },
+        },
     } = &entry.step
-    else {
-        return Ok(());
-    };
-    let Why::Misprinted { stated, found, .. } = why else {
-        return Ok(());
-    };
-    push_print(text, stated)?;
-    push_print(text, found)
+    {
+        say_print(said, stated);
+        say_print(said, found);
+    }
 }
 
-/// The prints that the entries state and find of files that have others.
-fn misprints_of(alloc: Global, entries: &[Entry]) -> Result<String, AllocError> {
-    let mut text = String::new(alloc);
+/// Says the prints that the entries state and find of files that have others.
+fn say_misprints(said: &mut String, entries: &[Entry]) {
     for entry in entries {
-        push_misprint(&mut text, entry)?;
+        say_misprint(said, entry);
     }
-    Ok(text)
 }
 
 /// How many entries tell that the container failed.
@@ -150,33 +153,26 @@ fn count_settles(entries: &[Entry]) -> u64 {
     count
 }
 
-/// The report, and a line for each object that failed.
-fn text_of<S: Counted, F: Counted, H: Counted, T: Counted + Shows>(
-    alloc: Global,
-    report: &[u8],
-    faults: &[Fault<S, F, H, T>],
-) -> Result<String, AllocError> {
-    let mut text = String::from_str(alloc, str::from_utf8(report).unwrap_or("?"))?;
-    for fault in faults {
-        push_failed(&mut text, fault)?;
-    }
-    Ok(text)
-}
-
 /// What a run shows but the shards that it restored and its exit status.
 pub fn shown_by<D: Depot, H: Counted, T: Counted + Shows>(
     alloc: Global,
     report: &[u8],
     left: &Ended<Faulty<D>, H, T>,
-) -> Result<Shown, AllocError> {
+) -> Shown {
     let entries = left.history.as_slice();
-    let misprints = misprints_of(alloc, entries)?;
-    Ok(Shown {
-        text: text_of(alloc, report, left.faults.as_slice())?,
+    let mut text = String::new(alloc);
+    say_bytes(&mut text, report);
+    for fault in left.faults.as_slice() {
+        say_failed(&mut text, fault);
+    }
+    let mut misprints = String::new(alloc);
+    say_misprints(&mut misprints, entries);
+    Shown {
+        text,
         faults: left.depot.fault_count(),
         told: count_faults(entries),
         settles: count_settles(entries),
         misprints,
         was_hit: left.depot.was_hit,
-    })
+    }
 }

@@ -20,6 +20,12 @@ pub fn plain(alloc: Global, text: &str) -> Result<String, AllocError> {
     Ok(plain)
 }
 
+/// Adds a line to a text.
+pub fn push_line(text: &mut String, line: &str) -> Result<(), AllocError> {
+    text.push_str(line)?;
+    text.push_str("\n")
+}
+
 /// The first so many bytes of a text, or all of a shorter one.
 pub fn front_of(text: &str, length: usize) -> &str {
     match text.split_at_checked(length) {

@@ -43,7 +43,8 @@ first_is_new s before lock p x is legal never = subst (IsNewPass s before lock (
 })
 
 -- a pass with a share of its turns
-pub share_is_new : (s : Start) (before : List Moment) (lock : LockId) (whole part : Seen) → IsNewPass s before lock (2 ^ 40) whole → part.lock ≡ lock → part.seen ≡ whole.seen → part.mine ≡ [] → part.used ≡ 0 → IsNewPass s before lock 0 part
+pub share_is_new : (s : Start) (before : List Moment) (lock : LockId) (whole part : Seen) → IsNewPass s before lock (2 ^ 40) whole → part.lock ≡ lock → part.seen ≡ whole.seen → part.mine ≡ [] → part.used ≡ 0
+    → IsNewPass s before lock 0 part
 share_is_new s before lock whole part new own seen mine unused = record {
   own = own;
   mine = mine;

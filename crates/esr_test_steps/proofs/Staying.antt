@@ -1,5 +1,6 @@
 -- A ticket stays while another unit is taken and worked.
 use Rattle.std.proofs.Common.{◌≡◌, ◌≢◌, ◌⊎◌, ◌≤◌, inl, inr, ⊎_elim, ℕ, true, List, [], ◌∷◌, ◌++◌, append-nil, refl, sym, ap, ◌∙◌, subst, arith}
+use Rattle.esr_model.specs.Lists.{Has-left}
 use Rattle.esr_model.specs.Values.{Has, Formats}
 use Rattle.esr_core.specs.World.{World, Ticket}
 use Rattle.esr_core.specs.Entry.{Step, TakeStep, ElectStep, Given, Reply, Gave, ElectedTerm, Moment}
@@ -38,7 +39,8 @@ module _ (s : Start) (alone : s.alone ≡ true)
       subst (λ (l : List Moment). ticket_of s l k ≡ ticket_of s took k) (sym g.is) (steps s took g.more ticket k (subst (Legal s) g.is (g.legal legal)) (g.own alone) some other)
 
   -- the ticket of a unit that was taken before
-  pub stays_beside : (old took new : List Moment) (ticket op : ℕ) (unit : Given) (held : Taken) → Stepped s old took 0 TakeStep (Gave ticket op unit) → GrewBy s ticket took new → ticket ≢ 0 → ticket ≢ held.ready.ticket → Took s old held → Took s new held
+  pub stays_beside : (old took new : List Moment) (ticket op : ℕ) (unit : Given) (held : Taken) → Stepped s old took 0 TakeStep (Gave ticket op unit) → GrewBy s ticket took new → ticket ≢ 0 → ticket ≢ held.ready.ticket
+      → Took s old held → Took s new held
   stays_beside old took new ticket op unit held h g some other was =
       let k = held.ready.ticket in
       let apart : k ≢ ticket = λ e. other (sym e) in
@@ -55,11 +57,6 @@ stays_elected s alone nothing old new term held h some was =
     took_stays s old new held (subst (λ (l : List Moment). ticket_of s l held.ready.ticket ≡ ticket_of s old held.ready.ticket) (sym is) (nothing s old m held.ready.ticket (subst (Legal s) is h.legal) refl (elected_none term) some)) was
 
 -- ---- what it has made, and that it was given
-
-has_left : {A : Type 0} (xs ys : List A) (x : A) → Has xs x → Has (xs ++ ys) x
-has_left [] ys x h = absurd h
-has_left (y ∷ xs) ys x (inl e) = inl e
-has_left (y ∷ xs) ys x (inr h) = inr (has_left xs ys x h)
 
 all_has : (who : ℕ) (ms : List Moment) (m : Moment) → AllOf who ms → Has ms m → m.entry.who ≡ who
 all_has who [] m all none = absurd none
@@ -87,7 +84,8 @@ pub none_elected : (s : Start) → s.alone ≡ true → (old new : List Moment) 
 none_elected s alone old new term k h some none = one_step s alone old new ElectStep (ElectedTerm term) k h some ∙ none
 
 -- ... while another unit is taken and worked
-pub none_beside : (s : Start) → s.alone ≡ true → (old took new : List Moment) (ticket op : ℕ) (unit : Given) (k : ℕ) → Stepped s old took 0 TakeStep (Gave ticket op unit) → GrewBy s ticket took new → k ≢ 0 → ticket ≢ k → made_of s old k ≡ [] → made_of s new k ≡ []
+pub none_beside : (s : Start) → s.alone ≡ true → (old took new : List Moment) (ticket op : ℕ) (unit : Given) (k : ℕ) → Stepped s old took 0 TakeStep (Gave ticket op unit) → GrewBy s ticket took new → k ≢ 0 → ticket ≢ k
+    → made_of s old k ≡ [] → made_of s new k ≡ []
 none_beside s alone old took new ticket op unit k h g some other none =
     made_left s took g.more new k g.is (λ m has by made. other (sym (all_has ticket g.more m (g.own alone) has) ∙ by))
     ∙ one_step s alone old took TakeStep (Gave ticket op unit) k h some
@@ -100,7 +98,7 @@ taken_more log step reply calls now ticket is h = subst (λ (c : List Call). Has
   op = h.op;
   unit = h.unit;
   some = h.some;
-  taken = has_left calls _ _ h.taken;
+  taken = Has-left calls _ _ h.taken;
 })
 
 pub taken_same : (calls now : List Call) (ticket : ℕ) → now ≡ calls → HasTaken calls ticket → HasTaken now ticket

@@ -12,9 +12,10 @@ ghost use Rattle.esr_desk.specs.Restore.Targets.{IsFilled, refused_of};
 ghost use Rattle.esr_desk.specs.Shown.{IsShown};
 
 use crate::told::{tell, tell_commit, tell_number, tell_refused};
-use esr_depot::{Commit, Listing};
+use esr_depot::Listing;
 use esr_desk::{
-    Attempt, Basis, Desk, Failure, Named, NewBlob, Planned, RestoreEnd, Unended, Unit, Who,
+    Attempt, Basis, Desk, Done, Failure, Named, NewBlob, Planned, Put, RestoreEnd, Unended, Unit,
+    Who,
 };
 use esr_names::{BlobName, Id};
 use esr_results::ShardResult;
@@ -78,10 +79,10 @@ impl<Q: Desk, E: Desk> Desk for Between<Q, E> {
     fn take(&mut self, alloc: Global) -> Attempt<Option<Unit>> {
         if is_due(&mut self.due, Due::Take) {
             let term = self.elector.elect(alloc);
-            let _ = tell_number(&mut self.told, "elect", &term);
+            tell_number(&mut self.told, "elect", &term);
         }
         let answer = self.own.take(alloc);
-        let _ = tell_refused(&mut self.told, "take", &answer);
+        tell_refused(&mut self.told, "take", &answer);
         answer
     }
 
@@ -97,7 +98,7 @@ impl<Q: Desk, E: Desk> Desk for Between<Q, E> {
         &mut self,
         alloc: Global,
         failure: Failure<Q::Stage, Q::Fetch, Q::Shard, Q::Target>,
-    ) -> Attempt<()>
+    ) -> Done
         requires mine { IsMine failure.who.hand (Q.calls self.old.own) failure.who.number }
         requires may { MayFail failure.who.hand Q.start (Q.seen self.old.own) failure.who.number }
         requires shown { IsShown failure.who.hand (evidence Q.Stage.faults Q.Fetch.faults Q.Shard.faults Q.Target.faults Q.Shard.told Q.Target.told)
@@ -108,7 +109,7 @@ impl<Q: Desk, E: Desk> Desk for Between<Q, E> {
         ensures calls { Q.calls self.new.own ≡ called_by failure.who.hand (Q.seen self.new.own) (fail_step failure.who.hand (why_of failure.why)) (λ _. HasEnded) result (Q.calls self.old.own) }
     {
         let answer = self.own.fail(alloc, failure);
-        let _ = tell(&mut self.told, "fail", &answer);
+        tell(&mut self.told, "fail", &answer);
         answer
     }
 
@@ -120,75 +121,63 @@ impl<Q: Desk, E: Desk> Desk for Between<Q, E> {
         self.own.begin(alloc, ticket, blob)
     }
 
-    fn commit(
-        &mut self,
-        alloc: Global,
-        ticket: u64,
-        name: BlobName,
-        stage: Self::Stage,
-    ) -> Attempt<Commit> {
+    fn commit(&mut self, alloc: Global, ticket: u64, name: BlobName, stage: Self::Stage) -> Put {
         let answer = self.own.commit(alloc, ticket, name, stage);
-        let _ = tell_commit(&mut self.told, &answer);
+        tell_commit(&mut self.told, &answer);
         answer
     }
 
-    fn latest(
-        &mut self,
-        alloc: Global,
-        ticket: u64,
-        name: BlobName,
-        stage: Self::Stage,
-    ) -> Attempt<()> {
+    fn latest(&mut self, alloc: Global, ticket: u64, name: BlobName, stage: Self::Stage) -> Done {
         let answer = self.own.latest(alloc, ticket, name, stage);
-        let _ = tell(&mut self.told, "latest", &answer);
+        tell(&mut self.told, "latest", &answer);
         answer
     }
 
     fn raise(&mut self, alloc: Global, ticket: u64) -> Attempt<u64> {
         let answer = self.own.raise(alloc, ticket);
-        let _ = tell_number(&mut self.told, "raise", &answer);
+        tell_number(&mut self.told, "raise", &answer);
         if is_due(&mut self.due, Due::Raise) {
             let term = self.elector.elect(alloc);
-            let _ = tell_number(&mut self.told, "elect", &term);
+            tell_number(&mut self.told, "elect", &term);
         }
         answer
     }
 
-    fn settle(&mut self, alloc: Global, ticket: u64, root: &RootData) -> Attempt<()> {
+    fn settle(&mut self, alloc: Global, ticket: u64, root: &RootData) -> Done {
         let answer = self.own.settle(alloc, ticket, root);
-        let _ = tell(&mut self.told, "settle", &answer);
+        tell(&mut self.told, "settle", &answer);
         answer
     }
 
     fn plan(&mut self, alloc: Global, ticket: u64, basis: &Basis<'_>) -> Attempt<Planned> {
         let answer = self.own.plan(alloc, ticket, basis);
-        let _ = tell(&mut self.told, "plan", &answer);
+        tell(&mut self.told, "plan", &answer);
         if is_due(&mut self.due, Due::Plan) {
             let term = self.elector.elect(alloc);
-            let _ = tell_number(&mut self.told, "elect", &term);
+            tell_number(&mut self.told, "elect", &term);
         }
         answer
     }
 
     fn list(&mut self, alloc: Global, ticket: u64, after: Option<&str>) -> Attempt<Listing> {
         let answer = self.own.list(alloc, ticket, after);
-        let _ = tell(&mut self.told, "list", &answer);
+        tell(&mut self.told, "list", &answer);
         answer
     }
 
-    fn settle_delete(&mut self, alloc: Global, ticket: u64, root: &RootData) -> Attempt<()> {
+    fn settle_delete(&mut self, alloc: Global, ticket: u64, root: &RootData) -> Done {
         let answer = self.own.settle_delete(alloc, ticket, root);
-        let _ = tell(&mut self.told, "settle", &answer);
+        tell(&mut self.told, "settle", &answer);
         answer
     }
 
-    fn remove(&mut self, alloc: Global, ticket: u64, names: &Seq<BlobName>) -> Attempt<()> {
+    fn remove(&mut self, alloc: Global, ticket: u64, names: &Seq<BlobName>) -> Done {
         let answer = self.own.remove(alloc, ticket, names);
-        let _ = tell(&mut self.told, "remove", &answer);
+        tell(&mut self.told, "remove", &answer);
         answer
     }
 
-    fn end_shard(&mut self, alloc: Global, ticket: u64, outcome: &ShardResult) -> Attempt<()> {
+    fn end_shard(&mut self, alloc: Global, ticket: u64, outcome: &ShardResult) -> Done {
         self.own.end_shard(alloc, ticket, outcome)
     }
 
@@ -211,31 +200,31 @@ impl<Q: Desk, E: Desk> Desk for Between<Q, E> {
         self.own.end_restore(alloc, done)
     }
 
-    fn end_delete(&mut self, alloc: Global, ticket: u64) -> Attempt<()> {
+    fn end_delete(&mut self, alloc: Global, ticket: u64) -> Done {
         let answer = self.own.end_delete(alloc, ticket);
-        let _ = tell(&mut self.told, "end", &answer);
+        tell(&mut self.told, "end", &answer);
         answer
     }
 
-    fn end_cleanup(&mut self, alloc: Global, ticket: u64) -> Attempt<()> {
+    fn end_cleanup(&mut self, alloc: Global, ticket: u64) -> Done {
         let answer = self.own.end_cleanup(alloc, ticket);
-        let _ = tell(&mut self.told, "end", &answer);
+        tell(&mut self.told, "end", &answer);
         answer
     }
 
-    fn end_drop(&mut self, alloc: Global, ticket: u64) -> Attempt<()> {
+    fn end_drop(&mut self, alloc: Global, ticket: u64) -> Done {
         if is_due(&mut self.due, Due::Drop) {
             let term = self.elector.elect(alloc);
-            let _ = tell_number(&mut self.told, "elect", &term);
+            tell_number(&mut self.told, "elect", &term);
         }
         let answer = self.own.end_drop(alloc, ticket);
-        let _ = tell(&mut self.told, "drop", &answer);
+        tell(&mut self.told, "drop", &answer);
         answer
     }
 
-    fn finish(&mut self, alloc: Global, ticket: u64) -> Attempt<()> {
+    fn finish(&mut self, alloc: Global, ticket: u64) -> Done {
         let answer = self.own.finish(alloc, ticket);
-        let _ = tell(&mut self.told, "finish", &answer);
+        tell(&mut self.told, "finish", &answer);
         answer
     }
 }

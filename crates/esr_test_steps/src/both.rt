@@ -6,6 +6,7 @@ use crate::between::{Between, Due};
 use esr_desk::{Desk, Sole};
 use esr_drive::{Outside, work};
 use esr_handle::{Handle, Share, Since, Sitting};
+use esr_scenes::say;
 use esr_source::{Gate, Sources, Targets};
 use esr_turns::{Pass, TurnLock};
 use std::alloc::Global;
@@ -70,7 +71,7 @@ where
         mut told,
     } = desk;
     if answer.is_err() {
-        let _ = told.push_str(", stopped");
+        say(&mut told, ", stopped");
     }
     (own.into_pass(), elector.into_pass(), told)
 }

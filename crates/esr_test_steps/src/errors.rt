@@ -10,3 +10,6 @@ impl<E: Debug + Drop> From<E> for Trouble {
         Trouble("a step that is not refused")
     }
 }
+
+/// Nothing, or why a scene can't be played on.
+pub type Done = Result<(), Trouble>;

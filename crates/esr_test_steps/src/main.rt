@@ -28,5 +28,8 @@ fn tell_all<R: Wait + Sync>(rt: &HostRuntime, host: &R) -> Result<u64, Trouble> 
 }
 
 fn main(rt: HostRuntime) -> ExitCode {
-    exit_of(&rt, tell_all(&rt, &rt).map_err(|trouble| trouble.0))
+    match tell_all(&rt, &rt) {
+        Ok(failed) => exit_of(&rt, Ok(failed)),
+        Err(Trouble(why)) => exit_of(&rt, Err(why)),
+    }
 }

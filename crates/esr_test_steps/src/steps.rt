@@ -9,16 +9,14 @@ ghost use Rattle.esr_drive.specs.Worked.{IsWorkable};
 
 use crate::between::Due;
 use crate::both::sit;
-use crate::errors::Trouble;
-use crate::setting::{ask_clone, ask_delete, ask_snapshot};
+use crate::errors::{Done, Trouble};
+use crate::setting::ask;
 use crate::units::{
     PART_SIZE, elect_beside, end_faulty, end_late, take, work_beside, work_next, work_unit,
 };
 use esr_depot::Depot;
-use esr_desk::Client;
 use esr_drive::{Outside, work};
 use esr_opening::{Opening, open_container};
-use esr_ops::Command;
 use esr_repo::{Repo, Told};
 use esr_seq::Text;
 use esr_solo::Solo;
@@ -33,7 +31,7 @@ fn work_around<D: Depot, K: Told, S: Sources>(
     desk: &mut Solo<D, K, S::Shard, MemTarget>,
     sources: &S,
     words: &str,
-) -> Result<(), Trouble>
+) -> Done
     requires sources { AreSources K.start (S.told sources.now) }
     requires size { PART_SIZE ≡ K.start.part_size }
     requires alone { K.start.alone ≡ true }
@@ -51,7 +49,7 @@ fn work_late<D: Depot, K: Told, S: Sources>(
     alloc: Global,
     desk: &mut Solo<D, K, S::Shard, MemTarget>,
     word: &str,
-) -> Result<(), Trouble>
+) -> Done
     requires alone { K.start.alone ≡ true }
 {
     let held = take::<D, K, S>(alloc, desk, word)?;
@@ -65,7 +63,7 @@ fn work_faulty<D: Depot, K: Told, S: Sources>(
     desk: &mut Solo<D, K, S::Shard, MemTarget>,
     sources: &S,
     words: &str,
-) -> Result<(), Trouble>
+) -> Done
     requires sources { AreSources K.start (S.told sources.now) }
     requires size { PART_SIZE ≡ K.start.part_size }
     requires alone { K.start.alone ≡ true }
@@ -83,7 +81,7 @@ fn step<D: Depot, K: Told, S: Sources, T: Targets<Target = MemTarget>>(
     sources: &S,
     targets: &T,
     line: &str,
-) -> Result<(), Trouble>
+) -> Done
     requires sources { AreSources K.start (S.told sources.now) }
     requires size { PART_SIZE ≡ K.start.part_size }
     requires alone { K.start.alone ≡ true }
@@ -91,14 +89,11 @@ fn step<D: Depot, K: Told, S: Sources, T: Targets<Target = MemTarget>>(
 {
     let (verb, words) = line.split_once(' ').unwrap_or((line, ""));
     match verb {
-        "snapshot" => ask_snapshot(alloc, desk, words),
-        "clone" => ask_clone(alloc, desk, words),
-        "delete" => ask_delete(alloc, desk, words),
+        "snapshot" | "clone" | "delete" | "cleanup" => ask(alloc, desk, verb, words),
         "work" => work_next(alloc, desk, sources, words),
         "around" => work_around(alloc, desk, sources, words),
         "faulty" => work_faulty(alloc, desk, sources, words),
         "late" => work_late::<D, K, S>(alloc, desk, words),
-        "cleanup" => Ok(desk.ask(alloc, &Command::Cleanup).map(|_| ())?),
         "all" => Ok(work(alloc, desk, sources, targets, &NoGate, PART_SIZE)?),
         _ => Err(Trouble("a step that there is")),
     }
@@ -111,7 +106,7 @@ fn steps<D: Depot, K: Told, S: Sources, T: Targets<Target = MemTarget>>(
     sources: &S,
     targets: &T,
     lines: &str,
-) -> Result<(), Trouble>
+) -> Done
     requires sources { AreSources K.start (S.told sources.now) }
     requires size { PART_SIZE ≡ K.start.part_size }
     requires alone { K.start.alone ≡ true }
@@ -125,15 +120,23 @@ fn steps<D: Depot, K: Told, S: Sources, T: Targets<Target = MemTarget>>(
     Ok(())
 }
 
+/// Where a line lets the next term begin.
+fn due_at(line: &str) -> Option<Due> {
+    match line {
+        "* raise" => Some(Due::Raise),
+        "* plan" => Some(Due::Plan),
+        "* drop" => Some(Due::Drop),
+        "* spent" => Some(Due::Take),
+        _ => None,
+    }
+}
+
 /// Where the line that begins with `*` lets the next term begin.
 fn due_of(lines: &str) -> Option<Due> {
     for line in lines.lines() {
-        match line {
-            "* raise" => return Some(Due::Raise),
-            "* plan" => return Some(Due::Plan),
-            "* drop" => return Some(Due::Drop),
-            "* spent" => return Some(Due::Take),
-            _ => {}
+        let due = due_at(line);
+        if due.is_some() {
+            return due;
         }
     }
     None

@@ -1,21 +1,27 @@
 //! What the steps of a desk are answered, in words.
 use esr_depot::Commit;
 use esr_desk::{EntryRefusal, StepRefusal};
-use std::alloc::AllocError;
+use esr_scenes::{say, say_number};
+
+/// Says the term of a step, which is over, and the one that it is now.
+fn tell_stale(told: &mut String, own: u64, now: u64) {
+    say(told, " stale ");
+    say_number(told, own);
+    say(told, " ");
+    say_number(told, now);
+}
 
 /// Adds a step, and how it was refused where it was: one of a term that is over with its own term and the one that it is now.
-pub(crate) fn tell<T: Drop>(
-    told: &mut String,
-    step: &str,
-    answer: &Result<T, StepRefusal>,
-) -> Result<(), AllocError> {
+pub(crate) fn tell<T: Drop>(told: &mut String, step: &str, answer: &Result<T, StepRefusal>) {
+    say(told, ", ");
+    say(told, step);
     match answer {
-        Ok(_) => write!(told, ", {step}"),
+        Ok(_) => {}
         Err(StepRefusal::Refused(EntryRefusal::StaleTerm { own, now })) => {
-            write!(told, ", {step} stale {} {}", *own, *now)
+            tell_stale(told, *own, *now);
         }
-        Err(StepRefusal::TurnsSpent) => write!(told, ", {step} spent"),
-        Err(_) => write!(told, ", {step} refused"),
+        Err(StepRefusal::TurnsSpent) => say(told, " spent"),
+        Err(_) => say(told, " refused"),
     }
 }
 
@@ -24,32 +30,25 @@ pub(crate) fn tell_refused<T: Drop>(
     told: &mut String,
     step: &str,
     answer: &Result<T, StepRefusal>,
-) -> Result<(), AllocError> {
-    match answer {
-        Ok(_) => Ok(()),
-        Err(_) => tell(told, step, answer),
+) {
+    if answer.is_err() {
+        tell(told, step, answer);
     }
 }
 
 /// Adds a step that answers a number, with the number.
-pub(crate) fn tell_number(
-    told: &mut String,
-    step: &str,
-    answer: &Result<u64, StepRefusal>,
-) -> Result<(), AllocError> {
-    match answer {
-        Ok(number) => write!(told, ", {step} {}", *number),
-        Err(_) => tell(told, step, answer),
+pub(crate) fn tell_number(told: &mut String, step: &str, answer: &Result<u64, StepRefusal>) {
+    tell(told, step, answer);
+    if let Ok(number) = answer {
+        say(told, " ");
+        say_number(told, *number);
     }
 }
 
 /// Adds a commit, which says whether the blob was there.
-pub(crate) fn tell_commit(
-    told: &mut String,
-    answer: &Result<Commit, StepRefusal>,
-) -> Result<(), AllocError> {
+pub(crate) fn tell_commit(told: &mut String, answer: &Result<Commit, StepRefusal>) {
     match answer {
-        Ok(Commit::Exists) => told.push_str(", there"),
+        Ok(Commit::Exists) => say(told, ", there"),
         _ => tell(told, "commit", answer),
     }
 }

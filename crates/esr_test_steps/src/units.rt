@@ -8,7 +8,7 @@ ghost use Rattle.esr_desk.specs.Outcome.{Stepped, take_reply};
 ghost use Rattle.esr_desk.specs.Sources.{AreSources};
 ghost use Rattle.esr_desk.specs.Taken.{Took};
 
-use crate::errors::Trouble;
+use crate::errors::{Done, Trouble};
 use esr_depot::Depot;
 use esr_desk::{Desk, Unit, UnitRefusal};
 use esr_ops::Work;
@@ -60,7 +60,7 @@ pub(crate) fn work_unit<D: Depot, K: Told, S: Sources>(
     desk: &mut Solo<D, K, S::Shard, MemTarget>,
     unit: &Unit,
     sources: &S,
-) -> Result<(), Trouble>
+) -> Done
     requires mine { HasTaken (calls_at 0 desk.old) unit.now.ready.ticket }
     requires fresh { Took K.start desk.old unit.now }
     requires new { made_of K.start desk.old unit.now.ready.ticket ≡ [] }
@@ -93,7 +93,7 @@ pub(crate) fn work_next<D: Depot, K: Told, S: Sources>(
     desk: &mut Solo<D, K, S::Shard, MemTarget>,
     sources: &S,
     word: &str,
-) -> Result<(), Trouble>
+) -> Done
     requires sources { AreSources K.start (S.told sources.now) }
     requires size { PART_SIZE ≡ K.start.part_size }
 {
@@ -108,7 +108,7 @@ pub(crate) fn work_beside<D: Depot, K: Told, S: Sources>(
     held: &Unit,
     sources: &S,
     word: &str,
-) -> Result<(), Trouble>
+) -> Done
     requires mine { HasTaken (calls_at 0 desk.old) held.now.ready.ticket }
     requires held { Took K.start desk.old held.now }
     requires new { made_of K.start desk.old held.now.ready.ticket ≡ [] }
@@ -132,7 +132,7 @@ pub(crate) fn elect_beside<D: Depot, K: Told, S: Sources>(
     alloc: Global,
     desk: &mut Solo<D, K, S::Shard, MemTarget>,
     held: &Unit,
-) -> Result<(), Trouble>
+) -> Done
     requires mine { HasTaken (calls_at 0 desk.old) held.now.ready.ticket }
     requires held { Took K.start desk.old held.now }
     requires new { made_of K.start desk.old held.now.ready.ticket ≡ [] }
@@ -151,7 +151,7 @@ pub(crate) fn end_late<D: Depot, K: Told, S: Sources>(
     alloc: Global,
     desk: &mut Solo<D, K, S::Shard, MemTarget>,
     unit: &Unit,
-) -> Result<(), Trouble>
+) -> Done
     requires mine { HasTaken (calls_at 0 desk.old) unit.now.ready.ticket }
     requires fresh { Took K.start desk.old unit.now }
     requires new { made_of K.start desk.old unit.now.ready.ticket ≡ [] }
@@ -173,7 +173,7 @@ pub(crate) fn end_faulty<D: Depot, K: Told, S: Sources>(
     desk: &mut Solo<D, K, S::Shard, MemTarget>,
     unit: &Unit,
     sources: &S,
-) -> Result<(), Trouble>
+) -> Done
     requires mine { HasTaken (calls_at 0 desk.old) unit.now.ready.ticket }
     requires fresh { Took K.start desk.old unit.now }
     requires new { made_of K.start desk.old unit.now.ready.ticket ≡ [] }

@@ -36,13 +36,12 @@ fn say_answer(alloc: Global, line: &mut String, group: &Group<'_>, bytes: &[u8])
     }
 }
 
-/// What is answered to the text of a case.
-fn told(alloc: Global, group: &Group<'_>, text: &str) -> Result<String, AllocError> {
+/// Says what is answered to the text of a case.
+fn tell(alloc: Global, line: &mut String, group: &Group<'_>, text: &str) -> Result<(), AllocError> {
     let text = group.frame.replace(alloc, "..", text)?;
     let bytes = bytes_of(alloc, text.as_str())?;
-    let mut line = String::new(alloc);
-    say_answer(alloc, &mut line, group, bytes.as_slice());
-    Ok(line)
+    say_answer(alloc, line, group, bytes.as_slice());
+    Ok(())
 }
 
 /// Counts a case that held.
@@ -62,17 +61,34 @@ fn complain(
     eprintln!(rt; "{file}: {title}\n  the line {line}\n  wanted   {wanted}\n  came     {came}")
 }
 
-/// Plays a case: what is wanted, where `=` is the text itself, a bar, and the text of the case.
-fn play_case(rt: &HostRuntime, group: &Group<'_>, line: &str, tally: &mut Tally) -> io::Result<()> {
-    let (wanted, text) = line.split_once(" | ").unwrap_or((line, ""));
-    let wanted = if wanted == "=" { text } else { wanted };
-    let came = told(rt.alloc(), group, text)?;
-    if bytes_of(rt.alloc(), wanted)?.as_slice() == came.as_bytes() {
+/// Whether what came is what is wanted.
+fn is_wanted(alloc: Global, wanted: &str, came: &str) -> Result<bool, AllocError> {
+    Ok(bytes_of(alloc, wanted)?.as_slice() == came.as_bytes())
+}
+
+/// Counts a case, and tells that it doesn't hold where this is so.
+fn judge(
+    rt: &HostRuntime,
+    group: &Group<'_>,
+    (line, wanted): (&str, &str),
+    came: &str,
+    tally: &mut Tally,
+) -> io::Result<()> {
+    if is_wanted(rt.alloc(), wanted, came)? {
         count(&mut tally.held);
         return Ok(());
     }
     count(&mut tally.failed);
-    complain(rt, group, line, wanted, came.as_str())
+    complain(rt, group, line, wanted, came)
+}
+
+/// Plays a case: what is wanted, where `=` is the text itself, a bar, and the text of the case.
+fn play_case(rt: &HostRuntime, group: &Group<'_>, line: &str, tally: &mut Tally) -> io::Result<()> {
+    let (wanted, text) = line.split_once(" | ").unwrap_or((line, ""));
+    let wanted = if wanted == "=" { text } else { wanted };
+    let mut came = String::new(rt.alloc());
+    tell(rt.alloc(), &mut came, group, text)?;
+    judge(rt, group, (line, wanted), came.as_str(), tally)
 }
 
 /// The group with this title, whose next line has the question and the frame.

@@ -28,12 +28,17 @@ fn six(text: &str) -> [u64; 6] {
     ]
 }
 
+/// Says the numbers of a copy, how many the list has and whether it has none, and the last one that it had.
+fn say_copy(line: &mut String, copy: &[u64], list: &Seq<u64>, last: Option<u64>) {
+    let (len, empty) = (list.len(), list.is_empty());
+    let _ = write!(line, "{copy:?} {len} {empty} {last:?}");
+}
+
 /// Says the copy of a list without its last number, how many that are, and the last one.
 fn say_list(alloc: Global, line: &mut String, list: &mut Seq<u64>) -> Said {
     let last = list.pop();
     let copy = Seq::from_slice(alloc, list.as_slice())?.into_vec();
-    let (items, len, empty) = (copy.as_slice(), list.len(), list.is_empty());
-    let _ = write!(line, "{items:?} {len} {empty} {last:?}");
+    say_copy(line, copy.as_slice(), list, last);
     Ok(())
 }
 
@@ -52,18 +57,22 @@ fn list_of(alloc: Global, text: &str) -> Result<Seq<Text>, AllocError> {
     Ok(Seq::from_vec(texts.into_vec()))
 }
 
+/// Says the last text of a list, if there is one, with its length.
+fn say_popped(line: &mut String, last: Option<Text>) {
+    match last {
+        Some(text) => {
+            let _ = write!(line, "{} {}", text.as_str(), text.len());
+        }
+        None => say(line, "none"),
+    }
+}
+
 /// Says the last text of a list, with its length, and whether the list was empty.
 fn say_last(alloc: Global, line: &mut String, text: &str) -> Said {
     let mut texts = list_of(alloc, text)?;
-    let empty = texts.is_empty();
-    match texts.pop() {
-        Some(text) => {
-            let _ = write!(line, "{} {} {empty}", text.as_str(), text.len());
-        }
-        None => {
-            let _ = write!(line, "none {empty}");
-        }
-    }
+    let word = if texts.is_empty() { " true" } else { " false" };
+    say_popped(line, texts.pop());
+    say(line, word);
     Ok(())
 }
 
@@ -97,18 +106,38 @@ fn say_bytes_beside(line: &mut String, copy: &Bytes, bytes: &Bytes) {
     say_bytes(line, bytes);
 }
 
-/// Says bytes that are none at first and grow by a word and then by another, each with a dot, beside the copy between.
-fn say_bytes_grown(alloc: Global, line: &mut String, text: &str) -> Said {
+/// Says bytes that grow by a word, beside the copy before.
+fn say_bytes_with(
+    alloc: Global,
+    line: &mut String,
+    bytes: &mut Bytes,
+    word: &str,
+) -> Result<(), AllocError> {
+    let copy = bytes.try_clone(alloc)?;
+    extend(bytes, word)?;
+    say_bytes_beside(line, &copy, bytes);
+    Ok(())
+}
+
+/// Says bytes that grow by two words, each with a dot, beside the copy between.
+fn say_bytes_from(
+    alloc: Global,
+    line: &mut String,
+    bytes: &mut Bytes,
+    text: &str,
+) -> Result<(), AllocError> {
     let (front, back) = cut(text);
+    extend(bytes, front)?;
+    say_bytes_with(alloc, line, bytes, back)
+}
+
+/// Says bytes that are none at first and grow by a word and then by another.
+fn say_bytes_grown(alloc: Global, line: &mut String, text: &str) -> Said {
     let mut bytes = Bytes::with_capacity(alloc, 2)?;
     if !bytes.is_empty() {
         return say_unknown(line);
     }
-    extend(&mut bytes, front)?;
-    let copy = bytes.try_clone(alloc)?;
-    extend(&mut bytes, back)?;
-    say_bytes_beside(line, &copy, &bytes);
-    Ok(())
+    Ok(say_bytes_from(alloc, line, &mut bytes, text)?)
 }
 
 /// Says a text, with its length, and whether it is empty.
@@ -140,14 +169,24 @@ fn say_text_beside(line: &mut String, copy: &Text, text: &Text) {
     say_text(line, text);
 }
 
-/// Says a text that grows from one word by another, beside the copy before.
+/// Says a text that grows by a word, beside the copy before.
+fn say_text_with(
+    alloc: Global,
+    line: &mut String,
+    text: &mut Text,
+    word: &str,
+) -> Result<(), AllocError> {
+    let copy = text.try_clone(alloc)?;
+    text.push_str(word)?;
+    say_text_beside(line, &copy, text);
+    Ok(())
+}
+
+/// Says a text that grows from one word by another.
 fn say_text_grown(alloc: Global, line: &mut String, text: &str) -> Said {
     let (front, back) = cut(text);
     let mut text = Text::from_str(alloc, front)?;
-    let copy = text.try_clone(alloc)?;
-    text.push_str(back)?;
-    say_text_beside(line, &copy, &text);
-    Ok(())
+    Ok(say_text_with(alloc, line, &mut text, back)?)
 }
 
 fn say_bytes_of(alloc: Global, line: &mut String, text: &str) -> Said {

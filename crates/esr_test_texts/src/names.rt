@@ -125,21 +125,31 @@ fn say_index_name(alloc: Global, line: &mut String, text: &str) -> Said {
     }
 }
 
+fn say_order(line: &mut String, first: &SnapName, second: &SnapName) {
+    let order = first.cmp(second);
+    let _ = write!(line, "{order:?}");
+}
+
 /// Says the order of two names of snapshots.
 fn say_snapshot_order(alloc: Global, line: &mut String, text: &str) -> Said {
     let (first, second) = cut(text);
     let first = snap_name(alloc, first)?;
-    let order = first.cmp(&snap_name(alloc, second)?);
-    let _ = write!(line, "{order:?}");
+    let second = snap_name(alloc, second)?;
+    say_order(line, &first, &second);
+    Ok(())
+}
+
+fn add_names(alloc: Global, text: &str, names: &mut IndexNames) -> Result<(), ReadRefusal> {
+    for word in text.split_whitespace() {
+        names.push(index_name(alloc, word)?)?;
+    }
     Ok(())
 }
 
 /// The names of indices that the text has, in their order.
 fn sorted(alloc: Global, text: &str) -> Result<Vec<IndexName>, ReadRefusal> {
     let mut names = IndexNames::new(alloc);
-    for word in text.split_whitespace() {
-        names.push(index_name(alloc, word)?)?;
-    }
+    add_names(alloc, text, &mut names)?;
     let mut names = names.into_vec();
     names.sort()?;
     Ok(names)

@@ -8,14 +8,24 @@ fn push_plain(bytes: &mut Vec<u8>, text: &str) -> Result<(), AllocError> {
     percent_decode(text.as_bytes()).append_to(bytes)
 }
 
+/// Adds bytes so many times.
+fn push_repeated(
+    bytes: &mut Vec<u8>,
+    alloc: Global,
+    once: &[u8],
+    count: usize,
+) -> Result<(), AllocError> {
+    let many = once.repeat(alloc, count)?;
+    bytes.extend_from_slice(many.as_slice())
+}
+
 /// Adds a text as often as it says, which is once where it doesn't say.
 fn push_times(bytes: &mut Vec<u8>, alloc: Global, text: &str) -> Result<(), AllocError> {
     let (unit, count) = text.split_once('*').unwrap_or((text, "1"));
     let mut once = Vec::new(alloc);
     push_plain(&mut once, unit)?;
     let count = count.parse::<usize>().unwrap_or(1);
-    let many = once.as_slice().repeat(alloc, count)?;
-    bytes.extend_from_slice(many.as_slice())
+    push_repeated(bytes, alloc, once.as_slice(), count)
 }
 
 /// Adds a piece that begins with a repeated text and its end mark, or has none.

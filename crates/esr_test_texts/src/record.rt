@@ -110,6 +110,22 @@ fn change_plain(line: &mut String, question: &str, words: &str, record: &mut Clu
     }
 }
 
+/// Says the answer to a change of a record, and the text of the record then.
+fn say_changed(
+    alloc: Global,
+    line: &mut String,
+    question: &str,
+    words: &str,
+    record: &mut ClusterRecord,
+) -> Said {
+    match question {
+        "push" => push(line, record, number(cut(words).0))?,
+        _ => change_plain(line, question, words, record),
+    }
+    say(line, ": ");
+    say_written(line, record_text(alloc, record))
+}
+
 /// Says what is asked of a record, by the words before its text; of a change the answer, and the text of the record then.
 fn say_of_record(
     alloc: Global,
@@ -118,21 +134,17 @@ fn say_of_record(
     words: &str,
     record: &mut ClusterRecord,
 ) -> Said {
-    let (first, _) = cut(words);
     match question {
         "numbers" => {
             say_numbers(line, record);
-            return Ok(());
+            Ok(())
         }
         "op" => {
             say_op(line, record, number(words));
-            return Ok(());
+            Ok(())
         }
-        "push" => push(line, record, number(first))?,
-        _ => change_plain(line, question, words, record),
+        _ => say_changed(alloc, line, question, words, record),
     }
-    say(line, ": ");
-    say_written(line, record_text(alloc, record))
 }
 
 /// Says the text of the copy of a record of a text.

@@ -1,5 +1,5 @@
 //! Roots, and the steps from one to the next.
-ghost use Rattle.std.specs.Prelude.{◌≡◌, ◌≤◌};
+ghost use Rattle.std.specs.Prelude.{◌≡◌, ◌≤◌, IfOk};
 ghost use Rattle.std.specs.List.{list_any};
 ghost use Rattle.esr_root.specs.Indices.{is_named};
 
@@ -35,20 +35,32 @@ fn first(alloc: Global, snap: &RootSnap, index: IndexRef) -> Result<RootData, Re
     Ok(RootData::new(alloc).add(alloc, snap, &indices)?)
 }
 
+/// The snapshot 1.0 of that name.
+fn snap_of(alloc: Global, name: &str) -> Result<RootSnap, ReadRefusal> {
+    Ok(RootSnap {
+        name: snap_name(alloc, name)?,
+        uuid: Id::new(1, 0),
+        state: 3,
+    })
+}
+
+/// The index 1.1 of that name.
+fn index_of(alloc: Global, name: &str, shards: u32) -> Result<IndexRef, ReadRefusal>
+    ensures { IfOk result (λ index. index.shards ≤ 1024) }
+{
+    Ok(IndexRef {
+        id: Id::new(1, 1),
+        name: index_name(alloc, name)?,
+        shards: shards.min(1024),
+    })
+}
+
 /// Says the empty root with a snapshot 1.0 of an index 1.1: the words are their names, and the number of shards.
 fn say_first(alloc: Global, line: &mut String, text: &str) -> Said {
     let (name, rest) = cut(text);
     let (index, shards) = cut(rest);
-    let snap = RootSnap {
-        name: snap_name(alloc, name)?,
-        uuid: Id::new(1, 0),
-        state: 3,
-    };
-    let index = IndexRef {
-        id: Id::new(1, 1),
-        name: index_name(alloc, index)?,
-        shards: small(shards).min(1024),
-    };
+    let snap = snap_of(alloc, name)?;
+    let index = index_of(alloc, index, small(shards))?;
     let root = first(alloc, &snap, index)?;
     say_written(line, root_text(alloc, &root))
 }
@@ -64,16 +76,26 @@ fn has_index(root: &RootData, name: &IndexName) -> bool
 }
 
 /// Says the root with another generation of a shard of an index.
+fn say_set(
+    alloc: Global,
+    line: &mut String,
+    root: &RootData,
+    name: &IndexName,
+    (shard, generation): (u32, Id),
+) -> Said {
+    if shard > 1023 || !has_index(root, name) {
+        return say_unknown(line);
+    }
+    let root = root.set_generation(alloc, name, shard, Some(generation))?;
+    say_written(line, root_text(alloc, &root))
+}
+
+/// Says the root with a generation that words tell, with its shard and its index.
 fn say_with_generation(alloc: Global, line: &mut String, root: &RootData, words: &str) -> Said {
     let (name, rest) = cut(words);
     let (shard, generation) = cut(rest);
-    let (shard, generation) = (small(shard), id(generation));
     let name = index_name(alloc, name)?;
-    if shard > 1023 || !has_index(root, &name) {
-        return say_unknown(line);
-    }
-    let root = root.set_generation(alloc, &name, shard, Some(generation))?;
-    say_written(line, root_text(alloc, &root))
+    say_set(alloc, line, root, &name, (small(shard), id(generation)))
 }
 
 /// Says the root without a snapshot.

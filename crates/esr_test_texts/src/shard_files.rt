@@ -3,7 +3,7 @@ ghost use Rattle.std.specs.Prelude.{◌≡◌};
 
 use crate::names::say_blob;
 use crate::words::{Said, cut, id, number, say, say_unknown, say_written};
-use esr_hash::print_read;
+use esr_hash::{Print, print_read};
 use esr_json::{ReadRefusal, Reason};
 use esr_names::{Id, ShardId};
 use esr_seq::Seq;
@@ -40,18 +40,25 @@ fn say_count(line: &mut String, text: &str) -> Said {
     Ok(())
 }
 
+/// The print of that length with the digest of `abc`.
+fn print_of(len: u64) -> Result<Print, ReadRefusal> {
+    let digits = b"ba7816bf8f01cfea414140de5dae2223b00361a396177a9cb410ff61f20015ad";
+    match print_read(len, digits.as_slice()) {
+        Some(print) => Ok(print),
+        None => Err(ReadRefusal::from(Reason::BadId)),
+    }
+}
+
 /// A file of the digest of `abc`, by its id, its name, its length and the size of its parts.
 fn entry(alloc: Global, text: &str) -> Result<FileEntry, ReadRefusal> {
     let (name, rest) = cut(text);
     let (physical, rest) = cut(rest);
     let (len, part_size) = cut(rest);
-    let digits = b"ba7816bf8f01cfea414140de5dae2223b00361a396177a9cb410ff61f20015ad";
-    let Some(print) = print_read(number(len), digits.as_slice()) else {
-        return Err(ReadRefusal::from(Reason::BadId));
-    };
+    let print = print_of(number(len))?;
+    let physical = physical_name(alloc, physical)?;
     Ok(FileEntry {
         name: id(name),
-        physical: physical_name(alloc, physical)?,
+        physical,
         print,
         part_size: number(part_size),
     })

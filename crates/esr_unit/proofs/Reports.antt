@@ -56,7 +56,8 @@ fails_anyway : (w : World) (who : ℕ) (why : Why) (op : ℕ) → Blocks w who (
 fails_anyway w who why op (ByDelete by deposed aborted) = aborted.no_failure tt
 
 -- no other is aborted
-unaborted : (hand : Hand) (s : Start) (old new : List Moment) (who : ℕ) (why : Why) (op : ℕ) (w : World) → MayFail hand s old who → own_of s new who ≡ own_of s old who → Blocks w who (fail_step hand why) (AbortedBy op) → IsOfOp s new who → ⊥
+unaborted : (hand : Hand) (s : Start) (old new : List Moment) (who : ℕ) (why : Why) (op : ℕ) (w : World) → MayFail hand s old who → own_of s new who ≡ own_of s old who → Blocks w who (fail_step hand why) (AbortedBy op)
+    → IsOfOp s new who → ⊥
 unaborted hands.Unit s old new who why op w may same blocks of = fails_anyway w who why op blocks
 unaborted hands.Delete s old new who why op w may same blocks of = of.no_delete may.uuids may.plan (ap (λ (own : Own). own.ticket.work) same ∙ may.work)
 unaborted hands.Restore s old new who why op w may same blocks of = true≢false (sym (ap (λ (own : Own). own.reader.out) same ∙ may) ∙ of.no_reader)
@@ -70,7 +71,8 @@ unaborted hands.Verify s old new who why op w may same blocks of = nobody who ma
     nobody k is some = omega (arith, is, some)
 
 module _ (hand : Hand) (s : Start) (old new : List Moment) (who : ℕ) (why : Why) (may : MayFail hand s old who) (same : own_of s new who ≡ own_of s old who) where
-  entry_halts : (x : EntryRefusal) (w : World) → Blocks w who (fail_step hand why) (refusal_of x) → IsBlock (refusal_of x) → Stepped s old new who (fail_step hand why) (Refused (refusal_of x)) → Grounds s new who (steps.Refused x) → Halts s new who (steps.Refused x)
+  entry_halts : (x : EntryRefusal) (w : World) → Blocks w who (fail_step hand why) (refusal_of x) → IsBlock (refusal_of x) → Stepped s old new who (fail_step hand why) (Refused (refusal_of x)) → Grounds s new who (steps.Refused x)
+      → Halts s new who (steps.Refused x)
   entry_halts (refusals.Deposed entry) w blocks is h grounds = (fail_step hand why, record { front = h.front; image = h.image; is = h.is })
   entry_halts (refusals.Aborted op) w blocks is h grounds = absurd (unaborted hand s old new who why op w may same blocks grounds)
   entry_halts x w blocks is h grounds = absurd is

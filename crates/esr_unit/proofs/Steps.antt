@@ -40,7 +40,8 @@ fetch_maker hands.Check s log calls who name mine may = inr (may.0.alone, mine)
 fetch_maker hands.Verify s log calls who name mine may = inr (may.0.alone, mine)
 
 -- it stays the maker's own
-pub mine_on : {X : Type 0} (hand : Hand) (log : List Moment) (step : Step) (ok : X → Reply) (result : Result X StepRefusal) (old new : List Call) (who : ℕ) → new ≡ called_by hand log step ok result old → IsMine hand old who → IsMine hand new who
+pub mine_on : {X : Type 0} (hand : Hand) (log : List Moment) (step : Step) (ok : X → Reply) (result : Result X StepRefusal) (old new : List Call) (who : ℕ) → new ≡ called_by hand log step ok result old → IsMine hand old who
+    → IsMine hand new who
 mine_on hands.Unit log step ok result old new who is mine = subst (λ (calls : List Call). HasTaken calls who) (sym is) mine
 mine_on hands.Delete log step ok result old new who is mine = subst (λ (calls : List Call). HasTaken calls who) (sym is) mine
 mine_on hands.Restore log step ok result old new who is mine = subst (λ (calls : List Call). HasTaken calls who) (sym is) mine

@@ -5,7 +5,7 @@ use Rattle.std.specs.List.{AllByRecursion}
 use Rattle.esr_names.specs.declared.ids.Id.{Id}
 use Rattle.esr_names.specs.declared.blob.ShardId.{ShardId}
 use Rattle.esr_model.specs.Names.{BlobName, ShardSnap, ShardIndex}
-use Rattle.esr_model.specs.Values.{Bytes, Has, FileEntry, ShardFiles, Formats, ReadsBack}
+use Rattle.esr_model.specs.Values.{Bytes, Has, FileEntry, ShardFiles, ReadsBack}
 use Rattle.esr_model.specs.Uploads.{entries_from, id_after, shard_blobs, with_snap}
 use Rattle.esr_core.specs.World.{Ticket}
 use Rattle.esr_core.specs.Steps.{Drew}
@@ -25,16 +25,18 @@ use Rattle.esr_desk.specs.Start.{Start, formats_of, ticket_of}
 use Rattle.esr_desk.specs.Conditions.{CanEnd}
 use Rattle.esr_desk.specs.Taken.{after_writes}
 use Rattle.esr_upload.specs.Surveyed.{printed, TellsAll}
-use Rattle.esr_upload.specs.Stored.{IsAt, AreBelow}
+use Rattle.esr_upload.specs.Stored.{IsAt}
 use Rattle.esr_desk.specs.declared.hand.Hand.TheVariants as hands
 use Rattle.esr_desk.specs.Evidence.{HadFetch}
 use Rattle.esr_desk.specs.Unit.Shown.{HasDrawn as HasDrawnId, WasAhead}
 use Rattle.esr_upload.specs.Base.{is_from, HasFetched, IsBaseAhead}
 use Rattle.esr_upload.specs.Entries.{new_count, entries_at, all_blobs, StoredAll}
 use Rattle.esr_upload.specs.Published.{HasDrawn, snap_blob, index_blob, last_blobs, sum_planned, outcome_of}
-use Rattle.esr_upload.proofs.Writing.{writes_on, writes_keep, writes_at, all_wrote, wrote_only, all_noted}
+use Rattle.esr_upload.specs.Commits.{writes_keep, writes_at, all_wrote, wrote_only, all_noted}
+use Rattle.esr_upload.specs.BaseReads.{based_on}
+use Rattle.esr_upload.proofs.Writing.{writes_on}
 use Rattle.esr_upload.proofs.Modelled.{entries_model, id_model, blobs_model, as_many, sum_model}
-use Rattle.esr_upload.proofs.Adding.{with_snap_is}
+use Rattle.esr_upload.specs.SnapAdds.{with_snap_is}
 use Rattle.esr_upload.proofs.Snapped.{snap_ahead}
 use Rattle.esr_upload.proofs.Faults.{was_ahead, has_file}
 
@@ -66,10 +68,6 @@ found_from first (x ∷ es) e is = elim (cases_Bool (is_from first x)) [
 given : (g h : Id) → ◌≡◌ {A = Option Id} (Some g) (Some h) → g ≡ h
 given g h same = cc
 
--- a ticket that has committed nothing
-pub none_below : (t : Ticket) (id : ℕ) → t.noted ≡ [] → AreBelow t id
-none_below t id none = λ name has. absurd (subst (λ (names : List BlobName). Has names name) none has)
-
 abbrev snap_with : List CodeEntry → Id → SnapValue
 snap_with es uuid = record { files = es; uuid = uuid }
 
@@ -99,11 +97,7 @@ module _ (s : Start) (at : ShardId) (uuid : Id) (base : IndexValue) (ps : List P
       ∙ ap (λ (n : ℕ). all ++ snap_blob at (snap_with es uuid) ∷ (ShardIndex i k n, shard_index_kind.text (with_snap v uuid.number ent)) ∷ []) (id_model s first v ps files named each)
       ∙ ap (λ (w : ShardFiles). all ++ snap_blob at (snap_with es uuid) ∷ (ShardIndex i k (first + new_count ps), shard_index_kind.text w) ∷ []) grown
 
-pub based_on : (f : Formats) (t u : Ticket) (index number : ℕ) (b : Option ℕ) (v : ShardFiles) → u.read ≡ t.read → Based f t index number b v → Based f u index number b v
-based_on f t u index number None v same based = based
-based_on f t u index number (Some g) v same based = (based.0, subst (λ (l : List (BlobName × Bytes)). Has l (ShardIndex index number g, based.0)) (sym same) based.1, based.2)
-
-tells_some : (told : Option (List (Bytes × Bytes))) (x files : List (Bytes × Bytes)) → told ≡ Some x → TellsAll told files → files ≡ x
+pub tells_some : (told : Option (List (Bytes × Bytes))) (x files : List (Bytes × Bytes)) → told ≡ Some x → TellsAll told files → files ≡ x
 tells_some None x files is tells = cc
 tells_some (Some y) x files is tells = let same : y ≡ x = cc in tells ∙ same
 

@@ -1,12 +1,12 @@
 -- A shard's ticket draws its ids.
 use Rattle.std.proofs.Common.{◌≡◌, inl, inr, ℕ, suc, ◌+◌, ◌≤◌, length, Bool, true, false, List, Option, Some, None, option_map, Result, Ok, Err, IfErr, OnOk, refl, sym, ap, ◌∙◌, subst, arith}
+use Rattle.esr_upload.proofs.Closing.{tells_some}
 use Rattle.esr_names.specs.declared.ids.Id.{Id}
 use Rattle.esr_names.specs.declared.blob.ShardId.{ShardId}
 use Rattle.esr_model.specs.Values.{Bytes, or_no_files}
 use Rattle.esr_core.specs.World.{Ticket, Shard, Deleting}
 use Rattle.esr_core.specs.Ready.{IsShard}
 use Rattle.esr_core.specs.Steps.{MostDrawn}
-use Rattle.esr_core.specs.Entry.{Moment}
 use Rattle.esr_core.specs.Allowed.{Based}
 use Rattle.esr_source.specs.declared.files.ListedFile.{ListedFile}
 use Rattle.esr_source.specs.Told.{SourcesTold}
@@ -21,24 +21,18 @@ use Rattle.esr_ops.specs.declared.unit.Work.{Work as CodeWork}
 use Rattle.esr_ops.specs.declared.unit.Work.TheVariants as works
 use Rattle.esr_ops.specs.declared.unit.Copied.{Copied}
 use Rattle.esr_reuse.specs.declared.reuse.Planned.{Planned}
-use Rattle.esr_desk.specs.Start.{Start, formats_of, ticket_of}
+use Rattle.esr_desk.specs.Start.{Start, formats_of}
 use Rattle.esr_desk.specs.Conditions.{CanDraw, CanFail}
 use Rattle.esr_desk.specs.Taken.{TookWork}
-use Rattle.esr_desk.specs.Grew.{GrewBy}
 use Rattle.esr_desk.specs.Sources.{TellSame, AreSources}
 use Rattle.esr_desk.specs.Unit.Shown.{IsOf}
-use Rattle.esr_upload.specs.Surveyed.{TellsAll}
 use Rattle.esr_upload.specs.Stored.{IsAt}
-use Rattle.esr_upload.specs.Worked.{Worked, Went}
+use Rattle.esr_upload.specs.Worked.{Worked}
 use Rattle.esr_upload.specs.Entries.{new_count}
 use Rattle.esr_upload.specs.Published.{IsUnit, IsPlanned, HasIndex, HasDrawn}
 use Rattle.esr_upload.proofs.Planning.{count_le}
 use Rattle.esr_upload.proofs.Modelled.{as_many}
 use Rattle.esr_upload.proofs.Faults.{read_at}
-
-tells_some : (told : Option (List (Bytes × Bytes))) (x files : List (Bytes × Bytes)) → told ≡ Some x → TellsAll told files → files ≡ x
-tells_some None x files is tells = cc
-tells_some (Some y) x files is tells = let same : y ≡ x = cc in tells ∙ same
 
 module _ (s : Start) (told : Option (List (Bytes × Bytes))) (is_there : Option Bool) (listed : Option (List ListedFile)) (index number : ℕ) (uuid : Id) (b : Option ℕ) (base : IndexValue) (ps : List Planned) (old read : Ticket)
     (unit : IsUnit s told is_there index number uuid.number b old) (has : HasIndex s index number uuid old read base) (planned : IsPlanned told listed base ps) (there : is_there ≡ Some false → ⊥) where
@@ -167,11 +161,6 @@ took_of work root op copy t uuid at name place is took a made =
       place = ap (λ (x : Ticket). x.place) took_it.1;
       name = ap (λ (x : Ticket). x.name) took_it.1;
     })
-
-pub drew_went : (s : Start) (old new : List Moment) (who first n : ℕ) → GrewBy s who old new → ticket_of s new who ≡ record (ticket_of s old who) { first = first; drawn = n } → Went s old new who
-drew_went s old new who first n grew is =
-    let t = ticket_of s old who in
-    record { grew = grew; worked = record { first = first; drawn = n; noted = t.noted; wrote = t.wrote; read = t.read; is = is } }
 
 pub ok_on : {T E : Type 0} {A B : Type 0} (r : Result T E) → (A → B) → OnOk r A → OnOk r B
 ok_on (Ok x) f h = f h

@@ -1,5 +1,5 @@
 -- The last steps of a ticket.
-use Rattle.std.proofs.Common.{◌≡◌, ◌↔◌, ℕ, Bool, List, true, false, Option, Some, None, IsSome, Result, Ok, Err, IfErr, refl}
+use Rattle.std.proofs.Common.{◌≡◌, ◌↔◌, ℕ, Bool, List, true, false, Option, Some, None, IsSome, refl}
 use Rattle.esr_model.specs.Values.{ShardResult}
 use Rattle.esr_core.specs.Entry.{Step, DoneStep, HasEnded, Reply, Moment}
 use Rattle.esr_desk.specs.Start.{Start, ticket_of}
@@ -7,11 +7,6 @@ use Rattle.esr_desk.specs.Outcome.{Stepped}
 use Rattle.esr_desk.specs.Last.{IsLast}
 use Rattle.esr_upload.specs.Refused.{HasDone}
 use Rattle.esr_upload.specs.Worked.{Went}
-use Rattle.esr_upload.proofs.Going.{worked_on}
-
-pub if_err : {T E : Type 0} {P : Type 0} (r : Result T E) → P → IfErr r (λ e. P)
-if_err (Ok x) h = tt
-if_err (Err e) h = h
 
 no_some : {A : Type 0} (o : Option A) → o ≡ None → IsSome o → ⊥
 no_some (Some x) none is = cc
@@ -32,13 +27,4 @@ has_done s old mid new who r went step own = record {
   worked = ticket_of s mid who;
   is_worked = went.worked;
   is = own;
-}
-
-pub done_on : (s : Start) (old mid new : List Moment) (who : ℕ) → Went s old mid who → HasDone s mid new who → HasDone s old new who
-done_on s old mid new who went done = record {
-  r = done.r;
-  last = done.last;
-  worked = done.worked;
-  is_worked = worked_on (ticket_of s old who) (ticket_of s mid who) done.worked went.worked done.is_worked;
-  is = done.is;
 }

@@ -12,7 +12,7 @@ use Rattle.esr_shardidx.specs.declared.index.SnapList.{SnapList as CodeList}
 use Rattle.esr_shardidx.specs.Indices.{IndexValue, IsShardIndex, has_uuid}
 use Rattle.esr_formats.specs.Formats.{formats}
 use Rattle.esr_formats.specs.Shards.{entry_of, snap_list_of, shard_index_of, shard_index_kind}
-use Rattle.esr_formats.proofs.ShardTexts.{shard_index_reads_back}
+use Rattle.esr_formats.specs.ReadBack.{shard_index_reads_back}
 use Rattle.esr_desk.specs.Start.{Start, formats_of, ticket_of}
 use Rattle.esr_desk.specs.declared.hand.Hand.TheVariants as hands
 use Rattle.esr_desk.specs.Evidence.{HadFetch}
@@ -57,7 +57,8 @@ base_bytes s log who index number g base based whole = elim (cases_Bool s.tells)
     contra b x y = cc (x, y)
 
 -- the base has this id, which it can't have yet
-pub was_ahead : (s : Start) (log : List Moment) (who index number g id : ℕ) (base : IndexValue) → IsAt (ticket_of s log who) index number → (ticket_of s log who).base ≡ Some g → HadFetch hands.Unit log who (ShardIndex index number g) WasFetched
+pub was_ahead : (s : Start) (log : List Moment) (who index number g id : ℕ) (base : IndexValue) → IsAt (ticket_of s log who) index number → (ticket_of s log who).base ≡ Some g
+    → HadFetch hands.Unit log who (ShardIndex index number g) WasFetched
     → (s.tells ≡ true → Based (formats_of s) (ticket_of s log who) index number (ticket_of s log who).base (shard_index_of base)) → IsShardIndex base
     → HasSnapshot (ticket_of s log who) (shard_index_of base) id ⊎ HasDrawn (ticket_of s log who) (shard_index_of base) id → WasAhead s log who (ShardIndex index number g) id
 was_ahead s log who index number g id base at is had based whole ahead =

@@ -22,7 +22,7 @@ use Rattle.esr_desk.specs.Taken.{begun_by, committed_by, tried}
 use Rattle.esr_desk.specs.Grew.{GrewBy, grew_by_on}
 use Rattle.esr_upload.specs.Pieces.{CanStore, PutPart}
 use Rattle.esr_upload.specs.Worked.{Worked, Went}
-use Rattle.esr_upload.proofs.Going.{went_same}
+use Rattle.esr_upload.specs.Runs.{went_same}
 
 -- ---- what the steps make of the ticket
 
@@ -57,7 +57,7 @@ committed_whole s name contents piece c old mid new same holds fresh is =
 
 -- ---- what it did
 
-worked_committing : (name : BlobName) (o : Option Bytes) (t : Ticket) → Worked t (committing name o t)
+pub worked_committing : (name : BlobName) (o : Option Bytes) (t : Ticket) → Worked t (committing name o t)
 worked_committing name None t = record { first = t.first; drawn = t.drawn; noted = name ∷ t.noted; wrote = t.wrote; read = t.read; is = refl }
 worked_committing name (Some bytes) t = record { first = t.first; drawn = t.drawn; noted = name ∷ t.noted; wrote = (name, bytes) ∷ t.wrote; read = t.read; is = refl }
 

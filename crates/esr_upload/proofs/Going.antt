@@ -3,43 +3,15 @@ use Rattle.std.proofs.Common.{◌≡◌, ℕ, true, List, [], ◌∷◌, ◌++�
 use Rattle.esr_names.specs.declared.ids.Id.{Id}
 use Rattle.esr_model.specs.Names.{ShardIndex}
 use Rattle.esr_model.specs.Values.{Has}
-use Rattle.esr_core.specs.World.{Ticket}
 use Rattle.esr_core.specs.Entry.{Step, FetchStep, Reply, WasFetched, Moment}
 use Rattle.esr_source.specs.declared.files.ListedFile.{ListedFile}
 use Rattle.esr_source.specs.Told.{ShardTold}
-use Rattle.esr_desk.specs.Start.{Start, ticket_of}
+use Rattle.esr_desk.specs.Start.{Start}
 use Rattle.esr_desk.specs.Evidence.{HadReply}
-use Rattle.esr_desk.specs.Grew.{GrewBy, grew_by_none, grew_by_on}
+use Rattle.esr_desk.specs.Grew.{GrewBy}
 use Rattle.esr_parts.specs.Reads.{ReadOn}
 use Rattle.esr_upload.specs.Base.{HasFetched}
 use Rattle.esr_upload.specs.Surveyed.{SameShard}
-use Rattle.esr_upload.specs.Worked.{Worked, Went}
-
-pub worked_none : (t : Ticket) → Worked t t
-worked_none t = record { first = t.first; drawn = t.drawn; noted = t.noted; wrote = t.wrote; read = t.read; is = refl }
-
-pub worked_on : (a b c : Ticket) → Worked a b → Worked b c → Worked a c
-worked_on a b c one two = record {
-  first = two.first;
-  drawn = two.drawn;
-  noted = two.noted;
-  wrote = two.wrote;
-  read = two.read;
-  is = two.is ∙ ap (λ (t : Ticket). record t { first = two.first; drawn = two.drawn; noted = two.noted; wrote = two.wrote; read = two.read }) one.is;
-}
-
-pub went_none : (s : Start) (log : List Moment) (who : ℕ) → Went s log log who
-went_none s log who = record { grew = grew_by_none s who log; worked = worked_none (ticket_of s log who) }
-
-pub went_on : (s : Start) (old mid new : List Moment) (who : ℕ) → Went s old mid who → Went s mid new who → Went s old new who
-went_on s old mid new who first second = record {
-  grew = grew_by_on s who old mid new first.grew second.grew;
-  worked = worked_on (ticket_of s old who) (ticket_of s mid who) (ticket_of s new who) first.worked second.worked;
-}
-
--- a history that went on, without the ticket
-pub went_same : (s : Start) (old new : List Moment) (who : ℕ) → GrewBy s who old new → ticket_of s new who ≡ ticket_of s old who → Went s old new who
-went_same s old new who grew same = record { grew = grew; worked = subst (λ (t : Ticket). Worked (ticket_of s old who) t) (sym same) (worked_none (ticket_of s old who)) }
 
 -- ---- what the history has it keeps
 

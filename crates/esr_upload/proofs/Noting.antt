@@ -70,7 +70,8 @@ below_next s index number e bytes old new below is = λ name has.
     (subst (λ (t : Ticket). Has t.noted name) is has)
 
 -- a file that reuses nothing was stored under the id
-pub below_new : (s : Start) (told : Option Bytes) (index number id : ℕ) (e : CodeEntry) (reused : Option CodeEntry) (old new : Ticket) → reused ≡ None → e.name.number ≡ id → AreBelow old id → Stored s told index number e old new → AreBelow new (id + is_new reused)
+pub below_new : (s : Start) (told : Option Bytes) (index number id : ℕ) (e : CodeEntry) (reused : Option CodeEntry) (old new : Ticket) → reused ≡ None → e.name.number ≡ id → AreBelow old id → Stored s told index number e old new
+    → AreBelow new (id + is_new reused)
 below_new s told index number id e reused old new none same below stored =
     let was : AreBelow old e.name.number = subst (λ (n : ℕ). AreBelow old n) (sym same) below in
     let one : is_new reused ≡ 1 = ap is_new none in
@@ -80,7 +81,8 @@ below_new s told index number id e reused old new none same below stored =
 -- ---- the snapshot and the index
 
 -- after the snapshot's blob an index is not noted
-pub index_unnoted : (s : Start) (index number uuid generation id : ℕ) (text : Bytes) (old new : Ticket) → AreBelow old id → new ≡ after_writes s ((ShardSnap index number uuid, text) ∷ []) old → Has new.noted (ShardIndex index number generation) → ⊥
+pub index_unnoted : (s : Start) (index number uuid generation id : ℕ) (text : Bytes) (old new : Ticket) → AreBelow old id → new ≡ after_writes s ((ShardSnap index number uuid, text) ∷ []) old
+    → Has new.noted (ShardIndex index number generation) → ⊥
 index_unnoted s index number uuid generation id text old new below is has =
     elim (committing_only (ShardSnap index number uuid) (told_bytes s text) old (ShardIndex index number generation) (subst (λ (t : Ticket). Has t.noted (ShardIndex index number generation)) is has)) [
       | inl same ↦ cc

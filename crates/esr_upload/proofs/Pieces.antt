@@ -34,7 +34,8 @@ use Rattle.esr_desk.specs.Conditions.{CanCommit}
 use Rattle.esr_desk.specs.Taken.{after_writes}
 use Rattle.esr_upload.specs.Stored.{MayStore, IsAt, IsToldBy, HasPrint, IsFileBelow, AreBelow}
 use Rattle.esr_upload.specs.Pieces.{CanStore, AreNumbered, blob_name, cut, PutParts}
-use Rattle.esr_upload.proofs.Writing.{writes_on, writes_keep, writes_at}
+use Rattle.esr_upload.specs.Commits.{writes_keep, writes_at}
+use Rattle.esr_upload.proofs.Writing.{writes_on}
 use Rattle.esr_upload.proofs.Noting.{noted_all}
 
 -- ---- which parts may be stored
@@ -68,14 +69,16 @@ IsFresh t name = Has t.noted (name_of name) → ⊥
 abbrev HasNumber : Start → Ticket → ShardId → CodeName → Type 0
 HasNumber s t at name = IsNumbered (formats_of s) s.part_size t at.number (name_of name) t.source
 
-own_number : (s : Start) (t : Ticket) (at : ShardId) (name : CodeName) → t.work ≡ Shard at.index.number at.number → HasNumber s t at name → (i k : ℕ) → t.work ≡ Shard i k → IsNumbered (formats_of s) s.part_size t k (name_of name) t.source
+own_number : (s : Start) (t : Ticket) (at : ShardId) (name : CodeName) → t.work ≡ Shard at.index.number at.number → HasNumber s t at name → (i k : ℕ) → t.work ≡ Shard i k
+    → IsNumbered (formats_of s) s.part_size t k (name_of name) t.source
 own_number s t at name work has i k is =
     let both : Shard at.index.number at.number ≡ Shard i k = sym work ∙ is in
     let same : at.number ≡ k = cc in
     subst (λ (n : ℕ). IsNumbered (formats_of s) s.part_size t n (name_of name) t.source) same has
 
 -- a blob of the shard's ticket may be committed
-pub own_can : (s : Start) (t : Ticket) (index number : ℕ) (name : BlobName) (bytes : Bytes) → IsAt t index number → name ≢ Latest → ShardCommits t name → ((i k : ℕ) → t.work ≡ Shard i k → IsNumbered (formats_of s) s.part_size t k name t.source)
+pub own_can : (s : Start) (t : Ticket) (index number : ℕ) (name : BlobName) (bytes : Bytes) → IsAt t index number → name ≢ Latest → ShardCommits t name
+    → ((i k : ℕ) → t.work ≡ Shard i k → IsNumbered (formats_of s) s.part_size t k name t.source)
     → (Has t.noted name → ⊥) → CanCommit s t name bytes
 own_can s t index number name bytes is other own numbered unnoted = record {
   out = is.out;
@@ -87,7 +90,8 @@ own_can s t index number name bytes is other own numbered unnoted = record {
   late = λ uuids plan deletes clean. absurd (no_deletion t index number uuids plan is.work deletes);
 }
 
-whole_can : (s : Start) (t : Ticket) (at : ShardId) (e : CodeEntry) → IsAt t at.index.number at.number → Drew t e.name.number → at.number < 1024 → HasNumber s t at (code.Whole at e.name) → IsFresh t (code.Whole at e.name) → CanStore s t (code.Whole at e.name)
+whole_can : (s : Start) (t : Ticket) (at : ShardId) (e : CodeEntry) → IsAt t at.index.number at.number → Drew t e.name.number → at.number < 1024 → HasNumber s t at (code.Whole at e.name) → IsFresh t (code.Whole at e.name)
+    → CanStore s t (code.Whole at e.name)
 unfolding IsName
 whole_can s t at e is drew few part fresh = record {
   index = at.index.number;
@@ -98,7 +102,8 @@ whole_can s t at e is drew few part fresh = record {
   may = λ bytes. own_can s t at.index.number at.number (name_of (code.Whole at e.name)) bytes is (λ same. cc) (is.work, drew) (own_number s t at (code.Whole at e.name) is.work part) fresh;
 }
 
-part_can : (s : Start) (t : Ticket) (at : ShardId) (e : CodeEntry) (k : ℕ) → IsAt t at.index.number at.number → Drew t e.name.number → at.number < 1024 → k < 2 ^ 61 → HasNumber s t at (code.Part at e.name k) → IsFresh t (code.Part at e.name k) → CanStore s t (code.Part at e.name k)
+part_can : (s : Start) (t : Ticket) (at : ShardId) (e : CodeEntry) (k : ℕ) → IsAt t at.index.number at.number → Drew t e.name.number → at.number < 1024 → k < 2 ^ 61 → HasNumber s t at (code.Part at e.name k)
+    → IsFresh t (code.Part at e.name k) → CanStore s t (code.Part at e.name k)
 unfolding IsName
 part_can s t at e k is drew few low part fresh = record {
   index = at.index.number;
@@ -109,7 +114,8 @@ part_can s t at e k is drew few low part fresh = record {
   may = λ bytes. own_can s t at.index.number at.number (name_of (code.Part at e.name k)) bytes is (λ same. cc) (is.work, drew) (own_number s t at (code.Part at e.name k) is.work part) fresh;
 }
 
-can_store : (s : Start) (t : Ticket) (at : ShardId) (e : CodeEntry) (k : ℕ) → IsAt t at.index.number at.number → Drew t e.name.number → at.number < 1024 → k < 2 ^ 61 → HasNumber s t at (part_name at e k) → IsFresh t (part_name at e k) → CanStore s t (part_name at e k)
+can_store : (s : Start) (t : Ticket) (at : ShardId) (e : CodeEntry) (k : ℕ) → IsAt t at.index.number at.number → Drew t e.name.number → at.number < 1024 → k < 2 ^ 61 → HasNumber s t at (part_name at e k) → IsFresh t (part_name at e k)
+    → CanStore s t (part_name at e k)
 can_store s t at e k is drew few low =
     elim (nat_le e.print.len e.part_size) as (λ b. HasNumber s t at (if b then code.Whole at e.name else code.Part at e.name k) → IsFresh t (if b then code.Whole at e.name else code.Part at e.name k) → CanStore s t (if b then code.Whole at e.name else code.Part at e.name k)) [
       | true ↦ whole_can s t at e is drew few
@@ -169,7 +175,8 @@ number_on f size a b n name place same None has = λ known.
 number_on f size a b n name place same (Some source) has = has
 
 -- the next part may be stored
-pub can_store_next : (s : Start) (old now : Ticket) (bytes : Bytes) (at : ShardId) (e : CodeEntry) (k : ℕ) (name : CodeName) → MayStore old at.index.number at.number e.name.number → at.number < 1024 → AreNumbered s old at e → 1 ≤ e.part_size → k * e.part_size < 2 ^ 61
+pub can_store_next : (s : Start) (old now : Ticket) (bytes : Bytes) (at : ShardId) (e : CodeEntry) (k : ℕ) (name : CodeName) → MayStore old at.index.number at.number e.name.number → at.number < 1024 → AreNumbered s old at e
+    → 1 ≤ e.part_size → k * e.part_size < 2 ^ 61
     → k < code_count e.print.len e.part_size → now ≡ after_writes s (cut (blob_name at e) e.part_size 0 k bytes) old → name ≡ part_name at e k → CanStore s now name
 can_store_next s old now bytes at e k name may few numbered some low within is named =
     let ws : List (BlobName × Bytes) = cut (blob_name at e) e.part_size 0 k bytes in
@@ -297,7 +304,8 @@ told_length [] i e within print = absurd (omega (arith, within))
 told_length (f ∷ fs) zero e within print = (f, inl refl, ap (λ (p : Print). p.len) print)
 told_length (f ∷ fs) (suc i) e within print = let rest = told_length fs i e (omega (arith, within)) print in (rest.0, inr rest.1, rest.2)
 
-one_of : (at : ShardId) (e : CodeEntry) (k size : ℕ) (files : List (Bytes × Bytes)) (f : Bytes × Bytes) → Has files f → length f.1 ≡ e.print.len → e.part_size ≡ size → 1 ≤ e.part_size → k < code_count e.print.len e.part_size → IsPartOfOne size files (blob_name at e k)
+one_of : (at : ShardId) (e : CodeEntry) (k size : ℕ) (files : List (Bytes × Bytes)) (f : Bytes × Bytes) → Has files f → length f.1 ≡ e.print.len → e.part_size ≡ size → 1 ≤ e.part_size → k < code_count e.print.len e.part_size
+    → IsPartOfOne size files (blob_name at e k)
 one_of at e k size files f has len cut some less = by_fit (nat_le e.print.len e.part_size) refl
   where
     by_fit : (b : Bool) → nat_le e.print.len e.part_size ≡ b → IsPartOfOne size files (name_of (if b then code.Whole at e.name else code.Part at e.name k))
@@ -316,7 +324,8 @@ none_told : (fs : List (Bytes × Bytes)) → ◌≡◌ {A = Option (List (Bytes 
 none_told fs is = cc
 
 -- the parts of a file of the list have the numbers of its parts
-pub all_numbered : (s : Start) (told : Option (List (Bytes × Bytes))) (file : ℕ) (at : ShardId) (e : CodeEntry) (t : Ticket) → IsToldBy s told at.number t → IfSome told (λ fs. file < length fs) → HasPrint (bytes_at told file) e → e.part_size ≡ s.part_size → 1 ≤ e.part_size
+pub all_numbered : (s : Start) (told : Option (List (Bytes × Bytes))) (file : ℕ) (at : ShardId) (e : CodeEntry) (t : Ticket) → IsToldBy s told at.number t → IfSome told (λ fs. file < length fs) → HasPrint (bytes_at told file) e
+    → e.part_size ≡ s.part_size → 1 ≤ e.part_size
     → AreNumbered s t at e
 unfolding formats
 all_numbered s told file at e t by within print whole some = λ k less.

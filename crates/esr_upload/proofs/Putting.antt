@@ -1,5 +1,6 @@
 -- A blob that is written and committed.
-use Rattle.std.proofs.Common.{◌≡◌, ℕ, List, ◌∷◌, Option, Some, None, refl, sym, subst}
+use Rattle.std.proofs.Common.{◌≡◌, ℕ, List, Option, Some, None, refl, sym, subst}
+use Rattle.esr_upload.proofs.FileParts.{worked_committing}
 use Rattle.esr_depot.specs.declared.depot.Commit.{Commit}
 use Rattle.esr_depot.specs.declared.depot.Commit.TheVariants as commits
 use Rattle.esr_model.specs.Names.{BlobName, ShardSnap, ShardIndex}
@@ -19,14 +20,10 @@ pub committed_one : (s : Start) (name : BlobName) (bytes : Bytes) (c : Commit) (
 committed_one s name bytes commits.Done old new own found is = is
 committed_one s name bytes commits.Exists old new own found is = absurd (own (found refl))
 
-committing_worked : (name : BlobName) (o : Option Bytes) (t : Ticket) → Worked t (committing name o t)
-committing_worked name None t = record { first = t.first; drawn = t.drawn; noted = name ∷ t.noted; wrote = t.wrote; read = t.read; is = refl }
-committing_worked name (Some bytes) t = record { first = t.first; drawn = t.drawn; noted = name ∷ t.noted; wrote = (name, bytes) ∷ t.wrote; read = t.read; is = refl }
-
 pub put_went : (s : Start) (old new : List Moment) (who : ℕ) (name : BlobName) (bytes : Bytes) → GrewBy s who old new → ticket_of s new who ≡ committing name (told_bytes s bytes) (ticket_of s old who) → Went s old new who
 put_went s old new who name bytes grew is = record {
   grew = grew;
-  worked = subst (λ (t : Ticket). Worked (ticket_of s old who) t) (sym is) (committing_worked name (told_bytes s bytes) (ticket_of s old who));
+  worked = subst (λ (t : Ticket). Worked (ticket_of s old who) t) (sym is) (worked_committing name (told_bytes s bytes) (ticket_of s old who));
 }
 
 -- the snapshot of a shard and its index are no parts

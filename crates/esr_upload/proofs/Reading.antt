@@ -1,12 +1,11 @@
 -- The base of a shard's ticket is fetched and read.
-use Rattle.std.proofs.Common.{◌≡◌, ◌<◌, inl, inr, ℕ, Bool, true, false, List, ◌∷◌, Option, Some, None, refl, sym, ap, ◌∙◌, subst}
-use Rattle.std.specs.Prelude.{if◌then◌else◌}
+use Rattle.std.proofs.Common.{◌≡◌, ◌<◌, inl, ℕ, List, Option, Some, None, refl, sym, ap, ◌∙◌, subst}
 use Rattle.esr_names.specs.declared.ids.Id.{Id}
 use Rattle.esr_names.specs.declared.blob.ShardId.{ShardId}
 use Rattle.esr_names.specs.declared.blob.BlobName.TheVariants as names
 use Rattle.esr_names.specs.Layout.{IsName}
 use Rattle.esr_model.specs.Names.{BlobName, ShardIndex}
-use Rattle.esr_model.specs.Values.{Bytes, Has, ShardFiles}
+use Rattle.esr_model.specs.Values.{Bytes, ShardFiles}
 use Rattle.esr_core.specs.World.{Ticket, Shard}
 use Rattle.esr_core.specs.Steps.{IsToFetch}
 use Rattle.esr_core.specs.Entry.{FetchStep, WasFetched, WasAbsent, Moment}
@@ -26,52 +25,21 @@ use Rattle.esr_desk.specs.Own.{Own, own_of}
 use Rattle.esr_desk.specs.Hands.{own_fetched}
 use Rattle.esr_desk.specs.Outcome.{Stepped, fetch_reply}
 use Rattle.esr_desk.specs.Evidence.{Evidence, HadFetch}
-use Rattle.esr_desk.specs.Grew.{GrewBy}
 use Rattle.esr_unit.specs.declared.trouble.Trouble.{Trouble}
 use Rattle.esr_unit.specs.declared.trouble.Trouble.TheVariants as troubles
 use Rattle.esr_unit.specs.Ending.{unread_as}
-use Rattle.esr_unit.specs.Fetch.{IsFetched}
 use Rattle.esr_unit.specs.Refusals.{stepped_had}
 use Rattle.esr_upload.specs.Base.{HasBase}
 use Rattle.esr_upload.specs.Stored.{IsAt}
 use Rattle.esr_upload.specs.Trouble.{Shown}
-use Rattle.esr_upload.specs.Worked.{Worked, Went}
-use Rattle.esr_upload.proofs.Going.{worked_none}
+use Rattle.esr_upload.specs.BaseReads.{fetching_worked, told_has, fetching_base}
 
 -- ---- what a fetch makes of the ticket
-
-pub fetching_worked : (t : Ticket) (name : BlobName) (left : Option Bytes) → Worked t (fetching name left t)
-fetching_worked t name None = worked_none t
-fetching_worked t name (Some bytes) = record { first = t.first; drawn = t.drawn; noted = t.noted; wrote = t.wrote; read = (name, bytes) ∷ t.read; is = refl }
-
-own_worked : (s : Start) (name : BlobName) (o : Option Bytes) (t : Own) → Worked t.ticket (own_fetched hands.Unit (told_bytes s) name o t).ticket
-own_worked s name None t = worked_none t.ticket
-own_worked s name (Some bytes) t = fetching_worked t.ticket name (told_bytes s bytes)
-
--- one that was answered
-pub fetch_went : (s : Start) (old new : List Moment) (who : ℕ) (name : BlobName) (o : Option Bytes) → GrewBy s who old new → own_of s new who ≡ own_fetched hands.Unit (told_bytes s) name o (own_of s old who) → Went s old new who
-fetch_went s old new who name o grew own = record {
-  grew = grew;
-  worked = subst (λ (t : Own). Worked (ticket_of s old who) t.ticket) (sym own) (own_worked s name o (own_of s old who));
-}
-
--- or that failed
-pub left_went : (s : Start) (old new : List Moment) (who : ℕ) (name : BlobName) → GrewBy s who old new → IsFetched hands.Unit s name (own_of s old who) (own_of s new who) → Went s old new who
-left_went s old new who name grew (inl same) = record { grew = grew; worked = subst (λ (t : Own). Worked (ticket_of s old who) t.ticket) (sym same) (worked_none (ticket_of s old who)) }
-left_went s old new who name grew (inr (bytes, own)) = fetch_went s old new who name (Some bytes) grew own
-
--- so the ticket is of the same shard
-pub went_work : (s : Start) (old new : List Moment) (who index number : ℕ) → Went s old new who → IsAt (ticket_of s old who) index number → (ticket_of s new who).work ≡ Shard index number
-went_work s old new who index number went at = ap (λ (t : Ticket). t.work) went.worked.is ∙ at.work
 
 -- the name of an index is one of the layout
 pub index_name : (shard : ShardId) (base : Id) → shard.number < 1024 → IsName (names.ShardIndex shard base)
 unfolding IsName
 index_name shard base few = few
-
-pub told_has : (tells : Bool) (old new : Ticket) (name : BlobName) (b : Bytes) → new ≡ fetching name (if tells then Some b else None) old → tells ≡ true → Has new.read (name, b)
-told_has true old new name b is yes_is = subst (λ (t : Ticket). Has t.read (name, b)) (sym is) (inl refl)
-told_has false old new name b is yes_is = absurd cc
 
 -- ---- the base is at fault
 
@@ -118,10 +86,6 @@ module _ {S F H T : Type 0} (e : Evidence S F H T) (n : ℕ) (files : Option (Li
       subst (λ (x : Trouble S F). Shown {S = S} {F = F} {H = H} {T = T} e n files s new who x) (sym is) (unread_at b read r fetched had one fails)
 
 -- ---- the base is read
-
-pub fetching_base : (t : Ticket) (name : BlobName) (left : Option Bytes) → (read : List (BlobName × Bytes)) × (fetching name left t ≡ record t { read = read }) × ((b : BlobName × Bytes) → Has t.read b → Has read b)
-fetching_base t blob None = (t.read, refl, λ b h. h)
-fetching_base t blob (Some bytes) = ((blob, bytes) ∷ t.read, refl, λ b h. inr h)
 
 pub has_base : (s : Start) (old new : Ticket) (index number base : ℕ) (b : Bytes) (value : ShardFiles) → old.base ≡ Some base → new ≡ fetching (ShardIndex index number base) (told_bytes s b) old
     → shard_index_kind.read b ≡ Some value → HasBase s old new index number value

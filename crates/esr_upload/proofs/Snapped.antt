@@ -17,7 +17,7 @@ use Rattle.esr_shardidx.specs.declared.entry.FileEntry.{FileEntry as CodeEntry}
 use Rattle.esr_shardidx.specs.Entries.{last_of, is_below, name_stays, IsEntry, is_sized}
 use Rattle.esr_shardidx.specs.Snapshots.{has_name, follows, are_snap_files}
 use Rattle.esr_shardidx.specs.Indices.{IndexValue, IsShardIndex, Rises}
-use Rattle.esr_shardidx.proofs.Files.{all_map, all_push}
+use Rattle.esr_shardidx.specs.FileOrder.{all_map, all_push}
 use Rattle.esr_formats.specs.Shards.{entry_of, code_entry, shard_index_of}
 use Rattle.esr_reuse.specs.declared.reuse.Planned.{Planned}
 use Rattle.esr_reuse.specs.Plans.{file_planned, Reuses}

@@ -71,8 +71,10 @@ read_more told listed i d reads new r is listing less first pushed name hashed =
     }
 
 -- the same, as the loop reads it
-pub read_next : (told same : Option (List (Bytes × Bytes))) (listed : List ListedFile) (i place : ℕ) (file : ListedFile) (reads new : List ReadFile) (r : ReadFile) → IfSome told (λ x. listed ≡ map listed_of x) → IsListing listed → i < length listed
-    → ReadFirst told listed i reads → new ≡ reads ++ r ∷ [] → file ≡ get_or listed i file → place ≡ i → same ≡ told → r.physical ≡ file.name → Hashed (bytes_at same place) file.length r.print → ReadFirst told listed (i + 1) new
+pub read_next : (told same : Option (List (Bytes × Bytes))) (listed : List ListedFile) (i place : ℕ) (file : ListedFile) (reads new : List ReadFile) (r : ReadFile) → IfSome told (λ x. listed ≡ map listed_of x) → IsListing listed
+    → i < length listed
+    → ReadFirst told listed i reads → new ≡ reads ++ r ∷ [] → file ≡ get_or listed i file → place ≡ i → same ≡ told → r.physical ≡ file.name → Hashed (bytes_at same place) file.length r.print
+    → ReadFirst told listed (i + 1) new
 read_next told same listed i place file reads new r is listing less first pushed file_is place_is same_is name hashed =
     let here : Hashed (bytes_at same i) file.length r.print = subst (λ (k : ℕ). Hashed (bytes_at same k) file.length r.print) place_is hashed in
     let there : Hashed (bytes_at told i) file.length r.print = subst (λ (o : Option (List (Bytes × Bytes))). Hashed (bytes_at o i) file.length r.print) same_is here in
@@ -95,7 +97,8 @@ tells_all (Some told) listed n files is all first =
     let many : length listed ≡ length told = ap (λ (l : List ListedFile). length l) is ∙ length-map told listed_of in
     first ∙ take_all n told (omega arith)
 
-pub read_all : (told : Option (List (Bytes × Bytes))) (listed : List ListedFile) (now : Option (List ListedFile)) (n : ℕ) (reads : List ReadFile) → IfSome told (λ x. listed ≡ map listed_of x) → IsListing listed → now ≡ Some listed → length listed ≤ n
+pub read_all : (told : Option (List (Bytes × Bytes))) (listed : List ListedFile) (now : Option (List ListedFile)) (n : ℕ) (reads : List ReadFile) → IfSome told (λ x. listed ≡ map listed_of x) → IsListing listed → now ≡ Some listed
+    → length listed ≤ n
     → ReadFirst told listed n reads → Surveyed told now reads
 read_all told listed now n reads is listing now_is all first =
     let whole : take n listed ≡ listed = take_all n listed all in

@@ -49,7 +49,8 @@ module _ (s : Start) (told left_old left : Option Bytes) (hasher : Hasher) (at :
       }
 
 -- the ticket tells each step on a file that had the print of its entry
-pub all_told : (s : Start) (log : List Moment) (who : ℕ) (hasher : Hasher) (e : CodeEntry) (second : Print) → PartsTold s log who hasher e.print.len → ((m : List ℕ) → HasFed hasher m → second ≡ print_of m) → e.print ≡ second → TellsAll s log who
+pub all_told : (s : Start) (log : List Moment) (who : ℕ) (hasher : Hasher) (e : CodeEntry) (second : Print) → PartsTold s log who hasher e.print.len → ((m : List ℕ) → HasFed hasher m → second ≡ print_of m) → e.print ≡ second
+    → TellsAll s log who
 all_told s log who hasher e second parts hashed same =
     let own : print_of parts.bytes ≡ e.print = sym (hashed parts.bytes parts.fed) ∙ sym same in
     parts.tells (ap (λ (p : Print). p.len) own)

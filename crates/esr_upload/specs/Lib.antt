@@ -8,3 +8,8 @@ pub mod Ended
 pub mod Refused
 pub mod Entries
 pub mod Published
+pub mod Runs
+pub mod BaseReads
+pub mod Commits
+pub mod Ends
+pub mod SnapAdds

@@ -78,19 +78,22 @@ asks_stop X e s old mid new refusal (units.Stopped told) same began h = subst (�
 asks_stop X e s old mid new refusal (units.Failed why) same began h = absurd h
 asks_stop X e s old mid new refusal units.Stale same began h = absurd h
 
-asks_step : (X : Type 0) {S F H T : Type 0} (e : Evidence S F H T) (s : Start) (old mid new : List Moment) (refusal : StepRefusal) (result : UnitRefusal) → s.alone ≡ true → IsRefusedBy s old mid 0 (ReadStep DrawTest) refusal → GrewFurther s mid new → (result ≡ units.Stale → ⊥)
+asks_step : (X : Type 0) {S F H T : Type 0} (e : Evidence S F H T) (s : Start) (old mid new : List Moment) (refusal : StepRefusal) (result : UnitRefusal) → s.alone ≡ true → IsRefusedBy s old mid 0 (ReadStep DrawTest) refusal
+    → GrewFurther s mid new → (result ≡ units.Stale → ⊥)
     → GivenUp hands.Verify e s mid new 0 (ending_by {S = S} {F = F} {H = H} {T = T} (troubles.Step refusal)) result → AsksOne {X = X} old new (Err result)
 asks_step X e s old mid new steps.Memory result alone step g present h = asks_stop X e s old mid new steps.Memory result (front_is s old mid 0 alone step.0) (λ same. NotBegun same) h
 asks_step X e s old mid new steps.TurnsSpent result alone step g present h = asks_stop X e s old mid new steps.TurnsSpent result (front_is s old mid 0 alone step.0) (λ same. NotBegun same) h
 asks_step X e s old mid new (steps.Refused x) result alone step g present h = asks_begun {X = X} old new (Err result) (λ is. present (err_is {X = X} result units.Stale is)) (steps_begun s old mid new (Refused (refusal_of x)) alone step.0 g)
 
-pub asks_draw : (X : Type 0) {S F H T : Type 0} (e : Evidence S F H T) (s : Start) (old mid new : List Moment) (refusal : StepRefusal) (ending : Ending S F H T) (result : UnitRefusal) → ending ≡ ending_by (troubles.Step refusal) → s.alone ≡ true
+pub asks_draw : (X : Type 0) {S F H T : Type 0} (e : Evidence S F H T) (s : Start) (old mid new : List Moment) (refusal : StepRefusal) (ending : Ending S F H T) (result : UnitRefusal) → ending ≡ ending_by (troubles.Step refusal)
+    → s.alone ≡ true
     → IsRefusedBy s old mid 0 (ReadStep DrawTest) refusal → GivenUp hands.Verify e s mid new 0 ending result → IsReported hands.Verify s mid new 0 ending result → AsksOne {X = X} old new (Err result)
 asks_draw X {S} {F} {H} {T} e s old mid new refusal ending result is alone step h report =
     asks_step X e s old mid new refusal result alone step (report_further s mid new ending result alone report) (given_present e s mid new ending result h)
     (subst (λ (x : Ending S F H T). GivenUp hands.Verify e s mid new 0 x result) is h)
 
 -- a step after it was refused, or failed
-pub asks_run : (X : Type 0) {S F H T : Type 0} (e : Evidence S F H T) (s : Start) (old mid new : List Moment) (ending : Ending S F H T) (result : UnitRefusal) → s.alone ≡ true → HasBegun old mid → GivenUp hands.Verify e s mid new 0 ending result
+pub asks_run : (X : Type 0) {S F H T : Type 0} (e : Evidence S F H T) (s : Start) (old mid new : List Moment) (ending : Ending S F H T) (result : UnitRefusal) → s.alone ≡ true → HasBegun old mid
+    → GivenUp hands.Verify e s mid new 0 ending result
     → IsReported hands.Verify s mid new 0 ending result → AsksOne {X = X} old new (Err result)
 asks_run X e s old mid new ending result alone begun h report = asks_begun {X = X} old new (Err result) (λ is. given_present e s mid new ending result h (err_is {X = X} result units.Stale is)) (begun_on s old mid new begun (report_further s mid new ending result alone report))

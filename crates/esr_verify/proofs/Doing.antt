@@ -2,6 +2,7 @@
 use Rattle.std.proofs.Common.{◌≡◌, inl, inr, ⊎_elim, ℕ, Bool, true, false, List, [], ◌∷◌, ◌++◌, Option, Some, None, Ok, refl, sym, ap, ◌∙◌, subst}
 use Rattle.std.specs.Prelude.{if◌then◌else◌}
 use Rattle.std.specs.Io.KnownBytes.{append_known}
+use Rattle.esr_model.specs.Lists.{Has-either, Has-left}
 use Rattle.esr_names.specs.declared.ids.Id.{Id}
 use Rattle.esr_names.specs.IdText.{id_text}
 use Rattle.esr_model.specs.Names.{BlobName}
@@ -20,7 +21,7 @@ use Rattle.esr_desk.specs.Verify.Conditions.{CanDrawTest, IsOwn, HoldsText, CanC
 use Rattle.esr_verify.specs.Idle.{IsIdle}
 use Rattle.esr_verify.specs.Went.{Drew}
 use Rattle.esr_verify.specs.Done.{HasDone, Wrote}
-use Rattle.esr_verify.proofs.Listing.{has_either, has_left, has_last}
+use Rattle.esr_verify.proofs.Listing.{has_last}
 use Rattle.esr_verify.proofs.Going.{stepped_went, went_on}
 
 -- ---- what a step needs
@@ -28,7 +29,8 @@ use Rattle.esr_verify.proofs.Going.{stepped_went, went_on}
 pub is_own : (s : Start) (log : List Moment) (id : ℕ) (name : BlobName) → Drew s log id → IsTestOf id name → IsOwn (caller_of s log) name
 is_own s log id name drew own = record { id = id; drawn = drew.is_open; test = own }
 
-pub can_commit : (s : Start) (old mid : List Moment) (id : ℕ) (name at : BlobName) → Drew s old id → IsTestOf id name → (Has (caller_of s old).committed name → ⊥) → caller_of s mid ≡ caller_of s old → at ≡ name → CanCommitTest (caller_of s mid) at
+pub can_commit : (s : Start) (old mid : List Moment) (id : ℕ) (name at : BlobName) → Drew s old id → IsTestOf id name → (Has (caller_of s old).committed name → ⊥) → caller_of s mid ≡ caller_of s old → at ≡ name
+    → CanCommitTest (caller_of s mid) at
 can_commit s old mid id name at drew own once same is =
     subst (λ (n : BlobName). CanCommitTest (caller_of s mid) n) (sym is)
     (subst (λ (c : Caller). CanCommitTest c name) (sym same) (record { own = is_own s old id name drew own; once = once }))
@@ -42,7 +44,8 @@ is_open s log id drew none = not_none (caller_of s log).drawn id drew.is_open no
 pub none_removed : (removed : List BlobName) (name : BlobName) → removed ≡ [] → Has removed name → ⊥
 none_removed removed name is has = subst (λ (l : List BlobName). Has l name) is has
 
-pub can_fetch : (s : Start) (log : List Moment) (id : ℕ) (name : BlobName) → Drew s log id → Has (caller_of s log).committed name → (caller_of s log).removed ≡ [] → (Has (caller_of s log).fetched name → ⊥) → CanFetchTest (caller_of s log) name
+pub can_fetch : (s : Start) (log : List Moment) (id : ℕ) (name : BlobName) → Drew s log id → Has (caller_of s log).committed name → (caller_of s log).removed ≡ [] → (Has (caller_of s log).fetched name → ⊥)
+    → CanFetchTest (caller_of s log) name
 can_fetch s log id name drew committed unremoved once = record {
   drawn = is_open s log id drew;
   committed = committed;
@@ -102,7 +105,8 @@ held_text s id empty full bytes text none is = subst (λ (b : Bytes). Holds s fu
 pub holds_text : (s : Start) (old mid : List Moment) (id : ℕ) (full : Option Bytes) → Drew s old id → caller_of s mid ≡ caller_of s old → Holds s full (id_text id) → HoldsText s (caller_of s mid) full
 holds_text s old mid id full drew same held = (id, ap (λ (c : Caller). c.drawn) same ∙ drew.is_open, held)
 
-pub wrote_one : (s : Start) (old mid new : List Moment) (name at : BlobName) (contents : Option Bytes) (bytes : Bytes) → s.alone ≡ true → at ≡ name → Holds s contents bytes → Stepped s old mid 0 (ReadStep (BeginTest name)) WasBegun → caller_of s mid ≡ caller_of s old
+pub wrote_one : (s : Start) (old mid new : List Moment) (name at : BlobName) (contents : Option Bytes) (bytes : Bytes) → s.alone ≡ true → at ≡ name → Holds s contents bytes → Stepped s old mid 0 (ReadStep (BeginTest name)) WasBegun
+    → caller_of s mid ≡ caller_of s old
     → Stepped s mid new 0 (ReadStep (CommitTest at)) WasDone → caller_of s new ≡ caller_wrote (caller_of s mid) at contents → Wrote s old new name bytes
 wrote_one s old mid new name at contents bytes alone is holds begun kept done own = record {
   went =
@@ -122,8 +126,8 @@ wrote_one s old mid new name at contents bytes alone is holds begun kept done ow
 wrote_more : (s : Start) (old : Caller) (id : ℕ) (written : List BlobName) (name : BlobName) → HasDone s old id written [] → HasDone s (record old { committed = name ∷ old.committed }) id (written ++ name ∷ []) []
 wrote_more s old id written name h = record {
   drawn = h.drawn;
-  committed = λ n has. ⊎_elim (λ (before : Has written n). inr (h.committed n before)) (λ (here : Has (name ∷ []) n). ⊎_elim (λ (same : name ≡ n). inl same) (λ none. absurd none) here) (has_either written (name ∷ []) n has);
-  only = λ n has. ⊎_elim (λ (same : name ≡ n). subst (Has (written ++ name ∷ [])) same (has_last written name)) (λ (before : Has old.committed n). has_left written (name ∷ []) n (h.only n before)) has;
+  committed = λ n has. ⊎_elim (λ (before : Has written n). inr (h.committed n before)) (λ (here : Has (name ∷ []) n). ⊎_elim (λ (same : name ≡ n). inl same) (λ none. absurd none) here) (Has-either written (name ∷ []) n has);
+  only = λ n has. ⊎_elim (λ (same : name ≡ n). subst (Has (written ++ name ∷ [])) same (has_last written name)) (λ (before : Has old.committed n). Has-left written (name ∷ []) n (h.only n before)) has;
   once = h.once;
   found = h.found;
   read = h.read;
@@ -131,11 +135,13 @@ wrote_more s old id written name h = record {
 }
 
 -- what it held is noted beside, where the container tells
-done_beside : (s : Start) (old : Caller) (id : ℕ) (written : List BlobName) (name : BlobName) (contents : Option Bytes) → HasDone s (record old { committed = name ∷ old.committed }) id written [] → HasDone s (caller_wrote old name contents) id written []
+done_beside : (s : Start) (old : Caller) (id : ℕ) (written : List BlobName) (name : BlobName) (contents : Option Bytes) → HasDone s (record old { committed = name ∷ old.committed }) id written []
+    → HasDone s (caller_wrote old name contents) id written []
 done_beside s old id written name None h = h
 done_beside s old id written name (Some bytes) h = record { drawn = h.drawn; committed = h.committed; only = h.only; once = h.once; found = h.found; read = h.read; unremoved = h.unremoved }
 
-pub wrote_done : (s : Start) (old new : Caller) (id : ℕ) (written : List BlobName) (name : BlobName) (contents : Option Bytes) → HasDone s old id written [] → new ≡ caller_wrote old name contents → HasDone s new id (written ++ name ∷ []) []
+pub wrote_done : (s : Start) (old new : Caller) (id : ℕ) (written : List BlobName) (name : BlobName) (contents : Option Bytes) → HasDone s old id written [] → new ≡ caller_wrote old name contents
+    → HasDone s new id (written ++ name ∷ []) []
 wrote_done s old new id written name contents h is =
     subst (λ (c : Caller). HasDone s c id (written ++ name ∷ []) []) (sym is) (done_beside s old id (written ++ name ∷ []) name contents (wrote_more s old id written name h))
 
@@ -144,10 +150,10 @@ wrote_done s old new id written name contents h is =
 module _ (s : Start) (id : ℕ) (written fetched : List BlobName) (name : BlobName) (old : Caller) (h : HasDone s old id written fetched) where
   fetched_once : (n : BlobName) → Has (name ∷ old.fetched) n → Has (fetched ++ name ∷ []) n
   fetched_once n (inl same) = subst (Has (fetched ++ name ∷ [])) same (has_last fetched name)
-  fetched_once n (inr before) = has_left fetched (name ∷ []) n (h.once n before)
+  fetched_once n (inr before) = Has-left fetched (name ∷ []) n (h.once n before)
 
   found_all : (n : BlobName) → Has (fetched ++ name ∷ []) n → Has (name ∷ old.found) n
-  found_all n has = ⊎_elim (λ (before : Has fetched n). inr (h.found n before)) (λ (here : Has (name ∷ []) n). ⊎_elim (λ (same : name ≡ n). inl same) (λ none. absurd none) here) (has_either fetched (name ∷ []) n has)
+  found_all n has = ⊎_elim (λ (before : Has fetched n). inr (h.found n before)) (λ (here : Has (name ∷ []) n). ⊎_elim (λ (same : name ≡ n). inl same) (λ none. absurd none) here) (Has-either fetched (name ∷ []) n has)
 
   -- it is the text of the id
   read_all : (n : BlobName) → Has (fetched ++ name ∷ []) n → s.tells ≡ true → WasRead ((name, id_text id) ∷ old.read) n (id_text id)
@@ -155,7 +161,7 @@ module _ (s : Start) (id : ℕ) (written fetched : List BlobName) (name : BlobNa
       ⊎_elim
       (λ (before : Has fetched n). inr (h.read n before tells))
       (λ (here : Has (name ∷ []) n). ⊎_elim (λ (same : name ≡ n). inl (ap (λ (x : BlobName). (x, id_text id)) same)) (λ none. absurd none) here)
-      (has_either fetched (name ∷ []) n has)
+      (Has-either fetched (name ∷ []) n has)
 
   by_tells : (tells : Bool) → s.tells ≡ tells → HasDone s (caller_told old name (if tells then Some (id_text id) else None)) id written (fetched ++ name ∷ [])
   by_tells true told = record { drawn = h.drawn; committed = h.committed; only = h.only; once = fetched_once; found = found_all; read = read_all; unremoved = h.unremoved }

@@ -1,5 +1,6 @@
 -- How a verification ends that went well.
 use Rattle.std.proofs.Common.{◌≡◌, ℕ, true, List, [], ◌∷◌, ◌++◌, map, Option, Some, Result, Ok, Err, OnOk, sym, ap, ◌∙◌, subst}
+use Rattle.esr_model.specs.Lists.{Has-left}
 use Rattle.esr_names.specs.declared.blob.BlobName.{BlobName as CodeName}
 use Rattle.esr_names.specs.IdText.{id_text}
 use Rattle.esr_model.specs.Names.{BlobName, TestMaster}
@@ -19,7 +20,6 @@ use Rattle.esr_verify.specs.Verified.{HasVerified}
 use Rattle.esr_verify.specs.Went.{Went, Drew}
 use Rattle.esr_verify.specs.Done.{HasDone}
 use Rattle.esr_verify.specs.Ended.{Ended, ending}
-use Rattle.esr_verify.proofs.Listing.{has_left}
 use Rattle.esr_verify.proofs.Naming.{few_names}
 use Rattle.esr_verify.proofs.Going.{front_is, stepped_went, went_on}
 use Rattle.esr_verify.proofs.Doing.{is_open}
@@ -40,7 +40,7 @@ can_end s log c id names drew h is master = record {
       let here : Has (caller_of s log).committed (TestMaster id) = subst (λ (d : Caller). Has d.committed (TestMaster id)) (sym is) (h.committed (TestMaster id) master) in
       subst (λ (k : ℕ). Has (caller_of s log).committed (TestMaster k)) same here;
   found = subst (λ (d : Caller). (name : BlobName) → Has d.committed name → Has d.found name) (sym is) (λ name has. h.found name (h.only name has));
-  removed = subst (λ (d : Caller). (name : BlobName) → Has d.committed name → Has d.removed name) (sym is) (λ name has. has_left names c.removed name (h.only name has));
+  removed = subst (λ (d : Caller). (name : BlobName) → Has d.committed name → Has d.removed name) (sym is) (λ name has. Has-left names c.removed name (h.only name has));
 }
 
 -- ---- the end
@@ -62,7 +62,8 @@ ended s old mid new id names alone h removed own last closed =
       closed = closed;
     }
 
-pub if_ended : {X : Type 0} (s : Start) (old mid new : List Moment) (id : ℕ) (names : List BlobName) (result : Result X StepRefusal) → s.alone ≡ true → HasDone s (caller_of s old) id names names → Stepped s old mid 0 (ReadStep (RemoveTests names)) WasRemoved
+pub if_ended : {X : Type 0} (s : Start) (old mid new : List Moment) (id : ℕ) (names : List BlobName) (result : Result X StepRefusal) → s.alone ≡ true → HasDone s (caller_of s old) id names names
+    → Stepped s old mid 0 (ReadStep (RemoveTests names)) WasRemoved
     → caller_of s mid ≡ record (caller_of s old) { removed = names ++ (caller_of s old).removed } → Outcome s mid new 0 (ReadStep VerifiedAll) (λ _. HasEnded) result → OnOk result (caller_of s new ≡ no_caller)
     → OnOk result (Ended s old new id names (ending names))
 if_ended s old mid new id names (Ok x) alone h removed own last closed = ended s old mid new id names alone h removed own last closed

@@ -58,7 +58,8 @@ ending_shown {S} {F} {H} {T} e s log trouble ending is shown = subst (λ (x : En
 -- ---- how it ends then
 
 -- the report isn't refused, but where memory is wanting or turns are spent
-unreported : RefusesSo → (s : Start) (old mid new : List Moment) (why : Why) (x : EntryRefusal) → s.alone ≡ true → IsAlive s mid → Stepped s mid new 0 (ReadStep (ReadFails (why_of why))) (Refused (refusal_of x)) → Halts s new 0 (steps.Refused x) → ⊥
+unreported : RefusesSo → (s : Start) (old mid new : List Moment) (why : Why) (x : EntryRefusal) → s.alone ≡ true → IsAlive s mid → Stepped s mid new 0 (ReadStep (ReadFails (why_of why))) (Refused (refusal_of x))
+    → Halts s new 0 (steps.Refused x) → ⊥
 unreported law s old mid new why (refusals.Deposed entry) alone alive h halts = ⊎_elim
     (λ (abort : IsAbort (refusal_of (refusals.Deposed entry))). abort)
     (λ (how : HowRefused (ReadFails (why_of why)) (refusal_of (refusals.Deposed entry))). how)
@@ -69,7 +70,8 @@ module _ {S F H T : Type 0} (e : Evidence S F H T) (law : RefusesSo) (s : Start)
   failed : (why told : Why) (b : By S F H T) → GivenUp hands.Verify e s mid new 0 (endings.Failed why b) (units.Failed told) → IsVerifyRefused e s old new (units.Failed told)
   failed why told b h = (ap (λ (o : Own). o.caller) h.1, subst (λ (w : Why). HasFailed hands.Verify e s new 0 w) (sym h.0) h.2)
 
-  for_cause : (why : Why) (b : By S F H T) (refusal : StepRefusal) → IsAlive s mid → GivenUp hands.Verify e s mid new 0 (endings.Failed why b) (units.Stopped refusal) → IsReported hands.Verify s mid new 0 (endings.Failed why b) (units.Stopped refusal)
+  for_cause : (why : Why) (b : By S F H T) (refusal : StepRefusal) → IsAlive s mid → GivenUp hands.Verify e s mid new 0 (endings.Failed why b) (units.Stopped refusal)
+      → IsReported hands.Verify s mid new 0 (endings.Failed why b) (units.Stopped refusal)
       → IsVerifyRefused e s old new (units.Stopped refusal)
   for_cause why b steps.Memory alive h report = tt
   for_cause why b steps.TurnsSpent alive h report = h.halts
@@ -86,7 +88,8 @@ module _ {S F H T : Type 0} (e : Evidence S F H T) (law : RefusesSo) (s : Start)
   as_stopped refusal told stops h =
       subst (λ (log : List Moment). StopsVerify s old log told) (sym h.1) (subst (λ (r : StepRefusal). StopsVerify s old mid r) (sym h.0) stops)
 
-  pub ends : (ending : Ending S F H T) (result : UnitRefusal) → Legal s mid → IsAlive s mid → EndingShown hands.Verify e ⊥ s mid 0 ending → GivenUp hands.Verify e s mid new 0 ending result → IsReported hands.Verify s mid new 0 ending result
+  pub ends : (ending : Ending S F H T) (result : UnitRefusal) → Legal s mid → IsAlive s mid → EndingShown hands.Verify e ⊥ s mid 0 ending → GivenUp hands.Verify e s mid new 0 ending result
+      → IsReported hands.Verify s mid new 0 ending result
       → IsVerifyRefused e s old new result
   ends (endings.Failed why b) (units.Failed told) legal alive shown h report = failed why told b h
   ends (endings.Failed why b) (units.Stopped refusal) legal alive shown h report = for_cause why b refusal alive h report
@@ -120,12 +123,14 @@ module _ {S F H T : Type 0} (e : Evidence S F H T) (law : RefusesSo) (s : Start)
   draw_may steps.TurnsSpent h own = tt
   draw_may (steps.Refused x) h own = may_entry x (draw_refused law s old mid x h.0 h.1) own
 
-  pub draw_may_end : (refusal : StepRefusal) (ending : Ending S F H T) → ending ≡ ending_by (troubles.Step refusal) → IsRefusedBy s old mid 0 (ReadStep DrawTest) refusal → caller_of s mid ≡ drawn_by (Err refusal) (caller_of s old) → MayEnd hands.Verify s mid 0 ending
+  pub draw_may_end : (refusal : StepRefusal) (ending : Ending S F H T) → ending ≡ ending_by (troubles.Step refusal) → IsRefusedBy s old mid 0 (ReadStep DrawTest) refusal → caller_of s mid ≡ drawn_by (Err refusal) (caller_of s old)
+      → MayEnd hands.Verify s mid 0 ending
   draw_may_end refusal ending is h own = subst (λ (x : Ending S F H T). MayEnd hands.Verify s mid 0 x) (sym is) (draw_may refusal h own)
 
 module _ {S F H T : Type 0} (e : Evidence S F H T) (law : RefusesSo) (deposes : DeposesSo) (s : Start) (old mid new : List Moment) (alone : s.alone ≡ true) where
   -- no id was left
-  spent_ends : (why : Why) (b : By S F H T) (result : UnitRefusal) → IsAlive s mid → GivenUp hands.Verify e s mid new 0 (endings.Failed why b) result → IsReported hands.Verify s mid new 0 (endings.Failed why b) result → IsVerifyRefused e s old new result
+  spent_ends : (why : Why) (b : By S F H T) (result : UnitRefusal) → IsAlive s mid → GivenUp hands.Verify e s mid new 0 (endings.Failed why b) result → IsReported hands.Verify s mid new 0 (endings.Failed why b) result
+      → IsVerifyRefused e s old new result
   spent_ends why b (units.Failed told) alive h report = failed e law s old mid new alone why told b h
   spent_ends why b (units.Stopped refusal) alive h report = for_cause e law s old mid new alone why b refusal alive h report
   spent_ends why b units.Stale alive h report = absurd h
@@ -150,7 +155,8 @@ module _ {S F H T : Type 0} (e : Evidence S F H T) (law : RefusesSo) (deposes : 
   draw_ending steps.TurnsSpent result h own given report = stop_ends steps.TurnsSpent result h.1 given
   draw_ending (steps.Refused x) result h own given report = entry_ends x result (draw_refused law s old mid x h.0 h.1) h.0 own given report
 
-  pub draw_ends : (refusal : StepRefusal) (ending : Ending S F H T) (result : UnitRefusal) → ending ≡ ending_by (troubles.Step refusal) → IsRefusedBy s old mid 0 (ReadStep DrawTest) refusal → caller_of s mid ≡ drawn_by (Err refusal) (caller_of s old)
+  pub draw_ends : (refusal : StepRefusal) (ending : Ending S F H T) (result : UnitRefusal) → ending ≡ ending_by (troubles.Step refusal) → IsRefusedBy s old mid 0 (ReadStep DrawTest) refusal
+      → caller_of s mid ≡ drawn_by (Err refusal) (caller_of s old)
       → GivenUp hands.Verify e s mid new 0 ending result → IsReported hands.Verify s mid new 0 ending result → IsVerifyRefused e s old new result
   draw_ends refusal ending result is h own given report =
       draw_ending refusal result h own (subst (λ (x : Ending S F H T). GivenUp hands.Verify e s mid new 0 x result) is given) (subst (λ (x : Ending S F H T). IsReported hands.Verify s mid new 0 x result) is report)

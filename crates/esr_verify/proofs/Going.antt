@@ -1,5 +1,6 @@
 -- Histories of a verification that go on.
 use Rattle.std.proofs.Common.{◌≡◌, ⊎_elim, ℕ, true, List, [], ◌∷◌, ◌++◌, append-nil, append_assoc, Option, Some, None, Result, Ok, Err, refl, sym, ap, ◌∙◌, subst}
+use Rattle.esr_model.specs.Lists.{Has-either}
 use Rattle.esr_core.specs.World.{Caller}
 use Rattle.esr_model.specs.Names.{BlobName}
 use Rattle.esr_model.specs.Values.{Has}
@@ -23,7 +24,6 @@ use Rattle.esr_verify.specs.Verified.{Are}
 use Rattle.esr_verify.specs.Law.{DeposesSo}
 use Rattle.esr_verify.specs.Began.{IsFurther, AllFurther, NoneVerified}
 use Rattle.esr_verify.specs.Went.{Went, GrewFurther, Drew, Kept}
-use Rattle.esr_verify.proofs.Listing.{has_either}
 use Rattle.esr_verify.proofs.Living.{alive_on, stepped_alive}
 
 -- ---- steps
@@ -99,7 +99,8 @@ refusing_further : (s : Start) (old new : List Moment) (read : Read) (refusal : 
 refusing_further s old new read None alone further h = record { more = []; is = front_is s old new 0 alone h ∙ sym (append-nil old); legal = λ was. h.legal; all = tt }
 refusing_further s old new read (Some refusal) alone further h = stepped_further s old new read (Refused refusal) alone further h
 
-pub outcome_further : {X : Type 0} (s : Start) (old new : List Moment) (read : Read) (ok : X → Reply) (result : Result X StepRefusal) → s.alone ≡ true → IsFurther read → Outcome s old new 0 (ReadStep read) ok result → GrewFurther s old new
+pub outcome_further : {X : Type 0} (s : Start) (old new : List Moment) (read : Read) (ok : X → Reply) (result : Result X StepRefusal) → s.alone ≡ true → IsFurther read → Outcome s old new 0 (ReadStep read) ok result
+    → GrewFurther s old new
 outcome_further s old new read ok (Ok x) alone further h = stepped_further s old new read (ok x) alone further h
 outcome_further s old new read ok (Err e) alone further h = refusing_further s old new read (told_refusal e) alone further h.0
 
@@ -131,11 +132,12 @@ pub unverified_on : (old mid new : List Moment) → NoneVerified old mid → Non
 unverified_on old mid new first second = record {
   more = first.more ++ second.more;
   is = second.is ∙ ap (λ (log : List Moment). log ++ second.more) first.is ∙ append_assoc old first.more second.more;
-  none = λ m has at ended. ⊎_elim (λ (a : Has first.more m). first.none m a at ended) (λ (b : Has second.more m). second.none m b at ended) (has_either first.more second.more m has);
+  none = λ m has at ended. ⊎_elim (λ (a : Has first.more m). first.none m a at ended) (λ (b : Has second.more m). second.none m b at ended) (Has-either first.more second.more m has);
 }
 
 -- by a step that is another, or was answered otherwise
-other_moment : (one m : Moment) (read : Read) (reply : Reply) → (read ≡ VerifiedAll → reply ≡ HasEnded → ⊥) → one.entry.step ≡ ReadStep read → one.entry.reply ≡ reply → one ≡ m → m.entry.step ≡ ReadStep VerifiedAll → m.entry.reply ≡ HasEnded → ⊥
+other_moment : (one m : Moment) (read : Read) (reply : Reply) → (read ≡ VerifiedAll → reply ≡ HasEnded → ⊥) → one.entry.step ≡ ReadStep read → one.entry.reply ≡ reply → one ≡ m → m.entry.step ≡ ReadStep VerifiedAll
+    → m.entry.reply ≡ HasEnded → ⊥
 other_moment one m read reply other step_is reply_is same at ended =
     let there : ReadStep read ≡ ReadStep VerifiedAll = sym step_is ∙ ap (λ (n : Moment). n.entry.step) same ∙ at in
     let gave : reply ≡ HasEnded = sym reply_is ∙ ap (λ (n : Moment). n.entry.reply) same ∙ ended in
@@ -155,7 +157,8 @@ pub refusing_unverified : (s : Start) (old new : List Moment) (read : Read) (ref
 refusing_unverified s old new read None alone h = record { more = []; is = front_is s old new 0 alone h ∙ sym (append-nil old); none = λ m has. absurd has }
 refusing_unverified s old new read (Some refusal) alone h = stepped_unverified s old new read (Refused refusal) alone (λ at ended. cc) h
 
-pub outcome_unverified : {X : Type 0} (s : Start) (old new : List Moment) (read : Read) (ok : X → Reply) (result : Result X StepRefusal) → s.alone ≡ true → (read ≡ VerifiedAll → ⊥) → Outcome s old new 0 (ReadStep read) ok result → NoneVerified old new
+pub outcome_unverified : {X : Type 0} (s : Start) (old new : List Moment) (read : Read) (ok : X → Reply) (result : Result X StepRefusal) → s.alone ≡ true → (read ≡ VerifiedAll → ⊥) → Outcome s old new 0 (ReadStep read) ok result
+    → NoneVerified old new
 outcome_unverified s old new read ok (Ok x) alone other h = stepped_unverified s old new read (ok x) alone (λ at ended. other at) h
 outcome_unverified s old new read ok (Err e) alone other h = refusing_unverified s old new read (told_refusal e) alone h.0
 
@@ -213,14 +216,16 @@ kept_on s old mid new id first none second = record {
 }
 
 -- by a step, not the last, that leaves what who 0 drew
-pub kept_by : {X : Type 0} → DeposesSo → (s : Start) (old new : List Moment) (id : ℕ) (read : Read) (ok : X → Reply) (result : Result X StepRefusal) → s.alone ≡ true → IsFurther read → (read ≡ VerifiedAll → ⊥) → Outcome s old new 0 (ReadStep read) ok result
+pub kept_by : {X : Type 0} → DeposesSo → (s : Start) (old new : List Moment) (id : ℕ) (read : Read) (ok : X → Reply) (result : Result X StepRefusal) → s.alone ≡ true → IsFurther read → (read ≡ VerifiedAll → ⊥)
+    → Outcome s old new 0 (ReadStep read) ok result
     → Drew s old id → (caller_of s new).drawn ≡ (caller_of s old).drawn → Kept s old new id
 kept_by law s old new id read ok result alone further other step drew same =
     let grew = outcome_further s old new read ok result alone further step in
     record { grew = grew; drew = drew_on law s old new id grew drew same; unverified = outcome_unverified s old new read ok result alone other step }
 
 -- by a fetch
-pub kept_asked : DeposesSo → (s : Start) (old new : List Moment) (id : ℕ) (name : BlobName) → s.alone ≡ true → IsAsked s old new 0 (ReadStep (ReadBlob name)) → Drew s old id → (caller_of s new).drawn ≡ (caller_of s old).drawn → Kept s old new id
+pub kept_asked : DeposesSo → (s : Start) (old new : List Moment) (id : ℕ) (name : BlobName) → s.alone ≡ true → IsAsked s old new 0 (ReadStep (ReadBlob name)) → Drew s old id → (caller_of s new).drawn ≡ (caller_of s old).drawn
+    → Kept s old new id
 kept_asked law s old new id name alone asked drew same =
     let grew = asked_further s old new name alone asked in
     record { grew = grew; drew = drew_on law s old new id grew drew same; unverified = asked_unverified s old new name alone asked }

@@ -1,6 +1,7 @@
 -- Lists of names, and the steps that are made for each.
 use Rattle.std.proofs.Common.{◌≡◌, ◌⊎◌, inl, inr, ⊎_elim, ℕ, zero, suc, ◌+◌, ◌<◌, ◌≤◌, List, [], ◌∷◌, ◌++◌, length, take, map, get_or, slice_index_or, refl, sym, ap, ◌∙◌, subst, arith}
 use Rattle.std.proofs.lemmas.List.{take_all, take_more}
+use Rattle.esr_model.specs.Lists.{Has-map}
 use Rattle.esr_names.specs.declared.blob.BlobName.{BlobName as CodeName}
 use Rattle.esr_model.specs.Names.{BlobName}
 use Rattle.esr_model.specs.Values.{Has}
@@ -10,24 +11,9 @@ use Rattle.esr_verify.specs.Steps.{Answered, writing, reading}
 
 -- ---- what is in a list
 
-pub has_either : {A : Type 0} (xs ys : List A) (y : A) → Has (xs ++ ys) y → Has xs y ⊎ Has ys y
-has_either [] ys y h = inr h
-has_either (x ∷ xs) ys y (inl here) = inl (inl here)
-has_either (x ∷ xs) ys y (inr later) = ⊎_elim (λ a. inl (inr a)) (λ b. inr b) (has_either xs ys y later)
-
-pub has_left : {A : Type 0} (xs ys : List A) (y : A) → Has xs y → Has (xs ++ ys) y
-has_left [] ys y none = absurd none
-has_left (x ∷ xs) ys y (inl here) = inl here
-has_left (x ∷ xs) ys y (inr later) = inr (has_left xs ys y later)
-
 pub has_last : {A : Type 0} (xs : List A) (y : A) → Has (xs ++ y ∷ []) y
 has_last [] y = inl refl
 has_last (x ∷ xs) y = inr (has_last xs y)
-
-pub has_map : {A B : Type 0} (f : A → B) (xs : List A) (y : A) → Has xs y → Has (map f xs) (f y)
-has_map f [] y none = absurd none
-has_map f (x ∷ xs) y (inl here) = inl (ap f here)
-has_map f (x ∷ xs) y (inr later) = inr (has_map f xs y later)
 
 -- ---- the name at a place of a list
 
@@ -43,7 +29,7 @@ not_before (x ∷ names) zero name once less is = λ none. none
 not_before (x ∷ names) (suc k) name once less is =
     let fewer : k < length names = omega (arith, less) in
     λ has. ⊎_elim
-    (λ (here : name_of x ≡ name_of name). once.0 (subst (Has (map name_of names)) (sym here) (has_map name_of names name (has_at names k name fewer is))))
+    (λ (here : name_of x ≡ name_of name). once.0 (subst (Has (map name_of names)) (sym here) (Has-map name_of names name (has_at names k name fewer is))))
     (λ later. not_before names k name once.1 fewer is later)
     has
 

@@ -1,5 +1,6 @@
 -- What who 0 has made of a verification, by which each step is fresh.
 use Rattle.std.proofs.Common.{◌≡◌, ◌⊎◌, ⊎_elim, ℕ, true, List, [], ◌∷◌, ◌++◌, refl, sym, ap, ◌∙◌, subst}
+use Rattle.esr_model.specs.Lists.{Has-left}
 use Rattle.esr_model.specs.Names.{BlobName}
 use Rattle.esr_model.specs.Values.{Bytes, Has}
 use Rattle.esr_core.specs.Restores.{IsTestOf}
@@ -12,7 +13,7 @@ use Rattle.esr_desk.specs.Outcome.{Stepped}
 use Rattle.esr_desk.specs.Made.{client_made}
 use Rattle.esr_desk.specs.Verify.Conditions.{HasTestedNone}
 use Rattle.esr_verify.specs.Done.{HasMade, Wrote, Fetched}
-use Rattle.esr_verify.proofs.Listing.{has_left, has_last}
+use Rattle.esr_verify.proofs.Listing.{has_last}
 
 -- ---- what repeats a step
 
@@ -115,12 +116,12 @@ module _ (s : Start) (old new : List Moment) (id : ℕ) (written : List BlobName
   wrote_made = record {
     begun = λ e n has is.
         by_entry e (Has (written ++ name ∷ []) n) has
-        (λ before. has_left written (name ∷ []) n (made.begun e n before is))
+        (λ before. Has-left written (name ∷ []) n (made.begun e n before is))
         (more_names e.step (ReadStep (BeginTest name)) (ReadStep (BeginTest n)) written name n is (begin_name name n))
         (λ here. absurd (other_one e.step (ReadStep (CommitTest name)) (ReadStep (BeginTest n)) is (λ same. cc) here));
     committed = λ e n has is.
         by_entry e (Has (written ++ name ∷ []) n) has
-        (λ before. has_left written (name ∷ []) n (made.committed e n before is))
+        (λ before. Has-left written (name ∷ []) n (made.committed e n before is))
         (λ here. absurd (other_one e.step (ReadStep (BeginTest name)) (ReadStep (CommitTest n)) is (λ same. cc) here))
         (more_names e.step (ReadStep (CommitTest name)) (ReadStep (CommitTest n)) written name n is (commit_name name n));
     read = λ e n has is test.
@@ -149,7 +150,7 @@ module _ (s : Start) (old new : List Moment) (id : ℕ) (written fetched : List 
         (λ here. absurd (other_one e.step (ReadStep (ReadBlob name)) (ReadStep (CommitTest n)) is (λ same. cc) here));
     read = λ e n has is test.
         by_fetch e (Has (fetched ++ name ∷ []) n) has
-        (λ before. has_left fetched (name ∷ []) n (made.read e n before is test))
+        (λ before. Has-left fetched (name ∷ []) n (made.read e n before is test))
         (more_names e.step (ReadStep (ReadBlob name)) (ReadStep (ReadBlob n)) fetched name n is (fetch_name name n));
     unremoved = λ e names n has is one.
         by_fetch e ⊥ has (λ before. made.unremoved e names n before is one)

@@ -1,5 +1,6 @@
 -- The names of test blobs.
 use Rattle.std.proofs.Common.{◌≡◌, inl, inr, ℕ, zero, suc, ◌+◌, ◌<◌, ◌≤◌, List, [], ◌∷◌, ◌++◌, length, map, refl, sym, ap, ◌∙◌, subst, arith}
+use Rattle.esr_model.specs.Lists.{Has-map}
 use Rattle.esr_names.specs.declared.ids.Id.{Id}
 use Rattle.esr_names.specs.declared.blob.BlobName.{BlobName as CodeName}
 use Rattle.esr_names.specs.declared.blob.BlobName.TheVariants as code
@@ -10,7 +11,6 @@ use Rattle.esr_core.specs.Restores.{AreOnce, IsTestOf}
 use Rattle.esr_formats.specs.Names.{name_of}
 use Rattle.esr_verify.specs.Steps.{node_names, test_names}
 use Rattle.esr_verify.specs.Tests.{AreTests}
-use Rattle.esr_verify.proofs.Listing.{has_map}
 
 -- ---- one worker more
 
@@ -119,8 +119,8 @@ map_count (x ∷ names) = ap suc (map_count names)
 
 pub are_tests : (id n : ℕ) (names : List CodeName) → n ≤ 64 → map name_of names ≡ test_names id n → AreTests id names
 are_tests id n names few is = record {
-  layout = λ name has. named id n name few (subst (λ (l : List BlobName). Has l (name_of name)) is (has_map name_of names name has));
-  own = λ name has. owned id n (name_of name) (subst (λ (l : List BlobName). Has l (name_of name)) is (has_map name_of names name has));
+  layout = λ name has. named id n name few (subst (λ (l : List BlobName). Has l (name_of name)) is (Has-map name_of names name has));
+  own = λ name has. owned id n (name_of name) (subst (λ (l : List BlobName). Has l (name_of name)) is (Has-map name_of names name has));
   once = subst AreOnce (sym is) (tests_once id n);
   few =
       let count : length (map name_of names) ≡ length (test_names id n) = ap (λ (l : List BlobName). length l) is in

@@ -149,7 +149,8 @@ module _ {S F H T : Type 0} (e : Evidence S F H T) (s : Start) where
   entry_shown new step (refusals.NameTaken name) how had grounds = record { client = refl; shown = (step, had) }
   entry_shown new step x how had grounds = absurd how
 
-  pub step_refused : RefusesSo → (old new : List Moment) (id : ℕ) (read : Read) (refusal : StepRefusal) → ((r : Refusal) → HowRefused read r → IsPlain r) → s.alone ≡ true → Drew s old id → IsRefusedBy s old new 0 (ReadStep read) refusal
+  pub step_refused : RefusesSo → (old new : List Moment) (id : ℕ) (read : Read) (refusal : StepRefusal) → ((r : Refusal) → HowRefused read r → IsPlain r) → s.alone ≡ true → Drew s old id
+      → IsRefusedBy s old new 0 (ReadStep read) refusal
       → (caller_of s new).drawn ≡ (caller_of s old).drawn → Shown {S = S} {F = F} {H = H} {T = T} hands.Verify e ⊥ s new 0 (troubles.Step refusal)
   step_refused law old new id read steps.Memory plain alone d h same = tt
   step_refused law old new id read steps.TurnsSpent plain alone d h same = h.1
@@ -171,7 +172,8 @@ module _ {S F H T : Type 0} (e : Evidence S F H T) (s : Start) where
   wanting log refusal is = subst (λ (r : StepRefusal). Shown {S = S} {F = F} {H = H} {T = T} hands.Verify e ⊥ s log 0 (troubles.Step r)) (sym is) tt
 
   -- a fetch was refused, or failed
-  pub fetch_shown : RefusesSo → (old new : List Moment) (id : ℕ) (name : BlobName) (trouble : Trouble S F) → s.alone ≡ true → Drew s old id → FetchErr e.fetch_faults s old new 0 (ReadStep (ReadBlob name)) trouble → (caller_of s new).drawn ≡ (caller_of s old).drawn
+  pub fetch_shown : RefusesSo → (old new : List Moment) (id : ℕ) (name : BlobName) (trouble : Trouble S F) → s.alone ≡ true → Drew s old id → FetchErr e.fetch_faults s old new 0 (ReadStep (ReadBlob name)) trouble
+      → (caller_of s new).drawn ≡ (caller_of s old).drawn
       → Shown {S = S} {F = F} {H = H} {T = T} hands.Verify e ⊥ s new 0 trouble
   fetch_shown law old new id name (troubles.Step refusal) alone d h same = ⊎_elim
       (λ (by : IsRefusedBy s old new 0 (ReadStep (ReadBlob name)) refusal). step_refused law old new id (ReadBlob name) refusal (λ r how. how) alone d by same)
@@ -181,7 +183,8 @@ module _ {S F H T : Type 0} (e : Evidence S F H T) (s : Start) where
   fetch_shown law old new id name trouble alone d h same = absurd h
 
 -- after steps before it
-pub if_kept : {X : Type 0} → DeposesSo → (s : Start) (old mid new : List Moment) (id : ℕ) (read : Read) (ok : X → Reply) (result : Result X StepRefusal) → s.alone ≡ true → IsFurther read → GrewFurther s old mid → NoneVerified old mid → Drew s mid id
+pub if_kept : {X : Type 0} → DeposesSo → (s : Start) (old mid new : List Moment) (id : ℕ) (read : Read) (ok : X → Reply) (result : Result X StepRefusal) → s.alone ≡ true → IsFurther read → GrewFurther s old mid
+    → NoneVerified old mid → Drew s mid id
     → Outcome s mid new 0 (ReadStep read) ok result → OnErr result (caller_of s new ≡ caller_of s mid) → OnErr result (Kept s old new id)
 if_kept law s old mid new id read ok (Ok x) alone further grew none drew h kept = tt
 if_kept law s old mid new id read ok (Err e) alone further grew none drew h kept =

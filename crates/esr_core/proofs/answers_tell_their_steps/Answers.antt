@@ -1,4 +1,5 @@
-use Rattle.esr_core.proofs.Causes.{take_gave, settle_did, restore_began}
+use Rattle.esr_core.specs.Laws.TakeAnswers.{take_gave}
+use Rattle.esr_core.proofs.Causes.{settle_did, restore_began}
 use Rattle.esr_core.proofs.answers_tell_their_steps.Goals as goal
 
 pub returns : goal.returns

@@ -1,4 +1,4 @@
-use Rattle.esr_core.proofs.Changes.{change_of}
+use Rattle.esr_core.specs.Laws.ChangeLaws.{change_of}
 use Rattle.esr_core.proofs.each_step_is_one_change.Goals as goal
 
 pub returns : goal.returns

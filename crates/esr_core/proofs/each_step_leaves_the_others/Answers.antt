@@ -1,4 +1,4 @@
-use Rattle.esr_core.proofs.StepFrames.{step_frame, caller_stays}
+use Rattle.esr_core.specs.Laws.StepFrames.{step_frame, caller_stays}
 use Rattle.esr_core.proofs.each_step_leaves_the_others.Goals as goal
 
 pub returns : goal.returns

@@ -11,5 +11,5 @@ pub returns : goal.returns
 returns c w is =
     let s = c.lists-list.result in
     c.is_full.ensures
-    ∙ ap (λ (n : ℕ). not (nat_lt n 1000)) (sym (count_is s.ops.now s.deletes.now s.completed.now s.seats.now s.next_op s.restores.now c.args.progress.now c.lists-list.ensures.view c.lists-list.ensures.valid w is))
+    ∙ ap (λ (n : ℕ). not (nat_lt n 1000)) (sym (count_is s.ops.now s.deletes.now s.completed.now s.tickets.now s.next_op s.restores.now c.args.progress.now c.lists-list.ensures.view c.lists-list.ensures.valid w is))
     ∙ sym (ap (λ b. not b && not (nat_lt (open_count w) 1000)) (sym c.is_joined.ensures ∙ c.if-is_joined.false))

@@ -5,4 +5,4 @@ use Rattle.esr_accept.proofs.delete.waiting.Given as goal
 
 -- the search goes on with what is left
 abbrev pub invariant-loop-delete : goal.invariant-loop-delete
-invariant-loop-delete l = first_delete (waits_in l.seats l.term) l.deletes ≡ first_delete (waits_in l.seats l.term) (drop l.delete-index l.deletes)
+invariant-loop-delete l = first_delete (waits_in l.tickets l.term) l.deletes ≡ first_delete (waits_in l.tickets l.term) (drop l.delete-index l.deletes)

@@ -15,7 +15,7 @@ returns-in-Some-deleting c w is root_is =
     let found = sym c.deleting.ensures ∙ c.in-Some-deleting.is in (
       c.in-Some.uuid.number,
       is_listed w (root_of c.args.root.now) root_is c.args.name.now c.in-Some.uuid.number listed,
-      being_deleted s.ops.now s.deletes.now s.completed.now s.seats.now s.next_op s.restores.now c.args.progress.now c.lists-list.ensures.view c.lists-list.ensures.valid w is c.in-Some.uuid.number c.in-Some-deleting.op found,
+      being_deleted s.ops.now s.deletes.now s.completed.now s.tickets.now s.next_op s.restores.now c.args.progress.now c.lists-list.ensures.view c.lists-list.ensures.valid w is c.in-Some.uuid.number c.in-Some-deleting.op found,
     )
 
 pub returns-then-is_full : goal.returns-then-is_full
@@ -28,8 +28,8 @@ returns-then-is_full c w is root_is =
       (
         c.in-Some.uuid.number,
         is_listed w (root_of c.args.root.now) root_is c.args.name.now c.in-Some.uuid.number listed,
-        is_spared s.ops.now s.deletes.now s.completed.now s.seats.now s.next_op s.restores.now c.args.progress.now c.lists-list.ensures.view c.lists-list.ensures.valid w is c.in-Some.uuid.number none,
-        full_is s.ops.now s.deletes.now s.completed.now s.seats.now s.next_op s.restores.now c.args.progress.now c.lists-list.ensures.view c.lists-list.ensures.valid w is full,
+        is_spared s.ops.now s.deletes.now s.completed.now s.tickets.now s.next_op s.restores.now c.args.progress.now c.lists-list.ensures.view c.lists-list.ensures.valid w is c.in-Some.uuid.number none,
+        full_is s.ops.now s.deletes.now s.completed.now s.tickets.now s.next_op s.restores.now c.args.progress.now c.lists-list.ensures.view c.lists-list.ensures.valid w is full,
       ),
     )
 
@@ -40,6 +40,6 @@ returns c w is root_is =
     let none = sym c.deleting.ensures ∙ c.in_default-deleting.is in
     let room = sym c.is_full.ensures ∙ c.if-is_full.false in (
       is_listed w (root_of c.args.root.now) root_is c.args.name.now c.in-Some.uuid.number listed,
-      is_spared s.ops.now s.deletes.now s.completed.now s.seats.now s.next_op s.restores.now c.args.progress.now c.lists-list.ensures.view c.lists-list.ensures.valid w is c.in-Some.uuid.number none,
-      room_is s.ops.now s.deletes.now s.completed.now s.seats.now s.next_op s.restores.now c.args.progress.now c.lists-list.ensures.view c.lists-list.ensures.valid w is room,
+      is_spared s.ops.now s.deletes.now s.completed.now s.tickets.now s.next_op s.restores.now c.args.progress.now c.lists-list.ensures.view c.lists-list.ensures.valid w is c.in-Some.uuid.number none,
+      room_is s.ops.now s.deletes.now s.completed.now s.tickets.now s.next_op s.restores.now c.args.progress.now c.lists-list.ensures.view c.lists-list.ensures.valid w is room,
     )

@@ -22,7 +22,7 @@ returns-in-Some c w is =
     let s = c.lists-list.result in
     let root = root_of c.args.root.now in
     let name = c.parts-moment.result.0.now in
-    let list = listed s.ops.now s.deletes.now s.completed.now s.seats.now s.next_op s.restores.now c.args.progress.now c.lists-list.ensures.valid c.lists-list.ensures.view in
+    let list = listed s.ops.now s.deletes.now s.completed.now s.tickets.now s.next_op s.restores.now c.args.progress.now c.lists-list.ensures.valid c.lists-list.ensures.view in
     subst (λ (x : Asked). IsRefused w (name_asked x) x c.in-Some.refusal) (sym c.parts-moment.ensures)
     (refused s.ops.now s.deletes.now c.args.progress.now root c.args.term c.args.next.number list w is name (Snapshot name (map asked_index_of c.parts-moment.result.1.now) c.parts-moment.result.2) c.in-Some.refusal
     c.in-Some.ensures)
@@ -43,7 +43,7 @@ returns-then-next-from c w is =
     let name = c.parts-moment.result.0.now in
     let indices = map asked_index_of c.parts-moment.result.1.now in
     let moment = c.parts-moment.result.2 in
-    let list = listed s.ops.now s.deletes.now s.completed.now s.seats.now s.next_op s.restores.now c.args.progress.now c.lists-list.ensures.valid c.lists-list.ensures.view in
+    let list = listed s.ops.now s.deletes.now s.completed.now s.tickets.now s.next_op s.restores.now c.args.progress.now c.lists-list.ensures.valid c.lists-list.ensures.view in
     let drawn : c.in_ok-refs.new + 1 ≡ suc (new_by (known_in root s.ops.now) indices) = omega (arith, c.in_ok-refs.ensures.new) in
     let above : first_id (suc c.args.term) ≤ c.args.next.number + (c.in_ok-refs.new + 1) = omega (arith, c.from.ensures, c.new.ensures, c.if-next-from.true) in (
       sym is.next_is,
@@ -58,7 +58,7 @@ making_can_be_written-requires c =
     let s = c.lists-list.result in
     let root = root_of c.args.root.now in
     let indices = map asked_index_of c.parts-moment.result.1.now in
-    let list = listed s.ops.now s.deletes.now s.completed.now s.seats.now s.next_op s.restores.now c.args.progress.now c.lists-list.ensures.valid c.lists-list.ensures.view in
+    let list = listed s.ops.now s.deletes.now s.completed.now s.tickets.now s.next_op s.restores.now c.args.progress.now c.lists-list.ensures.valid c.lists-list.ensures.view in
     let are = ap (λ (refs : List CodeRef). map ref_of_code refs) c.refs.view_is ∙ c.in_ok-refs.ensures.refs in
     refs_fit s.ops.now root c.args.next.number indices c.refs.inside.items.items are s.deletes.now c.args.progress.now list c.requires.named (asked_of c.args.command.now) c.parts-moment.result.0.now c.parts-moment.result.2 c.parts-moment.ensures c.requires.askable
 
@@ -67,7 +67,7 @@ begin-requires-clause-apart c =
     let s = c.lists-list.result in
     let root = root_of c.args.root.now in
     let indices = map asked_index_of c.parts-moment.result.1.now in
-    let list = listed s.ops.now s.deletes.now s.completed.now s.seats.now s.next_op s.restores.now c.args.progress.now c.lists-list.ensures.valid c.lists-list.ensures.view in
+    let list = listed s.ops.now s.deletes.now s.completed.now s.tickets.now s.next_op s.restores.now c.args.progress.now c.lists-list.ensures.valid c.lists-list.ensures.view in
     let are = ap (λ (refs : List CodeRef). map ref_of_code refs) c.refs.view_is ∙ c.in_ok-refs.ensures.refs in
     refs_fit s.ops.now root c.args.next.number indices c.refs.inside.items.items are s.deletes.now c.args.progress.now list c.requires.named (asked_of c.args.command.now) c.parts-moment.result.0.now c.parts-moment.result.2 c.parts-moment.ensures c.requires.askable
 
@@ -85,7 +85,7 @@ returns c w is =
     let name = c.parts-moment.result.0.now in
     let indices = map asked_index_of c.parts-moment.result.1.now in
     let moment = c.parts-moment.result.2 in
-    let list = listed s.ops.now s.deletes.now s.completed.now s.seats.now s.next_op s.restores.now p c.lists-list.ensures.valid c.lists-list.ensures.view in
+    let list = listed s.ops.now s.deletes.now s.completed.now s.tickets.now s.next_op s.restores.now p c.lists-list.ensures.valid c.lists-list.ensures.view in
     let drawn : c.in_ok-refs.new + 1 ≡ suc (new_by (known_in root s.ops.now) indices) = omega (arith, c.in_ok-refs.ensures.new) in
     let fits : c.args.next.number + (c.in_ok-refs.new + 1) < first_id (suc c.args.term) = omega (arith, c.from.ensures, c.new.ensures, c.if-next-from.false) in
     let are = ap (λ (refs : List CodeRef). map ref_of_code refs) c.refs.view_is ∙ c.in_ok-refs.ensures.refs in

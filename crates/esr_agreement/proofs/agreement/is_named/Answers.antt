@@ -1,5 +1,5 @@
 use Rattle.std.proofs.Common.{sym, ◌∙◌}
-use Rattle.esr_agreement.proofs.Served.{same_bytes-is}
+use Rattle.esr_agreement.specs.AgreementTests.{same_bytes-is}
 use Rattle.esr_agreement.proofs.agreement.is_named.Goals as goal
 
 pub returns : goal.returns

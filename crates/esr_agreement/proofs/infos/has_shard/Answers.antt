@@ -1,7 +1,9 @@
+use Rattle.esr_model.specs.Loops.{has_at, every_more}
 use Rattle.esr_formats.specs.Infos.{info_of_code}
 use Rattle.esr_model.specs.Values.{SnapInfo}
 use Rattle.esr_agreement.specs.Lists.{IsOwn}
-use Rattle.esr_agreement.proofs.Loops.{holds, so, not_so, has_at, every_more}
+use Rattle.esr_agreement.specs.AgreementTests.{so, not_so}
+use Rattle.esr_agreement.proofs.Loops.{holds}
 use Rattle.esr_agreement.proofs.infos.has_shard.Goals as goal
 
 pub returns-then-is_own : goal.returns-then-is_own

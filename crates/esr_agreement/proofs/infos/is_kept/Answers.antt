@@ -2,7 +2,7 @@ use Rattle.std.proofs.Common.{sym, subst}
 use Rattle.esr_names.specs.declared.ids.Id.{Id}
 use Rattle.esr_formats.specs.Shards.{shard_index_of}
 use Rattle.esr_agreement.specs.Lists.{IsListOf}
-use Rattle.esr_agreement.proofs.Loops.{so, not_so}
+use Rattle.esr_agreement.specs.AgreementTests.{so, not_so}
 use Rattle.esr_agreement.proofs.infos.is_kept.Goals as goal
 
 pub returns-then-not-is_of-clause-kept : goal.returns-then-not-is_of-clause-kept

@@ -1,9 +1,11 @@
 use Rattle.std.proofs.Common.{◌≡◌, List, map, ap, ◌∙◌, subst}
+use Rattle.esr_model.specs.Loops.{has_at, every_more}
 use Rattle.esr_root.specs.Root.{Root as CodeRoot}
 use Rattle.esr_root.specs.declared.snaps.RootSnap.{RootSnap as CodeSnap}
 use Rattle.esr_formats.specs.Roots.{root_snap_of}
 use Rattle.esr_model.specs.Values.{Has, RootSnap}
-use Rattle.esr_agreement.proofs.Loops.{holds, so, not_so, has_at, every_more}
+use Rattle.esr_agreement.specs.AgreementTests.{so, not_so}
+use Rattle.esr_agreement.proofs.Loops.{holds}
 use Rattle.esr_agreement.proofs.infos.is_listed.Goals as goal
 
 pub returns-then-is_snap : goal.returns-then-is_snap

@@ -1,10 +1,12 @@
 use Rattle.std.proofs.Common.{List, map, ap, ◌∙◌, subst}
+use Rattle.esr_model.specs.Loops.{has_at, every_more}
 use Rattle.esr_names.specs.declared.index_ref.IndexRef.{IndexRef as CodeRef}
 use Rattle.esr_meta.specs.Info.{Info}
 use Rattle.esr_formats.specs.Refs.{ref_of_code}
 use Rattle.esr_model.specs.Values.{Has, IndexRef}
 use Rattle.esr_agreement.specs.Lists.{IsAt}
-use Rattle.esr_agreement.proofs.Loops.{holds, so, not_so, has_at, every_more}
+use Rattle.esr_agreement.specs.AgreementTests.{so, not_so}
+use Rattle.esr_agreement.proofs.Loops.{holds}
 use Rattle.esr_agreement.proofs.infos.is_of.Goals as goal
 
 pub returns-then-is_at : goal.returns-then-is_at

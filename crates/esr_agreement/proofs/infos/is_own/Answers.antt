@@ -1,6 +1,7 @@
 use Rattle.std.proofs.Common.{sym, ap, ◌∙◌}
 use Rattle.esr_names.specs.declared.ids.Id.{Id}
-use Rattle.esr_agreement.proofs.Loops.{fails, exact_as, so, not_so}
+use Rattle.esr_agreement.specs.AgreementTests.{so, not_so}
+use Rattle.esr_agreement.proofs.Loops.{fails, exact_as}
 use Rattle.esr_agreement.proofs.infos.is_own.Goals as goal
 
 pub returns-then-not-is_id : goal.returns-then-not-is_id

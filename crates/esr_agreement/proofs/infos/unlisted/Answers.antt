@@ -1,9 +1,9 @@
 use Rattle.std.proofs.Common.{sym, ap}
+use Rattle.esr_model.specs.Loops.{has_at, every_more, every_all}
 use Rattle.esr_names.specs.declared.ids.Id.{Id}
 use Rattle.esr_formats.specs.Infos.{info_of_code}
 use Rattle.esr_formats.specs.Shards.{shard_index_of}
 use Rattle.esr_agreement.specs.Lists.{IsKept}
-use Rattle.esr_agreement.proofs.Loops.{has_at, every_more, every_all}
 use Rattle.esr_agreement.proofs.infos.unlisted.Goals as goal
 
 pub returns-then-not-is_kept : goal.returns-then-not-is_kept

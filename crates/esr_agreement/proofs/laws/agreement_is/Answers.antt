@@ -1,4 +1,4 @@
-use Rattle.esr_agreement.proofs.Served.{test_holds, holds_test}
+use Rattle.esr_agreement.specs.AgreementTests.{test_holds, holds_test}
 use Rattle.esr_agreement.proofs.laws.agreement_is.Goals as goal
 
 pub returns-clause-holds : goal.returns-clause-holds

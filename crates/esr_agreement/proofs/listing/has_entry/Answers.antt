@@ -1,7 +1,9 @@
 use Rattle.std.proofs.Common.{◌≡◌, map, subst}
+use Rattle.esr_model.specs.Loops.{has_at, every_more}
 use Rattle.esr_formats.specs.Shards.{entry_of}
 use Rattle.esr_model.specs.Values.{Has, FileEntry}
-use Rattle.esr_agreement.proofs.Loops.{holds, so, not_so, has_at, every_more}
+use Rattle.esr_agreement.specs.AgreementTests.{so, not_so}
+use Rattle.esr_agreement.proofs.Loops.{holds}
 use Rattle.esr_agreement.proofs.listing.has_entry.Goals as goal
 
 pub returns-then-is_same : goal.returns-then-is_same

@@ -1,8 +1,10 @@
 use Rattle.std.proofs.Common.{◌≡◌, List, map, subst}
+use Rattle.esr_model.specs.Loops.{has_at, every_more}
 use Rattle.esr_shardidx.specs.declared.index.SnapList.{SnapList as CodeList}
 use Rattle.esr_formats.specs.Shards.{snap_list_of}
 use Rattle.esr_model.specs.Values.{Has, SnapList}
-use Rattle.esr_agreement.proofs.Loops.{holds, so, not_so, has_at, every_more}
+use Rattle.esr_agreement.specs.AgreementTests.{so, not_so}
+use Rattle.esr_agreement.proofs.Loops.{holds}
 use Rattle.esr_agreement.proofs.listing.has_list.Goals as goal
 
 pub returns-then-is_for : goal.returns-then-is_for

@@ -1,10 +1,12 @@
 use Rattle.std.proofs.Common.{ℕ, List, map, subst}
+use Rattle.esr_model.specs.Loops.{has_at, every_more}
 use Rattle.esr_shardidx.specs.declared.entry.FileEntry.{FileEntry as CodeEntry}
 use Rattle.esr_shardidx.specs.declared.index.SnapList.{SnapList as CodeList}
 use Rattle.esr_formats.specs.Shards.{entry_of, snap_list_of, shard_index_of}
 use Rattle.esr_model.specs.Values.{Has, FileEntry, SnapList, ShardFiles}
 use Rattle.esr_model.specs.Image.{Lists}
-use Rattle.esr_agreement.proofs.Loops.{holds, so, not_so, has_at, every_more}
+use Rattle.esr_agreement.specs.AgreementTests.{so, not_so}
+use Rattle.esr_agreement.proofs.Loops.{holds}
 use Rattle.esr_agreement.specs.Lists.{ListsFiles}
 use Rattle.esr_agreement.proofs.listing.lists.Goals as goal
 

@@ -1,4 +1,5 @@
 use Rattle.std.proofs.Common.{◌∙◌, List, map, take, refl, sym, subst}
+use Rattle.esr_model.specs.Loops.{has_at, every_more, every_all}
 use Rattle.esr_shardidx.specs.declared.entry.FileEntry.{FileEntry as CodeEntry}
 use Rattle.esr_shardidx.specs.Entries.{IsEntry}
 use Rattle.esr_model.specs.Values.{Has, FileEntry}
@@ -7,8 +8,7 @@ use Rattle.esr_formats.specs.Roots.{root_of}
 use Rattle.esr_formats.specs.Shards.{entry_of, shard_index_of}
 use Rattle.esr_desk.specs.Own.{caller_of}
 use Rattle.esr_reach.specs.Names.{AreOnce}
-use Rattle.esr_reach.proofs.Apart.{shard_apart}
-use Rattle.esr_agreement.proofs.Loops.{has_at, every_more, every_all}
+use Rattle.esr_reach.specs.OnceEach.{shard_apart}
 use Rattle.esr_check.specs.Names.{IsPieceOf}
 use Rattle.esr_check.specs.Pieces.{HasFile, HasFiles}
 use Rattle.esr_check.proofs.Going.{went_none, some_new, held_more, files_more, shard_on}

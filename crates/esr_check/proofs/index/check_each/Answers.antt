@@ -1,4 +1,5 @@
 use Rattle.std.proofs.Common.{◌∙◌, List, map, take, refl, sym, ap, subst}
+use Rattle.esr_model.specs.Loops.{has_at, every_more, every_all}
 use Rattle.esr_root.specs.Root.{Root as CodeRoot}
 use Rattle.esr_root.specs.Indices.{AreIndices}
 use Rattle.esr_root.specs.declared.indices.RootIndex.{RootIndex as CodeIndex}
@@ -7,8 +8,7 @@ use Rattle.esr_formats.specs.Infos.{info_of_code}
 use Rattle.esr_formats.specs.Roots.{root_of, root_index_of}
 use Rattle.esr_desk.specs.Own.{caller_of}
 use Rattle.esr_reach.specs.Reached.{generation_at}
-use Rattle.esr_reach.proofs.Apart.{indices_once}
-use Rattle.esr_agreement.proofs.Loops.{has_at, every_more, every_all}
+use Rattle.esr_reach.specs.OnceEach.{indices_once}
 use Rattle.esr_check.specs.Names.{IsOfAnyShard}
 use Rattle.esr_check.specs.Pieces.{HasShards, HasIndices}
 use Rattle.esr_check.proofs.Going.{went_none, some_new, infos_more, shards_more, safe_on}

@@ -5,7 +5,7 @@ use Rattle.esr_shardidx.specs.declared.entry.FileEntry.{FileEntry as CodeEntry}
 use Rattle.esr_formats.specs.Infos.{info_of_code}
 use Rattle.esr_formats.specs.Roots.{root_of}
 use Rattle.esr_formats.specs.Shards.{entry_of, shard_index_of, shard_snap_of, snap_list_of}
-use Rattle.esr_agreement.proofs.Loops.{so, not_so}
+use Rattle.esr_agreement.specs.AgreementTests.{so, not_so}
 use Rattle.esr_check.specs.Names.{Just}
 use Rattle.esr_check.proofs.Reaching.{can_list}
 use Rattle.esr_check.proofs.Sharding.{snap_beside}

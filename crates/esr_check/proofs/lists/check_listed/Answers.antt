@@ -4,7 +4,7 @@ use Rattle.esr_formats.specs.Infos.{info_of_code}
 use Rattle.esr_formats.specs.Roots.{root_of}
 use Rattle.esr_formats.specs.Shards.{shard_index_of, snap_list_of}
 use Rattle.esr_desk.specs.Own.{caller_of}
-use Rattle.esr_agreement.proofs.Loops.{so, not_so}
+use Rattle.esr_agreement.specs.AgreementTests.{so, not_so}
 use Rattle.esr_check.specs.Names.{Just}
 use Rattle.esr_check.specs.Pieces.{HasSnap, HasListed}
 use Rattle.esr_check.proofs.Going.{went_none}

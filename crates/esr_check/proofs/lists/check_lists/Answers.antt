@@ -1,4 +1,5 @@
 use Rattle.std.proofs.Common.{List, map, take, sym, subst}
+use Rattle.esr_model.specs.Loops.{has_at, every_more, every_all}
 use Rattle.esr_shardidx.specs.declared.index.SnapList.{SnapList as CodeList}
 use Rattle.esr_model.specs.Values.{Has, SnapList}
 use Rattle.esr_formats.specs.Infos.{info_of_code}
@@ -6,8 +7,7 @@ use Rattle.esr_formats.specs.Roots.{root_of}
 use Rattle.esr_formats.specs.Shards.{shard_index_of, snap_list_of}
 use Rattle.esr_desk.specs.Own.{caller_of}
 use Rattle.esr_reach.specs.Names.{AreOnce}
-use Rattle.esr_reach.proofs.Apart.{shard_apart}
-use Rattle.esr_agreement.proofs.Loops.{has_at, every_more, every_all}
+use Rattle.esr_reach.specs.OnceEach.{shard_apart}
 use Rattle.esr_check.specs.Names.{IsSnapOf, Just}
 use Rattle.esr_check.specs.Pieces.{HasListed, HasLists}
 use Rattle.esr_check.proofs.Going.{went_none, some_new, held_more, lists_more, shard_on}

@@ -8,8 +8,8 @@ use Rattle.esr_shardidx.specs.Parts.{part_count}
 use Rattle.esr_hash.specs.Fed.{fed_count}
 use Rattle.esr_desk.specs.Own.{caller_of}
 use Rattle.esr_desk.specs.Check.Conditions.{CanCheck}
-use Rattle.esr_restore.proofs.Sizes.{part_layout, few_parts, fed_bound, blob_name}
-use Rattle.esr_restore.proofs.Parts.{and_then, and_else, fed_most}
+use Rattle.esr_restore.specs.PartSizes.{part_layout, few_parts, fed_bound, blob_name}
+use Rattle.esr_restore.specs.PartReads.{and_then, and_else, fed_most}
 use Rattle.esr_check.specs.Names.{Just, IsOfFile}
 use Rattle.esr_check.specs.Parts.{ReadPart}
 use Rattle.esr_check.specs.Went.{Went}

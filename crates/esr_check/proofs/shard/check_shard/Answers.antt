@@ -31,7 +31,8 @@ returns-in_err-held-clause-went g c =
     went_as g.Q.Desk.start (g.Q.Desk.seen c.args.desk.now) (g.Q.Desk.seen c.check_held.new.desk) (Just (ShardIndex index shard c.args.shard.generation.number)) (IsOfShard index shard) (λ name own. held_of_shard index shard c.args.shard.generation.number name own) c.check_held.ensures.went
 
 -- it is one of the root still
-held_shard : (g : _) (c : After-check_held g) → IsShardOfRoot g.Q.Desk.start (g.Q.Desk.seen c.check_held.new.desk) (root_of c.args.shard.root.now) (map info_of_code c.args.shard.infos.now) c.args.shard.at.index.number c.args.shard.at.number c.args.shard.generation.number
+held_shard : (g : _) (c : After-check_held g)
+    → IsShardOfRoot g.Q.Desk.start (g.Q.Desk.seen c.check_held.new.desk) (root_of c.args.shard.root.now) (map info_of_code c.args.shard.infos.now) c.args.shard.at.index.number c.args.shard.at.number c.args.shard.generation.number
 held_shard g c =
     let shard = c.args.shard in
     shard_on g.Q.Desk.start (g.Q.Desk.seen c.args.desk.now) (g.Q.Desk.seen c.check_held.new.desk) (Just (ShardIndex shard.at.index.number shard.at.number shard.generation.number))

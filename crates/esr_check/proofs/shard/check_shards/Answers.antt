@@ -1,12 +1,12 @@
 use Rattle.std.proofs.Common.{◌≡◌, ◌∙◌, ◌<◌, ℕ, List, Option, Some, map, option_map, length, refl, ap, subst, arith, sym}
+use Rattle.esr_model.specs.Loops.{all, item_is}
 use Rattle.esr_names.specs.declared.ids.Id.{Id}
 use Rattle.esr_formats.specs.Ids.{number_of}
 use Rattle.esr_formats.specs.Infos.{info_of_code}
 use Rattle.esr_formats.specs.Roots.{root_of, root_index_of}
 use Rattle.esr_model.specs.Image.{at_shard}
 use Rattle.esr_desk.specs.Own.{caller_of}
-use Rattle.esr_reach.proofs.Shards.{at_place}
-use Rattle.esr_agreement.proofs.Loops.{all, item_is}
+use Rattle.esr_reach.specs.ShardPlaces.{at_place}
 use Rattle.esr_check.specs.Names.{IsOfShard, IsOfShards}
 use Rattle.esr_check.proofs.Going.{went_none, some_new, infos_more, safe_on}
 use Rattle.esr_check.proofs.Listing.{Below, below_new, below_next, below_all, below_then}

@@ -6,7 +6,7 @@ use Rattle.esr_formats.specs.Globals.{global_of_code}
 use Rattle.esr_formats.specs.Infos.{info_of_code}
 use Rattle.esr_desk.specs.Own.{caller_of}
 use Rattle.esr_desk.specs.Check.Shown.{ReadAs}
-use Rattle.esr_agreement.proofs.Loops.{so, not_so}
+use Rattle.esr_agreement.specs.AgreementTests.{so, not_so}
 use Rattle.esr_check.specs.Names.{Just}
 use Rattle.esr_check.proofs.Snapping.{global_beside}
 use Rattle.esr_check.proofs.snap.check_global.Goals as goal

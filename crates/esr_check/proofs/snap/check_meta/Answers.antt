@@ -7,7 +7,7 @@ use Rattle.esr_formats.specs.Infos.{info_of_code}
 use Rattle.esr_formats.specs.Refs.{ref_of_code}
 use Rattle.esr_desk.specs.Own.{caller_of}
 use Rattle.esr_desk.specs.Check.Shown.{ReadAs}
-use Rattle.esr_agreement.proofs.Loops.{so, not_so}
+use Rattle.esr_agreement.specs.AgreementTests.{so, not_so}
 use Rattle.esr_check.specs.Names.{Just}
 use Rattle.esr_check.proofs.Snapping.{meta_beside}
 use Rattle.esr_check.proofs.snap.check_meta.Goals as goal

@@ -1,4 +1,5 @@
 use Rattle.std.proofs.Common.{◌∙◌, List, [], map, take, sym, ap, subst}
+use Rattle.esr_model.specs.Loops.{has_at, every_more, every_all}
 use Rattle.esr_meta.specs.Info.{Info}
 use Rattle.esr_names.specs.Indices.{AreRefs}
 use Rattle.esr_names.specs.declared.index_ref.IndexRef.{IndexRef as CodeRef}
@@ -9,7 +10,6 @@ use Rattle.esr_formats.specs.Infos.{info_of_code}
 use Rattle.esr_formats.specs.Refs.{ref_of_code}
 use Rattle.esr_formats.specs.Roots.{root_of, root_snap_of}
 use Rattle.esr_desk.specs.Own.{caller_of}
-use Rattle.esr_agreement.proofs.Loops.{has_at, every_more, every_all}
 use Rattle.esr_check.specs.Names.{IsMetaIn, Just}
 use Rattle.esr_check.specs.Pieces.{HasMeta, HasMetas}
 use Rattle.esr_check.proofs.Going.{went_none, some_new, read_more, metas_more, root_on}

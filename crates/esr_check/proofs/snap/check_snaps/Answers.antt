@@ -1,4 +1,5 @@
 use Rattle.std.proofs.Common.{◌≡◌, ◌∙◌, ◌+◌, ◌++◌, ◌∷◌, [], List, map, take, sym, ap, subst}
+use Rattle.esr_model.specs.Loops.{has_at, all}
 use Rattle.esr_root.specs.Root.{Root as CodeRoot}
 use Rattle.esr_root.specs.Snaps.{AreSnaps}
 use Rattle.esr_root.specs.declared.snaps.RootSnap.{RootSnap as CodeSnap}
@@ -7,8 +8,7 @@ use Rattle.esr_model.specs.Values.{Has, RootSnap}
 use Rattle.esr_formats.specs.Infos.{info_of_code}
 use Rattle.esr_formats.specs.Roots.{root_of, root_snap_of}
 use Rattle.esr_desk.specs.Own.{caller_of}
-use Rattle.esr_reach.proofs.Apart.{snaps_once}
-use Rattle.esr_agreement.proofs.Loops.{has_at, all}
+use Rattle.esr_reach.specs.OnceEach.{snaps_once}
 use Rattle.esr_check.specs.Names.{IsOfAnySnap}
 use Rattle.esr_check.specs.Pieces.{HasInfosOf}
 use Rattle.esr_check.proofs.Going.{went_none, some_new, root_on, infos_more}

@@ -3,9 +3,9 @@ use Rattle.esr_shardidx.specs.declared.entry.FileEntry.{FileEntry as CodeEntry}
 use Rattle.esr_shardidx.specs.Snapshots.{SnapValue}
 use Rattle.esr_desk.specs.Start.{ticket_of}
 use Rattle.esr_desk.specs.Grew.{grew_by_none}
-use Rattle.esr_upload.proofs.Going.{went_none}
-use Rattle.esr_upload.proofs.Ending.{if_err}
-use Rattle.esr_upload.proofs.Closing.{none_below}
+use Rattle.esr_upload.specs.Runs.{went_none}
+use Rattle.esr_upload.specs.Ends.{if_err}
+use Rattle.esr_upload.specs.BaseReads.{none_below}
 use Rattle.esr_clone.specs.Copied.{sum_entries}
 use Rattle.esr_clone.proofs.Copying.{ready, drew_first}
 use Rattle.esr_clone.proofs.copy.copy.Goals as goal

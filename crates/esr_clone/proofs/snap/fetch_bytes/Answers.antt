@@ -8,8 +8,8 @@ use Rattle.esr_desk.specs.Made.{none_fresh}
 use Rattle.esr_desk.specs.Told.{none_tells, fetch_tells}
 use Rattle.esr_upload.specs.Trouble.{Shown}
 use Rattle.esr_upload.specs.Worked.{Went}
-use Rattle.esr_upload.proofs.Reading.{fetch_went, left_went, went_work}
-use Rattle.esr_upload.proofs.Refusing.{passed, fetch_shown}
+use Rattle.esr_upload.specs.BaseReads.{fetch_went, left_went, went_work}
+use Rattle.esr_upload.specs.Ends.{passed, fetch_shown}
 use Rattle.esr_clone.proofs.Reading.{snap_name, to_fetch, index_new, came_fetched, came_found, absent_shown}
 use Rattle.esr_clone.proofs.snap.fetch_bytes.Goals as goal
 use Rattle.esr_clone.proofs.snap.fetch_bytes.Goals.{In_err-bytes}

@@ -4,7 +4,7 @@ use Rattle.esr_desk.specs.Calls.{Call, HasTaken}
 use Rattle.esr_desk.specs.Evidence.{evidence}
 use Rattle.esr_desk.specs.Start.{ticket_of}
 use Rattle.esr_desk.specs.Grew.{grew_by_on}
-use Rattle.esr_upload.proofs.Refusing.{may_end}
+use Rattle.esr_upload.specs.Ends.{may_end}
 use Rattle.esr_clone.specs.Copied.{IsCopy}
 use Rattle.esr_clone.proofs.Copying.{took_copy, took_few, still_on, can_fail}
 use Rattle.esr_clone.proofs.Causing.{end_shown, end_present, unit_ended}

@@ -11,10 +11,8 @@ use Rattle.esr_desk.specs.Told.{draw_fresh, draw_tells}
 use Rattle.esr_unit.specs.declared.trouble.Trouble.TheVariants.{Step}
 use Rattle.esr_upload.specs.Trouble.{Shown}
 use Rattle.esr_upload.specs.Worked.{Went}
-use Rattle.esr_upload.proofs.Going.{went_on, went_same}
-use Rattle.esr_upload.proofs.Ending.{done_on, if_err}
-use Rattle.esr_upload.proofs.Drawing.{drew_went}
-use Rattle.esr_upload.proofs.Refusing.{passed, step_shown}
+use Rattle.esr_upload.specs.Runs.{went_on, went_same, drew_went}
+use Rattle.esr_upload.specs.Ends.{done_on, if_err, passed, step_shown}
 use Rattle.esr_clone.specs.Copied.{IsCopy}
 use Rattle.esr_clone.proofs.Copying.{snap_copy, undrawn, can_draw, has_read}
 use Rattle.esr_clone.proofs.unit.work.Goals as goal

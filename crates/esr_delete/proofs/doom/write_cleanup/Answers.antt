@@ -11,7 +11,7 @@ use Rattle.esr_desk.specs.Evidence.{evidence}
 use Rattle.esr_desk.specs.Listing.{page_of}
 use Rattle.esr_desk.specs.Start.{formats_of, ticket_of}
 use Rattle.esr_unit.specs.Shown.{Shown}
-use Rattle.esr_finish.proofs.Runs.{taken_on}
+use Rattle.esr_finish.specs.Runs.{taken_on}
 use Rattle.esr_delete.specs.Ticket.{IsRooted, IsReady}
 use Rattle.esr_delete.specs.Listing.{IsLister}
 use Rattle.esr_delete.proofs.Cleaning.{places_once, each_now, names_doomed}

@@ -1,14 +1,14 @@
 use Rattle.std.proofs.Common.{◌≡◌, List, [], map, take, get_or, refl, sym, ap, ◌∙◌, subst}
+use Rattle.esr_model.specs.Loops.{next, all, item_is}
 use Rattle.esr_model.specs.Delete.{PrunedShard}
 use Rattle.esr_formats.specs.Ids.{number_of}
 use Rattle.esr_formats.specs.Roots.{root_of}
 use Rattle.esr_formats.specs.Shards.{shard_index_of}
 use Rattle.esr_results.specs.Pruned.{pruned_of, no_shard}
 use Rattle.esr_reach.specs.Held.{HeldShard}
-use Rattle.esr_dooming.proofs.Loops.{next, all, item_is}
 use Rattle.esr_desk.specs.Start.{ticket_of}
 use Rattle.esr_desk.specs.Grew.{grew_by_none, grew_by_on}
-use Rattle.esr_finish.proofs.Runs.{taken_on}
+use Rattle.esr_finish.specs.Runs.{taken_on}
 use Rattle.esr_delete.specs.Gathered.{IsSoFar}
 use Rattle.esr_delete.proofs.Going.{read_same, read_on}
 use Rattle.esr_delete.proofs.Fetching.{can_fetch, new_fetch, none_so_far, more_so_far, gathered_all, only_fetches, there_in}

@@ -7,7 +7,7 @@ use Rattle.esr_formats.specs.Ids.{number_of}
 use Rattle.esr_formats.specs.Shards.{shard_index_of, shard_index_kind}
 use Rattle.esr_desk.specs.Start.{ticket_of}
 use Rattle.esr_finish.specs.Ticket.{MayStore, Puts}
-use Rattle.esr_finish.proofs.Runs.{went_not}
+use Rattle.esr_finish.specs.Runs.{went_not}
 use Rattle.esr_delete.proofs.Fetching.{index_laid}
 use Rattle.esr_delete.proofs.indices.write_index.Goals as goal
 

@@ -1,11 +1,11 @@
 use Rattle.std.proofs.Common.{◌≡◌, ◌+◌, ℕ, List, [], ◌∷◌, map, take, get_or, refl, sym, ap, ◌∙◌, subst}
+use Rattle.esr_model.specs.Loops.{next, all, item_is}
 use Rattle.esr_model.specs.Delete.{PrunedShard, next_after, kept_count, left_uuids, uuids_of, pruned_blobs}
 use Rattle.esr_formats.specs.Ids.{number_of}
 use Rattle.esr_formats.specs.Roots.{root_of}
 use Rattle.esr_results.specs.Pruned.{pruned_of, no_shard}
-use Rattle.esr_dooming.proofs.Loops.{next, all, item_is}
 use Rattle.esr_desk.specs.Start.{formats_of, ticket_of}
-use Rattle.esr_finish.proofs.Runs.{taken_on, went_not, went_on}
+use Rattle.esr_finish.specs.Runs.{taken_on, went_not, went_on}
 use Rattle.esr_delete.specs.Planned.{Notes}
 use Rattle.esr_delete.proofs.Numbered.{shard_in}
 use Rattle.esr_delete.proofs.Indexing.{notes_none, has_room, next_more, left_of_draft, index_of, notes_as, notes_more, notes_all, first_next}

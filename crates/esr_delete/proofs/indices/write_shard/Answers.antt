@@ -4,7 +4,7 @@ use Rattle.esr_formats.specs.Ids.{number_of}
 use Rattle.esr_formats.specs.Shards.{shard_index_of}
 use Rattle.esr_results.specs.Pruned.{pruned_of}
 use Rattle.esr_desk.specs.Start.{ticket_of}
-use Rattle.esr_finish.proofs.Runs.{went_not}
+use Rattle.esr_finish.specs.Runs.{went_not}
 use Rattle.esr_delete.proofs.Indexing.{is_own, may_store, notes_one, notes_not, next_kept, next_gone}
 use Rattle.esr_delete.proofs.indices.write_shard.Goals as goal
 

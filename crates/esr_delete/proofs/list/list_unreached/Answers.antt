@@ -15,7 +15,7 @@ use Rattle.esr_desk.specs.Start.{ticket_of}
 use Rattle.esr_desk.specs.Told.{TellsAll, list_fresh, list_tells}
 use Rattle.esr_unit.specs.declared.trouble.Trouble.TheVariants.{Step}
 use Rattle.esr_unit.specs.Shown.{Shown}
-use Rattle.esr_finish.proofs.Runs.{taken_on}
+use Rattle.esr_finish.specs.Runs.{taken_on}
 use Rattle.esr_delete.proofs.Going.{passed, list_shown}
 use Rattle.esr_delete.proofs.Listing.{HasListed, last_next, has_some, none_listed, can_list, more_listed, more_found, longer, went_listed, lists_on}
 use Rattle.esr_delete.proofs.list.list_unreached.Goals as goal

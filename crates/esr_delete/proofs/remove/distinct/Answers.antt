@@ -1,14 +1,14 @@
 use Rattle.std.proofs.Common.{◌↔◌, List, map, take, get_or, sym, subst}
 use Rattle.std.proofs.lemmas.List.{take_all}
 use Rattle.std.specs.BTreeSet.{contains}
+use Rattle.esr_model.specs.Loops.{item_is}
 use Rattle.esr_names.specs.declared.blob.BlobName.{BlobName as CodeName}
 use Rattle.esr_names.specs.declared.blob.BlobName.TheVariants as code
 use Rattle.esr_formats.specs.Names.{name_of}
 use Rattle.esr_model.specs.Values.{Has}
 use Rattle.esr_reach.specs.Names.{AreOnce}
-use Rattle.esr_reach.proofs.Comparing.{name_cmp}
-use Rattle.esr_reach.proofs.Loops.{item_is}
-use Rattle.esr_reach.proofs.Sets.{set_none}
+use Rattle.esr_reach.specs.NameOrder.{name_cmp}
+use Rattle.esr_reach.specs.NameSets.{set_none}
 use Rattle.esr_delete.specs.Removed.{IsSetOf}
 use Rattle.esr_delete.proofs.Once.{same_more, same_all}
 use Rattle.esr_delete.proofs.remove.distinct.Goals as goal

@@ -4,7 +4,7 @@ use Rattle.esr_names.specs.declared.blob.BlobName.{BlobName as CodeName}
 use Rattle.esr_formats.specs.Names.{name_of}
 use Rattle.esr_model.specs.Values.{Has}
 use Rattle.esr_reach.specs.Names.{AreOnce}
-use Rattle.esr_reach.proofs.Comparing.{name_cmp}
+use Rattle.esr_reach.specs.NameOrder.{name_cmp}
 use Rattle.esr_delete.specs.Removed.{IsSetOf}
 use Rattle.esr_delete.proofs.remove.distinct.Given as goal
 

@@ -3,7 +3,7 @@ use Rattle.std.specs.BTreeSet.{contains}
 use Rattle.esr_names.specs.declared.blob.BlobName.{BlobName as CodeName}
 use Rattle.esr_formats.specs.Names.{name_of}
 use Rattle.esr_reach.specs.Names.{AreOnce}
-use Rattle.esr_reach.proofs.Comparing.{name_cmp}
+use Rattle.esr_reach.specs.NameOrder.{name_cmp}
 use Rattle.esr_delete.specs.Removed.{IsSetOf, IsWith}
 use Rattle.esr_delete.proofs.Once.{there_with, set_push, once_push, push_with}
 use Rattle.esr_delete.proofs.remove.push_new.Goals as goal

@@ -2,7 +2,7 @@ use Rattle.std.proofs.Common.{◌≡◌, [], ◌++◌, ◌∙◌, length, take, 
 use Rattle.std.proofs.lemmas.Bool.{eqb-true}
 use Rattle.esr_desk.specs.Start.{ticket_of}
 use Rattle.esr_desk.specs.Grew.{grew_by_none, grew_by_on}
-use Rattle.esr_finish.proofs.Runs.{taken_on}
+use Rattle.esr_finish.specs.Runs.{taken_on}
 use Rattle.esr_delete.proofs.Removing.{still_new, still_once, none_removed, more_removed, whole_more, rest_may, rest_layout, all_removed}
 use Rattle.esr_delete.proofs.remove.remove_all.Goals as goal
 

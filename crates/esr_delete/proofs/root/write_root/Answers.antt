@@ -5,7 +5,7 @@ use Rattle.esr_desk.specs.declared.hand.Hand.TheVariants as hands
 use Rattle.esr_desk.specs.Evidence.{evidence}
 use Rattle.esr_desk.specs.Start.{ticket_of}
 use Rattle.esr_unit.specs.Shown.{Shown}
-use Rattle.esr_finish.proofs.Runs.{taken_on, went_on}
+use Rattle.esr_finish.specs.Runs.{taken_on, went_on}
 use Rattle.esr_delete.specs.Planned.{IsPruner}
 use Rattle.esr_delete.proofs.Going.{passed, put_shown, latest_shown}
 use Rattle.esr_delete.proofs.Rooting.{can_put, pruner_on, latest_there, latest_failed}

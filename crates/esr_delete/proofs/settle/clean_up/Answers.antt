@@ -8,7 +8,7 @@ use Rattle.esr_desk.specs.Evidence.{evidence}
 use Rattle.esr_desk.specs.Grew.{grew_by_on}
 use Rattle.esr_unit.specs.declared.ending.Ending.{Ending}
 use Rattle.esr_unit.specs.Shown.{EndingShown}
-use Rattle.esr_finish.proofs.Runs.{taken_on}
+use Rattle.esr_finish.specs.Runs.{taken_on}
 use Rattle.esr_delete.specs.Refused.{IsCleanRefused}
 use Rattle.esr_delete.specs.Removed.{IsSettledPlan}
 use Rattle.esr_delete.proofs.Clearing.{can_end_cleanup, cleared_on}

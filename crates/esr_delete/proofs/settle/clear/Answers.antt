@@ -5,7 +5,7 @@ use Rattle.esr_desk.specs.Start.{ticket_of}
 use Rattle.esr_desk.specs.Halts.{Halts}
 use Rattle.esr_desk.specs.Grew.{grew_by_on, outcome_grew_by}
 use Rattle.esr_desk.specs.Delete.Conditions.{CanEndDelete}
-use Rattle.esr_finish.proofs.Runs.{taken_on}
+use Rattle.esr_finish.specs.Runs.{taken_on}
 use Rattle.esr_delete.proofs.Clearing.{passed_on, any_err, can_end, ended_ok, ended_kept}
 use Rattle.esr_delete.proofs.Passing.{IsDeletes, ended_halts, removal_stops}
 use Rattle.esr_delete.proofs.settle.clear.Goals as goal

@@ -7,8 +7,8 @@ use Rattle.esr_desk.specs.Grew.{grew_by_on, outcome_grew_by}
 use Rattle.esr_desk.specs.Taken.{HasEndedAs}
 use Rattle.esr_desk.specs.Delete.Cleaned.{ended_cleaned}
 use Rattle.esr_finish.specs.Refused.{is_fault}
-use Rattle.esr_finish.proofs.Runs.{taken_on}
-use Rattle.esr_finish.proofs.Ends.{unsettled_same}
+use Rattle.esr_finish.specs.Runs.{taken_on}
+use Rattle.esr_finish.specs.Stops.{unsettled_same}
 use Rattle.esr_delete.specs.Removed.{IsSettledPlan}
 use Rattle.esr_delete.proofs.Ends.{clean_fails, drop_refused}
 use Rattle.esr_delete.proofs.Passing.{drop_shown}

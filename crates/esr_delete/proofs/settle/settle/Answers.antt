@@ -12,8 +12,8 @@ use Rattle.esr_desk.specs.Evidence.{evidence}
 use Rattle.esr_desk.specs.Delete.Conditions.{CanFailDelete}
 use Rattle.esr_desk.specs.Delete.Cleaned.{still_put}
 use Rattle.esr_finish.specs.Refused.{is_fault}
-use Rattle.esr_finish.proofs.Runs.{taken_on}
-use Rattle.esr_finish.proofs.Ends.{unsettled_same}
+use Rattle.esr_finish.specs.Runs.{taken_on}
+use Rattle.esr_finish.specs.Stops.{unsettled_same}
 use Rattle.esr_delete.specs.Refused.{IsLateRefused, IsHalted}
 use Rattle.esr_delete.proofs.Clearing.{dooms_settled, over_settled, none_yet, none_failed, still_undropped, over_cleared}
 use Rattle.esr_delete.proofs.Ends.{settle_halted, late_halted, settles_fails}

@@ -13,7 +13,7 @@ use Rattle.esr_desk.specs.Delete.Conditions.{CanSettleDelete}
 use Rattle.esr_desk.specs.Evidence.{evidence}
 use Rattle.esr_desk.specs.Start.{formats_of, ticket_of, world_of}
 use Rattle.esr_unit.specs.Shown.{Shown}
-use Rattle.esr_finish.proofs.Runs.{taken_on}
+use Rattle.esr_finish.specs.Runs.{taken_on}
 use Rattle.esr_delete.specs.Gathered.{IsUnplanned}
 use Rattle.esr_finish.specs.Went.{Went as PutWent}
 use Rattle.esr_delete.specs.Planned.{NotesOwn, IsUnwritten, IsIndexed}
@@ -36,7 +36,8 @@ free_at g c =
     read_free (ticket_of s (g.Q.Desk.seen c.args.desk.now) who) (ticket_of s (g.Q.Desk.seen c.gather.new.desk) who) c.args.clean (root_of c.args.copy.now.root) (map number_of c.args.uuids.now) c.requires.may c.gather.ensures.read
 
 -- and after the plan
-unwritten_at : (g : _) (c : In_ok-draft g) → IsUnwritten g.Q.Desk.start (ticket_of g.Q.Desk.start (g.Q.Desk.seen c.plan.new.desk) c.args.ticket) c.in_ok-held.held (map pruned_of c.in_ok-draft.draft.shards) c.in_ok-draft.draft.first.number (root_of c.in_ok-draft.draft.root)
+unwritten_at : (g : _) (c : In_ok-draft g)
+    → IsUnwritten g.Q.Desk.start (ticket_of g.Q.Desk.start (g.Q.Desk.seen c.plan.new.desk) c.args.ticket) c.in_ok-held.held (map pruned_of c.in_ok-draft.draft.shards) c.in_ok-draft.draft.first.number (root_of c.in_ok-draft.draft.root)
 unwritten_at g c =
     let s = g.Q.Desk.start in
     let who = c.args.ticket in

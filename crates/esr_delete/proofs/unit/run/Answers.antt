@@ -9,7 +9,7 @@ use Rattle.esr_desk.specs.Evidence.{evidence}
 use Rattle.esr_desk.specs.Grew.{grew_by_on}
 use Rattle.esr_unit.specs.declared.ending.Ending.{Ending}
 use Rattle.esr_unit.specs.Shown.{EndingShown}
-use Rattle.esr_finish.proofs.Runs.{taken_on}
+use Rattle.esr_finish.specs.Runs.{taken_on}
 use Rattle.esr_delete.specs.Refused.{IsUnitRefused, IsHalted}
 use Rattle.esr_delete.proofs.Uniting.{can_fail, given_refused, deleted, halted, if_err}
 use Rattle.esr_delete.proofs.unit.run.Goals as goal

@@ -1,7 +1,7 @@
 use Rattle.std.proofs.Common.{map, get_or}
+use Rattle.esr_model.specs.Loops.{all, item_is}
 use Rattle.esr_formats.specs.Ids.{number_of}
 use Rattle.esr_results.specs.Pruned.{pruned_of, no_shard}
-use Rattle.esr_dooming.proofs.Loops.{all, item_is}
 use Rattle.esr_dooming.proofs.Renewing.{renewed_first, still_some, renewed_next, renewed_all}
 use Rattle.esr_dooming.proofs.clean.renew.Goals as goal
 

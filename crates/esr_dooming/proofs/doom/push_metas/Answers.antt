@@ -1,14 +1,14 @@
 use Rattle.std.proofs.Common.{ℕ, Bool, List, [], ◌∷◌, get_or, sym, ◌∙◌}
 use Rattle.std.specs.Ordering.{nat_cmp}
 use Rattle.std.specs.BTreeSet.{contains}
+use Rattle.esr_model.specs.Loops.{item_is}
 use Rattle.esr_names.specs.declared.ids.Id.{Id}
 use Rattle.esr_names.specs.declared.blob.BlobName.TheVariants.{IndexMeta as CodeMeta}
 use Rattle.esr_formats.specs.Ids.{number_of}
 use Rattle.esr_model.specs.Names.{IndexMeta}
-use Rattle.esr_reach.proofs.Pushing.{pushed_item}
+use Rattle.esr_reach.specs.NamePieces.{pushed_item}
 use Rattle.esr_dooming.specs.Pieces.{meta_piece}
 use Rattle.esr_dooming.proofs.Laid.{index_meta_laid}
-use Rattle.esr_dooming.proofs.Loops.{item_is}
 use Rattle.esr_dooming.proofs.Naming.{pushed_where, pushed_nowhere}
 use Rattle.esr_dooming.proofs.doom.push_metas.Goals as goal
 use Rattle.esr_dooming.proofs.doom.push_metas.Goals.{then-contains+in_ok-push, else-contains}

@@ -2,7 +2,7 @@ use Rattle.std.proofs.Common.{◌<◌, ◌≤◌, ◌++◌, ◌∙◌, ℕ, List
 use Rattle.esr_names.specs.Layout.{IsName}
 use Rattle.esr_formats.specs.Names.{name_of}
 use Rattle.esr_model.specs.Names.{BlobName}
-use Rattle.esr_reach.proofs.Pushing.{parts_pushed, parts_done}
+use Rattle.esr_reach.specs.NamePieces.{parts_pushed, parts_done}
 use Rattle.esr_dooming.proofs.doom.push_parts.Goals as goal
 
 pub push-requires : goal.push-requires

@@ -1,7 +1,6 @@
 use Rattle.std.proofs.Common.{get_or}
+use Rattle.esr_model.specs.Loops.{has_at, item_is}
 use Rattle.esr_results.specs.Pruned.{pruned_of, no_shard}
-use Rattle.esr_dooming.proofs.Loops.{item_is}
-use Rattle.esr_dooming.proofs.Laid.{has_at}
 use Rattle.esr_dooming.proofs.doom.push_shards.Goals as goal
 
 pub push_shard-requires : goal.push_shard-requires

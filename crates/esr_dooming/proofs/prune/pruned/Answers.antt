@@ -6,7 +6,7 @@ use Rattle.esr_root.specs.Indices.{AreIndices}
 use Rattle.esr_formats.specs.Ids.{number_of}
 use Rattle.esr_formats.specs.Roots.{root_of}
 use Rattle.esr_results.specs.Pruned.{pruned_of}
-use Rattle.esr_reach.proofs.Apart.{indices_once, one_each}
+use Rattle.esr_reach.specs.OnceEach.{indices_once, one_each}
 use Rattle.esr_dooming.specs.Pieces.{touches, index_piece}
 use Rattle.esr_dooming.specs.Reading.{AreHeldSome}
 use Rattle.esr_dooming.proofs.Pruning.{pruned_are}

@@ -1,6 +1,6 @@
 use Rattle.std.proofs.Common.{subst}
+use Rattle.esr_model.specs.Loops.{all}
 use Rattle.esr_formats.specs.Ids.{number_of}
-use Rattle.esr_dooming.proofs.Loops.{all}
 use Rattle.esr_dooming.proofs.Numbers.{IsAlso, also_none, also_next}
 use Rattle.esr_dooming.proofs.sets.add_ids.Goals as goal
 

@@ -1,12 +1,12 @@
 use Rattle.std.proofs.Common.{◌&&◌, ◌||◌, ℕ, Bool, List, map, sym, ap, ◌∙◌, subst}
 use Rattle.std.specs.Ordering.{nat_cmp}
 use Rattle.std.specs.BTreeSet.{BTreeSet, contains}
+use Rattle.esr_model.specs.Loops.{all}
 use Rattle.esr_names.specs.declared.ids.Id.{Id}
 use Rattle.esr_formats.specs.Ids.{number_of}
 use Rattle.esr_formats.specs.Shards.{snap_list_of}
 use Rattle.esr_model.specs.Values.{SnapList}
 use Rattle.esr_dooming.specs.Pieces.{is_one}
-use Rattle.esr_dooming.proofs.Loops.{all}
 use Rattle.esr_dooming.proofs.Numbers.{HasFiles, files_none, files_more, no_more}
 use Rattle.esr_dooming.proofs.sets.file_set.Goals as goal
 use Rattle.esr_dooming.proofs.sets.file_set.Goals.{then-contains+in_ok-add_ids, else-contains}

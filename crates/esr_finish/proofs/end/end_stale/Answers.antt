@@ -7,7 +7,7 @@ use Rattle.esr_unit.specs.declared.ending.Ending.{Ending}
 use Rattle.esr_unit.specs.Ending.{ending_at}
 use Rattle.esr_unit.specs.Shown.{EndingShown}
 use Rattle.esr_finish.specs.Refused.{CanGiveUp, EndsAs}
-use Rattle.esr_finish.proofs.Runs.{taken_on}
+use Rattle.esr_finish.specs.Runs.{taken_on}
 use Rattle.esr_finish.proofs.Stopping.{finish_shown, finish_ends}
 use Rattle.esr_finish.proofs.Ends.{mine_of, calls_left, may_end, ends_as, given_up, was_stale}
 use Rattle.esr_finish.proofs.end.end_stale.Goals as goal

@@ -7,7 +7,7 @@ use Rattle.esr_formats.specs.Refs.{ref_of_code}
 use Rattle.esr_desk.specs.Start.{formats_of, ticket_of}
 use Rattle.esr_finish.specs.Blobs.{index_blob}
 use Rattle.esr_finish.specs.Ticket.{Puts}
-use Rattle.esr_finish.proofs.Runs.{went_not}
+use Rattle.esr_finish.specs.Runs.{went_not}
 use Rattle.esr_finish.proofs.Blobs.{index_blob_is}
 use Rattle.esr_finish.proofs.Writing.{may_store}
 use Rattle.esr_finish.proofs.metadata.put_index.Goals as goal

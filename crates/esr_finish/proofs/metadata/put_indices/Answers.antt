@@ -2,7 +2,7 @@ use Rattle.std.proofs.Common.{refl, sym, subst, ap, ◌∙◌}
 use Rattle.esr_model.specs.Names.{IndexMeta}
 use Rattle.esr_meta.specs.Info.{Info}
 use Rattle.esr_desk.specs.Start.{ticket_of}
-use Rattle.esr_finish.proofs.Runs.{taken_on, went_not, went_on}
+use Rattle.esr_finish.specs.Runs.{taken_on, went_not, went_on}
 use Rattle.esr_finish.proofs.Writing.{wrote_none}
 use Rattle.esr_finish.specs.Ticket.{IsUnnoted}
 use Rattle.esr_finish.proofs.Indices.{ref_at, index_may, index_more}

@@ -7,11 +7,10 @@ use Rattle.esr_meta.specs.Info.{Info}
 use Rattle.esr_formats.specs.Infos.{info_of_code}
 use Rattle.esr_desk.specs.Start.{formats_of, ticket_of}
 use Rattle.esr_finish.specs.Blobs.{info_blob}
-use Rattle.esr_finish.specs.Ticket.{Puts}
-use Rattle.esr_finish.proofs.Runs.{went_not}
+use Rattle.esr_finish.specs.Ticket.{Puts, IsUnnoted}
+use Rattle.esr_finish.specs.Runs.{went_not}
 use Rattle.esr_finish.proofs.Blobs.{info_blob_is}
 use Rattle.esr_finish.proofs.Writing.{may_store}
-use Rattle.esr_finish.specs.Ticket.{IsUnnoted}
 use Rattle.esr_finish.proofs.metadata.put_info.Goals as goal
 
 pub returns-in_err-text-clause-went : goal.returns-in_err-text-clause-went

@@ -1,5 +1,5 @@
 use Rattle.std.proofs.Common.{◌∙◌}
-use Rattle.esr_finish.proofs.Runs.{taken_on, went_on}
+use Rattle.esr_finish.specs.Runs.{taken_on, went_on}
 use Rattle.esr_model.specs.Names.{Snap}
 use Rattle.esr_formats.specs.Infos.{info_of_code}
 use Rattle.esr_desk.specs.Start.{ticket_of}

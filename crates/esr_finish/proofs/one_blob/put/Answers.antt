@@ -6,7 +6,8 @@ use Rattle.esr_desk.specs.Grew.{outcome_grew_by}
 use Rattle.esr_unit.specs.declared.trouble.Trouble.TheVariants.{Step}
 use Rattle.esr_finish.specs.Went.{Went}
 use Rattle.esr_finish.specs.Refused.{IsPutRefused}
-use Rattle.esr_finish.proofs.Runs.{passed, taken_on, went_on, worked_to, worked_not, begin_went, commit_went}
+use Rattle.esr_finish.specs.Runs.{taken_on, went_on, worked_not}
+use Rattle.esr_finish.proofs.Runs.{passed, worked_to, begin_went, commit_went}
 use Rattle.esr_finish.proofs.Stopping.{other_than_latest, writing_refused}
 use Rattle.std.proofs.Common.{◌≡◌, inl, Option, refl, sym, ap, ◌∙◌, subst}
 use Rattle.std.specs.Io.KnownBytes.{append_known}

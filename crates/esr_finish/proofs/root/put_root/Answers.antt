@@ -1,4 +1,4 @@
-use Rattle.std.proofs.Common.{[], ◌∷◌, refl, ◌∙◌, subst}
+use Rattle.std.proofs.Common.{[], ◌∷◌, refl, ◌∙◌, subst, sym}
 use Rattle.esr_core.specs.World.{Ticket}
 use Rattle.esr_model.specs.Names.{Root}
 use Rattle.esr_model.specs.Values.{Bytes}
@@ -6,17 +6,16 @@ use Rattle.esr_names.specs.Layout.{IsName}
 use Rattle.esr_formats.specs.Roots.{root_of}
 use Rattle.esr_desk.specs.Start.{formats_of, ticket_of}
 use Rattle.esr_finish.specs.Blobs.{root_blob}
-use Rattle.esr_finish.specs.Ticket.{Wrote}
+use Rattle.esr_finish.specs.Ticket.{Wrote, IsUnnoted}
 use Rattle.esr_finish.proofs.Blobs.{root_text_is}
 use Rattle.esr_unit.specs.declared.trouble.Trouble.TheVariants.{Step}
 use Rattle.esr_finish.specs.Refused.{IsPutRefused}
-use Rattle.esr_finish.proofs.Runs.{passed, taken_on, raise_went}
+use Rattle.esr_finish.specs.Runs.{taken_on}
+use Rattle.esr_finish.proofs.Runs.{passed, raise_went}
 use Rattle.esr_finish.proofs.Stopping.{writing_refused}
 use Rattle.esr_finish.proofs.Writing.{root_commits}
-use Rattle.std.proofs.Common.{sym}
 use Rattle.esr_core.specs.Entry.{RaiseStep, RaisedTo}
 use Rattle.esr_desk.specs.Told.{raise_fresh, raise_tells}
-use Rattle.esr_finish.specs.Ticket.{IsUnnoted}
 use Rattle.esr_finish.proofs.root.put_root.Goals as goal
 
 pub put-requires-clause-layout : goal.put-requires-clause-layout

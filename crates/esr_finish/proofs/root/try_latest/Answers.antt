@@ -15,7 +15,8 @@ use Rattle.esr_desk.specs.Delete.Cleaned.{latest_put}
 use Rattle.esr_unit.specs.Fetch.{IsRefusedBy}
 use Rattle.esr_finish.specs.Went.{Went}
 use Rattle.esr_finish.proofs.Stopping.{writing_refused, fault_only, no_fault}
-use Rattle.esr_finish.proofs.Runs.{taken_on, went_on, worked_to, worked_not, tried_by_worked, begin_went}
+use Rattle.esr_finish.specs.Runs.{taken_on, went_on, worked_not}
+use Rattle.esr_finish.proofs.Runs.{worked_to, tried_by_worked, begin_went}
 use Rattle.esr_desk.specs.Told.{latest_begin_fresh, latest_fresh, latest_begin_tells, latest_tells}
 use Rattle.esr_finish.proofs.root.try_latest.Goals as goal
 use Rattle.esr_finish.proofs.root.try_latest.Goals.{In-Ok, In-Err-Refused-DepotFault}

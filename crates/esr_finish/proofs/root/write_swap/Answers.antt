@@ -2,7 +2,7 @@ use Rattle.esr_formats.specs.Infos.{info_of_code}
 use Rattle.esr_formats.specs.Roots.{root_of}
 use Rattle.esr_desk.specs.Start.{ticket_of}
 use Rattle.esr_finish.specs.Went.{Went}
-use Rattle.esr_finish.proofs.Runs.{taken_on, went_on}
+use Rattle.esr_finish.specs.Runs.{taken_on, went_on}
 use Rattle.esr_finish.proofs.Swaps.{root_next}
 use Rattle.std.proofs.Common.{ap, ◌∙◌}
 use Rattle.esr_core.specs.World.{Ticket}

@@ -11,7 +11,7 @@ use Rattle.esr_unit.specs.declared.ending.Ending.{Ending}
 use Rattle.esr_unit.specs.Shown.{EndingShown}
 use Rattle.esr_finish.specs.Ticket.{MayWrite}
 use Rattle.esr_finish.specs.Refused.{EndsAsMaster}
-use Rattle.esr_finish.proofs.Runs.{taken_on}
+use Rattle.esr_finish.specs.Runs.{taken_on}
 use Rattle.esr_finish.proofs.Swaps.{took_writes, settle_next, final_master}
 use Rattle.esr_finish.proofs.Stopping.{put_shown, put_ends, master_out}
 use Rattle.esr_finish.proofs.Ends.{settle_refused, given_refused}

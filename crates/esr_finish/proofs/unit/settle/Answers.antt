@@ -10,10 +10,12 @@ use Rattle.esr_desk.specs.Grew.{GrewBy, grew_by_on, outcome_grew_by}
 use Rattle.esr_unit.specs.declared.trouble.Trouble.TheVariants.{Step}
 use Rattle.esr_finish.specs.Ticket.{IsUnsettledMaster}
 use Rattle.esr_finish.specs.Refused.{IsHalted, is_fault}
-use Rattle.esr_finish.proofs.Runs.{passed, taken_on}
+use Rattle.esr_finish.specs.Runs.{taken_on}
+use Rattle.esr_finish.proofs.Runs.{passed}
 use Rattle.esr_finish.proofs.Swaps.{settled_ends}
 use Rattle.esr_finish.proofs.Stopping.{writing_refused, put_shown, put_ends, master_out, finish_stops}
-use Rattle.esr_finish.proofs.Ends.{unsettled_same, settle_halted}
+use Rattle.esr_finish.specs.Stops.{unsettled_same}
+use Rattle.esr_finish.proofs.Ends.{settle_halted}
 use Rattle.esr_finish.proofs.unit.settle.Goals as goal
 use Rattle.esr_finish.proofs.unit.settle.Goals.{In-Ok, In-Err}
 

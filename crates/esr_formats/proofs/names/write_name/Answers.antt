@@ -1,6 +1,7 @@
 use Rattle.std.proofs.Common.{IsUtf8, subst, sym, ◌∙◌}
 use Rattle.esr_formats.proofs.ByKind.{IfOk-text}
-use Rattle.esr_formats.proofs.NameTexts.{name_text_utf8, name_kind-text, name_reads_back}
+use Rattle.esr_formats.specs.ReadBack.{name_reads_back}
+use Rattle.esr_formats.proofs.NameTexts.{name_text_utf8, name_kind-text}
 use Rattle.esr_formats.proofs.names.write_name.Goals as goal
 
 pub unreachable-requires : goal.unreachable-requires

@@ -1,5 +1,6 @@
 use Rattle.esr_formats.proofs.ByKind.{IfOk-text}
-use Rattle.esr_formats.proofs.ShardTexts.{shard_index_kind-text, shard_index_reads_back}
+use Rattle.esr_formats.specs.ReadBack.{shard_index_reads_back}
+use Rattle.esr_formats.proofs.ShardTexts.{shard_index_kind-text}
 use Rattle.esr_formats.proofs.shards.write_shard_index.Goals as goal
 
 pub returns-clause-text : goal.returns-clause-text

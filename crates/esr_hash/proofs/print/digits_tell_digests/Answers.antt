@@ -1,4 +1,4 @@
-use Rattle.esr_hash.proofs.Digests.{read_print-digits_of, digits_of-same}
+use Rattle.esr_hash.specs.DigitLaws.{read_print-digits_of, digits_of-same}
 use Rattle.esr_hash.proofs.print.digits_tell_digests.Goals as goal
 
 pub returns-clause-back : goal.returns-clause-back

@@ -1,4 +1,4 @@
-use Rattle.esr_json.proofs.InOrder.{IsInOrder-parsed, Rising-members_at}
+use Rattle.esr_json.specs.InOrder.{IsInOrder-parsed, Rising-members_at}
 use Rattle.esr_json.proofs.reading.members_rise.Goals as goal
 
 pub returns : goal.returns

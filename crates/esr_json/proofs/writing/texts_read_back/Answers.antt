@@ -1,4 +1,4 @@
-use Rattle.esr_json.proofs.Plain.{parsed-compact_text}
+use Rattle.esr_json.specs.PlainTexts.{parsed-compact_text}
 use Rattle.esr_json.proofs.writing.texts_read_back.Goals as goal
 
 pub returns : goal.returns

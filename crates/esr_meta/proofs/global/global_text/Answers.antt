@@ -5,7 +5,7 @@ use Rattle.esr_json.specs.declared.refusal.Reason.{Reason}
 use Rattle.esr_json.specs.Steps.{◌>>=◌}
 use Rattle.esr_json.specs.Shallow.{IsShallow}
 use Rattle.esr_meta.specs.Global.{global_of, global_from}
-use Rattle.esr_meta.proofs.RoundTrip.{global_plain, global_of-global_data}
+use Rattle.esr_meta.specs.RoundTrip.{global_plain, global_of-global_data}
 use Rattle.esr_meta.proofs.global.global_text.Goals as goal
 
 pub write-requires : goal.write-requires

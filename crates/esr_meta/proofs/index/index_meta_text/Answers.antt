@@ -5,7 +5,7 @@ use Rattle.esr_json.specs.declared.refusal.Reason.{Reason}
 use Rattle.esr_json.specs.Steps.{◌>>=◌}
 use Rattle.esr_json.specs.Shallow.{IsShallow}
 use Rattle.esr_meta.specs.Index.{index_meta_of, index_meta_from}
-use Rattle.esr_meta.proofs.RoundTrip.{index_meta_plain, index_meta_of-index_meta_data}
+use Rattle.esr_meta.specs.RoundTrip.{index_meta_plain, index_meta_of-index_meta_data}
 use Rattle.esr_meta.proofs.index.index_meta_text.Goals as goal
 
 pub write-requires : goal.write-requires

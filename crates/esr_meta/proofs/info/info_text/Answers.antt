@@ -5,7 +5,7 @@ use Rattle.esr_json.specs.declared.refusal.Reason.{Reason}
 use Rattle.esr_json.specs.Steps.{◌>>=◌}
 use Rattle.esr_json.specs.Shallow.{IsShallow}
 use Rattle.esr_meta.specs.Info.{info_of, info_from}
-use Rattle.esr_meta.proofs.RoundTrip.{info_plain, info_of-info_data}
+use Rattle.esr_meta.specs.RoundTrip.{info_plain, info_of-info_data}
 use Rattle.esr_meta.proofs.info.info_text.Goals as goal
 
 pub write-requires : goal.write-requires

@@ -8,7 +8,8 @@ use Rattle.uuid.proofs.OrderLemmas.{from_be_bytes-to_be_bytes_16}
 use Rattle.esr_names.specs.IdText.{id_text, read_id}
 use Rattle.std.specs.Prelude.{option_map}
 use Rattle.esr_names.specs.declared.ids.Id.{Id}
-use Rattle.esr_names.proofs.IdTexts.{be_bytes_16, id_text_decodes, is_decoded, id_text_slice, id_of_slice, none_of, id_of_is, length-id_text}
+use Rattle.esr_names.specs.IdTextLaws.{id_text_decodes, id_of_is, length-id_text}
+use Rattle.esr_names.proofs.IdTexts.{be_bytes_16, is_decoded, id_text_slice, id_of_slice, none_of}
 use Rattle.esr_names.proofs.ids.id_read.Goals as goal
 
 abbrev as_id : ℕ → Id

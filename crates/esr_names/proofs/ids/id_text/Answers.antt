@@ -3,7 +3,7 @@ use Rattle.std.specs.Int.{w128, to_be_bytes}
 use Rattle.std.specs.Str.{IsUtf8}
 use Rattle.std.proofs.lemmas.List.{append-nil}
 use Rattle.esr_names.specs.IdText.{id_text}
-use Rattle.esr_names.proofs.IdTexts.{IsUtf8-id_text}
+use Rattle.esr_names.specs.IdTextLaws.{IsUtf8-id_text}
 use Rattle.esr_names.proofs.ids.id_text.Goals as goal
 
 pub returns-clause-text : goal.returns-clause-text

@@ -1,6 +1,6 @@
 use Rattle.std.proofs.Common.{◌≡◌, Some, sym, ap, ◌∙◌}
 use Rattle.esr_names.specs.Reading.{name_of}
-use Rattle.esr_names.proofs.Inverse.{name_of-name_text}
+use Rattle.esr_names.specs.NameTexts.{name_of-name_text}
 use Rattle.esr_names.proofs.parse.one_text.Goals as goal
 
 pub returns : goal.returns

@@ -3,7 +3,7 @@ use Rattle.std.proofs.lemmas.Bool.{both_ways, iff_false}
 use Rattle.std.proofs.lemmas.Slice.Eq.{bytes_eq-Decides}
 use Rattle.esr_names.specs.Layout.{name_text, IsName}
 use Rattle.esr_names.specs.Reading.{name_of}
-use Rattle.esr_names.proofs.Inverse.{name_of-name_text}
+use Rattle.esr_names.specs.NameTexts.{name_of-name_text}
 use Rattle.esr_names.proofs.parse.parse_name.Goals as goal
 use Rattle.esr_names.proofs.parse.parse_name.Goals.{else-is_name-via-then-is_name+else-eq, else-is_name-via-else-is_name}
 

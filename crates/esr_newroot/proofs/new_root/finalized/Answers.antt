@@ -7,7 +7,7 @@ use Rattle.esr_formats.specs.Roots.{root_of}
 use Rattle.esr_newroot.specs.Named.{index_named, ref_named, done_in, IsReady, Becomes}
 use Rattle.esr_results.specs.Results.{result_of}
 use Rattle.esr_results.specs.declared.result.ShardResult.{ShardResult}
-use Rattle.esr_newroot.proofs.Refs.{one_name, names_distinct}
+use Rattle.esr_newroot.specs.RefLists.{one_name, names_distinct}
 use Rattle.esr_newroot.proofs.Growing.{may_add, ready_of}
 use Rattle.esr_newroot.proofs.Finalizing.{is_finalized}
 use Rattle.esr_newroot.proofs.new_root.finalized.Goals as goal

@@ -1,10 +1,11 @@
 use Rattle.std.proofs.Common.{ℕ, ◌+◌, ◌<◌, ◌^◌, List, length, map, get_or, Option, sym, ap, ◌∙◌, subst, arith}
+use Rattle.esr_model.specs.Loops.{item_is}
 use Rattle.esr_formats.specs.Ids.{number_of}
 use Rattle.esr_formats.specs.Roots.{root_of}
 use Rattle.esr_model.specs.Delete.{set_fresh, deleted_root}
 use Rattle.esr_results.specs.declared.pruned.PrunedShard.{PrunedShard as CodePruned}
 use Rattle.esr_results.specs.Pruned.{pruned_of, ArePlaced, no_shard}
-use Rattle.esr_newroot.proofs.Pruning.{item_is, renews_none, renews_one, renews_all, placed_here}
+use Rattle.esr_newroot.proofs.Pruning.{renews_none, renews_one, renews_all, placed_here}
 use Rattle.esr_newroot.proofs.pruned_root.deleted.Goals as goal
 
 pub loop-shard-init : goal.loop-shard-init

@@ -3,7 +3,7 @@ use Rattle.esr_names.specs.declared.ids.Id.{Id}
 use Rattle.esr_model.specs.Shelf.{names_uuid}
 use Rattle.esr_formats.specs.Ids.{number_of}
 use Rattle.esr_record.specs.Op.{AreUuids}
-use Rattle.esr_record.proofs.Rising.{AreUuids_push}
+use Rattle.esr_record.specs.UuidLists.{AreUuids_push}
 use Rattle.esr_ops.specs.Tests.{with_uuid-there}
 use Rattle.esr_ops.proofs.NamedUuids.{pushed_new, fresh_id}
 use Rattle.esr_ops.proofs.delete.push_new.Goals as goal

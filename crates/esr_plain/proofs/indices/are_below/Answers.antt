@@ -1,8 +1,9 @@
 use Rattle.std.proofs.Common.{◌<◌, List, map, subst, arith}
+use Rattle.esr_model.specs.Loops.{has_at, every_more}
 use Rattle.esr_shardidx.specs.declared.index.SnapList.{SnapList as CodeList}
 use Rattle.esr_formats.specs.Shards.{snap_list_of}
 use Rattle.esr_model.specs.Values.{Has, SnapList}
-use Rattle.esr_plain.proofs.Loops.{fails, has_at, every_more}
+use Rattle.esr_plain.proofs.Loops.{fails}
 use Rattle.esr_plain.proofs.indices.are_below.Goals as goal
 
 pub returns-then-list-generation : goal.returns-then-list-generation

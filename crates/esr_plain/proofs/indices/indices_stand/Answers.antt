@@ -1,4 +1,5 @@
 use Rattle.std.proofs.Common.{List, map, ap, ◌∙◌, subst}
+use Rattle.esr_model.specs.Loops.{has_at, every_more, every_all}
 use Rattle.esr_root.specs.Root.{Root as CodeRoot}
 use Rattle.esr_root.specs.Indices.{AreIndices}
 use Rattle.esr_root.specs.declared.indices.RootIndex.{RootIndex as CodeIndex}
@@ -6,7 +7,7 @@ use Rattle.esr_formats.specs.Roots.{root_of, root_index_of}
 use Rattle.esr_formats.specs.Formats.{formats}
 use Rattle.esr_model.specs.Values.{Has, RootIndex}
 use Rattle.esr_model.specs.Image.{At}
-use Rattle.esr_plain.proofs.Loops.{holds, fails, so, not_so, has_at, every_more, every_all}
+use Rattle.esr_plain.proofs.Loops.{holds, fails, so, not_so}
 use Rattle.esr_plain.proofs.Standing.{ShardsStand, one_each, by_index, to_index}
 use Rattle.esr_plain.proofs.indices.indices_stand.Goals as goal
 

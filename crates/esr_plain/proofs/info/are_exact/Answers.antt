@@ -1,11 +1,12 @@
 use Rattle.std.proofs.Common.{List, map, ap, ◌∙◌, subst}
+use Rattle.esr_model.specs.Loops.{has_at, every_more}
 use Rattle.esr_root.specs.Root.{Root as CodeRoot}
 use Rattle.esr_root.specs.declared.indices.RootIndex.{RootIndex as CodeIndex}
 use Rattle.esr_formats.specs.Roots.{root_index_of}
 use Rattle.esr_formats.specs.Refs.{ref_of_code}
 use Rattle.esr_model.specs.Values.{Has, RootIndex}
 use Rattle.esr_plain.specs.Infos.{IsReferred}
-use Rattle.esr_plain.proofs.Loops.{fails, so, not_so, has_at, every_more}
+use Rattle.esr_plain.proofs.Loops.{fails, so, not_so}
 use Rattle.esr_plain.proofs.info.are_exact.Goals as goal
 
 pub returns-then-not-is_exact : goal.returns-then-not-is_exact

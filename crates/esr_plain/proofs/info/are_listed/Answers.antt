@@ -1,7 +1,8 @@
+use Rattle.esr_model.specs.Loops.{has_at, every_more}
 use Rattle.esr_formats.specs.Roots.{root_of}
 use Rattle.esr_formats.specs.Refs.{ref_of_code}
 use Rattle.esr_plain.specs.Infos.{IsListedIn}
-use Rattle.esr_plain.proofs.Loops.{fails, so, not_so, has_at, every_more}
+use Rattle.esr_plain.proofs.Loops.{fails, so, not_so}
 use Rattle.esr_plain.proofs.info.are_listed.Goals as goal
 
 pub returns-then-not-is_listed : goal.returns-then-not-is_listed

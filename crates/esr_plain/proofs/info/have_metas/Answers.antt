@@ -1,9 +1,10 @@
+use Rattle.esr_model.specs.Loops.{has_at, every_more}
 use Rattle.esr_formats.specs.Refs.{ref_of_code}
 use Rattle.esr_formats.specs.Formats.{formats}
 use Rattle.esr_model.specs.Names.{IndexMeta}
 use Rattle.esr_model.specs.Values.{IndexRef}
 use Rattle.esr_model.specs.Image.{At, Reads}
-use Rattle.esr_plain.proofs.Loops.{fails, so, not_so, has_at, every_more}
+use Rattle.esr_plain.proofs.Loops.{fails, so, not_so}
 use Rattle.esr_plain.proofs.info.have_metas.Goals as goal
 
 pub returns-then-not-branch : goal.returns-then-not-branch

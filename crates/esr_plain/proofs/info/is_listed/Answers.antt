@@ -1,10 +1,11 @@
 use Rattle.std.proofs.Common.{List, map, ap, ◌∙◌, subst}
+use Rattle.esr_model.specs.Loops.{has_at, every_more}
 use Rattle.esr_root.specs.Root.{Root as CodeRoot}
 use Rattle.esr_root.specs.declared.indices.RootIndex.{RootIndex as CodeIndex}
 use Rattle.esr_formats.specs.Roots.{root_index_of}
 use Rattle.esr_formats.specs.Refs.{ref_of_code}
 use Rattle.esr_model.specs.Values.{Has, RootIndex}
-use Rattle.esr_plain.proofs.Loops.{holds, so, not_so, has_at, every_more}
+use Rattle.esr_plain.proofs.Loops.{holds, so, not_so}
 use Rattle.esr_plain.proofs.Infos.{IsIndexOf}
 use Rattle.esr_plain.proofs.info.is_listed.Goals as goal
 

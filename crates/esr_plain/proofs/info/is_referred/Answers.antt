@@ -1,7 +1,8 @@
+use Rattle.esr_model.specs.Loops.{has_at, every_more}
 use Rattle.esr_formats.specs.Roots.{root_index_of}
 use Rattle.esr_formats.specs.Refs.{ref_of_code}
 use Rattle.esr_model.specs.Values.{IndexRef}
-use Rattle.esr_plain.proofs.Loops.{holds, so, not_so, has_at, every_more}
+use Rattle.esr_plain.proofs.Loops.{holds, so, not_so}
 use Rattle.esr_plain.proofs.Infos.{IsRefTo}
 use Rattle.esr_plain.proofs.info.is_referred.Goals as goal
 

@@ -1,4 +1,5 @@
 use Rattle.std.proofs.Common.{List, map, subst}
+use Rattle.esr_model.specs.Loops.{has_at, every_more, every_all}
 use Rattle.esr_shardidx.specs.declared.index.SnapList.{SnapList as CodeList}
 use Rattle.esr_formats.specs.Roots.{root_of}
 use Rattle.esr_formats.specs.Shards.{snap_list_of}
@@ -6,7 +7,7 @@ use Rattle.esr_formats.specs.Formats.{formats}
 use Rattle.esr_model.specs.Values.{Has, SnapList}
 use Rattle.esr_model.specs.Image.{At}
 use Rattle.esr_plain.specs.Listed.{HasSnap}
-use Rattle.esr_plain.proofs.Loops.{holds, fails, so, not_so, has_at, every_more, every_all}
+use Rattle.esr_plain.proofs.Loops.{holds, fails, so, not_so}
 use Rattle.esr_plain.proofs.listed.have_snaps.Goals as goal
 
 pub returns-then-not-branch : goal.returns-then-not-branch

@@ -1,7 +1,8 @@
 use Rattle.std.proofs.Common.{◌≡◌}
+use Rattle.esr_model.specs.Loops.{has_at, every_more}
 use Rattle.esr_formats.specs.Shards.{snap_list_of}
 use Rattle.esr_model.specs.Values.{SnapList}
-use Rattle.esr_plain.proofs.Loops.{holds, has_at, every_more}
+use Rattle.esr_plain.proofs.Loops.{holds}
 use Rattle.esr_plain.proofs.reached.has_list.Goals as goal
 
 pub returns-then-list-uuid : goal.returns-then-list-uuid

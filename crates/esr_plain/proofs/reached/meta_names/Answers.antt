@@ -1,10 +1,10 @@
 use Rattle.std.proofs.Common.{◌∷◌, [], get_or}
+use Rattle.esr_model.specs.Loops.{item_is}
 use Rattle.esr_names.specs.declared.ids.Id.{Id}
 use Rattle.esr_names.specs.declared.blob.BlobName.TheVariants as code
 use Rattle.esr_formats.specs.Ids.{number_of}
 use Rattle.esr_model.specs.Names.{IndexMeta}
 use Rattle.esr_plain.specs.Reach.{OfMeta}
-use Rattle.esr_plain.proofs.Loops.{item_is}
 use Rattle.esr_plain.proofs.Reaching.{are_one, some_more, joined_by}
 use Rattle.esr_plain.proofs.reached.meta_names.Goals as goal
 

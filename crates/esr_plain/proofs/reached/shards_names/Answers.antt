@@ -1,5 +1,5 @@
 use Rattle.std.proofs.Common.{◌≡◌, ◌++◌, ℕ, List, map, take, length, Option, option_map, ap, ◌∙◌, subst, arith}
-use Rattle.std.proofs.lemmas.List.{length-map}
+use Rattle.std.proofs.lemmas.List.{length-map, length-take-le}
 use Rattle.esr_names.specs.declared.ids.Id.{Id}
 use Rattle.esr_names.specs.declared.blob.BlobName.{BlobName as CodeName}
 use Rattle.esr_formats.specs.Ids.{number_of}
@@ -7,10 +7,9 @@ use Rattle.esr_formats.specs.Roots.{root_snap_of}
 use Rattle.esr_formats.specs.Formats.{formats}
 use Rattle.esr_model.specs.Image.{At}
 use Rattle.esr_plain.specs.Reach.{AreNames, OfShards}
-use Rattle.esr_plain.proofs.Loops.{item_is}
 use Rattle.esr_plain.proofs.Reaching.{shards_more, shards_all}
 use Rattle.esr_plain.proofs.reached.shards_names.Goals as goal
-use Rattle.std.proofs.lemmas.List.{length-take-le}
+use Rattle.esr_model.specs.Loops.{item_is}
 
 pub loop-number-preserved : goal.loop-number-preserved
 loop-number-preserved c = λ known told.

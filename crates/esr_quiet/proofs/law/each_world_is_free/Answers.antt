@@ -2,7 +2,7 @@ use Rattle.esr_desk.specs.Start.{formats_of}
 use Rattle.esr_quiet.proofs.Alone.{all_alone}
 use Rattle.esr_quiet.proofs.Core.{CoreLaws}
 use Rattle.esr_quiet.proofs.Freeing.{histories_free}
-use Rattle.esr_quiet.proofs.Passing.{smooth_front}
+use Rattle.esr_quiet.specs.PrefixLaws.{smooth_front}
 use Rattle.esr_quiet.proofs.law.each_world_is_free.Goals as goal
 
 pub returns : goal.returns

@@ -6,7 +6,7 @@ use Rattle.esr_core.specs.History.{world_from}
 use Rattle.esr_quiet.specs.Numbers.{HasNoTickets}
 use Rattle.esr_quiet.proofs.Numbers.{Numbered, numbered_from}
 use Rattle.esr_quiet.proofs.Others.{given_by}
-use Rattle.esr_quiet.proofs.Prefixes.{legal_rest}
+use Rattle.esr_quiet.specs.PrefixLaws.{legal_rest}
 use Rattle.esr_quiet.proofs.number.tickets_are_numbered.Goals as goal
 
 begun : (s : Start) → HasNoTickets s → Numbered s.world

@@ -1,12 +1,13 @@
 use Rattle.std.proofs.Common.{◌+◌, List, [], map, take, get_or, sym, ap, ◌∙◌, subst}
 use Rattle.std.proofs.lemmas.Bool.{true≢false}
+use Rattle.esr_model.specs.Loops.{all, item_is}
 use Rattle.esr_names.specs.declared.blob.BlobName.{BlobName as CodeName}
 use Rattle.esr_names.specs.declared.blob.BlobName.TheVariants as code
 use Rattle.esr_formats.specs.Names.{name_of}
 use Rattle.esr_model.specs.Names.{BlobName}
 use Rattle.esr_reach.specs.Names.{IsWithout, NoneLeft}
-use Rattle.esr_reach.proofs.Loops.{all, item_is}
-use Rattle.esr_reach.proofs.Sets.{IsSetOf, left_next, kept_next, without_names, without_once}
+use Rattle.esr_reach.specs.NameSets.{IsSetOf}
+use Rattle.esr_reach.proofs.Sets.{left_next, kept_next, without_names, without_once}
 use Rattle.esr_reach.proofs.doomed.doomed_by_delete.Goals as goal
 use Rattle.esr_reach.proofs.doomed.doomed_by_delete.Goals.{then-not-contains+in_ok-push, else-not-contains}
 

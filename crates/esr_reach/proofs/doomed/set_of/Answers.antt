@@ -1,8 +1,9 @@
 use Rattle.std.proofs.Common.{get_or}
+use Rattle.esr_model.specs.Loops.{item_is}
 use Rattle.esr_names.specs.declared.blob.BlobName.{BlobName as CodeName}
 use Rattle.esr_names.specs.declared.blob.BlobName.TheVariants as code
-use Rattle.esr_reach.proofs.Loops.{item_is}
-use Rattle.esr_reach.proofs.Sets.{set_none, set_more, set_all}
+use Rattle.esr_reach.specs.NameSets.{set_none, set_more}
+use Rattle.esr_reach.proofs.Sets.{set_all}
 use Rattle.esr_reach.proofs.doomed.set_of.Goals as goal
 
 pub loop-name-init : goal.loop-name-init

@@ -1,5 +1,5 @@
 use Rattle.std.proofs.Common.{take}
-use Rattle.esr_reach.proofs.Sets.{IsSetOf}
+use Rattle.esr_reach.specs.NameSets.{IsSetOf}
 use Rattle.esr_reach.proofs.doomed.set_of.Given as goal
 
 abbrev pub invariant-loop-name : goal.invariant-loop-name

@@ -1,7 +1,7 @@
 use Rattle.std.proofs.Common.{◌<◌, ◌≤◌, ◌++◌, ◌∙◌, ℕ, List, map, ap, subst}
 use Rattle.esr_formats.specs.Names.{name_of}
 use Rattle.esr_model.specs.Names.{BlobName}
-use Rattle.esr_reach.proofs.Pushing.{parts_pushed, parts_done}
+use Rattle.esr_reach.specs.NamePieces.{parts_pushed, parts_done}
 use Rattle.esr_reach.proofs.reached.push_parts.Goals as goal
 
 pub loop-k-preserved : goal.loop-k-preserved

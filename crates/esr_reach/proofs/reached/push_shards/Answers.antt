@@ -2,9 +2,9 @@ use Rattle.std.proofs.Common.{◌≡◌, ◌∙◌, ℕ, map, take, length, Opti
 use Rattle.std.proofs.lemmas.List.{length-map, length-take-le}
 use Rattle.std.specs.Ordering.{nat_cmp}
 use Rattle.std.specs.BTreeSet.{contains}
+use Rattle.esr_model.specs.Loops.{item_is}
 use Rattle.esr_names.specs.declared.ids.Id.{Id}
 use Rattle.esr_formats.specs.Ids.{number_of}
-use Rattle.esr_reach.proofs.Loops.{item_is}
 use Rattle.esr_reach.proofs.Pushing.{pushed_shard}
 use Rattle.esr_reach.proofs.reached.push_shards.Goals as goal
 

@@ -9,7 +9,8 @@ use Rattle.esr_model.specs.Names.{BlobName}
 use Rattle.esr_reach.specs.Names.{AreOnce}
 use Rattle.esr_reach.specs.Listing.{root_names}
 use Rattle.esr_reach.specs.Reached.{root_once}
-use Rattle.esr_reach.proofs.Apart.{root_single, one_each}
+use Rattle.esr_reach.specs.OnceEach.{one_each}
+use Rattle.esr_reach.proofs.Apart.{root_single}
 use Rattle.esr_reach.proofs.Ordered.{names_ordered, names_are}
 use Rattle.esr_reach.proofs.reached.reach.Goals as goal
 

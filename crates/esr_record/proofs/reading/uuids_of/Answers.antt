@@ -6,7 +6,8 @@ use Rattle.serde_json.specs.declared.value.Value.{Value}
 use Rattle.esr_names.specs.declared.ids.Id.{Id}
 use Rattle.esr_record.specs.Op.{is_id, AreUuids}
 use Rattle.esr_record.specs.Reading.{uuids_from}
-use Rattle.esr_record.proofs.Rising.{uuids_from_push, AreUuids_push}
+use Rattle.esr_record.specs.UuidLists.{AreUuids_push}
+use Rattle.esr_record.proofs.Rising.{uuids_from_push}
 use Rattle.esr_record.proofs.reading.uuids_of.Goals as goal
 
 pub loop-value-preserved : goal.loop-value-preserved

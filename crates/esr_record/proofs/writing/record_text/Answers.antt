@@ -5,7 +5,7 @@ use Rattle.esr_json.specs.declared.refusal.Reason.{Reason}
 use Rattle.esr_json.specs.Steps.{◌>>=◌}
 use Rattle.esr_json.specs.Shallow.{IsShallow}
 use Rattle.esr_record.specs.Reading.{record_of, record_from}
-use Rattle.esr_record.proofs.RoundTrip.{record_plain, record_of-record_data}
+use Rattle.esr_record.specs.RoundTrip.{record_plain, record_of-record_data}
 use Rattle.esr_record.proofs.writing.record_text.Goals as goal
 
 pub write-requires : goal.write-requires

@@ -1,4 +1,4 @@
-use Rattle.esr_formats.proofs.NameTexts.{name_reads_back}
+use Rattle.esr_formats.specs.ReadBack.{name_reads_back}
 use Rattle.esr_repo.proofs.calls.reads_back.Goals as goal
 
 pub returns : goal.returns

@@ -11,8 +11,9 @@ use Rattle.esr_desk.specs.Restore.Conditions.{CanRead}
 use Rattle.esr_restore.specs.Parts.{ReadPart}
 use Rattle.esr_restore.proofs.Going.{went_none, went_on, went_at, still_mine}
 use Rattle.esr_restore.proofs.Reading.{listed_more}
-use Rattle.esr_restore.proofs.Sizes.{part_layout, few_parts, fed_bound}
-use Rattle.esr_restore.proofs.Parts.{can_read_part, so_far_none, so_far_flag, and_then, and_else, so_far_all, room_for, fed_most}
+use Rattle.esr_restore.specs.PartSizes.{part_layout, few_parts, fed_bound}
+use Rattle.esr_restore.specs.PartReads.{and_then, and_else, fed_most}
+use Rattle.esr_restore.proofs.Parts.{can_read_part, so_far_none, so_far_flag, so_far_all, room_for}
 use Rattle.esr_restore.proofs.part.read_parts.Goals.{then-is_exact, else-is_exact}
 use Rattle.esr_desk.specs.Made.{ReadsOnly, reads_none}
 use Rattle.esr_restore.specs.Unread.{IsPartBefore}

@@ -4,7 +4,7 @@ use Rattle.esr_root.specs.Indices.{place_from}
 use Rattle.esr_root.specs.Changes.{grown, first}
 use Rattle.esr_root.specs.declared.indices.RootIndex.{RootIndex}
 use Rattle.esr_root.proofs.Added.{placed_at, placed_before}
-use Rattle.esr_root.proofs.Lists.{on_ok}
+use Rattle.esr_root.specs.Lists.{on_ok}
 use Rattle.esr_root.proofs.change.enlist.Goals as goal
 
 -- the place by the arguments

@@ -1,7 +1,7 @@
 use Rattle.std.proofs.Common.{◌≤◌, length, map, arith}
 use Rattle.std.proofs.lemmas.List.{length-map}
 use Rattle.serde_json.specs.View.{view}
-use Rattle.esr_root.proofs.ReadRoots.{generations_are}
+use Rattle.esr_root.specs.ReadRoots.{generations_are}
 use Rattle.esr_root.proofs.read.generations_of.Goals as goal
 
 pub from_items-requires : goal.from_items-requires

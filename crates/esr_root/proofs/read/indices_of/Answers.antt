@@ -1,7 +1,7 @@
 use Rattle.std.proofs.Common.{sym, subst}
 use Rattle.std.specs.List.{AllByRecursion}
 use Rattle.esr_root.specs.Indices.{IsListed}
-use Rattle.esr_root.proofs.ReadRoots.{all_read}
+use Rattle.esr_root.specs.ReadRoots.{all_read}
 use Rattle.esr_root.proofs.read.indices_of.Goals as goal
 
 pub from_items-requires : goal.from_items-requires

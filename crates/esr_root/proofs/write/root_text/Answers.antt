@@ -3,7 +3,7 @@ use Rattle.serde_json.specs.Read.{max_depth}
 use Rattle.esr_json.specs.Shallow.{IsShallow}
 use Rattle.esr_json.specs.Access.{parsed}
 use Rattle.esr_root.specs.Text.{root_data}
-use Rattle.esr_root.proofs.RoundTrip.{root_shallow, root_of-root_data}
+use Rattle.esr_root.specs.RoundTrip.{root_shallow, root_of-root_data}
 use Rattle.esr_root.proofs.write.root_text.Goals as goal
 
 pub write-requires : goal.write-requires

@@ -6,10 +6,11 @@ use Rattle.esr_opening.specs.Opening.{Kept}
 use Rattle.esr_desk.specs.Evidence.{evidence}
 use Rattle.esr_run.specs.Causes.{IsTold}
 use Rattle.esr_run.specs.Faults.{listed}
-use Rattle.esr_run.proofs.Worlds.{begun_world, begins}
+use Rattle.esr_run.specs.Worlds.{begun_world, begins}
 use Rattle.esr_run.specs.Start.{telling, is_calm_by}
-use Rattle.esr_run.proofs.Smoothly.{calm_enough, taken_calm, opens_well, refused_well}
-use Rattle.esr_run.proofs.Ending.{is_outside, refused_at, unopened, opened_run, verdict_opening, verdict_refused}
+use Rattle.esr_run.specs.RunEnds.{calm_enough, is_outside}
+use Rattle.esr_run.proofs.Smoothly.{taken_calm, opens_well, refused_well}
+use Rattle.esr_run.proofs.Ending.{refused_at, unopened, opened_run, verdict_opening, verdict_refused}
 use Rattle.esr_run.proofs.Restoring.{opens_restored, opens_none}
 use Rattle.esr_run.proofs.Counting.{counted_from, counted_none, named_none}
 use Rattle.esr_run.proofs.whole.open_and_carry.Goals as goal

@@ -1,6 +1,6 @@
 use Rattle.std.proofs.Common.{[]}
 use Rattle.esr_shardidx.proofs.Added.{snap_repeats}
-use Rattle.esr_shardidx.proofs.Found.{snap_names_rise}
+use Rattle.esr_shardidx.specs.NamesRise.{snap_names_rise}
 use Rattle.esr_shardidx.proofs.laws.snap_files_differ.Goals as goal
 
 pub returns-clause-names : goal.returns-clause-names

@@ -1,4 +1,4 @@
-use Rattle.esr_shardidx.proofs.PlainTexts.{snap_reads_back, index_reads_back}
+use Rattle.esr_shardidx.specs.RoundTrip.{snap_reads_back, index_reads_back}
 use Rattle.esr_shardidx.proofs.laws.texts_read_back.Goals as goal
 
 pub returns-clause-snap : goal.returns-clause-snap

@@ -5,7 +5,7 @@ use Rattle.esr_shardidx.specs.declared.index.SnapList.{SnapList}
 use Rattle.esr_shardidx.specs.Indices.{named_by, AreLists, lists_from}
 use Rattle.esr_shardidx.specs.Marks.{AreMarked}
 use Rattle.esr_shardidx.proofs.IndexTexts.{index_files_from-are, lists_from-are}
-use Rattle.esr_shardidx.proofs.Kept.{IsShardIndex-named}
+use Rattle.esr_shardidx.specs.KeptLists.{IsShardIndex-named}
 use Rattle.esr_shardidx.proofs.Marking.{AreMarked-named, kept_files}
 use Rattle.esr_shardidx.proofs.ReadSteps.{index_read}
 use Rattle.esr_shardidx.proofs.reading.shard_index_of.Goals as goal

@@ -1,6 +1,6 @@
 use Rattle.std.proofs.Common.{◌≡◌, ◌∙◌, append-nil}
 use Rattle.esr_names.specs.IdText.{id_text}
-use Rattle.esr_shardidx.proofs.PlainTexts.{IsUtf8-file_text}
+use Rattle.esr_shardidx.specs.RoundTrip.{IsUtf8-file_text}
 use Rattle.esr_shardidx.proofs.writing.file_name.Goals as goal
 
 pub returns-clause-utf8 : goal.returns-clause-utf8

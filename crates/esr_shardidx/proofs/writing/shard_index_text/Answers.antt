@@ -1,6 +1,6 @@
 use Rattle.std.proofs.Common.{◌≡◌, ap, ◌∙◌}
 use Rattle.esr_shardidx.specs.Indices.{shard_index_from, shard_index_text, shard_index_data}
-use Rattle.esr_shardidx.proofs.PlainTexts.{index_reads_back}
+use Rattle.esr_shardidx.specs.RoundTrip.{index_reads_back}
 use Rattle.esr_shardidx.proofs.Pieces.{text_of}
 use Rattle.esr_shardidx.proofs.writing.shard_index_text.Goals as goal
 

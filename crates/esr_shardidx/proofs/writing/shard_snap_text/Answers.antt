@@ -1,6 +1,6 @@
 use Rattle.std.proofs.Common.{◌≡◌, ap, ◌∙◌}
 use Rattle.esr_shardidx.specs.Snapshots.{shard_snap_from, shard_snap_text, shard_snap_data}
-use Rattle.esr_shardidx.proofs.PlainTexts.{snap_reads_back}
+use Rattle.esr_shardidx.specs.RoundTrip.{snap_reads_back}
 use Rattle.esr_shardidx.proofs.Pieces.{text_of}
 use Rattle.esr_shardidx.proofs.writing.shard_snap_text.Goals as goal
 

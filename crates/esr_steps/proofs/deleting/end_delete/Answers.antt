@@ -1,9 +1,12 @@
 use Rattle.esr_core.specs.Entry.{PruneStep, EndDelete, HasEnded}
-use Rattle.esr_steps.proofs.Stepping.{on_done}
+use Rattle.esr_steps.proofs.Stepping.{on_done, seat_is_kept}
 use Rattle.esr_steps.proofs.DeleteTickets.{ended_ticket}
 use Rattle.esr_steps.proofs.DeleteMays.{may_end_delete}
 use Rattle.esr_steps.proofs.Fresh.{free_fresh}
 use Rattle.esr_steps.proofs.deleting.end_delete.Goals as goal
+
+pub ended-requires : goal.ended-requires
+ended-requires g c = seat_is_kept g.K.Told.start c.args.repo.now c.check.new.self c.args.ticket c.plan.result.now c.in_ok-check.ensures.step.0 c.requires.may.out c.plan.ensures
 
 pub note-requires-clause-may : goal.note-requires-clause-may
 note-requires-clause-may g c =

@@ -1,4 +1,4 @@
-use Rattle.std.proofs.Common.{List, ap, ◌∙◌, sym, subst}
+use Rattle.std.proofs.Common.{List, ap, ◌∙◌, sym, subst, refl}
 use Rattle.std.specs.Prelude.{filter}
 use Rattle.esr_record.specs.Record.{Record}
 use Rattle.esr_root.specs.Snaps.{lists}
@@ -10,7 +10,11 @@ use Rattle.esr_formats.specs.Clusters.{cluster_of}
 use Rattle.esr_desk.specs.Start.{ticket_of}
 use Rattle.esr_desk.specs.Delete.Conditions.{CanSettleDelete}
 use Rattle.esr_steps.proofs.DeleteMays.{may_swap_delete}
+use Rattle.esr_steps.proofs.Stepping.{seat_is_kept}
 use Rattle.esr_steps.proofs.deleting.pruned.Goals as goal
+
+pub delete_settled-requires : goal.delete_settled-requires
+delete_settled-requires g c = seat_is_kept g.K.Told.start c.args.repo.now c.args.repo.now c.args.ticket c.plan.result.now refl c.requires.may.settle.put.out c.plan.ensures
 
 pub settled_record-requires-clause-may : goal.settled_record-requires-clause-may
 settled_record-requires-clause-may g c = (root_of c.args.root.now, c.requires.may.settle)

@@ -1,9 +1,12 @@
 use Rattle.esr_core.specs.Entry.{DoneStep, HasEnded}
 use Rattle.esr_results.specs.Results.{result_of}
-use Rattle.esr_steps.proofs.Stepping.{on_done}
+use Rattle.esr_steps.proofs.Stepping.{on_done, seat_is_kept}
 use Rattle.esr_steps.proofs.Doing.{may_note_done, done_ticket}
 use Rattle.esr_steps.proofs.Fresh.{free_fresh}
 use Rattle.esr_steps.proofs.ending.end_shard.Goals as goal
+
+pub shard_done-requires : goal.shard_done-requires
+shard_done-requires g c = seat_is_kept g.K.Told.start c.args.repo.now c.check.new.self c.args.ticket c.plan.result.now c.in_ok-check.ensures.step.0 c.requires.may.out c.plan.ensures
 
 pub note-requires-clause-may : goal.note-requires-clause-may
 note-requires-clause-may g c =

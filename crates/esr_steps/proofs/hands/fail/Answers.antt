@@ -1,14 +1,17 @@
-use Rattle.std.proofs.Common.{sym, subst}
-use Rattle.esr_core.specs.Entry.{Step, HasEnded}
+use Rattle.std.proofs.Common.{sym, subst, List}
+use Rattle.esr_core.specs.Entry.{Step, HasEnded, Moment}
 use Rattle.esr_desk.specs.Entries.{why_of, step_of}
 use Rattle.esr_desk.specs.Own.{caller_of}
-use Rattle.esr_desk.specs.Hands.{fail_step}
+use Rattle.esr_desk.specs.Hands.{fail_step, MayFail}
 use Rattle.esr_repo.specs.Next.{Did}
 use Rattle.esr_repo.specs.May.{MayNote}
 use Rattle.esr_steps.proofs.Stepping.{did_from}
 use Rattle.esr_steps.proofs.Fresh.{fresh_as, goes_as, own_as}
 use Rattle.esr_steps.proofs.HandSteps.{fail_free, fail_reads, may_fail_by, fail_own, fail_own_kept}
 use Rattle.esr_steps.proofs.hands.fail.Goals as goal
+
+pub failed-requires-clause-may : goal.failed-requires-clause-may
+failed-requires-clause-may g c = subst (λ (log : List Moment). MayFail c.args.hand g.K.Told.start log c.args.who) (sym c.in_ok-check.ensures.step.0) c.requires.may
 
 pub check-requires-clause-fresh : goal.check-requires-clause-fresh
 check-requires-clause-fresh g c =

@@ -1,8 +1,25 @@
-use Rattle.std.proofs.Common.{Some, sym, subst}
+use Rattle.std.proofs.Common.{Some, refl, sym, subst}
 use Rattle.esr_desk.specs.declared.hand.Hand.{Hand}
 use Rattle.esr_desk.specs.Start.{world_of}
 use Rattle.esr_steps.specs.Hands.{IsPlanAfter}
+use Rattle.esr_desk.specs.Hands.{MayFail}
+use Rattle.esr_steps.proofs.Stepping.{seat_is_kept, reader_is_kept}
 use Rattle.esr_steps.proofs.hands.failed.Goals as goal
+
+pub unit_failed-requires : goal.unit_failed-requires
+unit_failed-requires g c =
+    let may = subst (λ (h : Hand). MayFail h g.K.Told.start c.args.repo.now c.args.who) c.in-Unit.is c.requires.may in
+    seat_is_kept g.K.Told.start c.args.repo.now c.args.repo.now c.args.who c.plan.result.now refl may.out c.plan.ensures
+
+pub delete_failed-requires : goal.delete_failed-requires
+delete_failed-requires g c =
+    let may = subst (λ (h : Hand). MayFail h g.K.Told.start c.args.repo.now c.args.who) c.in-Delete.is c.requires.may in
+    seat_is_kept g.K.Told.start c.args.repo.now c.args.repo.now c.args.who c.plan-in-Delete.result.now refl may.out c.plan-in-Delete.ensures
+
+pub shard_read-requires : goal.shard_read-requires
+shard_read-requires g c =
+    let may = subst (λ (h : Hand). MayFail h g.K.Told.start c.args.repo.now c.args.who) c.in-Restore.is c.requires.may in
+    reader_is_kept g.K.Told.start c.args.repo.now c.args.repo.now c.args.who c.plan-in-Restore.result.now refl may c.plan-in-Restore.ensures
 
 pub returns-in_ok-unit_failed-in-Unit : goal.returns-in_ok-unit_failed-in-Unit
 returns-in_ok-unit_failed-in-Unit g c =

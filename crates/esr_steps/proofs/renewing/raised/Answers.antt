@@ -1,5 +1,10 @@
 use Rattle.esr_steps.proofs.Swapping.{may_raise}
+use Rattle.std.proofs.Common.{refl}
+use Rattle.esr_steps.proofs.Stepping.{seat_is_kept}
 use Rattle.esr_steps.proofs.renewing.raised.Goals as goal
+
+pub raised-requires : goal.raised-requires
+raised-requires g c = seat_is_kept g.K.Told.start c.args.repo.now c.args.repo.now c.args.ticket c.plan.result.now refl c.requires.may.out c.plan.ensures
 
 pub returns : goal.returns
 returns g c =

@@ -1,4 +1,4 @@
-use Rattle.std.proofs.Common.{ap, ◌∙◌, sym}
+use Rattle.std.proofs.Common.{ap, ◌∙◌, sym, refl}
 use Rattle.esr_record.specs.Record.{Record}
 use Rattle.esr_formats.specs.Roots.{root_of}
 use Rattle.esr_formats.specs.Clusters.{cluster_of}
@@ -7,7 +7,11 @@ use Rattle.esr_root.specs.Root.{Root}
 use Rattle.esr_desk.specs.Conditions.{CanSettle}
 use Rattle.esr_desk.specs.Start.{ticket_of}
 use Rattle.esr_steps.proofs.Swapping.{may_swap_settle}
+use Rattle.esr_steps.proofs.Stepping.{seat_is_kept}
 use Rattle.esr_steps.proofs.renewing.settled.Goals as goal
+
+pub finalized-requires : goal.finalized-requires
+finalized-requires g c = seat_is_kept g.K.Told.start c.args.repo.now c.args.repo.now c.args.ticket c.plan.result.now refl c.requires.may.put.out c.plan.ensures
 
 pub returns : goal.returns
 returns g c =

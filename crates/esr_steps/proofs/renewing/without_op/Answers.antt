@@ -1,9 +1,13 @@
-use Rattle.std.proofs.Common.{ap, ◌∙◌}
+use Rattle.std.proofs.Common.{ap, ◌∙◌, refl}
 use Rattle.esr_model.specs.Values.{ClusterRecord}
 use Rattle.esr_record.specs.Record.{Record}
 use Rattle.esr_formats.specs.Clusters.{cluster_of}
-use Rattle.esr_steps.proofs.Swapping.{may_swap_drop}
+use Rattle.esr_steps.proofs.Swapping.{may_swap_drop, leaves_out}
+use Rattle.esr_steps.proofs.Stepping.{seat_is_kept}
 use Rattle.esr_steps.proofs.renewing.without_op.Goals as goal
+
+pub dropped-requires : goal.dropped-requires
+dropped-requires g c = seat_is_kept g.K.Told.start c.args.repo.now c.args.repo.now c.args.ticket c.plan.result.now refl (leaves_out g.K.Told.start c.args.repo.now c.args.ticket c.requires.may) c.plan.ensures
 
 pub returns : goal.returns
 returns g c =

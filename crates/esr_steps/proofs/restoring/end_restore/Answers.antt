@@ -1,8 +1,11 @@
 use Rattle.esr_core.specs.Entry.{ReadStep, RestoredShard, HasEnded}
-use Rattle.esr_steps.proofs.Stepping.{on_done}
+use Rattle.esr_steps.proofs.Stepping.{on_done, reader_is_kept}
 use Rattle.esr_steps.proofs.Reading.{may_note_restored, restored_reader}
 use Rattle.esr_steps.proofs.Fresh.{free_fresh}
 use Rattle.esr_steps.proofs.restoring.end_restore.Goals as goal
+
+pub shard_read-requires : goal.shard_read-requires
+shard_read-requires g c = reader_is_kept g.K.Told.start c.args.repo.now c.check.new.self c.args.ticket c.plan.result.now c.in_ok-check.ensures.step.0 c.requires.may.out c.plan.ensures
 
 pub note-requires-clause-may : goal.note-requires-clause-may
 note-requires-clause-may g c =

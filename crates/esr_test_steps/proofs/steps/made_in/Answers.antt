@@ -4,9 +4,8 @@ use Rattle.esr_formats.specs.Clusters.{cluster_of}
 use Rattle.esr_formats.specs.Roots.{root_of}
 use Rattle.esr_opening.specs.Opening.{Kept}
 use Rattle.esr_run.specs.Start.{telling, is_calm_by, start_of}
-use Rattle.esr_run.proofs.Worlds.{begun_world, begins}
-use Rattle.esr_run.proofs.Smoothly.{calm_enough}
-use Rattle.esr_run.proofs.Ending.{is_outside}
+use Rattle.esr_run.specs.Worlds.{begun_world, begins}
+use Rattle.esr_run.specs.RunEnds.{calm_enough, is_outside}
 use Rattle.esr_test_steps.proofs.Starting.{spent_begun, spent_outside}
 use Rattle.esr_test_steps.proofs.steps.made_in.Goals as goal
 

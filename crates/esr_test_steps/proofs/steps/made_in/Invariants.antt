@@ -2,7 +2,7 @@ use Rattle.esr_depot.specs.Look.{now}
 use Rattle.esr_formats.specs.Clusters.{cluster_of}
 use Rattle.esr_formats.specs.Roots.{root_of}
 use Rattle.esr_run.specs.Start.{telling, is_calm_by, start_of}
-use Rattle.esr_run.proofs.Worlds.{begun_world}
+use Rattle.esr_run.specs.Worlds.{begun_world}
 use Rattle.esr_test_steps.proofs.Starting.{spent}
 use Rattle.esr_test_steps.proofs.steps.made_in.Given as goal
 

@@ -5,7 +5,7 @@ use Rattle.esr_root.specs.Ids.{same_id}
 use Rattle.esr_root.specs.Root.{Root, empty_root}
 use Rattle.esr_root.specs.Changes.{MayAdd}
 use Rattle.esr_root.specs.declared.snaps.RootSnap.{RootSnap}
-use Rattle.esr_root.proofs.Lists.{distinct_one}
+use Rattle.esr_root.specs.Lists.{distinct_one}
 use Rattle.esr_test_texts.proofs.root.first.Goals as goal
 
 -- the empty root takes any snapshot of one index

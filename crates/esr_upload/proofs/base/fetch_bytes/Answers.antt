@@ -11,8 +11,9 @@ use Rattle.esr_desk.specs.Outcome.{Stepped, fetch_reply}
 use Rattle.esr_desk.specs.Told.{fetch_tells}
 use Rattle.esr_unit.specs.Refusals.{stepped_had}
 use Rattle.esr_upload.specs.Trouble.{Shown}
-use Rattle.esr_upload.proofs.Reading.{index_name, fetch_went, left_went, went_work, absent_shown}
-use Rattle.esr_upload.proofs.Refusing.{passed, fetch_shown}
+use Rattle.esr_upload.specs.BaseReads.{fetch_went, left_went, went_work}
+use Rattle.esr_upload.proofs.Reading.{index_name, absent_shown}
+use Rattle.esr_upload.specs.Ends.{passed, fetch_shown}
 use Rattle.esr_upload.proofs.base.fetch_bytes.Goals as goal
 
 pub fetch_whole-requires-clause-layout : goal.fetch_whole-requires-clause-layout

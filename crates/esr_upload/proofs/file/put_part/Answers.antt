@@ -1,4 +1,4 @@
-use Rattle.std.proofs.Common.{Bool, [], Err, inl, ap, ◌∙◌, subst, List, refl}
+use Rattle.std.proofs.Common.{Bool, [], Err, inl, ap, ◌∙◌, subst, List, refl, ◌≡◌, sym}
 use Rattle.esr_core.specs.Entry.{BeginStep, CommitStep, WasBegun}
 use Rattle.esr_formats.specs.Names.{name_of}
 use Rattle.esr_parts.specs.Reads.{Copied, is_of_source, is_of_stage}
@@ -12,11 +12,10 @@ use Rattle.esr_desk.specs.Evidence.{evidence}
 use Rattle.esr_unit.specs.declared.trouble.Trouble.TheVariants.{Step}
 use Rattle.esr_upload.specs.Trouble.{Shown}
 use Rattle.esr_core.specs.World.{Ticket}
-use Rattle.esr_upload.proofs.Going.{went_same}
+use Rattle.esr_upload.specs.Runs.{went_same}
 use Rattle.esr_unit.specs.Objects.{has_risen, is_faulty}
-use Rattle.esr_upload.proofs.Refusing.{passed, step_shown}
+use Rattle.esr_upload.specs.Ends.{passed, step_shown}
 use Rattle.esr_upload.proofs.FileParts.{begun_is, stage_holds, can_commit, went_refused, not_there, part_put, went_put}
-use Rattle.std.proofs.Common.{◌≡◌, sym}
 use Rattle.esr_names.specs.declared.blob.BlobName.{BlobName as CodeName}
 use Rattle.esr_model.specs.Names.{BlobName}
 use Rattle.esr_desk.specs.Once.{IsFresh}

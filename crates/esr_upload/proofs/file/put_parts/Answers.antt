@@ -6,8 +6,9 @@ use Rattle.esr_upload.specs.Pieces.{blob_name}
 use Rattle.esr_desk.specs.Calls.{Call, HasTaken}
 use Rattle.esr_desk.specs.Evidence.{evidence}
 use Rattle.esr_upload.specs.Trouble.{Shown}
-use Rattle.esr_upload.proofs.Going.{went_none, went_on, read_on, same_read, steady_on}
-use Rattle.esr_upload.proofs.Refusing.{passed}
+use Rattle.esr_upload.specs.Runs.{went_none, went_on}
+use Rattle.esr_upload.proofs.Going.{read_on, same_read, steady_on}
+use Rattle.esr_upload.specs.Ends.{passed}
 use Rattle.esr_upload.proofs.Pieces.{can_store_next, cut_none, cut_put, consumes_none, consumes_more, all_put, short_put}
 use Rattle.esr_upload.proofs.file.put_parts.Goals as goal
 

@@ -4,9 +4,11 @@ use Rattle.esr_source.specs.Told.{ShardTold, FileList}
 use Rattle.esr_desk.specs.Evidence.{evidence}
 use Rattle.esr_desk.specs.Start.{ticket_of}
 use Rattle.esr_upload.specs.Trouble.{Shown}
-use Rattle.esr_upload.proofs.Going.{went_none, read_on, same_read, steady_on}
+use Rattle.esr_upload.specs.Runs.{went_none}
+use Rattle.esr_upload.proofs.Going.{read_on, same_read, steady_on}
 use Rattle.esr_upload.proofs.Pieces.{all_numbered}
-use Rattle.esr_upload.proofs.Refusing.{passed, start_shown, change_shown}
+use Rattle.esr_upload.specs.Ends.{passed}
+use Rattle.esr_upload.proofs.Refusing.{start_shown, change_shown}
 use Rattle.esr_upload.proofs.Untold.{untold_at}
 use Rattle.esr_upload.proofs.Told.{stored_all, all_told, changed_untold, prints_same, prints_differ}
 use Rattle.esr_upload.proofs.file.store_file.Goals as goal

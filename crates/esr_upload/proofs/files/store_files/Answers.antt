@@ -15,9 +15,11 @@ use Rattle.esr_upload.specs.Stored.{IsToldBy}
 use Rattle.esr_upload.specs.Trouble.{Shown}
 use Rattle.esr_unit.specs.declared.trouble.Trouble.TheVariants.{Step}
 use Rattle.esr_desk.specs.declared.refusal.StepRefusal.TheVariants.{Memory}
-use Rattle.esr_upload.proofs.Refusing.{passed, memory_shown}
-use Rattle.esr_upload.proofs.Writing.{writes_keep, writes_at, told_on}
-use Rattle.esr_upload.proofs.Going.{went_none, went_on, read_on, same_read, steady_on}
+use Rattle.esr_upload.specs.Ends.{passed, memory_shown}
+use Rattle.esr_upload.specs.Commits.{writes_keep, writes_at}
+use Rattle.esr_upload.proofs.Writing.{told_on}
+use Rattle.esr_upload.specs.Runs.{went_none, went_on}
+use Rattle.esr_upload.proofs.Going.{read_on, same_read, steady_on}
 use Rattle.esr_upload.proofs.Noting.{are_below_later}
 use Rattle.esr_upload.proofs.Storing.{StoredFirst, stored_none, stored_next, stored_all, next_short, next_read}
 use Rattle.esr_upload.proofs.files.store_files.Goals as goal

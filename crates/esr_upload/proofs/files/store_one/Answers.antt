@@ -3,7 +3,7 @@ use Rattle.esr_source.specs.Files.{bytes_at}
 use Rattle.esr_shardidx.specs.declared.entry.FileEntry.{FileEntry}
 use Rattle.esr_desk.specs.Start.{ticket_of}
 use Rattle.esr_upload.proofs.Noting.{below_new}
-use Rattle.esr_upload.proofs.Going.{went_none}
+use Rattle.esr_upload.specs.Runs.{went_none}
 use Rattle.esr_upload.proofs.files.store_one.Goals as goal
 
 pub returns-in_err-try_clone-in-Some-clause-went : goal.returns-in_err-try_clone-in-Some-clause-went

@@ -11,9 +11,10 @@ use Rattle.esr_desk.specs.Evidence.{evidence}
 use Rattle.esr_unit.specs.declared.trouble.Trouble.TheVariants.{Step}
 use Rattle.esr_upload.specs.Trouble.{Shown}
 use Rattle.esr_upload.specs.Worked.{Went}
-use Rattle.esr_upload.proofs.Refusing.{passed, done_shown}
-use Rattle.esr_upload.proofs.Going.{went_on, went_same}
-use Rattle.esr_upload.proofs.Ending.{if_err, has_done}
+use Rattle.esr_upload.specs.Ends.{passed, if_err}
+use Rattle.esr_upload.proofs.Refusing.{done_shown}
+use Rattle.esr_upload.specs.Runs.{went_on, went_same}
+use Rattle.esr_upload.proofs.Ending.{has_done}
 use Rattle.esr_upload.proofs.publish.end_shard.Goals as goal
 use Rattle.esr_upload.proofs.publish.end_shard.Goals.{In_ok-put_index}
 

@@ -5,8 +5,9 @@ use Rattle.esr_desk.specs.Grew.{grew_by_none}
 use Rattle.esr_shardidx.specs.Snapshots.{are_snap_files}
 use Rattle.esr_unit.specs.declared.trouble.Trouble.TheVariants.{Found}
 use Rattle.esr_upload.specs.Trouble.{Shown}
-use Rattle.esr_upload.proofs.Going.{went_none}
-use Rattle.esr_upload.proofs.Ending.{if_err, no_files}
+use Rattle.esr_upload.specs.Runs.{went_none}
+use Rattle.esr_upload.specs.Ends.{if_err}
+use Rattle.esr_upload.proofs.Ending.{no_files}
 use Rattle.esr_upload.proofs.publish.finish.Goals as goal
 
 pub ahead-requires-clause-some : goal.ahead-requires-clause-some

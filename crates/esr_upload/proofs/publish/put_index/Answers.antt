@@ -1,7 +1,7 @@
 use Rattle.esr_model.specs.Names.{ShardIndex}
 use Rattle.esr_names.specs.Layout.{IsName}
 use Rattle.esr_desk.specs.Start.{formats_of, ticket_of}
-use Rattle.esr_upload.proofs.Going.{went_none}
+use Rattle.esr_upload.specs.Runs.{went_none}
 use Rattle.esr_upload.proofs.Pieces.{own_can}
 use Rattle.esr_upload.proofs.Putting.{index_numbered}
 use Rattle.esr_upload.proofs.publish.put_index.Goals as goal

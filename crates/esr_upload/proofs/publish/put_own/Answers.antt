@@ -6,9 +6,10 @@ use Rattle.esr_desk.specs.Evidence.{evidence}
 use Rattle.esr_desk.specs.Start.{ticket_of}
 use Rattle.esr_desk.specs.Told.{begin_fresh, untold_fresh}
 use Rattle.esr_upload.specs.Trouble.{Shown}
-use Rattle.esr_upload.proofs.Going.{went_same}
+use Rattle.esr_upload.specs.Runs.{went_same}
 use Rattle.esr_upload.proofs.Putting.{committed_one, put_went}
-use Rattle.esr_upload.proofs.Refusing.{passed, put_shown}
+use Rattle.esr_upload.specs.Ends.{passed}
+use Rattle.esr_upload.proofs.Refusing.{put_shown}
 use Rattle.esr_upload.proofs.publish.put_own.Goals as goal
 
 pub put-requires-clause-new : goal.put-requires-clause-new

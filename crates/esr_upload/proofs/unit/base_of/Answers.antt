@@ -7,7 +7,7 @@ use Rattle.esr_formats.specs.Ids.{number_of}
 use Rattle.esr_formats.specs.Shards.{shard_index_of}
 use Rattle.esr_desk.specs.Start.{ticket_of}
 use Rattle.esr_upload.specs.Base.{HasFetched}
-use Rattle.esr_upload.proofs.Going.{went_none}
+use Rattle.esr_upload.specs.Runs.{went_none}
 use Rattle.esr_upload.proofs.Faults.{no_index, list_ahead, was_ahead, read_at}
 use Rattle.esr_upload.proofs.unit.base_of.Goals as goal
 

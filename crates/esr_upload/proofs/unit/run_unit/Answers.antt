@@ -10,9 +10,10 @@ use Rattle.esr_desk.specs.Unit.Shown.{IsOf}
 use Rattle.esr_desk.specs.Grew.{grew_by_none, grew_by_on}
 use Rattle.esr_upload.specs.Refused.{told_of}
 use Rattle.esr_upload.specs.Trouble.{Shown}
-use Rattle.esr_upload.proofs.Going.{worked_none}
+use Rattle.esr_upload.specs.Runs.{worked_none}
 use Rattle.esr_upload.proofs.Drawing.{shard_fails, took_of, took_unit}
-use Rattle.esr_upload.proofs.Refusing.{may_end, steady_shard, end_shown, end_present, unit_ended}
+use Rattle.esr_upload.specs.Ends.{may_end}
+use Rattle.esr_upload.proofs.Refusing.{steady_shard, end_shown, end_present, unit_ended}
 use Rattle.esr_upload.proofs.unit.run_unit.Goals as goal
 use Rattle.esr_upload.proofs.unit.run_unit.Goals.{In-Err-work}
 
@@ -55,7 +56,8 @@ of_at g c =
 
 -- where that is steady the shard has no fault
 quiet_at : (g : _) (c : In-Err-work g)
-    → g.Q.Desk.start.steady (g.S.Shard.Shard.told c.work.new.shard).address.place (g.S.Shard.Shard.told c.work.new.shard).address.index (g.S.Shard.Shard.told c.work.new.shard).address.number ≡ true → g.S.Shard.Counted.faults c.work.new.shard ≡ 0
+    → g.Q.Desk.start.steady (g.S.Shard.Shard.told c.work.new.shard).address.place (g.S.Shard.Shard.told c.work.new.shard).address.index (g.S.Shard.Shard.told c.work.new.shard).address.number ≡ true
+    → g.S.Shard.Counted.faults c.work.new.shard ≡ 0
 quiet_at g c =
     let shard = c.work.new.shard in
     let made = c.in-Ok.ensures in

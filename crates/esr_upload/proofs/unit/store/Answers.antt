@@ -2,12 +2,14 @@ use Rattle.std.proofs.Common.{◌≡◌, ℕ, ◌+◌, ◌∙◌, [], Some, refl
 use Rattle.esr_desk.specs.Calls.{Call, HasTaken}
 use Rattle.esr_desk.specs.Start.{ticket_of}
 use Rattle.esr_upload.specs.Entries.{new_count}
-use Rattle.esr_upload.proofs.Going.{went_on, fetched_later}
-use Rattle.esr_upload.proofs.Ending.{done_on}
+use Rattle.esr_upload.specs.Runs.{went_on}
+use Rattle.esr_upload.proofs.Going.{fetched_later}
+use Rattle.esr_upload.specs.Ends.{done_on}
 use Rattle.esr_upload.proofs.Drawing.{ok_on, err_on}
 use Rattle.esr_desk.specs.Grew.{grew_by_on}
 use Rattle.esr_upload.specs.Stored.{AreBelow}
-use Rattle.esr_upload.proofs.Closing.{ready, drew_last, base_ahead, none_below}
+use Rattle.esr_upload.specs.BaseReads.{none_below}
+use Rattle.esr_upload.proofs.Closing.{ready, drew_last, base_ahead}
 use Rattle.esr_desk.specs.Evidence.{evidence}
 use Rattle.esr_upload.specs.Trouble.{Shown, shown_any}
 use Rattle.esr_upload.proofs.Refusing.{on_err}

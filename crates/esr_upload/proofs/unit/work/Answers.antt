@@ -1,4 +1,4 @@
-use Rattle.std.proofs.Common.{◌≡◌, ◌+◌, ◌∙◌, true, false, List, Option, option_map, IfErr, sym, ap, subst, refl}
+use Rattle.std.proofs.Common.{◌≡◌, ◌+◌, ◌∙◌, true, false, List, Option, option_map, IfErr, sym, ap, subst, refl, arith}
 use Rattle.esr_formats.specs.Ids.{number_of}
 use Rattle.esr_model.specs.Names.{ShardIndex}
 use Rattle.esr_core.specs.Entry.{DrawStep, FetchStep, DrawnFrom}
@@ -12,11 +12,11 @@ use Rattle.esr_unit.specs.declared.trouble.Trouble.TheVariants.{Step}
 use Rattle.esr_upload.specs.Entries.{new_count}
 use Rattle.esr_upload.specs.Trouble.{Shown, shown_any}
 use Rattle.esr_upload.specs.Worked.{Went}
-use Rattle.esr_upload.proofs.Going.{went_on, went_same, fetched_later, same_on, same_read, steady_on}
-use Rattle.esr_upload.proofs.Ending.{done_on, if_err}
-use Rattle.esr_upload.proofs.Drawing.{can_draw, has_drawn, drawn_for, drew_went, ok_on, err_on}
-use Rattle.esr_upload.proofs.Refusing.{passed, step_shown, read_shown}
-use Rattle.std.proofs.Common.{arith}
+use Rattle.esr_upload.specs.Runs.{went_on, went_same, drew_went}
+use Rattle.esr_upload.proofs.Going.{fetched_later, same_on, same_read, steady_on}
+use Rattle.esr_upload.specs.Ends.{done_on, if_err, passed, step_shown}
+use Rattle.esr_upload.proofs.Drawing.{can_draw, has_drawn, drawn_for, ok_on, err_on}
+use Rattle.esr_upload.proofs.Refusing.{read_shown}
 use Rattle.esr_core.specs.World.{Ticket}
 use Rattle.esr_desk.specs.Made.{none_fresh}
 use Rattle.esr_desk.specs.Told.{none_tells, draw_fresh, draw_tells}

@@ -1,4 +1,5 @@
 use Rattle.std.proofs.Common.{◌∙◌, List, map, take, sym, ap, subst}
+use Rattle.esr_model.specs.Lists.{Has-map}
 use Rattle.esr_names.specs.declared.blob.BlobName.TheVariants.{Root}
 use Rattle.esr_model.specs.Names.{BlobName}
 use Rattle.esr_names.specs.IdText.{id_text}
@@ -7,7 +8,7 @@ use Rattle.esr_desk.specs.Own.{caller_of}
 use Rattle.esr_verify.specs.Steps.{reading}
 use Rattle.esr_verify.specs.Went.{Went}
 use Rattle.esr_verify.specs.Done.{HasDone, HasMade}
-use Rattle.esr_verify.proofs.Listing.{has_at, has_map, not_before, names_more, names_all, item_at, reading_both}
+use Rattle.esr_verify.proofs.Listing.{has_at, not_before, names_more, names_all, item_at, reading_both}
 use Rattle.esr_verify.proofs.Going.{went_none, went_on, went_as, kept_none, kept_on}
 use Rattle.esr_verify.proofs.Making.{read_fresh, read_made}
 use Rattle.esr_verify.proofs.Doing.{read_done}
@@ -33,7 +34,7 @@ read_test-requires-clause-committed g c κs within =
     let names = c.args.names.now in
     let items = c.as_slice-name-items.result.now in
     let here = item_at items names c.loop-name.name-index (Root 0) c.as_slice-name-items.ensures c.loop-name-test.true in
-    c.loop-name.invariant.done.committed _ (has_map name_of names _ (has_at names c.loop-name.name-index _ here.0 here.1))
+    c.loop-name.invariant.done.committed _ (Has-map name_of names _ (has_at names c.loop-name.name-index _ here.0 here.1))
 
 pub read_test-requires-clause-once : goal.read_test-requires-clause-once
 read_test-requires-clause-once g c κs within =

@@ -20,6 +20,6 @@ invariant_of-self c = rw (ops c, deletes c) (left_keeps c.self.inside.ops.items 
 
 pub returns : goal.returns
 returns c =
-    (λ j. plan_with (ops c j) (deletes c j) c.self.inside.completed.items c.self.inside.seats.items c.self.inside.next_op c.self.inside.restores.items)
-    ∙ left_is c.self.inside.ops.items c.self.inside.deletes.items c.args.number c.self.inside.completed.items c.self.inside.seats.items c.self.inside.next_op c.self.inside.restores.items
+    (λ j. plan_with (ops c j) (deletes c j) c.self.inside.completed.items c.self.inside.tickets c.self.inside.next_op c.self.inside.restores.items)
+    ∙ left_is c.self.inside.ops.items c.self.inside.deletes.items c.args.number c.self.inside.completed.items c.self.inside.tickets c.self.inside.next_op c.self.inside.restores.items
     ∙ ap (λ (p : Plan). without_op p c.args.number) c.self.view_is

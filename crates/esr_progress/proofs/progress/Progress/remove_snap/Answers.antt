@@ -17,6 +17,6 @@ invariant_of-self c = rw (ops c) (snap_left_keeps c.self.inside.ops.items c.self
 
 pub returns : goal.returns
 returns c =
-    (λ j. plan_with (ops c j) c.self.inside.deletes.items c.self.inside.completed.items c.self.inside.seats.items c.self.inside.next_op c.self.inside.restores.items)
-    ∙ snap_left_is c.self.inside.ops.items c.self.inside.deletes.items c.args.number c.self.inside.completed.items c.self.inside.seats.items c.self.inside.next_op c.self.inside.restores.items
+    (λ j. plan_with (ops c j) c.self.inside.deletes.items c.self.inside.completed.items c.self.inside.tickets c.self.inside.next_op c.self.inside.restores.items)
+    ∙ snap_left_is c.self.inside.ops.items c.self.inside.deletes.items c.args.number c.self.inside.completed.items c.self.inside.tickets c.self.inside.next_op c.self.inside.restores.items
     ∙ ap (λ (p : Plan). without_snap p c.args.number) c.self.view_is

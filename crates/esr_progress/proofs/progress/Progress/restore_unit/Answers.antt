@@ -1,4 +1,4 @@
-use Rattle.std.proofs.Common.{◌≡◌, ◌+◌, ◌<◌, ℕ, suc, None, List, arith, length, w64, to_z, of_z, subst, ap}
+use Rattle.std.proofs.Common.{◌≡◌, ◌<◌, ℕ, None, List, arith, length, w64, to_z, of_z, subst, ap}
 use Rattle.std.specs.Prelude.{IfSome, slice_get}
 use Rattle.std.proofs.Math.ListN.{set}
 use Rattle.std.proofs.lemmas.Int.{to_z-of_z}
@@ -13,7 +13,7 @@ use Rattle.esr_progress.proofs.progress.Progress.restore_unit.Goals as goal
 
 pub returns-in_default : goal.returns-in_default
 returns-in_default c w term is =
-    none_is_unread c.self.inside.ops.items c.self.inside.deletes.items c.self.inside.completed.items c.self.inside.seats.items c.self.inside.next_op c.self.inside.restores.items c.args.self.now c.self.view_is c.self.invariant w is.plan
+    none_is_unread c.self.inside.ops.items c.self.inside.deletes.items c.self.inside.completed.items c.self.inside.tickets c.self.inside.next_op c.self.inside.restores.items c.args.self.now c.self.view_is c.self.invariant w is.plan
     (subst (λ (es : List (ℕ × RestorePlan)). NoneUnread es (length es)) c.deref.ensures.value c.in_default.ensures)
 
 pub index-restore-requires : goal.index-restore-requires
@@ -34,20 +34,19 @@ given_restores-requires c =
     let lt : c.in-Some.at < length c.deref.result.now = slice_get_within c.deref.result.now c.in-Some.at r.e r.there in
     omega (arith, c.deref.ensures.len, c.deref-2.ensures.len)
 
-pub with_reader-requires : goal.with_reader-requires
-with_reader-requires c =
-    restore_numbers c.self.inside.restores.items c.deref-2.result.now c.deref-2.ensures.value c.self.inside.ops.items c.self.inside.deletes.items c.self.inside.completed.items c.self.inside.seats.items c.self.inside.next_op c.args.self.now c.self.view_is c.self.invariant
+pub with_reader-requires-clause-numbers : goal.with_reader-requires-clause-numbers
+with_reader-requires-clause-numbers c =
+    restore_numbers c.self.inside.restores.items c.deref-2.result.now c.deref-2.ensures.value c.self.inside.ops.items c.self.inside.deletes.items c.self.inside.completed.items c.self.inside.tickets c.self.inside.next_op c.args.self.now c.self.view_is c.self.invariant
     c.in-Some.at c.index-restore.result.now
     (restore_there c.self.inside.restores.items c.deref.result.now c.deref.ensures.value c.in-Some.at c.in-Some.i c.in-Some.ensures c.index-restore.result.now c.index-restore.ensures)
-    c.shard-shard.result (c.len.result + 1) c.in_ok-restores.restores.items c.in_ok-restores.ensures
+    c.shard-shard.result c.next-ticket.result c.in_ok-restores.restores.items c.in_ok-restores.ensures
 
 pub returns : goal.returns
 returns c w term is =
     let copy : Copied = record { safe = to_z w64 (of_z w64 c.args.safe); root = c.in_ok-try_clone.field-0; base = None } in
-    let count : c.len.result + 1 ≡ suc (length c.self.inside.seats.items) = omega (arith, c.len.ensures) in
-    let given_is = subst (λ (es : List (ℕ × RestorePlan)). IfSome (slice_get es c.in-Some.at) (λ (x : ℕ × RestorePlan). c.in_ok-restores.restores.items ≡ set es c.in-Some.at (given_restore c.shard-shard.result (c.len.result + 1) x))) c.deref-2.ensures.value c.in_ok-restores.ensures in
-    restore_is c.self.inside.ops.items c.self.inside.deletes.items c.self.inside.completed.items c.self.inside.seats.items c.self.inside.next_op c.self.inside.restores.items c.args.self.now c.self.view_is c.self.invariant w is.plan c.in-Some.at c.in-Some.i
+    let given_is = subst (λ (es : List (ℕ × RestorePlan)). IfSome (slice_get es c.in-Some.at) (λ (x : ℕ × RestorePlan). c.in_ok-restores.restores.items ≡ set es c.in-Some.at (given_restore c.shard-shard.result c.next-ticket.result x))) c.deref-2.ensures.value c.in_ok-restores.ensures in
+    restore_is c.self.inside.ops.items c.self.inside.deletes.items c.self.inside.completed.items c.self.inside.tickets c.self.inside.next_op c.self.inside.restores.items c.args.self.now c.self.view_is c.self.invariant w is.plan c.in-Some.at c.in-Some.i
     (unread_in c.self.inside.restores.items c.deref.result.now c.deref.ensures.value c.in-Some.at c.in-Some.i c.in-Some.ensures) c.index-restore.result.now
     (restore_there c.self.inside.restores.items c.deref.result.now c.deref.ensures.value c.in-Some.at c.in-Some.i c.in-Some.ensures c.index-restore.result.now c.index-restore.ensures)
-    c.rule.ensures (c.len.result + 1) count c.number.result c.number.ensures c.in_ok-work.field-0 c.shard-shard.result copy c.shard-shard.ensures c.in_ok-work.ensures (root_of c.args.root.now) (count_of c.args.safe) is.safe_is is.root_is
+    c.rule.ensures c.next-ticket.result c.next-ticket.ensures c.number.result c.number.ensures c.in_ok-work.field-0 c.shard-shard.result copy c.shard-shard.ensures c.in_ok-work.ensures (root_of c.args.root.now) (count_of c.args.safe) is.safe_is is.root_is
     (ap count_of (to_z-of_z w64 c.args.safe c.ranges.safe)) (ap root_of c.in_ok-try_clone.ensures) c.in_ok-restores.restores.items given_is c.in_ok-with_reader.field-0 c.in_ok-with_reader.ensures

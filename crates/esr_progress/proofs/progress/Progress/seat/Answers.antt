@@ -1,17 +1,7 @@
-use Rattle.std.proofs.Common.{List, sym, ap, ◌∙◌}
+use Rattle.std.proofs.Common.{ap, ◌∙◌}
 use Rattle.std.specs.FinMap as fin
-use Rattle.esr_ops.specs.declared.unit.Slot.{Slot}
 use Rattle.esr_ops.specs.Plan.{Plan}
-use Rattle.esr_ops.specs.Seats.{seat_at, seat_in, told_in}
-use Rattle.esr_progress.specs.SeatMaps.{get-seats}
 use Rattle.esr_progress.proofs.progress.Progress.seat.Goals as goal
 
-pub returns-in-Some : goal.returns-in-Some
-returns-in-Some c =
-    c.seat.ensures ∙ ap (told_in seat_in) (sym c.in-Some.is ∙ c.slot_at.ensures ∙ ap (λ (xs : List Slot). seat_at xs c.args.ticket) c.deref.ensures.value)
-    ∙ sym (get-seats c.self.inside.seats.items c.args.ticket) ∙ ap (λ (p : Plan). fin.get p.seats c.args.ticket) c.self.view_is
-
-pub returns-in-None : goal.returns-in-None
-returns-in-None c =
-    ap (told_in seat_in) (sym c.in-None.is ∙ c.slot_at.ensures ∙ ap (λ (xs : List Slot). seat_at xs c.args.ticket) c.deref.ensures.value)
-    ∙ sym (get-seats c.self.inside.seats.items c.args.ticket) ∙ ap (λ (p : Plan). fin.get p.seats c.args.ticket) c.self.view_is
+pub returns : goal.returns
+returns c = c.seat.ensures ∙ ap (λ (p : Plan). fin.get p.seats c.args.ticket) c.self.view_is

@@ -14,7 +14,6 @@ invariant_of-result c =
 pub returns : goal.returns
 returns c =
     let completed = c.in_ok-completed.ensures.items ∙ c.as_slice.ensures.value in
-    let seats = c.in_ok-seats.ensures.items ∙ c.as_slice-2.ensures.value in
     let restores = c.in_ok-restores.ensures ∙ c.deref.ensures.value in
-    (λ j. plan_with c.args.ops.items c.args.deletes.items (completed j) (seats j) c.args.next_op (restores j))
+    (λ j. plan_with c.args.ops.items c.args.deletes.items (completed j) (c.in_ok-tickets.ensures j) c.args.next_op (restores j))
     ∙ ap (λ (q : Plan). record q { ops = fin.from_entries c.args.ops.items; deletes = fin.from_entries c.args.deletes.items; next_op = c.args.next_op }) c.self.view_is

@@ -1,13 +1,14 @@
 use Rattle.std.proofs.Common.{List, map, refl, sym, ap, ◌∙◌, subst}
 use Rattle.std.proofs.lemmas.Bool.{true≢false}
+use Rattle.esr_model.specs.Loops.{has_at, every_more, every_all}
 use Rattle.esr_root.specs.Root.{Root as CodeRoot, IsRoot}
 use Rattle.esr_root.specs.declared.indices.RootIndex.{RootIndex as CodeIndex}
 use Rattle.esr_formats.specs.Roots.{root_of, root_index_of}
 use Rattle.esr_model.specs.Values.{Has, RootIndex}
 use Rattle.esr_reach.specs.Reading.{HasShards}
 use Rattle.esr_reach.specs.Reached.{generation_at}
-use Rattle.esr_reach.proofs.Apart.{root_single, one_each}
-use Rattle.esr_reach.proofs.Loops.{has_at, every_more, every_all}
+use Rattle.esr_reach.specs.OnceEach.{one_each}
+use Rattle.esr_reach.proofs.Apart.{root_single}
 use Rattle.esr_reach.proofs.Shards.{each_held}
 use Rattle.esr_reach.proofs.held.ShardIndices.has_each.Goals as goal
 

@@ -1,11 +1,11 @@
 use Rattle.std.proofs.Common.{◌≡◌, ℕ, false, List, map, Option, Some, option_map, is_some, refl, sym, ap, ◌∙◌, subst}
 use Rattle.std.proofs.lemmas.Bool.{true≢false}
+use Rattle.esr_model.specs.Loops.{all}
 use Rattle.esr_names.specs.declared.ids.Id.{Id}
 use Rattle.esr_formats.specs.Ids.{number_of}
 use Rattle.esr_formats.specs.Shards.{shard_index_of}
 use Rattle.esr_model.specs.Image.{at_shard}
 use Rattle.esr_reach.specs.Held.{held_at}
-use Rattle.esr_reach.proofs.Loops.{all}
 use Rattle.esr_reach.proofs.Shards.{copied_some, unheld, held_more}
 use Rattle.esr_reach.proofs.held.ShardIndices.has_shards.Goals as goal
 use Rattle.esr_reach.proofs.held.ShardIndices.has_shards.Goals.{else-is_some-via-then-is_some+else-is_none, else-is_some-via-else-is_some}

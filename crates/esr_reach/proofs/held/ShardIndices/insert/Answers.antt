@@ -2,7 +2,8 @@ use Rattle.std.proofs.Common.{List, map, sym, subst}
 use Rattle.esr_formats.specs.Shards.{shard_index_of}
 use Rattle.esr_reach.specs.Held.{HeldShard, held_of, Holds}
 use Rattle.esr_reach.proofs.Apart.{AreIndexed, indexed_insert}
-use Rattle.esr_reach.proofs.Comparing.{shard_cmp, held_insert}
+use Rattle.esr_reach.specs.NameOrder.{shard_cmp}
+use Rattle.esr_reach.proofs.Comparing.{held_insert}
 use Rattle.esr_reach.proofs.held.ShardIndices.insert.Goals as goal
 
 pub invariant_of-self-2 : goal.invariant_of-self-2

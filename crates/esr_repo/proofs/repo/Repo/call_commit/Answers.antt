@@ -6,8 +6,7 @@ use Rattle.esr_depot.specs.Changes.{Committed, CommitMay}
 use Rattle.esr_formats.specs.Names.{name_of}
 use Rattle.esr_desk.specs.Entries.{step_of}
 use Rattle.esr_desk.specs.Start.{formats_of}
-use Rattle.esr_repo.specs.Repo.{Kept}
-use Rattle.esr_repo.proofs.BlobCalls.{Before, Pushed, pushed_as, wanting, commit_done, commit_found, commit_taken, commit_fault}
+use Rattle.esr_repo.proofs.BlobCalls.{before_step, Pushed, pushed_as, wanting, commit_done, commit_found, commit_taken, commit_fault}
 use Rattle.esr_repo.proofs.Pasts.{made_whole, wanting_whole}
 use Rattle.esr_repo.proofs.Failing.{failed_so, same_faults, unfailed_faults, failed_faults}
 use Rattle.esr_repo.proofs.Calms.{calm_goes, calm_failed, calm_wanting}
@@ -15,9 +14,7 @@ use Rattle.esr_repo.proofs.repo.Repo.call_commit.Goals as goal
 
 pub invariant_of-self-in-Ok-Done : goal.invariant_of-self-in-Ok-Done
 invariant_of-self-in-Ok-Done g c =
-    let k : Kept = record { cluster = c.self.inside.cluster; root = c.self.inside.root; infos = c.self.inside.infos.items; plan = c.self.inside.progress; next = c.self.inside.next.number } in
-    let b : Before (g.D.Depot.look c.self.inside.depot) g.K.Told.start g.K.Told.clock c.self.inside.history.items k c.self.inside.deposed c.args.self.now =
-    record { laws = c.laws.ensures; repo = c.self.invariant.0.repo; view = c.self.view_is; live = c.requires.live } in
+    let b = before_step c.laws.ensures c.self.invariant.0.repo c.self.view_is c.requires.live in
     let e : Entry = record { who = c.args.who; step = step_of c.args.step; reply = WasDone } in
     let p : Pushed c.self.inside.history.items c.reserve.new.self.items c.push_reserved.new.self.items e = record { reserved = c.reserve.ensures.items; pushed = c.push_reserved.ensures.items } in (
       made_whole b g.K.Told.past c.self.invariant.0.past (g.met.D.Depot.only_now c.commit.new.self)
@@ -28,17 +25,13 @@ invariant_of-self-in-Ok-Done g c =
 
 pub returns-in-Ok-Done-clause-step : goal.returns-in-Ok-Done-clause-step
 returns-in-Ok-Done-clause-step g c =
-    let k : Kept = record { cluster = c.self.inside.cluster; root = c.self.inside.root; infos = c.self.inside.infos.items; plan = c.self.inside.progress; next = c.self.inside.next.number } in
-    let b : Before (g.D.Depot.look c.self.inside.depot) g.K.Told.start g.K.Told.clock c.self.inside.history.items k c.self.inside.deposed c.args.self.now =
-    record { laws = c.laws.ensures; repo = c.self.invariant.0.repo; view = c.self.view_is; live = c.requires.live } in
+    let b = before_step c.laws.ensures c.self.invariant.0.repo c.self.view_is c.requires.live in
     let made = commit_done b (g.D.Depot.look c.commit.new.self) c.args.who (step_of c.args.step) (name_of c.args.stage.name) (g.D.Stage.Stage.contents c.args.stage.stage) c.requires.may.0 c.requires.may.1 c.requires.may.2 c.requires.goes c.reads_back.ensures (g.D.Stage.Stage.name c.args.stage.stage) c.args.stage.named c.in-Ok-Done.field-0 c.in-Ok-Done.field-0-is c.in-Ok-Done.ensures.call c.reserve.new.self.items c.push_reserved.new.self.items (record { reserved = c.reserve.ensures.items; pushed = c.push_reserved.ensures.items }) in
     (made.0.added, ap (λ (i : Option Image). told_blob (formats_of g.K.Told.start) i (name_of c.args.stage.name)) made.0.image_is ∙ made.1)
 
 pub invariant_of-self-then-is_metadata : goal.invariant_of-self-then-is_metadata
 invariant_of-self-then-is_metadata g c =
-    let k : Kept = record { cluster = c.self.inside.cluster; root = c.self.inside.root; infos = c.self.inside.infos.items; plan = c.self.inside.progress; next = c.self.inside.next.number } in
-    let b : Before (g.D.Depot.look c.self.inside.depot) g.K.Told.start g.K.Told.clock c.self.inside.history.items k c.self.inside.deposed c.args.self.now =
-    record { laws = c.laws.ensures; repo = c.self.invariant.0.repo; view = c.self.view_is; live = c.requires.live } in
+    let b = before_step c.laws.ensures c.self.invariant.0.repo c.self.view_is c.requires.live in
     let e : Entry = record { who = c.args.who; step = step_of c.args.step; reply = WasThere } in
     let p : Pushed c.self.inside.history.items c.reserve.new.self.items c.push_reserved-then-is_metadata.new.self.items e = record { reserved = c.reserve.ensures.items; pushed = c.push_reserved-then-is_metadata.ensures.items } in (
       made_whole b g.K.Told.past c.self.invariant.0.past (g.met.D.Depot.only_now c.commit.new.self)
@@ -49,16 +42,12 @@ invariant_of-self-then-is_metadata g c =
 
 pub returns-then-is_metadata-clause-step : goal.returns-then-is_metadata-clause-step
 returns-then-is_metadata-clause-step g c =
-    let k : Kept = record { cluster = c.self.inside.cluster; root = c.self.inside.root; infos = c.self.inside.infos.items; plan = c.self.inside.progress; next = c.self.inside.next.number } in
-    let b : Before (g.D.Depot.look c.self.inside.depot) g.K.Told.start g.K.Told.clock c.self.inside.history.items k c.self.inside.deposed c.args.self.now =
-    record { laws = c.laws.ensures; repo = c.self.invariant.0.repo; view = c.self.view_is; live = c.requires.live } in
+    let b = before_step c.laws.ensures c.self.invariant.0.repo c.self.view_is c.requires.live in
     ((commit_found b (g.D.Depot.look c.commit.new.self) c.args.who (step_of c.args.step) (name_of c.args.stage.name) (g.D.Stage.Stage.contents c.args.stage.stage) c.requires.may.0 c.requires.may.1 c.requires.may.2 c.requires.goes c.reads_back.ensures (g.D.Stage.Stage.name c.args.stage.stage) c.args.stage.named c.in-Ok-Exists.field-0 c.in-Ok-Exists.field-0-is c.in-Ok-Exists.ensures.call (c.is_metadata.ensures.yes_it_is c.if-is_metadata.true) c.reserve.new.self.items c.push_reserved-then-is_metadata.new.self.items (record { reserved = c.reserve.ensures.items; pushed = c.push_reserved-then-is_metadata.ensures.items })).added, c.is_metadata.ensures.yes_it_is c.if-is_metadata.true)
 
 pub invariant_of-self-in-Ok-Exists : goal.invariant_of-self-in-Ok-Exists
 invariant_of-self-in-Ok-Exists g c =
-    let k : Kept = record { cluster = c.self.inside.cluster; root = c.self.inside.root; infos = c.self.inside.infos.items; plan = c.self.inside.progress; next = c.self.inside.next.number } in
-    let b : Before (g.D.Depot.look c.self.inside.depot) g.K.Told.start g.K.Told.clock c.self.inside.history.items k c.self.inside.deposed c.args.self.now =
-    record { laws = c.laws.ensures; repo = c.self.invariant.0.repo; view = c.self.view_is; live = c.requires.live } in
+    let b = before_step c.laws.ensures c.self.invariant.0.repo c.self.view_is c.requires.live in
     let e : Entry = record { who = c.args.who; step = step_of c.args.step; reply = Refused (NameTaken (name_of c.args.stage.name)) } in
     let p : Pushed c.self.inside.history.items c.reserve.new.self.items c.push_reserved-in-Ok-Exists.new.self.items e = record { reserved = c.reserve.ensures.items; pushed = c.push_reserved-in-Ok-Exists.ensures.items } in (
       made_whole b g.K.Told.past c.self.invariant.0.past (g.met.D.Depot.only_now c.commit.new.self)
@@ -69,16 +58,12 @@ invariant_of-self-in-Ok-Exists g c =
 
 pub returns-else-is_metadata-clause-step : goal.returns-else-is_metadata-clause-step
 returns-else-is_metadata-clause-step g c =
-    let k : Kept = record { cluster = c.self.inside.cluster; root = c.self.inside.root; infos = c.self.inside.infos.items; plan = c.self.inside.progress; next = c.self.inside.next.number } in
-    let b : Before (g.D.Depot.look c.self.inside.depot) g.K.Told.start g.K.Told.clock c.self.inside.history.items k c.self.inside.deposed c.args.self.now =
-    record { laws = c.laws.ensures; repo = c.self.invariant.0.repo; view = c.self.view_is; live = c.requires.live } in
+    let b = before_step c.laws.ensures c.self.invariant.0.repo c.self.view_is c.requires.live in
     (commit_taken b (g.D.Depot.look c.commit.new.self) c.args.who (step_of c.args.step) (name_of c.args.stage.name) (g.D.Stage.Stage.contents c.args.stage.stage) c.requires.may.0 c.requires.may.1 c.requires.may.2 c.requires.goes c.reads_back.ensures (g.D.Stage.Stage.name c.args.stage.stage) c.args.stage.named c.in-Ok-Exists.field-0 c.in-Ok-Exists.field-0-is c.in-Ok-Exists.ensures.call (c.is_metadata.ensures.it_is_not c.if-is_metadata.false) c.reserve.new.self.items c.push_reserved-in-Ok-Exists.new.self.items (record { reserved = c.reserve.ensures.items; pushed = c.push_reserved-in-Ok-Exists.ensures.items })).added
 
 pub invariant_of-self-in-Err-Memory : goal.invariant_of-self-in-Err-Memory
 invariant_of-self-in-Err-Memory g c =
-    let k : Kept = record { cluster = c.self.inside.cluster; root = c.self.inside.root; infos = c.self.inside.infos.items; plan = c.self.inside.progress; next = c.self.inside.next.number } in
-    let b : Before (g.D.Depot.look c.self.inside.depot) g.K.Told.start g.K.Told.clock c.self.inside.history.items k c.self.inside.deposed c.args.self.now =
-    record { laws = c.laws.ensures; repo = c.self.invariant.0.repo; view = c.self.view_is; live = c.requires.live } in (
+    let b = before_step c.laws.ensures c.self.invariant.0.repo c.self.view_is c.requires.live in (
       wanting_whole b g.K.Told.past c.self.invariant.0.past (g.D.Depot.look c.commit.new.self) c.reserve.new.self.items c.reserve.ensures.items (Committed (g.D.Stage.Stage.name c.args.stage.stage) (g.D.Stage.Stage.contents c.args.stage.stage)) (CommitMay (g.D.Stage.Stage.name c.args.stage.stage) (g.D.Stage.Stage.contents c.args.stage.stage)) c.in-Err-Memory.field-0 c.in-Err-Memory.field-0-is c.in-Err-Memory.ensures.call,
       same_faults c.reserve.new.self.items (g.D.Counted.faults c.commit.new.self) c.self.invariant.1 c.in-Err-Memory.ensures.cause.later c.reserve.ensures.items,
       calm_wanting c.self.invariant.2 (g.D.Depot.look c.commit.new.self) c.reserve.new.self.items c.reserve.ensures.items (Committed (g.D.Stage.Stage.name c.args.stage.stage) (g.D.Stage.Stage.contents c.args.stage.stage)) (CommitMay (g.D.Stage.Stage.name c.args.stage.stage) (g.D.Stage.Stage.contents c.args.stage.stage)) c.in-Err-Memory.field-0 c.in-Err-Memory.field-0-is c.in-Err-Memory.ensures.call,
@@ -86,16 +71,12 @@ invariant_of-self-in-Err-Memory g c =
 
 pub returns-in-Err-Memory-clause-step : goal.returns-in-Err-Memory-clause-step
 returns-in-Err-Memory-clause-step g c =
-    let k : Kept = record { cluster = c.self.inside.cluster; root = c.self.inside.root; infos = c.self.inside.infos.items; plan = c.self.inside.progress; next = c.self.inside.next.number } in
-    let b : Before (g.D.Depot.look c.self.inside.depot) g.K.Told.start g.K.Told.clock c.self.inside.history.items k c.self.inside.deposed c.args.self.now =
-    record { laws = c.laws.ensures; repo = c.self.invariant.0.repo; view = c.self.view_is; live = c.requires.live } in
+    let b = before_step c.laws.ensures c.self.invariant.0.repo c.self.view_is c.requires.live in
     (wanting b (g.D.Depot.look c.commit.new.self) c.reserve.new.self.items c.reserve.ensures.items (Committed (g.D.Stage.Stage.name c.args.stage.stage) (g.D.Stage.Stage.contents c.args.stage.stage)) (CommitMay (g.D.Stage.Stage.name c.args.stage.stage) (g.D.Stage.Stage.contents c.args.stage.stage)) c.in-Err-Memory.field-0 c.in-Err-Memory.field-0-is c.in-Err-Memory.ensures.call).0
 
 pub invariant_of-self-in-Err-Failed : goal.invariant_of-self-in-Err-Failed
 invariant_of-self-in-Err-Failed g c =
-    let k : Kept = record { cluster = c.self.inside.cluster; root = c.self.inside.root; infos = c.self.inside.infos.items; plan = c.self.inside.progress; next = c.self.inside.next.number } in
-    let b : Before (g.D.Depot.look c.self.inside.depot) g.K.Told.start g.K.Told.clock c.self.inside.history.items k c.self.inside.deposed c.args.self.now =
-    record { laws = c.laws.ensures; repo = c.self.invariant.0.repo; view = c.self.view_is; live = c.requires.live } in
+    let b = before_step c.laws.ensures c.self.invariant.0.repo c.self.view_is c.requires.live in
     let e : Entry = record { who = c.args.who; step = step_of c.args.step; reply = Refused DepotFault } in
     let p : Pushed c.self.inside.history.items c.reserve.new.self.items c.push_reserved-in-Err-Failed.new.self.items e = pushed_as c.reserve.new.self.items c.push_reserved-in-Err-Failed.new.self.items c.faulted-failed.result c.reserve.ensures.items c.push_reserved-in-Err-Failed.ensures.items c.faulted-failed.ensures in (
       made_whole b g.K.Told.past c.self.invariant.0.past (g.met.D.Depot.only_now c.commit.new.self)
@@ -106,7 +87,5 @@ invariant_of-self-in-Err-Failed g c =
 
 pub returns-in-Err-Failed-clause-step : goal.returns-in-Err-Failed-clause-step
 returns-in-Err-Failed-clause-step g c =
-    let k : Kept = record { cluster = c.self.inside.cluster; root = c.self.inside.root; infos = c.self.inside.infos.items; plan = c.self.inside.progress; next = c.self.inside.next.number } in
-    let b : Before (g.D.Depot.look c.self.inside.depot) g.K.Told.start g.K.Told.clock c.self.inside.history.items k c.self.inside.deposed c.args.self.now =
-    record { laws = c.laws.ensures; repo = c.self.invariant.0.repo; view = c.self.view_is; live = c.requires.live } in
+    let b = before_step c.laws.ensures c.self.invariant.0.repo c.self.view_is c.requires.live in
     (commit_fault b (g.D.Depot.look c.commit.new.self) c.args.who (step_of c.args.step) (name_of c.args.stage.name) (g.D.Stage.Stage.contents c.args.stage.stage) c.requires.may.0 c.requires.may.1 c.requires.may.2 c.requires.goes c.reads_back.ensures (g.D.Stage.Stage.name c.args.stage.stage) c.args.stage.named c.in-Err-Failed.field-0 c.in-Err-Failed.field-0-is c.in-Err-Failed.ensures.call c.reserve.new.self.items c.push_reserved-in-Err-Failed.new.self.items (pushed_as c.reserve.new.self.items c.push_reserved-in-Err-Failed.new.self.items c.faulted-failed.result c.reserve.ensures.items c.push_reserved-in-Err-Failed.ensures.items c.faulted-failed.ensures)).added

@@ -6,8 +6,7 @@ use Rattle.esr_depot.specs.Calls.{SameImage}
 use Rattle.esr_formats.specs.Names.{name_of}
 use Rattle.esr_desk.specs.Entries.{step_of}
 use Rattle.esr_desk.specs.Start.{formats_of}
-use Rattle.esr_repo.specs.Repo.{Kept}
-use Rattle.esr_repo.proofs.BlobCalls.{Before, Pushed, pushed_as, wanting, fetch_found, fetch_left, fetch_told, fetch_bytes, fetch_absent, fetch_fault}
+use Rattle.esr_repo.proofs.BlobCalls.{before_step, Pushed, pushed_as, wanting, fetch_found, fetch_left, fetch_told, fetch_bytes, fetch_absent, fetch_fault}
 use Rattle.esr_repo.proofs.Pasts.{made_whole, wanting_whole}
 use Rattle.esr_repo.proofs.Failing.{failed_so, same_faults, unfailed_faults, failed_faults}
 use Rattle.esr_repo.proofs.Calms.{calm_goes, calm_failed, calm_wanting, sure_now, found_sure}
@@ -15,9 +14,7 @@ use Rattle.esr_repo.proofs.repo.Repo.call_fetch.Goals as goal
 
 pub invariant_of-self-in-Ok-Some : goal.invariant_of-self-in-Ok-Some
 invariant_of-self-in-Ok-Some g c =
-    let k : Kept = record { cluster = c.self.inside.cluster; root = c.self.inside.root; infos = c.self.inside.infos.items; plan = c.self.inside.progress; next = c.self.inside.next.number } in
-    let b : Before (g.D.Depot.look c.self.inside.depot) g.K.Told.start g.K.Told.clock c.self.inside.history.items k c.self.inside.deposed c.args.self.now =
-    record { laws = c.laws.ensures; repo = c.self.invariant.0.repo; view = c.self.view_is; live = c.requires.live } in
+    let b = before_step c.laws.ensures c.self.invariant.0.repo c.self.view_is c.requires.live in
     let e : Entry = record { who = c.args.who; step = step_of c.args.step; reply = WasFetched } in
     let p : Pushed c.self.inside.history.items c.reserve.new.self.items c.push_reserved.new.self.items e = record { reserved = c.reserve.ensures.items; pushed = c.push_reserved.ensures.items } in (
       made_whole b g.K.Told.past c.self.invariant.0.past (g.met.D.Depot.only_now c.fetch.new.self)
@@ -28,9 +25,7 @@ invariant_of-self-in-Ok-Some g c =
 
 pub returns-in-Ok-Some-clause-step : goal.returns-in-Ok-Some-clause-step
 returns-in-Ok-Some-clause-step g c =
-    let k : Kept = record { cluster = c.self.inside.cluster; root = c.self.inside.root; infos = c.self.inside.infos.items; plan = c.self.inside.progress; next = c.self.inside.next.number } in
-    let b : Before (g.D.Depot.look c.self.inside.depot) g.K.Told.start g.K.Told.clock c.self.inside.history.items k c.self.inside.deposed c.args.self.now =
-    record { laws = c.laws.ensures; repo = c.self.invariant.0.repo; view = c.self.view_is; live = c.requires.live } in
+    let b = before_step c.laws.ensures c.self.invariant.0.repo c.self.view_is c.requires.live in
     let made = fetch_found b (g.D.Depot.look c.fetch.new.self) c.args.who (step_of c.args.step) (name_of c.args.name) c.requires.may c.requires.goes c.write_name.ensures.reads c.as_str.result.now (c.as_str.ensures.text ∙ c.in-Ok.ensures.text) c.in-Ok-Some.field-0 c.in-Ok-Some.fetch c.in-Ok-Some.field-0-is c.in-Ok-Some.ensures.present c.in-Ok-Some.ensures.call c.reserve.new.self.items c.push_reserved.new.self.items (record { reserved = c.reserve.ensures.items; pushed = c.push_reserved.ensures.items }) in
     let left = fetch_left b (g.D.Depot.look c.fetch.new.self) c.args.who (step_of c.args.step) (name_of c.args.name) c.requires.may c.requires.goes c.write_name.ensures.reads c.as_str.result.now (c.as_str.ensures.text ∙ c.in-Ok.ensures.text) g.D.Fetch.Fetch.left c.in-Ok-Some.field-0 c.in-Ok-Some.fetch c.in-Ok-Some.field-0-is c.in-Ok-Some.ensures.left in (
       made.added,
@@ -45,9 +40,7 @@ returns-in-Ok-Some-clause-sure g c = λ quiet below.
 
 pub invariant_of-self-in-Ok-None : goal.invariant_of-self-in-Ok-None
 invariant_of-self-in-Ok-None g c =
-    let k : Kept = record { cluster = c.self.inside.cluster; root = c.self.inside.root; infos = c.self.inside.infos.items; plan = c.self.inside.progress; next = c.self.inside.next.number } in
-    let b : Before (g.D.Depot.look c.self.inside.depot) g.K.Told.start g.K.Told.clock c.self.inside.history.items k c.self.inside.deposed c.args.self.now =
-    record { laws = c.laws.ensures; repo = c.self.invariant.0.repo; view = c.self.view_is; live = c.requires.live } in
+    let b = before_step c.laws.ensures c.self.invariant.0.repo c.self.view_is c.requires.live in
     let e : Entry = record { who = c.args.who; step = step_of c.args.step; reply = WasAbsent } in
     let p : Pushed c.self.inside.history.items c.reserve.new.self.items c.push_reserved-in-Ok-None.new.self.items e = record { reserved = c.reserve.ensures.items; pushed = c.push_reserved-in-Ok-None.ensures.items } in (
       made_whole b g.K.Told.past c.self.invariant.0.past (g.met.D.Depot.only_now c.fetch.new.self)
@@ -58,16 +51,12 @@ invariant_of-self-in-Ok-None g c =
 
 pub returns-in-Ok-None-clause-step : goal.returns-in-Ok-None-clause-step
 returns-in-Ok-None-clause-step g c =
-    let k : Kept = record { cluster = c.self.inside.cluster; root = c.self.inside.root; infos = c.self.inside.infos.items; plan = c.self.inside.progress; next = c.self.inside.next.number } in
-    let b : Before (g.D.Depot.look c.self.inside.depot) g.K.Told.start g.K.Told.clock c.self.inside.history.items k c.self.inside.deposed c.args.self.now =
-    record { laws = c.laws.ensures; repo = c.self.invariant.0.repo; view = c.self.view_is; live = c.requires.live } in
+    let b = before_step c.laws.ensures c.self.invariant.0.repo c.self.view_is c.requires.live in
     (fetch_absent b (g.D.Depot.look c.fetch.new.self) c.args.who (step_of c.args.step) (name_of c.args.name) c.requires.may c.requires.goes c.write_name.ensures.reads c.as_str.result.now (c.as_str.ensures.text ∙ c.in-Ok.ensures.text) c.in-Ok-None.field-0 c.in-Ok-None.field-0-is (c.in-Ok-None.ensures.absent (ap Ok c.in-Ok-None.field-0-is)) c.in-Ok-None.ensures.call c.reserve.new.self.items c.push_reserved-in-Ok-None.new.self.items (record { reserved = c.reserve.ensures.items; pushed = c.push_reserved-in-Ok-None.ensures.items })).added
 
 pub invariant_of-self-in-Err-Memory : goal.invariant_of-self-in-Err-Memory
 invariant_of-self-in-Err-Memory g c =
-    let k : Kept = record { cluster = c.self.inside.cluster; root = c.self.inside.root; infos = c.self.inside.infos.items; plan = c.self.inside.progress; next = c.self.inside.next.number } in
-    let b : Before (g.D.Depot.look c.self.inside.depot) g.K.Told.start g.K.Told.clock c.self.inside.history.items k c.self.inside.deposed c.args.self.now =
-    record { laws = c.laws.ensures; repo = c.self.invariant.0.repo; view = c.self.view_is; live = c.requires.live } in (
+    let b = before_step c.laws.ensures c.self.invariant.0.repo c.self.view_is c.requires.live in (
       wanting_whole b g.K.Told.past c.self.invariant.0.past (g.D.Depot.look c.fetch.new.self) c.reserve.new.self.items c.reserve.ensures.items (λ _. SameImage) SameImage c.in-Err-Memory.field-0 c.in-Err-Memory.field-0-is c.in-Err-Memory.ensures.call,
       same_faults c.reserve.new.self.items (g.D.Counted.faults c.fetch.new.self) c.self.invariant.1 c.in-Err-Memory.ensures.cause.later c.reserve.ensures.items,
       calm_wanting c.self.invariant.2 (g.D.Depot.look c.fetch.new.self) c.reserve.new.self.items c.reserve.ensures.items (λ _. SameImage) SameImage c.in-Err-Memory.field-0 c.in-Err-Memory.field-0-is c.in-Err-Memory.ensures.call,
@@ -75,16 +64,12 @@ invariant_of-self-in-Err-Memory g c =
 
 pub returns-in-Err-Memory-clause-step : goal.returns-in-Err-Memory-clause-step
 returns-in-Err-Memory-clause-step g c =
-    let k : Kept = record { cluster = c.self.inside.cluster; root = c.self.inside.root; infos = c.self.inside.infos.items; plan = c.self.inside.progress; next = c.self.inside.next.number } in
-    let b : Before (g.D.Depot.look c.self.inside.depot) g.K.Told.start g.K.Told.clock c.self.inside.history.items k c.self.inside.deposed c.args.self.now =
-    record { laws = c.laws.ensures; repo = c.self.invariant.0.repo; view = c.self.view_is; live = c.requires.live } in
+    let b = before_step c.laws.ensures c.self.invariant.0.repo c.self.view_is c.requires.live in
     (wanting b (g.D.Depot.look c.fetch.new.self) c.reserve.new.self.items c.reserve.ensures.items (λ _. SameImage) SameImage c.in-Err-Memory.field-0 c.in-Err-Memory.field-0-is c.in-Err-Memory.ensures.call).0
 
 pub invariant_of-self-in-Err-Failed : goal.invariant_of-self-in-Err-Failed
 invariant_of-self-in-Err-Failed g c =
-    let k : Kept = record { cluster = c.self.inside.cluster; root = c.self.inside.root; infos = c.self.inside.infos.items; plan = c.self.inside.progress; next = c.self.inside.next.number } in
-    let b : Before (g.D.Depot.look c.self.inside.depot) g.K.Told.start g.K.Told.clock c.self.inside.history.items k c.self.inside.deposed c.args.self.now =
-    record { laws = c.laws.ensures; repo = c.self.invariant.0.repo; view = c.self.view_is; live = c.requires.live } in
+    let b = before_step c.laws.ensures c.self.invariant.0.repo c.self.view_is c.requires.live in
     let e : Entry = record { who = c.args.who; step = step_of c.args.step; reply = Refused DepotFault } in
     let p : Pushed c.self.inside.history.items c.reserve.new.self.items c.push_reserved-in-Err-Failed.new.self.items e = pushed_as c.reserve.new.self.items c.push_reserved-in-Err-Failed.new.self.items c.faulted.result c.reserve.ensures.items c.push_reserved-in-Err-Failed.ensures.items c.faulted.ensures in (
       made_whole b g.K.Told.past c.self.invariant.0.past (g.met.D.Depot.only_now c.fetch.new.self)
@@ -95,7 +80,5 @@ invariant_of-self-in-Err-Failed g c =
 
 pub returns-clause-step : goal.returns-clause-step
 returns-clause-step g c =
-    let k : Kept = record { cluster = c.self.inside.cluster; root = c.self.inside.root; infos = c.self.inside.infos.items; plan = c.self.inside.progress; next = c.self.inside.next.number } in
-    let b : Before (g.D.Depot.look c.self.inside.depot) g.K.Told.start g.K.Told.clock c.self.inside.history.items k c.self.inside.deposed c.args.self.now =
-    record { laws = c.laws.ensures; repo = c.self.invariant.0.repo; view = c.self.view_is; live = c.requires.live } in
+    let b = before_step c.laws.ensures c.self.invariant.0.repo c.self.view_is c.requires.live in
     (fetch_fault b (g.D.Depot.look c.fetch.new.self) c.args.who (step_of c.args.step) (name_of c.args.name) c.requires.may c.requires.goes c.write_name.ensures.reads c.as_str.result.now (c.as_str.ensures.text ∙ c.in-Ok.ensures.text) c.in-Err-Failed.field-0 c.in-Err-Failed.field-0-is c.in-Err-Failed.ensures.call c.reserve.new.self.items c.push_reserved-in-Err-Failed.new.self.items (pushed_as c.reserve.new.self.items c.push_reserved-in-Err-Failed.new.self.items c.faulted.result c.reserve.ensures.items c.push_reserved-in-Err-Failed.ensures.items c.faulted.ensures)).added

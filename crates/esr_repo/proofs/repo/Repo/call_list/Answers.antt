@@ -3,8 +3,7 @@ use Rattle.esr_core.specs.Entry.{WasListed, Refused, DepotFault, Entry}
 use Rattle.esr_depot.specs.Calls.{SameImage}
 use Rattle.esr_desk.specs.Entries.{step_of}
 use Rattle.esr_desk.specs.Listing.{page_of}
-use Rattle.esr_repo.specs.Repo.{Kept}
-use Rattle.esr_repo.proofs.BlobCalls.{Before, Pushed, pushed_as, wanting}
+use Rattle.esr_repo.proofs.BlobCalls.{before_step, Pushed, pushed_as, wanting}
 use Rattle.esr_repo.proofs.Listings.{is_page, list_ok, list_fault}
 use Rattle.esr_repo.proofs.Pasts.{made_whole, wanting_whole}
 use Rattle.esr_repo.proofs.Failing.{failed_so, same_faults, unfailed_faults, failed_faults}
@@ -13,9 +12,7 @@ use Rattle.esr_repo.proofs.repo.Repo.call_list.Goals as goal
 
 pub invariant_of-self-in-Ok : goal.invariant_of-self-in-Ok
 invariant_of-self-in-Ok g c =
-    let k : Kept = record { cluster = c.self.inside.cluster; root = c.self.inside.root; infos = c.self.inside.infos.items; plan = c.self.inside.progress; next = c.self.inside.next.number } in
-    let b : Before (g.D.Depot.look c.self.inside.depot) g.K.Told.start g.K.Told.clock c.self.inside.history.items k c.self.inside.deposed c.args.self.now =
-    record { laws = c.laws.ensures; repo = c.self.invariant.0.repo; view = c.self.view_is; live = c.requires.live } in
+    let b = before_step c.laws.ensures c.self.invariant.0.repo c.self.view_is c.requires.live in
     let e : Entry = record { who = c.args.who; step = step_of c.args.step; reply = WasListed (page_of c.in-Ok.pages.page) } in
     let p : Pushed c.self.inside.history.items c.reserve.new.self.items c.push_reserved.new.self.items e =
     pushed_as c.reserve.new.self.items c.push_reserved.new.self.items _ c.reserve.ensures.items c.push_reserved.ensures.items (λ j. record { who = c.args.who; step = step_of c.args.step; reply = WasListed (page_of (c.in-Ok.ensures.copy j)) }) in (
@@ -27,9 +24,7 @@ invariant_of-self-in-Ok g c =
 
 pub returns-in-Ok-clause-step : goal.returns-in-Ok-clause-step
 returns-in-Ok-clause-step g c =
-    let k : Kept = record { cluster = c.self.inside.cluster; root = c.self.inside.root; infos = c.self.inside.infos.items; plan = c.self.inside.progress; next = c.self.inside.next.number } in
-    let b : Before (g.D.Depot.look c.self.inside.depot) g.K.Told.start g.K.Told.clock c.self.inside.history.items k c.self.inside.deposed c.args.self.now =
-    record { laws = c.laws.ensures; repo = c.self.invariant.0.repo; view = c.self.view_is; live = c.requires.live } in
+    let b = before_step c.laws.ensures c.self.invariant.0.repo c.self.view_is c.requires.live in
     let e : Entry = record { who = c.args.who; step = step_of c.args.step; reply = WasListed (page_of c.in-Ok.pages.page) } in
     let p : Pushed c.self.inside.history.items c.reserve.new.self.items c.push_reserved.new.self.items e =
     pushed_as c.reserve.new.self.items c.push_reserved.new.self.items _ c.reserve.ensures.items c.push_reserved.ensures.items (λ j. record { who = c.args.who; step = step_of c.args.step; reply = WasListed (page_of (c.in-Ok.ensures.copy j)) }) in
@@ -40,9 +35,7 @@ returns-in-Ok-clause-page g c = is_page (option_copied c.args.after) c.in-Ok.pag
 
 pub invariant_of-self-in-Err-Memory : goal.invariant_of-self-in-Err-Memory
 invariant_of-self-in-Err-Memory g c =
-    let k : Kept = record { cluster = c.self.inside.cluster; root = c.self.inside.root; infos = c.self.inside.infos.items; plan = c.self.inside.progress; next = c.self.inside.next.number } in
-    let b : Before (g.D.Depot.look c.self.inside.depot) g.K.Told.start g.K.Told.clock c.self.inside.history.items k c.self.inside.deposed c.args.self.now =
-    record { laws = c.laws.ensures; repo = c.self.invariant.0.repo; view = c.self.view_is; live = c.requires.live } in (
+    let b = before_step c.laws.ensures c.self.invariant.0.repo c.self.view_is c.requires.live in (
       wanting_whole b g.K.Told.past c.self.invariant.0.past (g.D.Depot.look c.list.new.self) c.reserve.new.self.items c.reserve.ensures.items (λ _. SameImage) SameImage c.in-Err-Memory.field-0 c.in-Err-Memory.field-0-is c.in-Err-Memory.ensures.call,
       same_faults c.reserve.new.self.items (g.D.Counted.faults c.list.new.self) c.self.invariant.1 c.in-Err-Memory.ensures.cause.later c.reserve.ensures.items,
       calm_wanting c.self.invariant.2 (g.D.Depot.look c.list.new.self) c.reserve.new.self.items c.reserve.ensures.items (λ _. SameImage) SameImage c.in-Err-Memory.field-0 c.in-Err-Memory.field-0-is c.in-Err-Memory.ensures.call,
@@ -50,16 +43,12 @@ invariant_of-self-in-Err-Memory g c =
 
 pub returns-in-Err-Memory-clause-step : goal.returns-in-Err-Memory-clause-step
 returns-in-Err-Memory-clause-step g c =
-    let k : Kept = record { cluster = c.self.inside.cluster; root = c.self.inside.root; infos = c.self.inside.infos.items; plan = c.self.inside.progress; next = c.self.inside.next.number } in
-    let b : Before (g.D.Depot.look c.self.inside.depot) g.K.Told.start g.K.Told.clock c.self.inside.history.items k c.self.inside.deposed c.args.self.now =
-    record { laws = c.laws.ensures; repo = c.self.invariant.0.repo; view = c.self.view_is; live = c.requires.live } in
+    let b = before_step c.laws.ensures c.self.invariant.0.repo c.self.view_is c.requires.live in
     (wanting b (g.D.Depot.look c.list.new.self) c.reserve.new.self.items c.reserve.ensures.items (λ _. SameImage) SameImage c.in-Err-Memory.field-0 c.in-Err-Memory.field-0-is c.in-Err-Memory.ensures.call).0
 
 pub invariant_of-self-in-Err-Failed : goal.invariant_of-self-in-Err-Failed
 invariant_of-self-in-Err-Failed g c =
-    let k : Kept = record { cluster = c.self.inside.cluster; root = c.self.inside.root; infos = c.self.inside.infos.items; plan = c.self.inside.progress; next = c.self.inside.next.number } in
-    let b : Before (g.D.Depot.look c.self.inside.depot) g.K.Told.start g.K.Told.clock c.self.inside.history.items k c.self.inside.deposed c.args.self.now =
-    record { laws = c.laws.ensures; repo = c.self.invariant.0.repo; view = c.self.view_is; live = c.requires.live } in
+    let b = before_step c.laws.ensures c.self.invariant.0.repo c.self.view_is c.requires.live in
     let e : Entry = record { who = c.args.who; step = step_of c.args.step; reply = Refused DepotFault } in
     let p : Pushed c.self.inside.history.items c.reserve.new.self.items c.push_reserved-in-Err-Failed.new.self.items e = pushed_as c.reserve.new.self.items c.push_reserved-in-Err-Failed.new.self.items c.faulted.result c.reserve.ensures.items c.push_reserved-in-Err-Failed.ensures.items c.faulted.ensures in (
       made_whole b g.K.Told.past c.self.invariant.0.past (g.met.D.Depot.only_now c.list.new.self)
@@ -70,9 +59,7 @@ invariant_of-self-in-Err-Failed g c =
 
 pub returns-in-Err-Failed-clause-step : goal.returns-in-Err-Failed-clause-step
 returns-in-Err-Failed-clause-step g c =
-    let k : Kept = record { cluster = c.self.inside.cluster; root = c.self.inside.root; infos = c.self.inside.infos.items; plan = c.self.inside.progress; next = c.self.inside.next.number } in
-    let b : Before (g.D.Depot.look c.self.inside.depot) g.K.Told.start g.K.Told.clock c.self.inside.history.items k c.self.inside.deposed c.args.self.now =
-    record { laws = c.laws.ensures; repo = c.self.invariant.0.repo; view = c.self.view_is; live = c.requires.live } in
+    let b = before_step c.laws.ensures c.self.invariant.0.repo c.self.view_is c.requires.live in
     let e : Entry = record { who = c.args.who; step = step_of c.args.step; reply = Refused DepotFault } in
     let p : Pushed c.self.inside.history.items c.reserve.new.self.items c.push_reserved-in-Err-Failed.new.self.items e = pushed_as c.reserve.new.self.items c.push_reserved-in-Err-Failed.new.self.items c.faulted.result c.reserve.ensures.items c.push_reserved-in-Err-Failed.ensures.items c.faulted.ensures in
     (list_fault b (g.D.Depot.look c.list.new.self) c.args.who (option_copied c.args.after) c.requires.may c.in-Err-Failed.field-0 (step_of c.args.step) c.in-Err-Failed.field-0-is c.requires.is c.in-Err-Failed.ensures.call c.requires.goes c.reserve.new.self.items c.push_reserved-in-Err-Failed.new.self.items p).added

@@ -2,8 +2,7 @@ use Rattle.std.proofs.Common.{refl, map, ◌∙◌}
 use Rattle.esr_core.specs.Entry.{WasRemoved, Refused, DepotFault, Entry}
 use Rattle.esr_formats.specs.Names.{name_of}
 use Rattle.esr_desk.specs.Entries.{step_of}
-use Rattle.esr_repo.specs.Repo.{Kept}
-use Rattle.esr_repo.proofs.BlobCalls.{Before, Pushed, pushed_as}
+use Rattle.esr_repo.proofs.BlobCalls.{before_step, Pushed, pushed_as}
 use Rattle.esr_repo.proofs.Removals.{backs_of, texts_of, removed_ok, removed_fault}
 use Rattle.esr_repo.proofs.Pasts.{made_whole}
 use Rattle.esr_repo.proofs.Failing.{unfailed_faults, failed_faults}
@@ -12,9 +11,7 @@ use Rattle.esr_repo.proofs.repo.Repo.call_remove.Goals as goal
 
 pub invariant_of-self-in-Ok-remove : goal.invariant_of-self-in-Ok-remove
 invariant_of-self-in-Ok-remove g c =
-    let k : Kept = record { cluster = c.self.inside.cluster; root = c.self.inside.root; infos = c.self.inside.infos.items; plan = c.self.inside.progress; next = c.self.inside.next.number } in
-    let b : Before (g.D.Depot.look c.self.inside.depot) g.K.Told.start g.K.Told.clock c.self.inside.history.items k c.self.inside.deposed c.args.self.now =
-    record { laws = c.laws.ensures; repo = c.self.invariant.0.repo; view = c.self.view_is; live = c.requires.live } in
+    let b = before_step c.laws.ensures c.self.invariant.0.repo c.self.view_is c.requires.live in
     let e : Entry = record { who = c.args.who; step = step_of c.args.step; reply = WasRemoved } in
     let p : Pushed c.self.inside.history.items c.reserve.new.self.items c.push_reserved.new.self.items e = record { reserved = c.reserve.ensures.items; pushed = c.push_reserved.ensures.items } in (
       made_whole b g.K.Told.past c.self.invariant.0.past (g.met.D.Depot.only_now c.remove.new.self)
@@ -25,16 +22,12 @@ invariant_of-self-in-Ok-remove g c =
 
 pub returns-in-Ok-remove-clause-step : goal.returns-in-Ok-remove-clause-step
 returns-in-Ok-remove-clause-step g c =
-    let k : Kept = record { cluster = c.self.inside.cluster; root = c.self.inside.root; infos = c.self.inside.infos.items; plan = c.self.inside.progress; next = c.self.inside.next.number } in
-    let b : Before (g.D.Depot.look c.self.inside.depot) g.K.Told.start g.K.Told.clock c.self.inside.history.items k c.self.inside.deposed c.args.self.now =
-    record { laws = c.laws.ensures; repo = c.self.invariant.0.repo; view = c.self.view_is; live = c.requires.live } in
+    let b = before_step c.laws.ensures c.self.invariant.0.repo c.self.view_is c.requires.live in
     (removed_ok b (g.D.Depot.look c.remove.new.self) c.args.who (step_of c.args.step) (map name_of c.args.names.now) c.requires.may c.requires.goes (backs_of c.args.names.now c.in-Ok.ensures.reads) c.in-Ok.texts (c.in-Ok.ensures.texts ∙ texts_of c.args.names.now) c.in-Ok-remove.field-0 c.in-Ok-remove.ensures.call c.reserve.new.self.items c.push_reserved.new.self.items (record { reserved = c.reserve.ensures.items; pushed = c.push_reserved.ensures.items })).added
 
 pub invariant_of-self-in-Err : goal.invariant_of-self-in-Err
 invariant_of-self-in-Err g c =
-    let k : Kept = record { cluster = c.self.inside.cluster; root = c.self.inside.root; infos = c.self.inside.infos.items; plan = c.self.inside.progress; next = c.self.inside.next.number } in
-    let b : Before (g.D.Depot.look c.self.inside.depot) g.K.Told.start g.K.Told.clock c.self.inside.history.items k c.self.inside.deposed c.args.self.now =
-    record { laws = c.laws.ensures; repo = c.self.invariant.0.repo; view = c.self.view_is; live = c.requires.live } in
+    let b = before_step c.laws.ensures c.self.invariant.0.repo c.self.view_is c.requires.live in
     let e : Entry = record { who = c.args.who; step = step_of c.args.step; reply = Refused DepotFault } in
     let p : Pushed c.self.inside.history.items c.reserve.new.self.items c.push_reserved-in-Err.new.self.items e = (pushed_as c.reserve.new.self.items c.push_reserved-in-Err.new.self.items c.faulted.result c.reserve.ensures.items c.push_reserved-in-Err.ensures.items c.faulted.ensures) in (
       made_whole b g.K.Told.past c.self.invariant.0.past (g.met.D.Depot.only_now c.remove.new.self)
@@ -45,7 +38,5 @@ invariant_of-self-in-Err g c =
 
 pub returns-clause-step : goal.returns-clause-step
 returns-clause-step g c =
-    let k : Kept = record { cluster = c.self.inside.cluster; root = c.self.inside.root; infos = c.self.inside.infos.items; plan = c.self.inside.progress; next = c.self.inside.next.number } in
-    let b : Before (g.D.Depot.look c.self.inside.depot) g.K.Told.start g.K.Told.clock c.self.inside.history.items k c.self.inside.deposed c.args.self.now =
-    record { laws = c.laws.ensures; repo = c.self.invariant.0.repo; view = c.self.view_is; live = c.requires.live } in
+    let b = before_step c.laws.ensures c.self.invariant.0.repo c.self.view_is c.requires.live in
     (removed_fault b (g.D.Depot.look c.remove.new.self) c.args.who (step_of c.args.step) (map name_of c.args.names.now) c.requires.may c.requires.goes (backs_of c.args.names.now c.in-Ok.ensures.reads) c.in-Ok.texts (c.in-Ok.ensures.texts ∙ texts_of c.args.names.now) c.in-Err.ensures.call c.reserve.new.self.items c.push_reserved-in-Err.new.self.items (pushed_as c.reserve.new.self.items c.push_reserved-in-Err.new.self.items c.faulted.result c.reserve.ensures.items c.push_reserved-in-Err.ensures.items c.faulted.ensures)).added

@@ -67,7 +67,8 @@ returns-clause-caller g c =
     blocked_caller c.self.inside.deposed c.self.inside.progress g.K.Told.start c.args.self.now _ c.args.who (step_of c.args.step) c.in-Some.refusal
     (block_tells c.self.inside.deposed c.self.inside.progress c.args.who (step_of c.args.step) c.in-Some.refusal (sym c.block.ensures ∙ c.in-Some.is)) (returns-clause-step g c)
 
-own_after : (d : Option ℕ) (plan : Plan) (s : Start) (old new : List Moment) (who : ℕ) (step : Step) (refusal : EntryRefusal) → Tells d plan who step refusal → Added s old new who step (Refused (refusal_of refusal)) → (k : ℕ) → own_of s new k ≡ own_of s old k
+own_after : (d : Option ℕ) (plan : Plan) (s : Start) (old new : List Moment) (who : ℕ) (step : Step) (refusal : EntryRefusal) → Tells d plan who step refusal → Added s old new who step (Refused (refusal_of refusal)) → (k : ℕ)
+    → own_of s new k ≡ own_of s old k
 own_after d plan s old new who step refusal tells a k =
     let plain = block_plain d plan who step refusal tells in
     own_same s old new k (refused_tickets s old new who step (refusal_of refusal) plain a k) (refused_readers s old new who step (refusal_of refusal) plain a k) (blocked_caller d plan s old new who step refusal tells a)

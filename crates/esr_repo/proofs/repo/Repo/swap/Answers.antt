@@ -6,7 +6,7 @@ use Rattle.esr_formats.specs.Clusters.{cluster_of, cluster_kind}
 use Rattle.esr_desk.specs.Entries.{step_of, answer_of}
 use Rattle.esr_names.specs.declared.ids.Id.{Id}
 use Rattle.esr_repo.specs.Repo.{Kept}
-use Rattle.esr_repo.proofs.BlobCalls.{Before, Pushed, wanting}
+use Rattle.esr_repo.proofs.BlobCalls.{before_step, Pushed, wanting}
 use Rattle.esr_repo.proofs.Swaps.{swap_ok, swap_fault}
 use Rattle.esr_repo.proofs.Pasts.{made_whole, wanting_whole, same_infos}
 use Rattle.esr_repo.proofs.Failing.{no_fault, told_none, failed_so, same_faults, unfailed_faults, fallen_faults}
@@ -15,9 +15,7 @@ use Rattle.esr_repo.proofs.repo.Repo.swap.Goals as goal
 
 pub invariant_of-self : goal.invariant_of-self
 invariant_of-self g c =
-    let k : Kept = record { cluster = c.self.inside.cluster; root = c.self.inside.root; infos = c.self.inside.infos.items; plan = c.self.inside.progress; next = c.self.inside.next.number } in
-    let b : Before (g.D.Depot.look c.self.inside.depot) g.K.Told.start g.K.Told.clock c.self.inside.history.items k c.self.inside.deposed c.args.self.now =
-    record { laws = c.laws.ensures; repo = c.self.invariant.0.repo; view = c.self.view_is; live = c.requires.live } in
+    let b = before_step c.laws.ensures c.self.invariant.0.repo c.self.view_is c.requires.live in
     let e : Entry = record { who = c.args.who; step = step_of c.args.step; reply = answer_of c.args.answer } in
     let p : Pushed c.self.inside.history.items c.put_record.new.history.items c.push_reserved.new.self.items e = record { reserved = c.in-Ok.ensures.entries; pushed = c.push_reserved.ensures.items } in (
       made_whole b g.K.Told.past c.self.invariant.0.past (g.met.D.Depot.only_now c.put_record.new.depot)
@@ -31,9 +29,7 @@ invariant_of-self g c =
 
 pub returns-in-Ok-clause-step : goal.returns-in-Ok-clause-step
 returns-in-Ok-clause-step g c =
-    let k : Kept = record { cluster = c.self.inside.cluster; root = c.self.inside.root; infos = c.self.inside.infos.items; plan = c.self.inside.progress; next = c.self.inside.next.number } in
-    let b : Before (g.D.Depot.look c.self.inside.depot) g.K.Told.start g.K.Told.clock c.self.inside.history.items k c.self.inside.deposed c.args.self.now =
-    record { laws = c.laws.ensures; repo = c.self.invariant.0.repo; view = c.self.view_is; live = c.requires.live } in
+    let b = before_step c.laws.ensures c.self.invariant.0.repo c.self.view_is c.requires.live in
     (swap_ok b (g.D.Depot.look c.put_record.new.depot) c.args.who (step_of c.args.step) (answer_of c.args.answer) c.args.renewed.cluster c.args.renewed.root c.args.renewed.left c.args.renewed.info c.args.renewed.progress c.args.renewed.next.number c.requires.may c.requires.goes (cluster_kind.text (cluster_of c.args.renewed.cluster)) refl c.in-Ok.ensures.reads
     c.in-Ok.field-0 c.in-Ok.ensures.call c.put_record.new.history.items c.push_reserved.new.self.items (record { reserved = c.in-Ok.ensures.entries; pushed = c.push_reserved.ensures.items })
     (record { cluster = c.keep.new.cluster; root = c.keep.new.root; infos = c.keep.new.infos.items; plan = c.keep.new.progress; next = c.keep.new.next.number })
@@ -42,8 +38,7 @@ returns-in-Ok-clause-step g c =
 pub invariant_of-self-in-Err-Memory : goal.invariant_of-self-in-Err-Memory
 invariant_of-self-in-Err-Memory g c =
     let k : Kept = record { cluster = c.self.inside.cluster; root = c.self.inside.root; infos = c.self.inside.infos.items; plan = c.self.inside.progress; next = c.self.inside.next.number } in
-    let b : Before (g.D.Depot.look c.self.inside.depot) g.K.Told.start g.K.Told.clock c.self.inside.history.items k c.self.inside.deposed c.args.self.now =
-    record { laws = c.laws.ensures; repo = c.self.invariant.0.repo; view = c.self.view_is; live = c.requires.live } in (
+    let b = before_step c.laws.ensures c.self.invariant.0.repo c.self.view_is c.requires.live in (
       same_infos k c.put_record.new.infos.items c.in-Err-Memory.ensures.infos (wanting_whole b g.K.Told.past c.self.invariant.0.past (g.D.Depot.look c.put_record.new.depot) c.put_record.new.history.items c.in-Err-Memory.ensures.entries
           (λ _. Swapped (cluster_kind.text (cluster_of c.args.renewed.cluster))) (SwapMay (cluster_kind.text (cluster_of c.args.renewed.cluster)))
           c.in-Err-Memory.field-0 c.in-Err-Memory.field-0-is c.in-Err-Memory.ensures.call),
@@ -53,9 +48,7 @@ invariant_of-self-in-Err-Memory g c =
 
 pub returns-in-Err-Memory-clause-step : goal.returns-in-Err-Memory-clause-step
 returns-in-Err-Memory-clause-step g c =
-    let k : Kept = record { cluster = c.self.inside.cluster; root = c.self.inside.root; infos = c.self.inside.infos.items; plan = c.self.inside.progress; next = c.self.inside.next.number } in
-    let b : Before (g.D.Depot.look c.self.inside.depot) g.K.Told.start g.K.Told.clock c.self.inside.history.items k c.self.inside.deposed c.args.self.now =
-    record { laws = c.laws.ensures; repo = c.self.invariant.0.repo; view = c.self.view_is; live = c.requires.live } in
+    let b = before_step c.laws.ensures c.self.invariant.0.repo c.self.view_is c.requires.live in
     (wanting b (g.D.Depot.look c.put_record.new.depot) c.put_record.new.history.items c.in-Err-Memory.ensures.entries
     (λ _. Swapped (cluster_kind.text (cluster_of c.args.renewed.cluster))) (SwapMay (cluster_kind.text (cluster_of c.args.renewed.cluster)))
     c.in-Err-Memory.field-0 c.in-Err-Memory.field-0-is c.in-Err-Memory.ensures.call).0
@@ -63,8 +56,7 @@ returns-in-Err-Memory-clause-step g c =
 pub invariant_of-self-in-Err-Failed : goal.invariant_of-self-in-Err-Failed
 invariant_of-self-in-Err-Failed g c =
     let k : Kept = record { cluster = c.self.inside.cluster; root = c.self.inside.root; infos = c.self.inside.infos.items; plan = c.self.inside.progress; next = c.self.inside.next.number } in
-    let b : Before (g.D.Depot.look c.self.inside.depot) g.K.Told.start g.K.Told.clock c.self.inside.history.items k c.self.inside.deposed c.args.self.now =
-    record { laws = c.laws.ensures; repo = c.self.invariant.0.repo; view = c.self.view_is; live = c.requires.live } in
+    let b = before_step c.laws.ensures c.self.invariant.0.repo c.self.view_is c.requires.live in
     let e : Entry = record { who = c.args.who; step = step_of c.args.step; reply = Refused DepotFault } in
     let p : Pushed c.self.inside.history.items c.put_record.new.history.items c.push_reserved-in-Err-Failed.new.self.items e = record { reserved = c.in-Err-Failed.ensures.entries; pushed = c.push_reserved-in-Err-Failed.ensures.items } in (
       same_infos k c.put_record.new.infos.items c.in-Err-Failed.ensures.infos (made_whole b g.K.Told.past c.self.invariant.0.past (g.met.D.Depot.only_now c.put_record.new.depot)
@@ -76,9 +68,7 @@ invariant_of-self-in-Err-Failed g c =
 
 pub returns-in-Err-Failed-clause-step : goal.returns-in-Err-Failed-clause-step
 returns-in-Err-Failed-clause-step g c =
-    let k : Kept = record { cluster = c.self.inside.cluster; root = c.self.inside.root; infos = c.self.inside.infos.items; plan = c.self.inside.progress; next = c.self.inside.next.number } in
-    let b : Before (g.D.Depot.look c.self.inside.depot) g.K.Told.start g.K.Told.clock c.self.inside.history.items k c.self.inside.deposed c.args.self.now =
-    record { laws = c.laws.ensures; repo = c.self.invariant.0.repo; view = c.self.view_is; live = c.requires.live } in
+    let b = before_step c.laws.ensures c.self.invariant.0.repo c.self.view_is c.requires.live in
     (swap_fault b (g.D.Depot.look c.put_record.new.depot) c.args.who (step_of c.args.step) (answer_of c.args.answer) c.args.renewed.cluster c.args.renewed.root c.args.renewed.left c.args.renewed.info c.args.renewed.progress c.args.renewed.next.number c.requires.may c.requires.goes (cluster_kind.text (cluster_of c.args.renewed.cluster)) refl c.in-Err-Failed.ensures.reads
     c.in-Err-Failed.field-0 c.in-Err-Failed.field-0-is c.in-Err-Failed.ensures.call c.put_record.new.history.items c.push_reserved-in-Err-Failed.new.self.items
     (record { reserved = c.in-Err-Failed.ensures.entries; pushed = c.push_reserved-in-Err-Failed.ensures.items }) c.len-place.result).added

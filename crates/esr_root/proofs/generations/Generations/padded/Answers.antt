@@ -1,6 +1,6 @@
 use Rattle.std.proofs.Common.{◌≡◌, ◌++◌, ◌-◌, ℕ, None, length, replicate, sym, subst, ap, ◌∙◌, arith}
 use Rattle.esr_root.specs.Generations.{AreGenerations, padded}
-use Rattle.esr_root.proofs.Roots.{AreGenerations-padded}
+use Rattle.esr_root.specs.RootLists.{AreGenerations-padded}
 use Rattle.esr_root.proofs.generations.Generations.padded.Goals as goal
 
 -- the list, once none is missing

@@ -10,7 +10,7 @@ use Rattle.esr_root.specs.declared.snaps.RootSnap.{RootSnap}
 use Rattle.esr_root.specs.declared.indices.RootIndex.{RootIndex}
 use Rattle.esr_root.proofs.Added.{AreIndices-added, listed_added, generation_at-added}
 use Rattle.esr_root.proofs.Ordered.{ordered_added}
-use Rattle.esr_root.proofs.Roots.{root_with}
+use Rattle.esr_root.specs.RootLists.{root_with}
 use Rattle.esr_root.proofs.root.RootData.add.Goals as goal
 
 -- the indices, once each that is named was worked

@@ -9,7 +9,7 @@ use Rattle.esr_root.specs.declared.snaps.RootSnap.{RootSnap}
 use Rattle.esr_root.specs.declared.indices.RootIndex.{RootIndex}
 use Rattle.esr_root.proofs.Changed.{AreIndices-set, listed_set, generation_at-there, generation_at-elsewhere}
 use Rattle.esr_root.proofs.Ordered.{ordered_set}
-use Rattle.esr_root.proofs.Roots.{root_with}
+use Rattle.esr_root.specs.RootLists.{root_with}
 use Rattle.esr_root.proofs.root.RootData.set_generation.Goals as goal
 
 -- the indices, once each was worked

@@ -11,7 +11,7 @@ use Rattle.esr_root.specs.declared.snaps.RootSnap.{RootSnap}
 use Rattle.esr_root.specs.declared.indices.RootIndex.{RootIndex}
 use Rattle.esr_root.proofs.Removed.{AreIndices-without, listed_without, generation_at-without}
 use Rattle.esr_root.proofs.Ordered.{ordered_without}
-use Rattle.esr_root.proofs.Roots.{root_with}
+use Rattle.esr_root.specs.RootLists.{root_with}
 use Rattle.esr_root.proofs.root.RootData.without.Goals as goal
 
 -- the indices, once each was worked

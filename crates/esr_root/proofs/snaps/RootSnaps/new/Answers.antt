@@ -1,6 +1,6 @@
 use Rattle.std.proofs.Common.{sym, subst}
 use Rattle.esr_root.specs.Snaps.{AreSnaps}
-use Rattle.esr_root.proofs.Roots.{AreSnaps-none}
+use Rattle.esr_root.specs.RootLists.{AreSnaps-none}
 use Rattle.esr_root.proofs.snaps.RootSnaps.new.Goals as goal
 
 pub invariant_of-result : goal.invariant_of-result

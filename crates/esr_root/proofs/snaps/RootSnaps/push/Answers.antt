@@ -2,8 +2,8 @@ use Rattle.std.proofs.Common.{◌≡◌, List, false, sym, subst}
 use Rattle.std.specs.List.{list_any}
 use Rattle.esr_root.specs.Snaps.{AreSnaps, clashes}
 use Rattle.esr_root.specs.declared.snaps.RootSnap.{RootSnap}
-use Rattle.esr_root.proofs.Lists.{pushed}
-use Rattle.esr_root.proofs.Roots.{AreSnaps-push}
+use Rattle.esr_root.specs.Lists.{pushed}
+use Rattle.esr_root.specs.RootLists.{AreSnaps-push}
 use Rattle.esr_root.proofs.snaps.RootSnaps.push.Goals as goal
 
 pub invariant_of-self : goal.invariant_of-self

@@ -3,7 +3,7 @@ use Rattle.esr_names.specs.declared.ids.Id.{Id}
 use Rattle.esr_shardidx.specs.declared.entry.FileEntry.{FileEntry}
 use Rattle.esr_shardidx.specs.declared.index.SnapList.{SnapList}
 use Rattle.esr_shardidx.specs.Indices.{Rises, named_by, listed_of}
-use Rattle.esr_shardidx.proofs.Kept.{survivors_of-is}
+use Rattle.esr_shardidx.specs.KeptLists.{survivors_of-is}
 use Rattle.esr_shardidx.proofs.Marking.{kept_files}
 use Rattle.esr_shardidx.proofs.ReadSteps.{same_value}
 use Rattle.esr_shardidx.proofs.index.ShardIndex.survivors.Goals as goal

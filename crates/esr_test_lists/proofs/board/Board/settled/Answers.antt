@@ -1,6 +1,11 @@
+use Rattle.std.proofs.Common.{sym, ap}
+use Rattle.std.specs.Prelude.{is_some}
 use Rattle.esr_ops.specs.Plan.{seat_of_code, kind_of_code}
 use Rattle.esr_test_lists.proofs.Boards.{settling, of_finalize}
 use Rattle.esr_test_lists.proofs.board.Board.settled.Goals as goal
+
+pub finalized-requires : goal.finalized-requires
+finalized-requires c = ap is_some (sym c.in-Some.ensures)
 
 pub invariant_of-self : goal.invariant_of-self
 invariant_of-self c =

@@ -1,0 +1,104 @@
+-- Which values are plain, by how they are made.
+use Rattle.std.proofs.Common.{◌≡◌, ℕ, ℤ, ◌≤◌, ◌^◌, ◌-◌, ◌≤ℤ◌, false, IsUtf8, List, [], ◌∷◌, map, pos, negsuc, refl, sym, ap, ◌∙◌, subst, arith}
+use Rattle.std.specs.List.{AllByRecursion}
+use Rattle.std.specs.Ordering.{nat_cmp}
+use Rattle.std.specs.Cmp.Lexicographic.{slice_cmp}
+use Rattle.std.specs.declared.cmp.Ordering.TheVariants.{Greater}
+use Rattle.json.proofs.Printed.Utf8.{IsUtf8-are_ascii}
+use Rattle.serde_json.specs.Data.{unsigned, negative, float, Data, null, boolean, number, string, array, object, Items, no_items, item, Members, no_members, member, depth}
+use Rattle.serde_json.specs.Find.{of_integer}
+use Rattle.serde_json.specs.View.{items_of}
+use Rattle.serde_json.specs.Written.{has_float, items_have_float, members_have_float}
+use Rattle.esr_json.specs.declared.key.Key.TheVariants as keys
+use Rattle.esr_json.specs.Access.{key_text, members_list}
+use Rattle.esr_json.specs.Named.{with_members, Rising}
+use Rattle.esr_json.specs.Plain.{IsWhole, StandsBefore, IsPlain, ItemsArePlain, MembersArePlain}
+use Rattle.esr_json.specs.Shallow.{IsShallow}
+use Rattle.esr_json.specs.declared.key.Key.{Key}
+use Rattle.esr_json.specs.Members.{members_list-with_members}
+
+mutual
+  pub has_float-IsPlain : (d : Data) → IsPlain d → has_float d ≡ false
+  has_float-IsPlain null h = refl
+  has_float-IsPlain (boolean b) h = refl
+  has_float-IsPlain (number (unsigned n)) h = refl
+  has_float-IsPlain (number (negative z)) h = refl
+  has_float-IsPlain (number (float x)) h = absurd h
+  has_float-IsPlain (string s) h = refl
+  has_float-IsPlain (array ds) h = items_have_float-plain ds h
+  has_float-IsPlain (object ms) h = members_have_float-plain ms h
+
+  items_have_float-plain : (ds : Items) → ItemsArePlain ds → items_have_float ds ≡ false
+  items_have_float-plain no_items h = refl
+  items_have_float-plain (item d ds) h = rw (has_float-IsPlain d h.0) (items_have_float-plain ds h.1)
+
+  members_have_float-plain : (ms : Members) → MembersArePlain ms → members_have_float ms ≡ false
+  members_have_float-plain no_members h = refl
+  members_have_float-plain (member k d ms) h = rw (has_float-IsPlain d h.1) (members_have_float-plain ms h.3)
+
+pub IsShallow-IsPlain : (k : ℕ) (d : Data) → IsPlain d → depth d ≤ k → IsShallow k d
+IsShallow-IsPlain k d h low = (has_float-IsPlain d h, low)
+
+pub IsWhole-of_integer : (z : ℤ) → negsuc (2 ^ 63 - 1) ≤ℤ z → z ≤ℤ pos (2 ^ 64 - 1) → IsWhole (of_integer z)
+IsWhole-of_integer (pos n) low high = grind arith
+IsWhole-of_integer (negsuc n) low high = grind arith
+
+-- the names of the members are ASCII
+pub IsUtf8-key_text : (key : Key) → IsUtf8 (key_text key)
+IsUtf8-key_text keys.Bytes = IsUtf8-are_ascii _ refl
+IsUtf8-key_text keys.Files = IsUtf8-are_ascii _ refl
+IsUtf8-key_text keys.Id = IsUtf8-are_ascii _ refl
+IsUtf8-key_text keys.Indices = IsUtf8-are_ascii _ refl
+IsUtf8-key_text keys.Kind = IsUtf8-are_ascii _ refl
+IsUtf8-key_text keys.Length = IsUtf8-are_ascii _ refl
+IsUtf8-key_text keys.Moment = IsUtf8-are_ascii _ refl
+IsUtf8-key_text keys.Name = IsUtf8-are_ascii _ refl
+IsUtf8-key_text keys.Op = IsUtf8-are_ascii _ refl
+IsUtf8-key_text keys.Ops = IsUtf8-are_ascii _ refl
+IsUtf8-key_text keys.PartSize = IsUtf8-are_ascii _ refl
+IsUtf8-key_text keys.Pending = IsUtf8-are_ascii _ refl
+IsUtf8-key_text keys.PhysicalName = IsUtf8-are_ascii _ refl
+IsUtf8-key_text keys.Safe = IsUtf8-are_ascii _ refl
+IsUtf8-key_text keys.Sha256 = IsUtf8-are_ascii _ refl
+IsUtf8-key_text keys.ShardGenerations = IsUtf8-are_ascii _ refl
+IsUtf8-key_text keys.Shards = IsUtf8-are_ascii _ refl
+IsUtf8-key_text keys.Snapshots = IsUtf8-are_ascii _ refl
+IsUtf8-key_text keys.Source = IsUtf8-are_ascii _ refl
+IsUtf8-key_text keys.State = IsUtf8-are_ascii _ refl
+IsUtf8-key_text keys.Term = IsUtf8-are_ascii _ refl
+IsUtf8-key_text keys.Uuid = IsUtf8-are_ascii _ refl
+IsUtf8-key_text keys.Uuids = IsUtf8-are_ascii _ refl
+
+-- a list of plain values that are made in one way
+pub ItemsArePlain-map : {A : Type 0} (P : A → Type 0) (f : A → Data) → ((x : A) → P x → IsPlain (f x)) → (xs : List A) → AllByRecursion P xs → ItemsArePlain (items_of (map f xs))
+ItemsArePlain-map P f plain [] h = tt
+ItemsArePlain-map P f plain (x ∷ xs) h = (plain x h.0, ItemsArePlain-map P f plain xs h.1)
+
+-- ---- objects made of a list
+
+-- the members, one for each of the list
+abbrev listed : List (List ℕ × Data) → Members
+listed [] = no_members
+listed (e ∷ es) = member e.0 e.1 (listed es)
+
+listed-members_list : (ms : Members) → listed (members_list ms) ≡ ms
+listed-members_list no_members = refl
+listed-members_list (member k d ms) = ap (member k d) (listed-members_list ms)
+
+stands_before : {A : Type 0} (name : A → List ℕ) (f : A → Data) (k : List ℕ) (xs : List A) → AllByRecursion (λ m. slice_cmp nat_cmp m k ≡ Greater) (map name xs)
+    → StandsBefore k (listed (map (λ x. (name x, f x)) xs))
+stands_before name f k [] h = tt
+stands_before name f k (x ∷ xs) h = h.0
+
+listed_plain : {A : Type 0} (P : A → Type 0) (name : A → List ℕ) (f : A → Data) → ((x : A) → P x → IsUtf8 (name x)) → ((x : A) → P x → IsPlain (f x)) → (xs : List A)
+    → AllByRecursion P xs → Rising (map name xs) → MembersArePlain (listed (map (λ x. (name x, f x)) xs))
+listed_plain P name f utf8 plain [] h rises = tt
+listed_plain P name f utf8 plain (x ∷ xs) h rises =
+    (utf8 x h.0, plain x h.0, stands_before name f (name x) xs rises.0, listed_plain P name f utf8 plain xs h.1 rises.1)
+
+pub MembersArePlain-with_members : {A : Type 0} (P : A → Type 0) (name : A → List ℕ) (f : A → Data) → ((x : A) → P x → IsUtf8 (name x)) → ((x : A) → P x → IsPlain (f x)) → (xs : List A)
+    → AllByRecursion P xs → Rising (map name xs) → MembersArePlain (with_members no_members (map (λ x. (name x, f x)) xs))
+MembersArePlain-with_members P name f utf8 plain xs h rises =
+    let made = with_members no_members (map (λ x. (name x, f x)) xs) in
+    let same : listed (map (λ x. (name x, f x)) xs) ≡ made = sym (ap listed (members_list-with_members name f xs rises)) ∙ listed-members_list made in
+    subst MembersArePlain same (listed_plain P name f utf8 plain xs h rises)
